@@ -1,0 +1,52 @@
+-- Laws of the words of specs/Lists.antt.
+use mathlib.Core.Path.{_≡_, refl, ap, sym, _∙_}
+use mathlib.Core.Bool.{Bool, true, false}
+use mathlib.Core.List.{List, [], _∷_, _++_, append-assoc, append-nil}
+use Prim.Native.Nat.{ℕ, zero, suc}
+use lib.ListN.{take, drop, getD}
+use Rattle.definitions.specs.Lists.{joined, onlyIf, those}
+
+module _ {A : Type 0} where
+  -- P holds of each
+  pub data All (P : A → Type 0) : List A → Type 0 where
+    none : All P []
+    one : {a : A} {l : List A} → P a → All P l → All P (a ∷ l)
+
+  pub all-append : {P : A → Type 0} {s t : List A} → All P s → All P t → All P (s ++ t)
+  all-append none q = q
+  all-append (one h p) q = one h (all-append p q)
+
+  pub all-map : {P Q : A → Type 0} {l : List A} → ((a : A) → P a → Q a) → All P l → All Q l
+  all-map f none = none
+  all-map f (one {a = a} h p) = one (f a h) (all-map f p)
+
+  pub those-append : (p : A → Bool) (s t : List A) → those p (s ++ t) ≡ those p s ++ those p t
+  those-append p [] t = refl
+  those-append p (a ∷ s) t = ap (λ l. onlyIf (p a) (a ∷ []) ++ l) (those-append p s t) ∙ sym (append-assoc (onlyIf (p a) (a ∷ [])) (those p s) (those p t))
+
+  pub those-all : (p : A → Bool) {l : List A} → All (λ a. p a ≡ true) l → those p l ≡ l
+  those-all p none = refl
+  those-all p (one {a = a} h q) = rw (h, those-all p q)
+
+  pub those-none : (p : A → Bool) {l : List A} → All (λ a. p a ≡ false) l → those p l ≡ []
+  those-none p none = refl
+  those-none p (one {a = a} h q) = rw (h, those-none p q)
+
+  pub those-left : (p : A → Bool) (s : List A) {t : List A} → All (λ a. p a ≡ false) t → those p (s ++ t) ≡ those p s
+  those-left p s {t} h = rw (those-append p s t, those-none p h, append-nil)
+
+  pub those-right : (p : A → Bool) {s : List A} (t : List A) → All (λ a. p a ≡ false) s → those p (s ++ t) ≡ those p t
+  those-right p {s} t h = rw (those-append p s t, those-none p h)
+
+  -- a list of lists parts at each place d
+  pub parts : (d : ℕ) (ls : List (List A)) → joined ls ≡ joined (take d ls) ++ (getD ls d [] ++ joined (drop (suc d) ls))
+  parts zero [] = refl
+  parts (suc d) [] = refl
+  parts zero (l ∷ ls) = refl
+  parts (suc d) (l ∷ ls) = rw append-assoc (ap (λ r. l ++ r) (parts d ls))
+
+  pub parts-suc : (d : ℕ) (ls : List (List A)) → joined (take (suc d) ls) ≡ joined (take d ls) ++ getD ls d []
+  parts-suc zero [] = refl
+  parts-suc (suc d) [] = refl
+  parts-suc zero (l ∷ ls) = append-nil l
+  parts-suc (suc d) (l ∷ ls) = rw append-assoc (ap (λ r. l ++ r) (parts-suc d ls))

@@ -1,0 +1,21 @@
+-- Document 01 written down, in its order: a reader who believes these files, and the examples at their end, needs no other.
+pub mod Lists
+pub mod Lanes
+pub mod Refusals
+pub mod Lines
+pub mod Cells
+pub mod Measures
+pub mod Reduction
+pub mod Figures
+pub mod Beats
+pub mod Objects
+pub mod Tracker
+pub mod Notes
+pub mod Records
+pub mod Tally
+pub mod Correction
+pub mod ReadBack
+pub mod Judged
+pub mod TimingRows
+pub mod Entries
+pub mod Examples
