@@ -1,5 +1,7 @@
 -- Laws of the definitions, by topic.
 pub mod Bools
 pub mod Lists
+pub mod Cells
 pub mod Reduction
 pub mod Thinned
+pub mod Damage

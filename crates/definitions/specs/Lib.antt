@@ -19,3 +19,5 @@ pub mod Judged
 pub mod TimingRows
 pub mod Entries
 pub mod Examples
+pub mod Damage
+pub mod DamageExample
