@@ -1,0 +1,17 @@
+//! The oracle: what the Rust answers, as numbers and bytes, for any text, lane number and flags.
+//!
+//! - `calls`: the eight chart calls, each with its figures and the contents of its slices.
+//! - `leaves`: the functions below them.
+//! - `entry`: the calls as they are met from outside, with the refusals of document 01.
+//! - `card`: what the program card prints.
+//! - `vectors`: the stored sample of answers.
+
+pub mod card;
+pub mod entry;
+#[allow(dead_code, unused_imports)]
+mod stats;
+mod streams;
+mod timing;
+pub mod vectors;
+
+pub use stats::{calls, leaves};
