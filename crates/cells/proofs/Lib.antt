@@ -1,0 +1,6 @@
+-- Laws of the cells, by topic.
+pub mod Arms
+pub mod Arrows
+pub mod Scan
+pub mod Masks
+pub mod Tables

@@ -1,0 +1,3 @@
+-- What the contracts of the cells cite, beside the definitions.
+pub mod Rows
+pub mod Taps

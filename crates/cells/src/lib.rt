@@ -1,0 +1,256 @@
+// The cells of a row, byte by byte: what a byte stands for and does, the object rows of the last beat, and the masks of rows of taps alone.
+mod counts;
+
+use counts::TAP_MASK_COUNTS;
+use definitions::Cell;
+use definitions::DepthEffect;
+use definitions::Kind;
+use definitions::NoteEffect;
+use definitions::RowSum;
+ghost use mathlib.Core.Path.{_≡_};
+ghost use Prim.Native.Nat.{_≤_, _<_};
+ghost use lib.ListN.{length, take};
+ghost use Rattle.definitions.specs.Cells.{cellOf, isArrow};
+ghost use Rattle.definitions.specs.Figures.{isStep};
+ghost use Rattle.definitions.specs.Tracker.{holdAt};
+ghost use Rattle.definitions.specs.Objects.{objectAt};
+ghost use Rattle.definitions.specs.Notes.{effectAt};
+ghost use Rattle.cells.specs.Rows.{Low, NoDepths, CellDone, RowDone};
+ghost use Rattle.cells.specs.Taps.{tapMask, tapLineMask, maskCounts, unpack};
+
+// What a byte of a row stands for.
+pub fn cell_of(b: u8) -> Cell
+    ensures { λ r. ⌜ r ≡ cellOf b ⌝ }
+{
+    match b {
+        b'1' => Cell::Tap,
+        b'2' => Cell::Hold,
+        b'3' => Cell::Tail,
+        b'4' => Cell::Roll,
+        b'M' => Cell::Mine,
+        b'L' => Cell::Lift,
+        b'F' => Cell::Fake,
+        b'K' => Cell::KeySound,
+        b'm' => Cell::LowerMine,
+        b'l' => Cell::LowerLift,
+        b'f' => Cell::LowerFake,
+        _ => Cell::Empty,
+    }
+}
+
+// Whether the byte is an arrow. The tests are joined without a branch.
+pub fn is_note(b: u8) -> bool
+    ensures { λ r. ⌜ r ≡ isArrow (cellOf b) ⌝ }
+{
+    (b == b'1') | (b == b'2') | (b == b'4')
+}
+
+// Whether the row has an arrow. It looks at every byte, so that no turn of the loop branches on one.
+pub fn row_has_note(row: &[u8]) -> bool
+    ensures { λ r. ⌜ r ≡ isStep (now (row .entry)) ⌝ }
+{
+    let mut has = false;
+    let mut i = 0;
+    while i < row.len() {
+        has = has | is_note(row[i]);
+        i += 1;
+    }
+    has
+}
+
+// What the byte does to the tracker's stack and to the phantom depth of its column.
+pub fn hold_effect(b: u8) -> DepthEffect
+    ensures { λ r. ⌜ r ≡ holdAt b ⌝ }
+{
+    match cell_of(b) {
+        Cell::Tap | Cell::Mine | Cell::Lift | Cell::Fake => DepthEffect::Blocks,
+        Cell::Hold | Cell::Roll => DepthEffect::Opens,
+        Cell::Tail => DepthEffect::Closes,
+        _ => DepthEffect::Nothing,
+    }
+}
+
+// What the byte does to the depth that the last beat goes by: the same, and K blocks too.
+pub fn object_effect(b: u8) -> DepthEffect
+    ensures { λ r. ⌜ r ≡ objectAt b ⌝ }
+{
+    match cell_of(b) {
+        Cell::Tap | Cell::Mine | Cell::Lift | Cell::Fake => DepthEffect::Blocks,
+        Cell::Hold | Cell::Roll => DepthEffect::Opens,
+        Cell::Tail => DepthEffect::Closes,
+        Cell::KeySound => DepthEffect::Blocks,
+        Cell::LowerMine | Cell::LowerLift | Cell::LowerFake => DepthEffect::Nothing,
+        Cell::Empty => DepthEffect::Nothing,
+    }
+}
+
+// What the byte does to the notes.
+pub fn note_effect(b: u8) -> NoteEffect
+    ensures { λ r. ⌜ r ≡ effectAt b ⌝ }
+{
+    match cell_of(b) {
+        Cell::Tap => NoteEffect::Single(Kind::Tap),
+        Cell::Hold => NoteEffect::Head(Kind::Hold),
+        Cell::Roll => NoteEffect::Head(Kind::Roll),
+        Cell::Tail => NoteEffect::Closes,
+        Cell::Mine | Cell::LowerMine => NoteEffect::Single(Kind::Mine),
+        Cell::Lift | Cell::LowerLift => NoteEffect::Single(Kind::Lift),
+        Cell::Fake | Cell::LowerFake => NoteEffect::Single(Kind::Fake),
+        Cell::KeySound | Cell::Empty => NoteEffect::Nothing,
+    }
+}
+
+// The depth of each column, of up to ten.
+pub struct Depths {
+    pub depths: [u32; 10],
+}
+
+// The depths before the first row.
+pub fn no_depths() -> Depths
+    ensures { λ r. ⌜ NoDepths r ⌝ }
+{
+    Depths { depths: [0; 10] }
+}
+
+// Whether a row is an object row, and the depths after it.
+pub struct Objects {
+    pub object: bool,
+    pub depths: Depths,
+}
+
+// The same of one cell.
+pub struct ObjectCell {
+    pub object: bool,
+    pub depth: u32,
+}
+
+// One cell of an object row's test, in a column of that depth.
+fn object_cell(b: u8, depth: u32) -> ObjectCell
+    requires { ⌜ depth < 4294967295 ⌝ }
+    ensures { λ r. ⌜ CellDone b depth r ⌝ }
+{
+    match object_effect(b) {
+        DepthEffect::Nothing => ObjectCell {
+            object: false,
+            depth,
+        },
+        DepthEffect::Blocks => ObjectCell {
+            object: true,
+            depth: 0,
+        },
+        DepthEffect::Opens => ObjectCell {
+            object: false,
+            depth: depth + 1,
+        },
+        DepthEffect::Closes => {
+            if 0 < depth {
+                ObjectCell {
+                    object: true,
+                    depth: depth - 1,
+                }
+            } else {
+                ObjectCell {
+                    object: false,
+                    depth: 0,
+                }
+            }
+        }
+    }
+}
+
+// Whether the row is an object row where its columns have these depths, and the depths after it. Each grows by at most 1.
+pub fn row_has_object(row: &[u8], old: Depths) -> Objects
+    requires { ⌜ (length (now row) ≤ 10) × Low 4294967294 old ⌝ }
+    ensures { λ r. ⌜ RowDone (now (row .entry)) old r ⌝ }
+{
+    let mut depths = old.depths;
+    let mut object = false;
+    let mut i = 0;
+    while i < row.len() {
+        let cell = object_cell(row[i], depths[i]);
+        depths[i] = cell.depth;
+        object = object | cell.object;
+        i += 1;
+    }
+    let after = Depths { depths };
+    Objects {
+        object,
+        depths: after,
+    }
+}
+
+// A row of `0` and `1` alone as a mask, its first column in the lowest bit, or another row.
+pub enum Taps {
+    Mask(u8),
+    Other,
+}
+
+// The mask of the first four cells. Less 48, a byte is 0 or 1 where it is a `0` or a `1`: one test of all four decides.
+pub fn tap_mask4(row: &[u8]) -> Taps
+    requires { ⌜ 4 ≤ length (now row) ⌝ }
+    ensures { λ r. ⌜ r ≡ tapMask (take 4 (now (row .entry))) ⌝ }
+{
+    let a = std::num::wrapping_sub_u8(row[0], b'0');
+    let b = std::num::wrapping_sub_u8(row[1], b'0');
+    let c = std::num::wrapping_sub_u8(row[2], b'0');
+    let d = std::num::wrapping_sub_u8(row[3], b'0');
+    if (a | b | c | d) <= 1 {
+        Taps::Mask(a + 2 * b + 4 * c + 8 * d)
+    } else {
+        Taps::Other
+    }
+}
+
+// The mask of the first eight cells, four at a time.
+pub fn tap_mask8(row: &[u8]) -> Taps
+    requires { ⌜ 8 ≤ length (now row) ⌝ }
+    ensures { λ r. ⌜ r ≡ tapMask (take 8 (now (row .entry))) ⌝ }
+{
+    let Taps::Mask(lo) = tap_mask4(row) else {
+        return Taps::Other;
+    };
+    let Taps::Mask(hi) = tap_mask4(&row[4..]) else {
+        return Taps::Other;
+    };
+    Taps::Mask(lo + 16 * hi)
+}
+
+// The mask of a row of four or eight cells; no other width has masks.
+pub fn tap_line_mask(row: &[u8]) -> Taps
+    ensures { λ r. ⌜ r ≡ tapLineMask (now (row .entry)) ⌝ }
+{
+    if row.len() == 4 {
+        return tap_mask4(row);
+    }
+    if row.len() == 8 {
+        return tap_mask8(row);
+    }
+    Taps::Other
+}
+
+// The table's entry for a mask.
+fn tap_counts(mask: u8) -> u16
+    ensures { λ r. ⌜ r ≡ maskCounts mask ⌝ }
+{
+    TAP_MASK_COUNTS[mask as usize]
+}
+
+// What a row of taps alone adds up to, by the table.
+pub fn tap_sum(mask: u8) -> RowSum
+    ensures { λ r. ⌜ r ≡ unpack (maskCounts mask) ⌝ }
+{
+    let n = tap_counts(mask) as u32;
+    RowSum {
+        arrows: n & 15,
+        left: (n >> 4) & 3,
+        down: (n >> 6) & 3,
+        up: (n >> 8) & 3,
+        right: (n >> 10) & 3,
+        holds: 0,
+        rolls: 0,
+        tails: 0,
+        mines: 0,
+        lifts: 0,
+        fakes: 0,
+    }
+}

@@ -1,0 +1,2 @@
+-- Laws of `zeroed`.
+pub mod Zeroed
