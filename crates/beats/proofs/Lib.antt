@@ -8,3 +8,4 @@ mod Upto
 mod Last
 pub mod Beats
 pub mod Placed
+pub mod Scaled

@@ -109,7 +109,7 @@ abbrev pub halved : ℕ → List Row → List Row
 halved zero rs = rs
 halved (suc k) rs = cond (halvable rs) (halved k (evens rs)) rs
 
-even-multiple : (s i n : ℕ) → n ≡ 2 * i → multiple (2 * s) n ≡ multiple s i
+pub even-multiple : (s i n : ℕ) → n ≡ 2 * i → multiple (2 * s) n ≡ multiple s i
 even-multiple s i n e = ap (multiple (2 * s)) e ∙ go (eqb (i % s) 0) refl
   where
     go : (t : Bool) → eqb (i % s) 0 ≡ t → multiple (2 * s) (2 * i) ≡ t
@@ -118,7 +118,7 @@ even-multiple s i n e = ap (multiple (2 * s)) e ∙ go (eqb (i % s) 0) refl
         ne-eqb (2 * i % (2 * s)) 0
         (λ q. eqb-false (i % s) 0 p (mod-eq-zero-of-dvd s (dvd-of-mul-dvd-mul-left {k = 2} s (omega arith) (dvd-of-mod-eq-zero (2 * s) q))))
 
-odd-multiple : (s i n : ℕ) → n ≡ suc (2 * i) → multiple (2 * s) n ≡ false
+pub odd-multiple : (s i n : ℕ) → n ≡ suc (2 * i) → multiple (2 * s) n ≡ false
 odd-multiple s i n e =
     ne-eqb (n % (2 * s)) 0
     (λ q. let h : n % 2 ≡ 0 = mod-eq-zero-of-dvd 2 (dvd-trans 2 (dvd-mul-right 2 s) (dvd-of-mod-eq-zero (2 * s) q)) in omega arith)

@@ -1,0 +1,2 @@
+-- What the contracts of this crate say of rows in a text.
+pub mod Rows

@@ -1,0 +1,3 @@
+-- One line more, by its kind.
+pub mod Parts
+pub mod Reading

@@ -1,0 +1,2 @@
+-- What reading by lines means to a loop.
+pub mod Reading

@@ -1,0 +1,208 @@
+-- `scans::fill_spacing` meets its contract. The loop's invariant: the spacing of the measures that have ended is stored, and `s` holds what counts of
+-- the open one.
+use Prim.Native.Nat.{ℕ, _≤_, _<_, _-_, _+_, _*_}
+use mathlib.Core.Path.{_≡_, refl, sym, ap, _∙_}
+use mathlib.Core.Logic.{⊎-elim}
+use mathlib.Core.List.{List, [], _∷_, _++_}
+use native.Mathlib.Nat.{add-sub-cancel-left}
+use native.Mathlib.Omega.{arith}
+use borrow.Author.Needs.{needs}
+use lib.ListN.{length, take, drop, length-set}
+use denote.Ref.{now}
+use Rattle.definitions.specs.Lists.{padded}
+use Rattle.definitions.specs.Lines.{Row}
+use Rattle.scans.specs.Spaces.{Spaces}
+use Rattle.scans.proofs.Filling.{Filling, Filled, filling-start, filling-few, filling-rows, filling-passed, filling-row, filling-comma, filling-semi, filling-end, filled-count, filled-slice}
+use Rattle.scans.proofs.Spaces.{spacedIn, spacings-raw, spaces-few}
+use Rattle.scans.proofs.spacing.fill_spacing.Statement.{statement}
+use Rattle.scans.proofs.spacing.fill_spacing.Tie as tie
+
+abbrev Inv-loop : tie.InvT-loop
+Inv-loop «data» lanes spacing₀ off₀ m₀ s₀ spacing off m s =
+    (off ≤ length «data» + 1) × (length spacing ≡ length spacing₀) × (Filling spacedIn (Spaces s) lanes «data» off m spacing)
+
+abbrev μ-loop : tie.MeasureT-loop
+μ-loop «data» lanes spacing₀ off₀ m₀ s₀ spacing off m s = length «data» + 1 - off
+
+-- the measures so far are few enough for the slice, and the open one's rows for their counts
+few : (c : tie.At-loop Inv-loop μ-loop) → 2 * c .loop .m ≤ c .loop .off
+few c = filling-few spacedIn _ _ _ _ _ _ (c .loop .inv .2)
+
+rows-few : (c : tie.At-loop Inv-loop μ-loop) → (c .loop .s .rows ≤ c .loop .off) × (c .loop .s .steps ≤ c .loop .off)
+rows-few c =
+    let x = c .loop .inv .2 in
+    spaces-few _ (x .cur) (x .state) _ (filling-rows spacedIn _ _ _ _ _ _ x)
+
+-- a row's bytes stand in the text
+row-room : (c : tie.After-enum-told4 Inv-loop μ-loop) →
+    let r = c .before .before .read-line .result in
+    r .start + c .before .before .before .before .before .before .before .before .args .lanes + 1 ≤ r .next
+row-room c = c .before .before .read-line .ensures .room (c .enum-told4 .given .1) .1
+
+no-spacing-requires : tie.Need-no-spacing-requires Inv-loop μ-loop
+no-spacing-requires c κs = search needs
+
+loop-holds : tie.Need-loop-holds Inv-loop μ-loop
+loop-holds c = (omega arith, refl, filling-start spacedIn (Spaces _) _ _ _ (c .no-spacing .ensures))
+
+read-line-requires : tie.Need-read-line-requires Inv-loop μ-loop
+read-line-requires c κs = search needs
+
+enum-told : tie.Need-enum-told Inv-loop μ-loop
+enum-told c = search needs
+
+enum-told-2 : tie.Need-enum-told-2 Inv-loop μ-loop
+enum-told-2 c = search needs
+
+is-spaced-requires : tie.Need-is-spaced-requires Inv-loop μ-loop
+is-spaced-requires c κs = omega (arith, rows-few (c .before .before .before .before) .0)
+
+slice-write-spacing : tie.Need-slice-write-spacing Inv-loop μ-loop
+slice-write-spacing c = omega (arith, few (c .before .before .before .before .before))
+
+add-m : tie.Need-add-m Inv-loop μ-loop
+add-m c = omega (arith, few (c .before .before .before .before .before))
+
+no-spacing-requires-2 : tie.Need-no-spacing-requires-2 Inv-loop μ-loop
+no-spacing-requires-2 c κs = search needs
+
+enum-told-3 : tie.Need-enum-told-3 Inv-loop μ-loop
+enum-told-3 c = search needs
+
+enum-told-4 : tie.Need-enum-told-4 Inv-loop μ-loop
+enum-told-4 c = search needs
+
+add-end : tie.Need-add-end Inv-loop μ-loop
+add-end c = omega (arith, row-room c, c .before .before .read-line .ensures .within)
+
+sub-spacing-row : tie.Need-sub-spacing-row Inv-loop μ-loop
+sub-spacing-row c = omega arith
+
+part-spacing-row-start : tie.Need-part-spacing-row-start Inv-loop μ-loop
+part-spacing-row-start c = omega (arith, row-room c, c .before .before .read-line .ensures .within)
+
+part-spacing-row-end : tie.Need-part-spacing-row-end Inv-loop μ-loop
+part-spacing-row-end c = omega (arith, row-room c, c .before .before .read-line .ensures .within)
+
+spacing-row-requires : tie.Need-spacing-row-requires Inv-loop μ-loop
+spacing-row-requires c κs =
+    let w = rows-few (c .before .before .before .before .before) in
+    (omega (arith, w .0), omega (arith, w .1))
+
+loop-less : tie.Need-loop-less Inv-loop μ-loop
+loop-less c = omega (arith, c .before .before .read-line .ensures .next)
+
+loop-again : tie.Need-loop-again Inv-loop μ-loop
+loop-again c =
+    let a = c .before .before in (
+      a .read-line .ensures .within,
+      omega arith,
+      filling-passed spacedIn _ _ _ _ _ _ _ (a .before .loop-test .taken) (a .read-line .ensures) (a .before .before .loop .inv .2) (c .enum-told .given .1),
+    )
+
+loop-less-2 : tie.Need-loop-less-2 Inv-loop μ-loop
+loop-less-2 c = omega (arith, c .before .before .before .before .read-line .ensures .next)
+
+loop-again-2 : tie.Need-loop-again-2 Inv-loop μ-loop
+loop-again-2 c =
+    let k = c .before in
+    let a = k .before .before .before in
+    let at = a .before .before in
+    let room : at .loop .m < length (at .loop .spacing) = omega (arith, few at) in (
+      a .read-line .ensures .within,
+      simp length-set (omega arith),
+      filling-comma spacedIn _ _ _ _ _ _ _ (a .before .loop-test .taken) (a .read-line .ensures) (at .loop .inv .2) (k .before .enum-told2 .given .1)
+          (Spaces _) _ room (k .is-spaced .ensures) (c .no-spacing2 .ensures),
+    )
+
+loop-less-3 : tie.Need-loop-less-3 Inv-loop μ-loop
+loop-less-3 c = omega (arith, c .before .before .before .before .read-line .ensures .next)
+
+loop-again-3 : tie.Need-loop-again-3 Inv-loop μ-loop
+loop-again-3 c =
+    let a = c .before .before .before .before in
+    let text = now (a .before .before .before .before .before .before .args .«data») in
+    let part : take (a .read-line .result .start + a .before .before .before .before .before .before .args .lanes - a .read-line .result .start) (drop (a .read-line .result .start) text) ≡ take (a .before .before .before .before .before .before .args .lanes) (drop (a .read-line .result .start) text) =
+    ap (λ n. take n (drop (a .read-line .result .start) text)) (add-sub-cancel-left (a .read-line .result .start) (a .before .before .before .before .before .before .args .lanes)) in (
+      a .read-line .ensures .within,
+      omega arith,
+      filling-row spacedIn _ _ _ _ _ _ _ (a .before .loop-test .taken) (a .read-line .ensures) (a .before .before .loop .inv .2) (c .before .before .enum-told4 .given .1)
+          (Spaces _) (λ cur x. rw part at (c .spacing-row .ensures cur x)),
+    )
+
+is-spaced-requires-2 : tie.Need-is-spaced-requires-2 Inv-loop μ-loop
+is-spaced-requires-2 c κs = omega (arith, rows-few (c .before) .0)
+
+-- at the loop's end one measure is still open
+last : (c : tie.After-is-spaced2 Inv-loop μ-loop) →
+    let at = c .before .before in
+    let a = at .before .before .before .before .args in
+    Filled spacedIn (a .lanes) (now (a .«data»)) (at .loop .m) (c .is-spaced2 .result) (at .loop .spacing)
+last c =
+    let at = c .before .before in
+    ⊎-elim
+    (λ w. filling-end spacedIn _ _ _ _ _ _ (w .left) (at .loop .inv .0) (at .loop .inv .2) _ (c .is-spaced2 .ensures))
+    (λ w. filling-semi spacedIn _ _ _ _ _ _ _ (w .0 .taken) (w .1 .ensures) (at .loop .inv .2) (w .3 .given .1) _ (c .is-spaced2 .ensures))
+    (c .before .loop-test .came)
+
+slice-write-spacing-2 : tie.Need-slice-write-spacing-2 Inv-loop μ-loop
+slice-write-spacing-2 c = omega (arith, last c .room)
+
+add-m-2 : tie.Need-add-m-2 Inv-loop μ-loop
+add-m-2 c = omega (arith, last c .room)
+
+zero-u8-requires : tie.Need-zero-u8-requires Inv-loop μ-loop
+zero-u8-requires c κs = simp length-set (omega (arith, last (c .before) .room))
+
+same-length : tie.Need-same-length Inv-loop μ-loop
+same-length c =
+    let z = c .before .before in
+    let at = z .before .before .before .before in
+    omega (arith, z .zero-u8 .kept .0, length-set (at .loop .spacing) (at .loop .m) (z .before .before .is-spaced2 .result))
+
+returns : tie.Need-returns Inv-loop μ-loop
+returns c =
+    let z = c .before .before in
+    let out = z .before .before in
+    let at = out .before .before in
+    let a = at .before .before .before .before .args in
+    let room : at .loop .m < length (at .loop .spacing) = omega (arith, last out .room) in
+    let raw = spacings-raw (a .lanes) (now (a .«data»)) in (
+      filled-count spacedIn _ _ _ _ _ room (last out) ∙ sym (ap length raw),
+      z .zero-u8 .ensures ∙ filled-slice spacedIn _ _ _ _ _ room (last out) _ (at .loop .inv .1) ∙ ap (padded 0 (length (now (a .spacing)))) (sym raw),
+    )
+
+pub fill-spacing-spec : {M : Type 1} → statement M
+fill-spacing-spec =
+    tie.close
+    (tie.spec
+    Inv-loop
+    μ-loop
+    no-spacing-requires
+    loop-holds
+    read-line-requires
+    enum-told
+    enum-told-2
+    is-spaced-requires
+    slice-write-spacing
+    add-m
+    no-spacing-requires-2
+    enum-told-3
+    enum-told-4
+    add-end
+    sub-spacing-row
+    part-spacing-row-start
+    part-spacing-row-end
+    spacing-row-requires
+    loop-less
+    loop-again
+    loop-less-2
+    loop-again-2
+    loop-less-3
+    loop-again-3
+    is-spaced-requires-2
+    slice-write-spacing-2
+    add-m-2
+    zero-u8-requires
+    same-length
+    returns)

@@ -1,0 +1,9 @@
+use Rattle.scans.proofs.Spaces.{spaces-start}
+use Rattle.scans.proofs.spacing.no_spacing.Statement.{statement}
+use Rattle.scans.proofs.spacing.no_spacing.Tie as tie
+
+returns : tie.Need-returns
+returns c = spaces-start
+
+pub no-spacing-spec : {M : Type 1} → statement M
+no-spacing-spec = tie.close (tie.spec returns)

@@ -1,0 +1,51 @@
+use mathlib.Core.Path.{ap, sym, _∙_}
+use Rattle.definitions.specs.Lists.{oneIf}
+use Rattle.scans.proofs.Spaces.{spaces-zero, spaces-other}
+use borrow.Author.Needs.{needs}
+use Rattle.scans.proofs.spacing.spacing_row.Statement.{statement}
+use Rattle.scans.proofs.spacing.spacing_row.Tie as tie
+
+row-has-note-requires : tie.Need-row-has-note-requires
+row-has-note-requires c κs = search needs
+
+one-if-requires : tie.Need-one-if-requires
+one-if-requires c κs = search needs
+
+add-steps : tie.Need-add-steps
+add-steps c = search needs
+
+is-all-zero-requires : tie.Need-is-all-zero-requires
+is-all-zero-requires c κs = search needs
+
+add-t8 : tie.Need-add-t8
+add-t8 c = search needs
+
+returns : tie.Need-returns
+returns c =
+    let o = c .before .before .before in
+    λ cur x. spaces-zero _ cur x _ _ (o .one-if .ensures .0 ∙ ap oneIf (o .before .row-has-note .ensures)) (sym (c .before .is-all-zero .ensures) ∙ c .if1 .taken)
+
+add-t9 : tie.Need-add-t9
+add-t9 c = search needs
+
+smaller-requires : tie.Need-smaller-requires
+smaller-requires c κs = search needs
+
+returns-2 : tie.Need-returns-2
+returns-2 c =
+    let o = c .before .before .before .before in
+    λ cur x. spaces-other _ cur x _ _ (o .one-if .ensures .0 ∙ ap oneIf (o .before .row-has-note .ensures)) _ (c .smaller .ensures) (sym (c .before .before .is-all-zero .ensures) ∙ c .before .if1 .left)
+
+pub spacing-row-spec : {M : Type 1} → statement M
+spacing-row-spec =
+    tie.close
+    (tie.spec
+    row-has-note-requires
+    one-if-requires
+    add-steps
+    is-all-zero-requires
+    add-t8
+    returns
+    add-t9
+    smaller-requires
+    returns-2)

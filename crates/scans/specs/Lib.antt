@@ -1,0 +1,4 @@
+-- What the contracts of the scans cite, beside the definitions.
+pub mod Answers
+pub mod Spaces
+pub mod LastKept
