@@ -7,7 +7,7 @@ use lib.Ieee.{Float, binary64, toBits}
 use lib.ListN.{length, replicate}
 use Rattle.definitions.specs.Lists.{oneIf, joined}
 use Rattle.definitions.specs.Lanes.{lanesOf}
-use Rattle.definitions.specs.Refusals.{longText, shortText, shortMeasures, shortBeats, shortWork, shortNotes, firstHeld, leaves}
+use Rattle.definitions.specs.Refusals.{longText, shortText, shortMeasures, shortBeats, shortWork, shortNotes, firstHeld, leaves, replaces}
 use Rattle.definitions.specs.Reduction.{minimised}
 use Rattle.definitions.specs.Figures.{minimisedText, densities, spacings}
 use Rattle.definitions.specs.Beats.{f32, beats}
@@ -89,7 +89,7 @@ module _ (lanes : ℕ) (text out densities₀ : List ℕ) (beats₀ : List Float
 
   unfoldable pub mainFigures : List ℕ → List ℕ
   mainFigures old =
-      leaves 0 mainNumber
+      replaces mainNumber
       (figures
       (length (minimisedText (lanesOf lanes) text))
       (measureCount (lanesOf lanes) text)
@@ -123,7 +123,7 @@ module _ (lanes : ℕ) (text out densities₀ work : List ℕ) where
 
   unfoldable pub keptFigures : List ℕ → List ℕ
   keptFigures old =
-      leaves 0 keptNumber
+      replaces keptNumber
       (figures
       (length (minimisedText (lanesOf lanes) text))
       (measureCount (lanesOf lanes) text)
@@ -153,7 +153,7 @@ module _ (lanes : ℕ) (text out : List ℕ) (beats₀ : List Float) where
 
   unfoldable pub timingFigures : List ℕ → List ℕ
   timingFigures old =
-      leaves 0 timingNumber
+      replaces timingNumber
       (figures
       (length (timingRows (lanesOf lanes) text))
       0
@@ -177,7 +177,7 @@ module _ (lanes : ℕ) (text slice : List ℕ) where
   spacingsLeft = leaves 0 measuresNumber (spacings (lanesOf lanes) text) slice
 
   unfoldable pub measuresFigures : List ℕ → List ℕ
-  measuresFigures old = leaves 0 measuresNumber (figures 0 (measureCount (lanesOf lanes) text) 0 0 0 0 0 noTally) old
+  measuresFigures old = replaces measuresNumber (figures 0 (measureCount (lanesOf lanes) text) 0 0 0 0 0 noTally) old
 
 -- chart_last_beat
 module _ (lanes : ℕ) (text : List ℕ) where
@@ -186,7 +186,7 @@ module _ (lanes : ℕ) (text : List ℕ) where
 
   unfoldable pub lastFigures : List ℕ → List ℕ
   lastFigures old =
-      leaves 0 lastNumber (figures 0 0 0 0 (lastBits (lanesOf lanes) text) 0 (last48 (lanesOf lanes) text) noTally) old
+      replaces lastNumber (figures 0 0 0 0 (lastBits (lanesOf lanes) text) 0 (last48 (lanesOf lanes) text) noTally) old
 
 -- process_rows_judgable and process_timing_rows
 module _ (lanes : ℕ) (text work : List ℕ) where
@@ -197,11 +197,11 @@ module _ (lanes : ℕ) (text work : List ℕ) where
   judgedWork = leaves 0 judgedNumber [] work
 
   unfoldable pub judgedFigures : List ℕ → List ℕ
-  judgedFigures old = leaves 0 judgedNumber (figures 0 0 0 0 0 0 0 (tallyFigures (judgedTally (lanesOf lanes) text))) old
+  judgedFigures old = replaces judgedNumber (figures 0 0 0 0 0 0 0 (tallyFigures (judgedTally (lanesOf lanes) text))) old
 
   unfoldable pub flaggedFigures : List ℕ → List ℕ → List ℕ
   flaggedFigures flags old =
-      leaves 0 judgedNumber (figures 0 0 0 0 0 0 0 (tallyFigures (flaggedTally (lanesOf lanes) flags text))) old
+      replaces judgedNumber (figures 0 0 0 0 0 0 0 (tallyFigures (flaggedTally (lanesOf lanes) flags text))) old
 
 -- read_note: the number, and the four places of the note, "row, tail (4294967295 for none), column, kind"
 abbrev pub readNumberOf : ReadNote → ℕ

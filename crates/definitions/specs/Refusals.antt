@@ -49,3 +49,7 @@ firstHeld (c ∷ cs) = cond (c .holds) (c .number) (firstHeld cs)
 -- "After an accepted call every entry past the answer in a slice lent for writing is 0"
 unfoldable pub leaves : {A : Type 0} → A → ℕ → List A → List A → List A
 leaves z number answer old = cond (eqb number 0) (padded z (length old) answer) old
+
+-- What a call leaves in the figures, or in the places of a note: an accepted call sets them all.
+unfoldable pub replaces : ℕ → List ℕ → List ℕ → List ℕ
+replaces number answer old = cond (eqb number 0) answer old

@@ -1,0 +1,53 @@
+-- From the answers of the crates below, by cases, to the number returned and the figures left.
+use mathlib.Core.Path.{_≡_, refl}
+use mathlib.Core.List.{List}
+use Prim.Native.Nat.{ℕ, zero, suc}
+use native.Mathlib.Omega.{arith}
+use lib.Dec.{eqb, eqb·suc-zero}
+use lib.Ieee.{Float}
+use Rattle.definitions.specs.Refusals.{replaces}
+use Rattle.scans.specs.Answers.{refusedOr, refusedOrBeat}
+use Rattle.scans.specs.declared.MeasuresAnswer.the-variants.{Refused, Measures}
+use Rattle.scans.specs.declared.LastBeat.the-variants as last
+
+-- a refused call: its number, and what was lent stays as it was
+pub refused-number : (k n m : ℕ) → refusedOr k n ≡ Refused m → m ≡ k
+refused-number zero n m e = let z : _≡_ {A = ℕ} 0 1 = cc in absurd (omega arith)
+refused-number (suc k) n m e = cc
+
+pub refused-replaces : (k n m : ℕ) → refusedOr k n ≡ Refused m → (a old : List ℕ) → old ≡ replaces k a old
+unfolding replaces
+refused-replaces zero n m e a old = let z : _≡_ {A = ℕ} 0 1 = cc in absurd (omega arith)
+refused-replaces (suc k) n m e a old = rw (eqb·suc-zero k)
+
+-- an accepted call: 0, the measures, and the figures
+pub accepted-number : (k n m : ℕ) → refusedOr k n ≡ Measures m → 0 ≡ k
+accepted-number zero n m e = refl
+accepted-number (suc k) n m e = let z : _≡_ {A = ℕ} 0 1 = cc in absurd (omega arith)
+
+pub accepted-measures : (k n m : ℕ) → refusedOr k n ≡ Measures m → m ≡ n
+accepted-measures zero n m e = cc
+accepted-measures (suc k) n m e = let z : _≡_ {A = ℕ} 0 1 = cc in absurd (omega arith)
+
+pub accepted-replaces : (k : ℕ) → 0 ≡ k → (a old : List ℕ) → a ≡ replaces k a old
+unfolding replaces
+accepted-replaces zero e a old = refl
+accepted-replaces (suc k) e a old = absurd (omega arith)
+
+-- the same of the last beat
+pub last-refused-number : (k : ℕ) (b : Float) (x y m : ℕ) → refusedOrBeat k b x y ≡ last.Refused m → m ≡ k
+last-refused-number zero b x y m e = let z : _≡_ {A = ℕ} 0 1 = cc in absurd (omega arith)
+last-refused-number (suc k) b x y m e = cc
+
+pub last-refused-replaces : (k : ℕ) (b : Float) (x y m : ℕ) → refusedOrBeat k b x y ≡ last.Refused m → (a old : List ℕ) → old ≡ replaces k a old
+unfolding replaces
+last-refused-replaces zero b x y m e a old = let z : _≡_ {A = ℕ} 0 1 = cc in absurd (omega arith)
+last-refused-replaces (suc k) b x y m e a old = rw (eqb·suc-zero k)
+
+pub last-accepted-number : (k : ℕ) (b c : Float) (x y p q : ℕ) → refusedOrBeat k b x y ≡ last.Beat c p q → 0 ≡ k
+last-accepted-number zero b c x y p q e = refl
+last-accepted-number (suc k) b c x y p q e = let z : _≡_ {A = ℕ} 0 1 = cc in absurd (omega arith)
+
+pub last-accepted-beat : (k : ℕ) (b c : Float) (x y p q : ℕ) → refusedOrBeat k b x y ≡ last.Beat c p q → (p ≡ x) × (q ≡ y)
+last-accepted-beat zero b c x y p q e = (cc, cc)
+last-accepted-beat (suc k) b c x y p q e = let z : _≡_ {A = ℕ} 0 1 = cc in absurd (omega arith)

@@ -1,0 +1,5 @@
+-- Laws of the phantom depths.
+pub mod Columns
+pub mod Rows
+pub mod Loop
+pub mod Corrected

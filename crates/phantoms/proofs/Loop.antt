@@ -1,0 +1,192 @@
+-- The loop of `phantom_row`: the columns before i are counted, and those from i on are as they were.
+use mathlib.Core.Path.{_≡_, refl, ap, sym, _∙_}
+use mathlib.Core.Bool.{Bool, true, false, _||_, or-assoc, or-false}
+use mathlib.Core.List.{List, [], _∷_, _++_}
+use Prim.Native.Nat.{ℕ, zero, suc, _+_, _*_, _-_, _<_, _≤_}
+use native.Mathlib.Decide.{decLt, ℕ-discrete}
+use native.Mathlib.Numerals.{add-one}
+use native.Mathlib.Nat.{le-of-suc-le-suc, not-suc-le-zero}
+use native.Mathlib.Omega.{arith}
+use lib.ListN.{length, getD, set, drop, length-append, drop-of-length-le, List·getD-eq-default}
+use lib.Seq.{drop-cons, getD-set-same, getD-set-other}
+use Rattle.definitions.specs.Lists.{oneIf, count, someColumn}
+use Rattle.definitions.specs.Lines.{Row}
+use Rattle.definitions.specs.Cells.{cellOf, byteAt}
+use Rattle.definitions.specs.Tracker.{holdAt}
+use Rattle.definitions.specs.Correction.{phantomStep, meetsPhantom, phantomMet, isOpening, isClosing}
+use Rattle.definitions.specs.declared.DepthEffect.{DepthEffect}
+use Rattle.definitions.specs.declared.DepthEffect.the-variants.{Nothing, Blocks, Opens, Closes}
+use Rattle.phantoms.specs.Phantoms.{depthAt, Low, Counts, CellCounted}
+use Rattle.phantoms.specs.declared.Phantoms.{Phantoms}
+use Rattle.phantoms.proofs.Columns.{column-same, column-or, column-past}
+use Rattle.phantoms.proofs.Rows.{after-snoc, met-snoc, heads-snoc, tails-snoc}
+
+pub low-more : (j k : ℕ) (p : Phantoms) → j ≤ k → Low j p → Low k p
+low-more j k p h l =
+    record {
+      depths = λ c m. omega (arith, l .depths c m);
+      heads = omega (arith, l .heads);
+      tails = omega (arith, l .tails);
+    }
+
+-- A cell whose effect is known.
+pub cell-known : (p : Phantoms) (c b : ℕ) (e : DepthEffect) (r : Phantoms) → c < length (p .depths) → holdAt b ≡ e
+    → r .depths ≡ set (p .depths) c (phantomStep e (depthAt p c))
+    → r .heads ≡ p .heads + oneIf (isOpening e)
+    → r .tails ≡ p .tails + oneIf (isClosing e)
+    → r .met ≡ (p .met || meetsPhantom e (depthAt p c))
+    → CellCounted p c b r
+cell-known p c b e r h k ds hs ts m =
+    record {
+      depth = rw (k, ds) (getD-set-same (p .depths) c _ 0 h);
+      others = λ d n. rw ds (getD-set-other (p .depths) c d _ 0 n);
+      heads = rw k hs;
+      tails = rw k ts;
+      met = rw k m;
+    }
+
+abbrev isHead : ℕ → Bool
+isHead b = isOpening (holdAt b)
+
+abbrev isTail : ℕ → Bool
+isTail b = isClosing (holdAt b)
+
+-- the depth after a row's cell in a column, and whether the cell meets a phantom depth there
+abbrev after : Row → Phantoms → ℕ → ℕ
+after row p c = phantomStep (holdAt (byteAt c row)) (depthAt p c)
+
+abbrev meets : Row → Phantoms → ℕ → Bool
+meets row p c = meetsPhantom (holdAt (byteAt c row)) (depthAt p c)
+
+-- With p before the row: what r holds when the loop is at column i.
+pub record Passed (row : Row) (p r : Phantoms) (i : ℕ) : Type 0 where
+  pub within : i ≤ length row
+  pub done : (c : ℕ) → c < i → depthAt r c ≡ after row p c
+  pub left : (c : ℕ) → i ≤ c → depthAt r c ≡ depthAt p c
+  pub heads : r .heads + count isHead (drop i row) ≡ p .heads + count isHead row
+  pub tails : r .tails + count isTail (drop i row) ≡ p .tails + count isTail row
+  pub met : r .met ≡ (p .met || someColumn i (meets row p))
+  pub low : (k : ℕ) → Low k p → Low (k + i) r
+
+pub passed-start : (row : Row) (p : Phantoms) → Passed row p p 0
+passed-start row p =
+    record {
+      within = omega arith;
+      done = λ c k. absurd (not-suc-le-zero k);
+      left = λ c k. refl;
+      heads = refl;
+      tails = refl;
+      met = sym (or-false (p .met));
+      low = λ k l. low-more k (k + 0) p (omega arith) l;
+    }
+
+-- inside a list its default does not count
+any-default : (l : List ℕ) (i d e : ℕ) → i < length l → getD l i d ≡ getD l i e
+any-default [] i d e h = absurd (not-suc-le-zero h)
+any-default (x ∷ l) zero d e h = refl
+any-default (x ∷ l) (suc i) d e h = any-default l i d e (le-of-suc-le-suc h)
+
+step-le : (e : DepthEffect) (d : ℕ) → phantomStep e d ≤ d + 1
+step-le Nothing d = omega arith
+step-le Blocks d = omega arith
+step-le Opens d = omega arith
+step-le Closes d = omega arith
+
+one-le : (b : Bool) → oneIf b ≤ 1
+one-le true = omega arith
+one-le false = omega arith
+
+-- one cell more of a count
+count-next : (p : ℕ → Bool) (row : Row) (i n m k : ℕ) → i < length row → m ≡ n + oneIf (p (getD row i 0)) → n + count p (drop i row) ≡ k
+    → m + count p (drop (i + 1) row) ≡ k
+count-next p row i n m k h e f =
+    let d : count p (drop i row) ≡ oneIf (p (getD row i 0)) + count p (drop (i + 1) row) = rw (add-one, drop-cons row i 0) in
+    omega arith
+
+-- no cell is left to count
+count-end : (p : ℕ → Bool) (row : Row) (i n k : ℕ) → length row ≤ i → n + count p (drop i row) ≡ k → n ≡ k
+count-end p row i n k h f = let d : count p (drop i row) ≡ 0 = rw (drop-of-length-le row h) in omega arith
+
+module _ (row : Row) (p r q : Phantoms) (i : ℕ) (s : Passed row p r i) (h : i < length row) (cell : CellCounted r i (getD row i 0) q) where
+  -- the cell, as the row has it
+  byte : getD row i 0 ≡ byteAt i row
+  byte = any-default row i 0 48 h
+
+  next-here : depthAt q i ≡ after row p i
+  next-here = cell .depth ∙ rw (byte, s .left i (omega arith))
+
+  next-met : q .met ≡ (p .met || someColumn (i + 1) (meets row p))
+  next-met = cell .met ∙ rw (s .met, byte, s .left i (omega arith), add-one, or-assoc)
+
+  next-low : (k : ℕ) → Low k p → Low (k + (i + 1)) q
+  next-low k l =
+      let m = s .low k l in
+      record {
+        depths =
+            λ c b.
+            elim (ℕ-discrete c i) [
+              | yes e ↦ let d : depthAt q c ≡ depthAt q i = ap (depthAt q) e in
+                  let d' : depthAt r c ≡ depthAt r i = ap (depthAt r) e in
+                  omega (arith, cell .depth, step-le (holdAt (getD row i 0)) (depthAt r i), m .depths c b)
+              | no n ↦ omega (arith, cell .others c n, m .depths c b)
+            ];
+        heads = omega (arith, cell .heads, one-le (isHead (getD row i 0)), m .heads);
+        tails = omega (arith, cell .tails, one-le (isTail (getD row i 0)), m .tails);
+      }
+
+  pub passed-next : Passed row p q (i + 1)
+  passed-next =
+      record {
+        within = omega arith;
+        done =
+            λ c k.
+            elim (decLt c i) [
+              | yes b ↦ cell .others c (λ e. omega arith) ∙ s .done c b
+              | no b ↦ let e : c ≡ i = omega arith in rw e next-here
+            ];
+        left = λ c k. cell .others c (λ e. omega arith) ∙ s .left c (omega arith);
+        heads = count-next isHead row i (r .heads) (q .heads) _ h (cell .heads) (s .heads);
+        tails = count-next isTail row i (r .tails) (q .tails) _ h (cell .tails) (s .tails);
+        met = next-met;
+        low = next-low;
+      }
+
+-- past the row's end a byte is a `0`, which does nothing
+past-end : (row : Row) (c : ℕ) → length row ≤ c → holdAt (byteAt c row) ≡ Nothing
+unfolding holdAt cellOf
+past-end row c h = rw (List·getD-eq-default row 48 h)
+
+module _ (row : Row) (p r : Phantoms) (i : ℕ) (s : Passed row p r i) (h : length row ≤ i) where
+  all-done : (c : ℕ) → depthAt r c ≡ after row p c
+  all-done c =
+      elim (decLt c i) [
+        | yes b ↦ s .done c b
+        | no b ↦ s .left c (omega arith) ∙ rw (past-end row c (omega arith))
+      ]
+
+  module _ (L : ℕ) (rows : List Row) (wide : length row ≤ L) (narrow : L ≤ 10) (counts : Counts L rows p) where
+    met-row : r .met ≡ (p .met || someColumn L (meets row p))
+    met-row =
+        let e : i + (L - i) ≡ L = omega (arith, s .within) in
+        let past = column-past i (L - i) (meets row p) (λ c k. rw (past-end row c (omega arith))) in
+        s .met ∙ ap (λ t. p .met || t) (sym past ∙ ap (λ n. someColumn n (meets row p)) e)
+
+    met-all : r .met ≡ someColumn L (λ c. phantomMet c 0 (rows ++ (row ∷ [])))
+    met-all =
+        met-row
+        ∙ rw (counts .met)
+        (sym (column-or L (λ c. phantomMet c 0 rows) (meets row p))
+        ∙ column-same L _ _ (λ c k. rw (counts .depths c k) (sym (met-snoc c 0 rows row))))
+
+    pub passed-end : Counts L (rows ++ (row ∷ [])) r
+    passed-end =
+        record {
+          depths = λ c k. all-done c ∙ rw (counts .depths c k) (sym (after-snoc c 0 rows row));
+          heads = count-end isHead row i (r .heads) _ h (s .heads) ∙ rw (counts .heads) (sym (heads-snoc rows row));
+          tails = count-end isTail row i (r .tails) _ h (s .tails) ∙ rw (counts .tails) (sym (tails-snoc rows row));
+          met = met-all;
+          low =
+              let n = length-append rows (row ∷ []) in
+              low-more (10 * length rows + i) (10 * length (rows ++ (row ∷ []))) r (omega (arith, s .within, narrow))
+              (s .low (10 * length rows) (counts .low));
+        }

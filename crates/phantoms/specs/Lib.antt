@@ -1,0 +1,2 @@
+-- What the contracts of the phantom depths cite, beside the definitions.
+pub mod Phantoms

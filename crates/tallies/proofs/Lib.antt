@@ -1,0 +1,6 @@
+-- Laws of the tallies, by topic.
+pub mod Sums
+pub mod Bounds
+pub mod Loops
+pub mod Kept
+pub mod Rows

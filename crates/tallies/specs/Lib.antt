@@ -1,0 +1,4 @@
+-- What the contracts of the tallies cite, beside the definitions.
+pub mod Bounds
+pub mod Kept
+pub mod Sums

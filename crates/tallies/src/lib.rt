@@ -1,0 +1,335 @@
+// Row sums and tallies: what a row adds up to, the tally with one row more, and the same of rows with only paired heads and of judged rows.
+use cells::Taps;
+use definitions::ArrowStats;
+use definitions::Cell;
+use definitions::DepthEffect;
+use definitions::RowSum;
+ghost use mathlib.Core.Path.{_≡_};
+ghost use mathlib.Core.Bool.{true};
+ghost use Prim.Native.Nat.{_+_, _-_, _≤_, _<_};
+ghost use lib.ListN.{length};
+ghost use Rattle.definitions.specs.Lists.{oneIf};
+ghost use Rattle.definitions.specs.Cells.{cellOf, isArrow};
+ghost use Rattle.definitions.specs.Tracker.{holdAt};
+ghost use Rattle.definitions.specs.Tally.{noStats, rowSum, rowSumBy, addSum, addRow};
+ghost use Rattle.definitions.specs.Correction.{keepHead, withSteps};
+ghost use Rattle.definitions.specs.Judged.{isJudgedArrow, onlyFakes, judgedSum, judgeRow};
+ghost use Rattle.tallies.specs.Bounds.{Under, Below};
+ghost use Rattle.tallies.specs.Kept.{hasBit, keptCell, keepMask};
+ghost use Rattle.tallies.specs.Sums.{noSum, addArrow, addCounted, addCell, arrowOf};
+
+// The sum of no cells.
+fn no_sum() -> RowSum
+    ensures { λ r. ⌜ r ≡ noSum ⌝ }
+{
+    RowSum {
+        arrows: 0,
+        left: 0,
+        down: 0,
+        up: 0,
+        right: 0,
+        holds: 0,
+        rolls: 0,
+        tails: 0,
+        mines: 0,
+        lifts: 0,
+        fakes: 0,
+    }
+}
+
+// With an arrow in a column. Column mod 4 gives left, down, up, right.
+fn bump_dir(s: RowSum, column: usize) -> RowSum
+    requires { ⌜ Under 10 s ⌝ }
+    ensures { λ r. ⌜ r ≡ addArrow s column true ⌝ }
+{
+    let mut t = s;
+    t.arrows += 1;
+    let direction = column % 4;
+    match direction {
+        0 => t.left += 1,
+        1 => t.down += 1,
+        2 => t.up += 1,
+        _ => t.right += 1,
+    }
+    t
+}
+
+// With what a byte is counted as beside an arrow.
+fn add_counted(s: RowSum, b: u8) -> RowSum
+    requires { ⌜ Under 11 s ⌝ }
+    ensures { λ r. ⌜ r ≡ addCounted s (cellOf b) ⌝ }
+{
+    let mut t = s;
+    match cells::cell_of(b) {
+        Cell::Hold => t.holds += 1,
+        Cell::Roll => t.rolls += 1,
+        Cell::Tail => t.tails += 1,
+        Cell::Mine | Cell::LowerMine => t.mines += 1,
+        Cell::Lift | Cell::LowerLift => t.lifts += 1,
+        Cell::Fake | Cell::LowerFake => t.fakes += 1,
+        Cell::Empty | Cell::Tap | Cell::KeySound => {}
+    }
+    t
+}
+
+// One cell of a row, in a column, where `arrow` says whether it is an arrow.
+fn add_cell(s: RowSum, column: usize, b: u8, arrow: bool) -> RowSum
+    requires { ⌜ Under 10 s ⌝ }
+    ensures { λ r. ⌜ r ≡ addCell s column (cellOf b) arrow ⌝ }
+{
+    if arrow {
+        let t = bump_dir(s, column);
+        return add_counted(t, b);
+    }
+    add_counted(s, b)
+}
+
+// One cell of a plain row.
+fn sum_cell(s: RowSum, column: usize, b: u8) -> RowSum
+    requires { ⌜ Under 10 s ⌝ }
+    ensures { λ r. ⌜ r ≡ addCell s column (cellOf b) (isArrow (cellOf b)) ⌝ }
+{
+    let arrow = cells::is_note(b);
+    add_cell(s, column, b, arrow)
+}
+
+// What a row adds up to, cell by cell.
+fn row_sum(row: &[u8]) -> RowSum
+    requires { ⌜ length (now row) ≤ 10 ⌝ }
+    ensures { λ r. ⌜ r ≡ rowSum (now (row .entry)) ⌝ }
+{
+    let mut s = no_sum();
+    let mut i = 0;
+    while i < row.len() {
+        s = sum_cell(s, i, row[i]);
+        i += 1;
+    }
+    s
+}
+
+// The same, by the table where the row is of taps alone.
+fn row_sum_masked(row: &[u8]) -> RowSum
+    requires { ⌜ length (now row) ≤ 10 ⌝ }
+    ensures { λ r. ⌜ r ≡ rowSum (now (row .entry)) ⌝ }
+{
+    match cells::tap_line_mask(row) {
+        Taps::Mask(mask) => cells::tap_sum(mask),
+        Taps::Other => row_sum(row),
+    }
+}
+
+// The tally of no rows.
+pub fn no_stats() -> ArrowStats
+    ensures { λ r. ⌜ r ≡ noStats ⌝ }
+{
+    ArrowStats {
+        total_arrows: 0,
+        left: 0,
+        down: 0,
+        up: 0,
+        right: 0,
+        total_steps: 0,
+        jumps: 0,
+        hands: 0,
+        mines: 0,
+        holds: 0,
+        rolls: 0,
+        lifts: 0,
+        fakes: 0,
+        holding: 0,
+    }
+}
+
+// 1 where the test holds, else 0.
+fn one_if(test: bool) -> u32
+    ensures { λ r. ⌜ (r ≡ oneIf test) × (r ≤ 1) ⌝ }
+{
+    if test { 1 } else { 0 }
+}
+
+// The tally with one row more, where `hand` says whether it is a hand and `holding` what is held after it.
+fn add_sum(t: ArrowStats, s: RowSum, hand: bool, holding: u32) -> ArrowStats
+    requires { ⌜ Below 4294967285 t × Under 10 s ⌝ }
+    ensures { λ r. ⌜ r ≡ addSum t s hand holding ⌝ }
+{
+    let step = one_if(1 <= s.arrows);
+    let jump = one_if(2 <= s.arrows);
+    let hands = one_if(hand);
+    ArrowStats {
+        total_arrows: t.total_arrows + s.arrows,
+        left: t.left + s.left,
+        down: t.down + s.down,
+        up: t.up + s.up,
+        right: t.right + s.right,
+        total_steps: t.total_steps + step,
+        jumps: t.jumps + jump,
+        hands: t.hands + hands,
+        mines: t.mines + s.mines,
+        holds: t.holds + s.holds,
+        rolls: t.rolls + s.rolls,
+        lifts: t.lifts + s.lifts,
+        fakes: t.fakes + s.fakes,
+        holding,
+    }
+}
+
+// What is held after a row: the larger of 0 and holding + heads − tails.
+fn held_after(holding: u32, heads: u32, tails: u32) -> u32
+    requires { ⌜ holding + heads ≤ 4294967295 ⌝ }
+    ensures { λ r. ⌜ r ≡ holding + heads - tails ⌝ }
+{
+    let held = holding + heads;
+    if tails <= held { held - tails } else { 0 }
+}
+
+// The tally with one row more. A hand is a step whose arrows plus the holds before the row make 3 or more.
+pub fn add_row(t: ArrowStats, s: RowSum) -> ArrowStats
+    requires { ⌜ Below 4294967285 t × Under 10 s ⌝ }
+    ensures { λ r. ⌜ r ≡ addRow t s ⌝ }
+{
+    let hand = (1 <= s.arrows) & (3 <= s.arrows + t.holding);
+    let holding = held_after(t.holding, s.holds + s.rolls, s.tails);
+    add_sum(t, s, hand, holding)
+}
+
+// The judged tally with one row more, before which `held` holds are open.
+pub fn add_judged_row(t: ArrowStats, judged: bool, held: u32, s: RowSum) -> ArrowStats
+    requires { ⌜ Below 4294967285 t × Under 10 s × (held ≤ 4294967285) ⌝ }
+    ensures { λ r. ⌜ r ≡ judgeRow t judged held s ⌝ }
+{
+    let hand = judged & (1 <= s.arrows + s.mines + s.fakes) & (3 <= s.arrows + held);
+    add_sum(t, s, hand, 0)
+}
+
+// The tally with one row more, by value.
+fn count_row(t: ArrowStats, row: &[u8]) -> ArrowStats
+    requires { ⌜ (length (now row) ≤ 10) × Below 4294967285 t ⌝ }
+    ensures { λ r. ⌜ r ≡ addRow t (rowSum (now (row .entry))) ⌝ }
+{
+    let s = row_sum_masked(row);
+    add_row(t, s)
+}
+
+// The running tally is lent by the caller and altered there.
+fn count_row_into(stats: &mut ArrowStats, row: &[u8])
+    requires { ⌜ (length (now row) ≤ 10) × Below 4294967285 (now stats) ⌝ }
+    ensures { λ _. ⌜ now (stats .exit) ≡ addRow (now (stats .entry)) (rowSum (now (row .entry))) ⌝ }
+{
+    let t = *stats;
+    let r = count_row(t, row);
+    *stats = r;
+}
+
+// The tally with one row more: it is lent to the row count, and handed back.
+pub fn count_line(t: ArrowStats, row: &[u8]) -> ArrowStats
+    requires { ⌜ (length (now row) ≤ 10) × Below 4294967285 t ⌝ }
+    ensures { λ r. ⌜ r ≡ addRow t (rowSum (now (row .entry))) ⌝ }
+{
+    let mut stats = t;
+    count_row_into(&mut stats, row);
+    stats
+}
+
+// Whether the mask has the bit of a column.
+fn has_bit(mask: u16, column: usize) -> bool
+    requires { ⌜ column < 10 ⌝ }
+    ensures { λ r. ⌜ r ≡ hasBit column mask ⌝ }
+{
+    (mask >> column) & 1 == 1
+}
+
+// A byte as it is counted anew: a head that is not paired is a `0`.
+fn keep_head(b: u8, paired: bool) -> u8
+    ensures { λ r. ⌜ r ≡ keepHead (holdAt b) paired b ⌝ }
+{
+    match cells::hold_effect(b) {
+        DepthEffect::Opens => { if paired { b } else { b'0' } }
+        DepthEffect::Closes => b,
+        DepthEffect::Blocks => b,
+        DepthEffect::Nothing => b,
+    }
+}
+
+// Whether the byte is an arrow of a judged row.
+fn is_judged_arrow(b: u8) -> bool
+    ensures { λ r. ⌜ r ≡ isJudgedArrow (cellOf b) ⌝ }
+{
+    match cells::cell_of(b) {
+        Cell::Tap | Cell::Hold | Cell::Roll | Cell::Lift | Cell::LowerLift => true,
+        _ => false,
+    }
+}
+
+// One cell of a row of which only the heads of a mask count, judged or plain.
+fn kept_cell(s: RowSum, column: usize, b: u8, heads: u16, judged: bool) -> RowSum
+    requires { ⌜ (column < 10) × Under 10 s ⌝ }
+    ensures { λ r. ⌜ r ≡ addCell s column (keptCell heads column b) (arrowOf judged (keptCell heads column b)) ⌝ }
+{
+    let kept = keep_head(b, has_bit(heads, column));
+    if judged {
+        let arrow = is_judged_arrow(kept);
+        return add_cell(s, column, kept, arrow);
+    }
+    sum_cell(s, column, kept)
+}
+
+// What a row adds up to of which only the heads of a mask count, judged or plain.
+fn kept_sum(row: &[u8], heads: u16, judged: bool) -> RowSum
+    requires { ⌜ length (now row) ≤ 10 ⌝ }
+    ensures { λ r. ⌜ r ≡ rowSumBy (arrowOf judged) (keepMask heads 0 (now (row .entry))) ⌝ }
+{
+    let mut s = no_sum();
+    let mut i = 0;
+    while i < row.len() {
+        s = kept_cell(s, i, row[i], heads, judged);
+        i += 1;
+    }
+    s
+}
+
+// The tally with one row more, of which only the heads of a mask count.
+pub fn count_line_masked(t: ArrowStats, row: &[u8], heads: u16) -> ArrowStats
+    requires { ⌜ (length (now row) ≤ 10) × Below 4294967285 t ⌝ }
+    ensures { λ r. ⌜ r ≡ addRow t (rowSum (keepMask heads 0 (now (row .entry)))) ⌝ }
+{
+    let s = kept_sum(row, heads, false);
+    add_row(t, s)
+}
+
+// A sum of fakes alone.
+fn only_fakes(n: u32) -> RowSum
+    ensures { λ r. ⌜ r ≡ onlyFakes n ⌝ }
+{
+    let mut s = no_sum();
+    s.fakes = n;
+    s
+}
+
+// What a row adds up to, judged or not, of which only the heads of a mask count. On an unjudged row each arrow, mine and fake is one fake.
+pub fn judged_sum_masked(judged: bool, row: &[u8], heads: u16) -> RowSum
+    requires { ⌜ length (now row) ≤ 10 ⌝ }
+    ensures { λ r. ⌜ r ≡ judgedSum judged (keepMask heads 0 (now (row .entry))) ⌝ }
+{
+    let s = kept_sum(row, heads, true);
+    if judged {
+        return s;
+    }
+    only_fakes(s.arrows + s.mines + s.fakes)
+}
+
+// What a row adds up to, judged or not: with all its heads.
+pub fn judged_sum(judged: bool, row: &[u8]) -> RowSum
+    requires { ⌜ length (now row) ≤ 10 ⌝ }
+    ensures { λ r. ⌜ r ≡ judgedSum judged (now (row .entry)) ⌝ }
+{
+    judged_sum_masked(judged, row, 1023)
+}
+
+// A tally that keeps the steps of another.
+pub fn with_steps(t: ArrowStats, steps: u32) -> ArrowStats
+    ensures { λ r. ⌜ r ≡ withSteps steps t ⌝ }
+{
+    let mut r = t;
+    r.total_steps = steps;
+    r
+}
