@@ -1,3 +1,4 @@
--- One line more, by its kind.
+-- One line more, by its kind, of a chart and of minimised text read back.
 pub mod Parts
 pub mod Reading
+pub mod BackReading

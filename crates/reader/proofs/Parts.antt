@@ -38,7 +38,7 @@ trim-drop (b ∷ l) = go (isBlank b) (trim-drop l)
         rw n
 
 -- the first line is the text's front
-line-front : (s : List ℕ) → firstLine s ≡ take (length (firstLine s)) s
+pub line-front : (s : List ℕ) → firstLine s ≡ take (length (firstLine s)) s
 unfolding firstLine
 line-front [] = refl
 line-front (x ∷ xs) = go (eqb x 10) (line-front xs)

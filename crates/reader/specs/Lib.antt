@@ -1,2 +1,3 @@
--- What reading by lines means to a loop.
+-- What reading by lines means to a loop: a chart, and minimised text read back.
 pub mod Reading
+pub mod BackReading

@@ -1,4 +1,6 @@
 // Reading a chart's text line by line: what the line at a place is, where its row stands, and where the next line starts.
+pub mod back;
+
 use definitions::LineKind;
 ghost use mathlib.Core.Path.{_≡_};
 ghost use Prim.Native.Nat.{_≤_};
@@ -9,6 +11,12 @@ ghost use Rattle.reader.specs.Reading.{LineRead};
 pub struct ReadLine {
     pub kind: LineKind,
     pub start: usize,
+    pub next: usize,
+}
+
+// A line of minimised text that was read back: whether it is a row, which then begins where the line does, and where the next line begins.
+pub struct BackLine {
+    pub row: bool,
     pub next: usize,
 }
 
