@@ -10,6 +10,7 @@ use definitions::RowSum;
 ghost use mathlib.Core.Path.{_≡_};
 ghost use Prim.Native.Nat.{_≤_, _<_};
 ghost use lib.ListN.{length, take};
+ghost use Rattle.definitions.specs.Lists.{oneIf};
 ghost use Rattle.definitions.specs.Cells.{cellOf, isArrow};
 ghost use Rattle.definitions.specs.Figures.{isStep};
 ghost use Rattle.definitions.specs.Tracker.{holdAt};
@@ -17,6 +18,13 @@ ghost use Rattle.definitions.specs.Objects.{objectAt};
 ghost use Rattle.definitions.specs.Notes.{effectAt};
 ghost use Rattle.cells.specs.Rows.{Low, NoDepths, CellDone, RowDone};
 ghost use Rattle.cells.specs.Taps.{tapMask, tapLineMask, maskCounts, unpack};
+
+// 1 where the test holds, else 0.
+pub fn one_if(test: bool) -> u32
+    ensures { λ r. ⌜ (r ≡ oneIf test) × (r ≤ 1) ⌝ }
+{
+    if test { 1 } else { 0 }
+}
 
 // What a byte of a row stands for.
 pub fn cell_of(b: u8) -> Cell

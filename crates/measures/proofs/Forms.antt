@@ -63,7 +63,7 @@ abbrev line : Row → Row
 line r = r ++ (10 ∷ [])
 
 -- in the text each row has byte 10 after it
-pub in-text : (L : ℕ) → Form rowText (L + 1) L
+unfoldable pub in-text : (L : ℕ) → Form rowText (L + 1) L
 in-text L =
     record {
       block = line;
@@ -82,7 +82,7 @@ text-append [] ss = refl
 text-append (r ∷ rs) ss = rw (text-append rs ss, append-assoc)
 
 -- back to back a row stands as it is
-pub back-to-back : (L : ℕ) → Form joined L L
+unfoldable pub back-to-back : (L : ℕ) → Form joined L L
 back-to-back L =
     record {
       block = λ r. r;

@@ -36,7 +36,7 @@ fn fill_densities(data: &[u8], lanes: usize, densities: &mut [u32]) -> usize
             }
             LineKind::Row => {
                 let end = start + lanes;
-                steps += crate::one_if(cells::row_has_note(&data[start..end]));
+                steps += cells::one_if(cells::row_has_note(&data[start..end]));
             }
         }
         off = next;

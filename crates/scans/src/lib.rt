@@ -7,8 +7,7 @@ pub mod spacing;
 use beats::LastObject;
 use cells::Depths;
 ghost use mathlib.Core.Path.{_≡_};
-ghost use Prim.Native.Nat.{_≤_, min};
-ghost use Rattle.definitions.specs.Lists.{oneIf};
+ghost use Prim.Native.Nat.{min};
 
 // The answer of a scan that fills a slice with a figure for each measure: how many measures there are, or the refusal's number.
 pub enum MeasuresAnswer {
@@ -44,13 +43,6 @@ pub struct LastScan {
 pub enum LastBeat {
     Refused(u32),
     Beat { beat: f64, bits: u64, row: u64 },
-}
-
-// 1 where the test holds, else 0.
-fn one_if(test: bool) -> u32
-    ensures { λ r. ⌜ (r ≡ oneIf test) × (r ≤ 1) ⌝ }
-{
-    if test { 1 } else { 0 }
 }
 
 fn smaller(a: u32, b: u32) -> u32

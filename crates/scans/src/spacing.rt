@@ -30,7 +30,7 @@ fn spacing_row(s: MeasureSpacing, row: &[u8]) -> MeasureSpacing
     ensures { λ r. ⌜ ((cur : List Row) → Spaces s cur → Spaces r (cur ++ (now (row .entry) ∷ []))) ⌝ }
 {
     let rows = s.rows;
-    let steps = s.steps + crate::one_if(cells::row_has_note(row));
+    let steps = s.steps + cells::one_if(cells::row_has_note(row));
     if measures::is_all_zero(row) {
         return MeasureSpacing {
             rows: rows + 1,

@@ -1,0 +1,126 @@
+-- `counting::count_rows` meets its contract. The loop's invariant: the first `i` rows are counted, and the next one stands at `at`.
+use Prim.Native.Nat.{ℕ, _≤_, _<_, _+_, _-_, _*_}
+use mathlib.Core.Path.{_≡_, refl, ap, sym, _∙_, subst}
+use mathlib.Core.List.{List, [], _∷_, _++_}
+use native.Mathlib.Nat.{add-sub-cancel-left, zero-mul, add-zero, add-mul, one-mul}
+use native.Mathlib.Numerals.{add-one}
+use native.Mathlib.Omega.{arith}
+use borrow.Author.Needs.{needs}
+use denote.Ref.{now}
+use lib.ListN.{length, take, drop, getD, length-take}
+use lib.Seq.{take-suc, take-all}
+use Rattle.definitions.specs.Lines.{Row}
+use Rattle.measures.specs.Rows.{rowsAt}
+use Rattle.measures.proofs.RowsAt.{rows-length, row-part}
+use Rattle.measures.proofs.Powers.{row-end}
+use Rattle.counting.specs.Counted.{Few, Counted}
+use Rattle.counting.proofs.Rows.{counted-grown}
+use Rattle.counting.proofs.count_rows.Statement.{statement}
+use Rattle.counting.proofs.count_rows.Tie as tie
+
+abbrev Inv-loop : tie.InvT-loop
+Inv-loop text start rows lanes c₀ i₀ at₀ c i at =
+    (i ≤ rows) × (at ≡ start + i * (lanes + 1))
+    × ((done : List (List Row)) → Counted lanes c₀ done [] → Counted lanes c done (take i (rowsAt (lanes + 1) lanes rows (drop start text))))
+
+abbrev μ-loop : tie.MeasureT-loop
+μ-loop text start rows lanes c₀ i₀ at₀ c i at = rows - i
+
+-- the row stands in the text
+room : (c : tie.In-loop Inv-loop μ-loop) →
+    let at = c .before in
+    let a = at .before .before .args in
+    at .loop .at + (a .lanes + 1) ≤ length (now (a .text))
+room c =
+    let at = c .before in
+    let a = at .before .before .args in
+    omega (arith, at .loop .inv .1, row-end (at .loop .i) (a .rows) (a .lanes + 1) (c .loop-test .taken))
+
+-- and there are few so far
+few : (c : tie.In-loop Inv-loop μ-loop) →
+    let at = c .before in
+    let a = at .before .before .args in
+    (at .loop .c .rows ≤ a .old .rows + at .loop .i) × Few (at .loop .c)
+few c =
+    let at = c .before in
+    let a = at .before .before .args in
+    let some = at .before .before .pre .1 .1 in
+    let x = at .loop .inv .2 (some .done) (some .counted) in
+    (counted-grown _ _ _ _ _ (at .loop .i) (some .counted) x (rw length-take (omega arith)), x .few)
+
+loop-holds : tie.Need-loop-holds Inv-loop μ-loop
+loop-holds c = (omega arith, omega (arith, zero-mul (c .before .args .lanes + 1)), λ done x. x)
+
+add-end : tie.Need-add-end Inv-loop μ-loop
+add-end c = omega (arith, room c)
+
+sub-count-counting : tie.Need-sub-count-counting Inv-loop μ-loop
+sub-count-counting c = omega arith
+
+part-count-counting-start : tie.Need-part-count-counting-start Inv-loop μ-loop
+part-count-counting-start c = omega (arith, room c)
+
+part-count-counting-end : tie.Need-part-count-counting-end Inv-loop μ-loop
+part-count-counting-end c = omega (arith, room c)
+
+count-counting-requires : tie.Need-count-counting-requires Inv-loop μ-loop
+count-counting-requires c κs =
+    let w = few (c .before) in
+    (rw length-take (omega arith), omega (arith, w .0), w .1)
+
+add-at : tie.Need-add-at Inv-loop μ-loop
+add-at c = omega (arith, room (c .before .before))
+
+add-i : tie.Need-add-i Inv-loop μ-loop
+add-i c = omega arith
+
+loop-less : tie.Need-loop-less Inv-loop μ-loop
+loop-less c = omega arith
+
+loop-again : tie.Need-loop-again Inv-loop μ-loop
+loop-again c =
+    let k = c .before .before in
+    let at = k .before in
+    let a = at .before .before .args in
+    let w = a .lanes + 1 in
+    let n = at .loop .i in
+    let ms = rowsAt w (a .lanes) (a .rows) (drop (a .start) (now (a .text))) in
+    let here : n < length ms = rw rows-length (k .loop-test .taken) in
+    let row : getD ms n [] ≡ take (at .loop .at + a .lanes - at .loop .at) (drop (at .loop .at) (now (a .text))) =
+    row-part (now (a .text)) (a .start) w (a .lanes) (a .rows) n (k .loop-test .taken) ∙ ap (λ p. take (p + a .lanes - p) (drop p (now (a .text)))) (sym (at .loop .inv .1)) in
+    let more : take (n + 1) ms ≡ take n ms ++ (take (at .loop .at + a .lanes - at .loop .at) (drop (at .loop .at) (now (a .text))) ∷ []) =
+    ap (λ p. take p ms) (add-one n) ∙ take-suc ms n [] here ∙ ap (λ r. take n ms ++ (r ∷ [])) row in (
+      omega arith,
+      next-at (at .loop .at) (a .start) n (a .lanes) (at .loop .inv .1),
+      λ done x. subst (Counted (a .lanes) (c .count-counting .result) done) (sym more)
+          (c .count-counting .ensures (a .lanes) done (take n ms) (rw length-take (omega arith)) (omega arith) (at .loop .inv .2 done x)),
+    )
+  where
+    next-at : (at start n lanes : ℕ) → at ≡ start + n * (lanes + 1) → at + lanes + 1 ≡ start + (n + 1) * (lanes + 1)
+    next-at at start n lanes e = rw (add-mul, one-mul) (omega arith)
+
+returns : tie.Need-returns Inv-loop μ-loop
+returns c =
+    let at = c .before in
+    let a = at .before .before .args in
+    let ms = rowsAt (a .lanes + 1) (a .lanes) (a .rows) (drop (a .start) (now (a .text))) in
+    let all : length ms ≤ at .loop .i = rw rows-length (omega arith) in
+    λ done x. subst (Counted (a .lanes) (at .loop .c) done) (take-all (at .loop .i) ms all) (at .loop .inv .2 done x)
+
+pub count-rows-spec : {M : Type 1} → statement M
+count-rows-spec =
+    tie.close
+    (tie.spec
+    Inv-loop
+    μ-loop
+    loop-holds
+    add-end
+    sub-count-counting
+    part-count-counting-start
+    part-count-counting-end
+    count-counting-requires
+    add-at
+    add-i
+    loop-less
+    loop-again
+    returns)

@@ -1,0 +1,110 @@
+-- The pass with one row more, and with the open measure minimised and counted.
+use mathlib.Core.Path.{_≡_, refl, ap, sym, _∙_, subst}
+use mathlib.Core.List.{List, [], _∷_, _++_, map}
+use Prim.Native.Nat.{ℕ, _+_, _*_, _≤_, _<_}
+use native.Mathlib.Nat.{mul-le-mul-right}
+use native.Mathlib.Omega.{arith}
+use native.Mathlib.Numerals.{add-one}
+use lib.ListN.{length, take, drop, set, length-append}
+use lib.Seq.{take-suc-set}
+use Rattle.definitions.specs.Lists.{joined}
+use Rattle.definitions.specs.Lines.{Row}
+use Rattle.definitions.specs.Reduction.{reduce}
+use Rattle.definitions.specs.Figures.{rowText, density}
+use Rattle.definitions.proofs.Thinned.{Thinned, none, keep, leave, reduce-thin}
+use Rattle.counting.specs.declared.Counting.{Counting}
+use Rattle.counting.specs.Counted.{Counted, SomeCounted}
+use Rattle.measures.specs.Rows.{rowsAt, placed, Holds, Reduced}
+use Rattle.measures.proofs.Forms.{Form, in-text, form-rows}
+use Rattle.output.specs.Wrote.{Wrote}
+use Rattle.output.proofs.Writing.{wrote-start, wrote-row, wrote-holds, wrote-reduced, wrote-sep}
+use Rattle.kept.specs.declared.Pass.{Pass}
+use Rattle.kept.specs.Pass.{Open, Closed, SomeOpen, Kept}
+
+-- minimising keeps no more rows than there are
+thin-short : {s t : List Row} → Thinned s t → length t ≤ length s
+thin-short none = omega arith
+thin-short (keep p) = omega (arith, thin-short p)
+thin-short (leave z p) = omega (arith, thin-short p)
+
+pub reduce-short : (rs : List Row) → length (reduce rs) ≤ length rs
+reduce-short rs = thin-short (reduce-thin rs)
+
+abbrev sep : List ℕ
+sep = 44 ∷ 10 ∷ []
+
+pub open-start : (L : ℕ) (text : List ℕ) (c : Counting) → Counted L c [] [] → Open L (record { counting = c; start = 0; out = 0; rows = 0; midx = 0 }) text [] []
+open-start L text c x = record { wrote = wrote-start (in-text L) sep text; counted = x; rows = refl; midx = refl }
+
+module _ (p : Pass) (text : List ℕ) (row : Row) (room : p .out + length row + 1 ≤ length text) (after : List ℕ) (e : after ≡ placed (p .out) (row ++ (10 ∷ [])) text) where
+  pub open-row : (done : List (List Row)) (cur : List Row) → Open (length row) p text done cur
+      → Open (length row) (record { counting = p .counting; start = p .start; out = p .out + length row + 1; rows = p .rows + 1; midx = p .midx }) after done (cur ++ (row ∷ []))
+  unfolding in-text
+  open-row done cur x =
+      let fits : p .out + (length row + 1) ≤ length text = omega arith in
+      let out : p .out + (length row + 1) ≡ p .out + length row + 1 = omega arith in
+      record {
+        wrote = subst (λ t. Wrote rowText sep (length row + 1) (length row) t (p .start) (p .out + length row + 1) done (cur ++ (row ∷ []))) (sym e)
+            (subst (λ n. Wrote rowText sep (length row + 1) (length row) (placed (p .out) (row ++ (10 ∷ [])) text) (p .start) n done (cur ++ (row ∷ []))) out
+            (wrote-row (in-text (length row)) sep text (p .start) (p .out) done cur (x .wrote) row refl fits));
+        counted = x .counted;
+        rows = rw length-append (omega (arith, x .rows));
+        midx = x .midx;
+      }
+
+-- where the open measure's rows end
+pub open-size : (L : ℕ) (p : Pass) (text : List ℕ) → SomeOpen L p text → p .start + p .rows * (L + 1) ≡ p .out
+open-size L p text s = sym (s .open-is .wrote .size ∙ ap (λ n. p .start + n * (L + 1)) (sym (s .open-is .rows)))
+
+module _ (L : ℕ) (p : Pass) (text after : List ℕ) (kept : ℕ) (fits : p .out ≤ length text)
+    (red : (rs : List Row) → Holds rowText L (p .rows) (p .start) rs text → Reduced rowText (p .start) rs text kept after) where
+  module _ (done : List (List Row)) (cur : List Row) (x : Open L p text done cur) where
+    reduced : Reduced rowText (p .start) cur text kept after
+    reduced = red cur (subst (λ n. Holds rowText L n (p .start) cur text) (sym (x .rows)) (wrote-holds (in-text L) sep text (p .start) (p .out) done cur (x .wrote)))
+
+    wrote : Wrote rowText sep (L + 1) L after (p .start) (p .start + kept * (L + 1)) done (reduce cur)
+    wrote = wrote-reduced (in-text L) sep text (p .start) (p .out) done cur (x .wrote) kept after (omega (arith, x .wrote .size)) reduced
+
+    -- the minimised rows stand where the measure begins
+    rows-there : rowsAt (L + 1) L kept (drop (p .start) after) ≡ reduce cur
+    rows-there =
+        form-rows (in-text L)
+        (subst (λ n. Holds rowText L n (p .start) (reduce cur) after) (sym (reduced .count)) (wrote-holds (in-text L) sep after (p .start) (p .start + kept * (L + 1)) done (reduce cur) wrote))
+
+    kept-few : kept ≤ p .rows
+    kept-few = omega (arith, reduced .count, reduce-short cur, x .rows)
+
+    pub closed-rows : (c : Counting)
+        → ((done : List (List Row)) → Counted L (p .counting) done [] → Counted L c done (rowsAt (L + 1) L kept (drop (p .start) after)))
+        → Closed L (record { counting = c; start = p .start; out = p .start + kept * (L + 1); rows = kept; midx = p .midx }) after done (reduce cur)
+    closed-rows c f =
+        record { wrote = wrote; counted = subst (λ rs. Counted L c done rs) rows-there (f done (x .counted)); midx = x .midx }
+
+  -- no more rows and bytes than before
+  pub closed-few : SomeOpen L p text → (kept ≤ p .rows) × (p .start + kept * (L + 1) ≤ p .out)
+  closed-few s =
+      let k = kept-few (s .done) (s .cur) (s .open-is) in
+      (k, omega (arith, mul-le-mul-right (L + 1) k, open-size L p text s))
+
+pub map-snoc : (done : List (List Row)) (m : List Row) → map density (done ++ (m ∷ [])) ≡ map density done ++ (density m ∷ [])
+map-snoc [] m = refl
+map-snoc (x ∷ done) m = ap (λ l. density x ∷ l) (map-snoc done m)
+
+-- the measure ends: its density is stored and the `,` line written
+pub kept-comma : (L : ℕ) (e : Pass) (text densities : List ℕ) (done : List (List Row)) (cur : List Row) → Closed L e text done cur → take (e .midx) densities ≡ map density done
+    → e .out + 2 ≤ length text → e .midx < length densities → (c : Counting) (after dens : List ℕ)
+    → ((L : ℕ) (done : List (List Row)) (cur : List Row) → Counted L (e .counting) done cur → Counted L c (done ++ (cur ∷ [])) [])
+    → after ≡ placed (e .out) sep text → dens ≡ set densities (e .midx) (e .counting .steps)
+    → Kept L (record { counting = c; start = e .out + 2; out = e .out + 2; rows = 0; midx = e .midx + 1 }) after dens (done ++ (cur ∷ [])) []
+kept-comma L e text densities done cur x stored fits room c after dens f ea ed =
+    record {
+      open-is =
+          record {
+            wrote = subst (λ t. Wrote rowText sep (L + 1) L t (e .out + 2) (e .out + 2) (done ++ (cur ∷ [])) []) (sym ea) (wrote-sep (in-text L) sep text (e .start) (e .out) done cur (x .wrote) fits);
+            counted = f L done cur (x .counted);
+            rows = refl;
+            midx = rw length-append (omega (arith, x .midx));
+          };
+      stored =
+          rw (ed, add-one, take-suc-set densities (e .midx) (e .counting .steps) room, stored, x .counted .steps) (sym (map-snoc done cur));
+    }

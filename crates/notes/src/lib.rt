@@ -1,0 +1,197 @@
+// Typed notes: rows go in one by one, and the notes' records stand in a slice that the caller lends. One open head a column is kept in a
+// struct by value; a head's record stands in the slice from its row on, and a later cell of its column writes the tail or drops the record.
+use definitions::Kind;
+use definitions::NoteEffect;
+use records::NO_TAIL_ROW;
+use records::get_word;
+use records::kind_number;
+use records::move_record;
+use records::put_record;
+use records::put_word;
+ghost use mathlib.Core.Bool.{true};
+ghost use mathlib.Core.List.{List, [], _∷_, _++_};
+ghost use Prim.Native.Nat.{ℕ, _*_, _≤_};
+ghost use lib.ListN.{length};
+ghost use Rattle.definitions.specs.Lines.{Row};
+ghost use Rattle.notes.specs.Drafts.{stepCell};
+ghost use Rattle.notes.specs.Writer.{HeadThere, HoldEnded, invalidAfter, Ready, NotePushed, noHead, dropped, Stepped, Closed, Compacted, SomeDrafts};
+ghost use Rattle.notes.specs.Written.{Written, Room, SomeRows, Finished};
+
+// The tail field of a record that is dropped.
+const INVALID_NOTE_ROW: u32 = 4294967294;
+
+// The open head of a column without one.
+const NO_HEAD: u32 = 4294967295;
+
+// The writer's state: of each column the number of its open head's record, the number of records, the number of rows, and whether a
+// record was dropped.
+pub struct ChartNotesScratch {
+    pub hold_heads: [u32; 10],
+    pub count: usize,
+    pub row_index: u32,
+    pub has_invalid: bool,
+}
+
+// Before the first row.
+pub fn begin() -> ChartNotesScratch
+    ensures { λ r. ⌜ ((l : List ℕ) → Written [] r l) ⌝ }
+{
+    ChartNotesScratch {
+        hold_heads: [NO_HEAD; 10],
+        count: 0,
+        row_index: 0,
+        has_invalid: false,
+    }
+}
+
+// Ends the open head of a column, if there is one, with this tail.
+fn end_hold(s: ChartNotesScratch, column: usize, tail: u32, notes: &mut [u8]) -> ChartNotesScratch
+    requires { ⌜ HeadThere (now notes) s column ⌝ }
+    ensures { λ r. ⌜ HoldEnded (now (notes .entry)) s column tail (s .«has_invalid») (now (notes .exit)) r ⌝ }
+{
+    let mut out = s;
+    let head = out.hold_heads[column];
+    if head != NO_HEAD {
+        put_word(notes, (head as usize) * 10 + 4, tail);
+        out.hold_heads[column] = NO_HEAD;
+    }
+    out
+}
+
+// Drops the open head of a column, if there is one.
+fn invalidate_hold(s: ChartNotesScratch, column: usize, notes: &mut [u8]) -> ChartNotesScratch
+    requires { ⌜ HeadThere (now notes) s column ⌝ }
+    ensures { λ r. ⌜ HoldEnded (now (notes .entry)) s column dropped (invalidAfter s column) (now (notes .exit)) r ⌝ }
+{
+    let head = s.hold_heads[column];
+    let had = s.has_invalid;
+    let mut out = end_hold(s, column, INVALID_NOTE_ROW, notes);
+    out.has_invalid = had | (head != NO_HEAD);
+    out
+}
+
+// Drops the open head of a column and adds a record without a tail.
+fn push_note(s: ChartNotesScratch, column: usize, kind: Kind, notes: &mut [u8]) -> ChartNotesScratch
+    requires { ⌜ Ready (now notes) s column ⌝ }
+    ensures { λ r. ⌜ NotePushed (now (notes .entry)) s column kind noHead (now (notes .exit)) r ⌝ }
+{
+    let mut out = invalidate_hold(s, column, notes);
+    let k = out.count;
+    put_record(
+        notes,
+        k,
+        out.row_index,
+        NO_TAIL_ROW,
+        column as u8,
+        kind_number(kind),
+    );
+    out.count = k + 1;
+    out
+}
+
+// The same, and the record is the column's open head.
+fn push_head(s: ChartNotesScratch, column: usize, kind: Kind, notes: &mut [u8]) -> ChartNotesScratch
+    requires { ⌜ Ready (now notes) s column ⌝ }
+    ensures { λ r. ⌜ NotePushed (now (notes .entry)) s column kind (s .count) (now (notes .exit)) r ⌝ }
+{
+    let k = s.count;
+    let mut out = push_note(s, column, kind, notes);
+    out.hold_heads[column] = k as u32;
+    out
+}
+
+// One cell of the row that is being read.
+fn push_cell(
+    s: ChartNotesScratch,
+    column: usize,
+    cell: NoteEffect,
+    notes: &mut [u8],
+) -> ChartNotesScratch
+    requires { ⌜ Ready (now notes) s column ⌝ }
+    ensures { λ r. ⌜ Stepped (now (notes .entry)) s (now (notes .exit)) r 1 (stepCell (s .«row_index») column cell) ⌝ }
+{
+    match cell {
+        NoteEffect::Nothing => s,
+        NoteEffect::Closes => {
+            let row = s.row_index;
+            end_hold(s, column, row, notes)
+        }
+        NoteEffect::Single(kind) => push_note(s, column, kind, notes),
+        NoteEffect::Head(kind) => push_head(s, column, kind, notes),
+    }
+}
+
+// One row, `finish_row` included. Most bytes of a chart are `0`, which touches no note: it is passed over before its effect is asked for.
+pub fn push_row(s: ChartNotesScratch, row: &[u8], notes: &mut [u8]) -> ChartNotesScratch
+    requires { ⌜ Room s (now row) (now notes) ⌝ }
+    ensures { λ r. ⌜ ((rows : List Row) → Written rows s (now (notes .entry)) → Written (rows ++ (now (row .entry) ∷ [])) r (now (notes .exit))) ⌝ }
+{
+    let mut out = s;
+    let mut column = 0;
+    while column < row.len() {
+        let b = row[column];
+        if b != b'0' {
+            out = push_cell(out, column, cells::note_effect(b), notes);
+        }
+        column += 1;
+    }
+    out.row_index = out.row_index + 1;
+    out
+}
+
+// Drops the heads that are still open.
+fn close_heads(s: ChartNotesScratch, notes: &mut [u8]) -> ChartNotesScratch
+    requires { ⌜ SomeDrafts (now notes) s ⌝ }
+    ensures { λ r. ⌜ Closed (now (notes .entry)) s (now (notes .exit)) r ⌝ }
+{
+    let mut out = s;
+    let mut column = 0;
+    while column < 10 {
+        out = invalidate_hold(out, column, notes);
+        column += 1;
+    }
+    out
+}
+
+// Moves the records that are not dropped to the front, and answers their number.
+fn retain_valid(count: usize, notes: &mut [u8]) -> usize
+    requires { ⌜ count * 10 ≤ length (now notes) ⌝ }
+    ensures { λ r. ⌜ Compacted (now (notes .entry)) count true (now (notes .exit)) r ⌝ }
+{
+    let mut kept = 0;
+    let mut k = 0;
+    while k < count {
+        let tail = get_word(notes, k * 10 + 4);
+        if tail != INVALID_NOTE_ROW {
+            move_record(notes, k, kept);
+            kept += 1;
+        }
+        k += 1;
+    }
+    kept
+}
+
+// The same, where a record was dropped; else every record stays where it is.
+fn retain(s: ChartNotesScratch, notes: &mut [u8]) -> usize
+    requires { ⌜ s .count * 10 ≤ length (now notes) ⌝ }
+    ensures { λ r. ⌜ Compacted (now (notes .entry)) (s .count) (s .«has_invalid») (now (notes .exit)) r ⌝ }
+{
+    let count = s.count;
+    if s.has_invalid {
+        retain_valid(count, notes)
+    } else {
+        count
+    }
+}
+
+// The end: heads that are open are dropped, and zeros stand after the records. The answer is their number.
+pub fn finish(s: ChartNotesScratch, notes: &mut [u8]) -> usize
+    requires { ⌜ SomeRows s (now notes) ⌝ }
+    ensures { λ r. ⌜ ((rows : List Row) → Written rows s (now (notes .entry)) → Finished rows (length (now (notes .entry))) (now (notes .exit)) r) ⌝ }
+{
+    let out = close_heads(s, notes);
+    let count = retain(out, notes);
+    let end = count * 10;
+    slices::zero_u8(notes, end);
+    count
+}

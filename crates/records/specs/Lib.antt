@@ -1,0 +1,2 @@
+-- The limits of what the writer makes.
+pub mod Limits
