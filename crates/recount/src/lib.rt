@@ -1,0 +1,71 @@
+// A tally counted anew with only tracker-paired heads, over rows that are read back out of minimised text.
+use definitions::ArrowStats;
+ghost use mathlib.Core.Path.{_≡_};
+ghost use Prim.Native.Nat.{ℕ};
+ghost use lib.ListN.{length, getD, replicate};
+ghost use Rattle.definitions.specs.Tally.{tally};
+ghost use Rattle.definitions.specs.Correction.{pairedOnly};
+ghost use Rattle.reader.specs.BackReading.{rowsBack};
+ghost use Rattle.recount.specs.Heads.{Room, Heads};
+
+// Marks in each row's entry of the work slice, which is all 0, the heads that the tracker pairs.
+fn mark_heads(text: &[u8], lanes: usize, trim: bool, work: &mut [u16])
+    requires { ⌜ Room trim lanes (now text) (now work) × ((i : ℕ) → getD (now work) i 0 ≡ 0) ⌝ }
+    ensures { λ _. ⌜ Heads (rowsBack trim lanes (now (text .entry))) (now (work .exit)) ⌝ }
+{
+    let t = holds::no_tracker();
+    let mut heads = t.heads;
+    let mut depths = t.depths;
+    let mut off = 0;
+    let mut row: u32 = 0;
+    while off <= text.len() {
+        let line = reader::back::back_line(text, off, lanes, trim);
+        let next = line.next;
+        if line.row {
+            let end = off + lanes;
+            holds::track_lent_row(
+                &mut heads,
+                &mut depths,
+                row,
+                &text[off..end],
+                false,
+                &mut *work,
+            );
+            row += 1;
+        }
+        off = next;
+    }
+}
+
+// The tally of the rows with only the heads that the work slice marks.
+fn count_kept(text: &[u8], lanes: usize, trim: bool, work: &[u16]) -> ArrowStats
+    requires { ⌜ Room trim lanes (now text) (now work) × Heads (rowsBack trim lanes (now text)) (now work) ⌝ }
+    ensures { λ r. ⌜ r ≡ tally (pairedOnly (rowsBack trim lanes (now (text .entry)))) ⌝ }
+{
+    let mut stats = tallies::no_stats();
+    let mut off = 0;
+    let mut i = 0;
+    while off <= text.len() {
+        let line = reader::back::back_line(text, off, lanes, trim);
+        let next = line.next;
+        if line.row {
+            let end = off + lanes;
+            stats = tallies::count_line_masked(stats, &text[off..end], work[i]);
+            i += 1;
+        }
+        off = next;
+    }
+    stats
+}
+
+// The tally of the rows of minimised text with only tracker-paired heads. The work slice may hold anything, and is 0 afterwards.
+pub fn recalc_phantom_stats(text: &[u8], lanes: usize, trim: bool, work: &mut [u16]) -> ArrowStats
+    requires { ⌜ Room trim lanes (now text) (now work) ⌝ }
+    ensures { λ r. ⌜ (r ≡ tally (pairedOnly (rowsBack trim lanes (now (text .entry))))) × (now (work .exit) ≡ replicate (length (now (work .entry))) 0) ⌝ }
+{
+    slices::zero_u16(&mut *work, 0);
+    mark_heads(text, lanes, trim, &mut *work);
+    let stats = count_kept(text, lanes, trim, &*work);
+    slices::zero_u16(work, 0);
+    stats
+}
