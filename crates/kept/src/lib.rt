@@ -18,7 +18,7 @@ pub struct Pass {
     pub midx: usize,
 }
 
-fn no_pass() -> Pass
+pub fn no_pass() -> Pass
     ensures { λ r. ⌜ ((L : ℕ) (text : List ℕ) → L ≤ 10 → Open L r text [] []) × (r .out ≡ 0) × (r .counting .rows ≡ 0) × (r .rows ≡ 0) × (r .midx ≡ 0) ⌝ }
 {
     let counting = counting::no_counting();
@@ -32,7 +32,7 @@ fn no_pass() -> Pass
 }
 
 // One row more of the open measure.
-fn pass_row(p: Pass, text: &mut [u8], row: &[u8]) -> Pass
+pub fn pass_row(p: Pass, text: &mut [u8], row: &[u8]) -> Pass
     requires { ⌜ (p .out + length (now row) + 1 ≤ length (now text)) × (p .rows < 4194304) ⌝ }
     ensures { λ r. ⌜ ((done : List (List Row)) (cur : List Row) → Open (length (now (row .entry))) p (now (text .entry)) done cur → Open (length (now (row .entry))) r (now (text .exit)) done (cur ++ (now (row .entry) ∷ []))) ⌝ }
     ensures { λ r. ⌜ (r .out ≡ p .out + length (now (row .entry)) + 1) × (r .counting .rows ≡ p .counting .rows) × (r .rows ≡ p .rows + 1) × (r .midx ≡ p .midx) ⌝ }
@@ -50,7 +50,7 @@ fn pass_row(p: Pass, text: &mut [u8], row: &[u8]) -> Pass
 }
 
 // The open measure's rows minimised in place and counted.
-fn end_rows(p: Pass, text: &mut [u8], lanes: usize) -> Pass
+pub fn end_rows(p: Pass, text: &mut [u8], lanes: usize) -> Pass
     requires { ⌜ (0 < lanes) × (lanes ≤ 10) × (p .out ≤ length (now text)) × (p .counting .rows + p .rows < 4194304) × SomeOpen lanes p (now text) ⌝ }
     ensures { λ r. ⌜ ((done : List (List Row)) (cur : List Row) → Open lanes p (now (text .entry)) done cur → Closed lanes r (now (text .exit)) done (reduce cur)) ⌝ }
     ensures { λ r. ⌜ (r .out ≤ p .out) × (r .midx ≡ p .midx) ⌝ }
@@ -70,7 +70,7 @@ fn end_rows(p: Pass, text: &mut [u8], lanes: usize) -> Pass
 }
 
 // The open measure ends with a `,` line: its density is stored, and the `,` line is written.
-fn pass_comma(p: Pass, text: &mut [u8], densities: &mut [u32], lanes: usize) -> Pass
+pub fn pass_comma(p: Pass, text: &mut [u8], densities: &mut [u32], lanes: usize) -> Pass
     requires { ⌜ (0 < lanes) × (lanes ≤ 10) × (p .out + 2 ≤ length (now text)) × (p .counting .rows + p .rows < 4194304) × SomeOpen lanes p (now text) ⌝ }
     requires { ⌜ p .midx < length (now densities) ⌝ }
     ensures { λ r. ⌜ ((done : List (List Row)) (cur : List Row) → Kept lanes p (now (text .entry)) (now (densities .entry)) done cur → Kept lanes r (now (text .exit)) (now (densities .exit)) (done ++ (reduce cur ∷ [])) []) ⌝ }

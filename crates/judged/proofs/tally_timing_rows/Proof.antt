@@ -1,0 +1,129 @@
+-- `judged::tally_timing_rows` meets its contract. The loop's invariant: the tally and the open holds are those of the rows read, whichever rows
+-- are judged.
+use Prim.Native.Nat.{ℕ, _≤_, _<_, _-_, _+_, _*_}
+use mathlib.Core.Bool.{Bool}
+use native.Mathlib.Nat.{le-trans}
+use native.Mathlib.Omega.{arith}
+use borrow.Author.Needs.{needs}
+use lib.ListN.{length}
+use denote.Ref.{now}
+use Rattle.definitions.specs.ReadBack.{readBack}
+use Rattle.tallies.proofs.Bounds.{below-more}
+use Rattle.judged.specs.Timing.{Timed}
+use Rattle.judged.proofs.Rows.{row-within, bytes-short}
+use Rattle.judged.proofs.Tallying.{Tallying, tallying-start, tallying-active, tallying-room, tallying-passed, tallying-enough, tallying-row, tallying-end}
+use Rattle.judged.proofs.tally_timing_rows.Statement.{statement}
+use Rattle.judged.proofs.tally_timing_rows.Tie as tie
+
+abbrev Inv-loop : tie.InvT-loop
+Inv-loop «data» lanes work t₀ off₀ row₀ t off row =
+    (off ≤ length «data» + 1) × ((J : ℕ → Bool) → Timed J (readBack lanes «data») work → Tallying J lanes «data» off row t)
+
+abbrev μ-loop : tie.MeasureT-loop
+μ-loop «data» lanes work t₀ off₀ row₀ t off row = length «data» + 1 - off
+
+-- the tally so far, with the rows that some test judges
+so-far : (c : tie.At-loop Inv-loop μ-loop) →
+    let start = c .before .before .before .before in
+    Tallying (start .pre .1 .judging) (start .args .lanes) (now (start .args .«data»)) (c .loop .off) (c .loop .row) (c .loop .t)
+so-far c = let some = c .before .before .before .before .pre .1 in c .loop .inv .1 (some .judging) (some .timed)
+
+-- the row's entry stands in the work slice
+entry-room : (c : tie.Then1 Inv-loop μ-loop) →
+    let at = c .before .before .before in
+    at .loop .row < length (now (at .before .before .before .before .args .work))
+entry-room c =
+    let at = c .before .before .before in
+    tallying-room _ _ _ _ _ _ (so-far at) _ (c .before .before .loop-test .taken) (c .before .back-line .ensures) (c .if1 .taken) _
+    (at .before .before .before .before .pre .0 .2)
+
+no-timing-requires : tie.Need-no-timing-requires Inv-loop μ-loop
+no-timing-requires c κs = search needs
+
+loop-holds : tie.Need-loop-holds Inv-loop μ-loop
+loop-holds c = (omega arith, λ J w. tallying-start _ _ _ _ (c .no-timing .ensures))
+
+back-line-requires : tie.Need-back-line-requires Inv-loop μ-loop
+back-line-requires c κs = search needs
+
+add-end : tie.Need-add-end Inv-loop μ-loop
+add-end c = omega (arith, row-within _ _ _ _ (c .before .back-line .ensures) (c .if1 .taken))
+
+sub-process-timing-row : tie.Need-sub-process-timing-row Inv-loop μ-loop
+sub-process-timing-row c = omega arith
+
+part-process-timing-row-start : tie.Need-part-process-timing-row-start Inv-loop μ-loop
+part-process-timing-row-start c = omega arith
+
+part-process-timing-row-end : tie.Need-part-process-timing-row-end Inv-loop μ-loop
+part-process-timing-row-end c = omega (arith, row-within _ _ _ _ (c .before .back-line .ensures) (c .if1 .taken))
+
+mul-process-timing-row : tie.Need-mul-process-timing-row Inv-loop μ-loop
+mul-process-timing-row c = omega (arith, entry-room (c .before))
+
+shared-slice-read-process-timing-row :
+    tie.Need-shared-slice-read-process-timing-row Inv-loop μ-loop
+shared-slice-read-process-timing-row c = entry-room (c .before .before)
+
+process-timing-row-requires : tie.Need-process-timing-row-requires Inv-loop μ-loop
+process-timing-row-requires c κs =
+    let row = c .before .before in
+    let at = row .before .before .before in
+    let start = at .before .before .before .before in
+    let x = so-far at in
+    let few : 10 * at .loop .row ≤ 4294967285 = omega (arith, x .reading .few, x .size, at .loop .inv .0, start .pre .0 .0) in (
+      (bytes-short _ _ _ (start .pre .0 .1), below-more (10 * at .loop .row) 4294967285 _ few (x .below), le-trans (tallying-active _ _ _ _ _ _ x (start .pre .0 .1)) few),
+      tallying-enough _ _ _ _ _ _ x _ (row .before .before .loop-test .taken) (row .before .back-line .ensures) (row .if1 .taken) _ (start .pre .0 .1) (start .pre .1 .timed),
+    )
+
+add-row : tie.Need-add-row Inv-loop μ-loop
+add-row c = omega (arith, entry-room (c .before .before .before))
+
+loop-less : tie.Need-loop-less Inv-loop μ-loop
+loop-less c = omega (arith, c .before .before .before .before .back-line .ensures .next)
+
+loop-again : tie.Need-loop-again Inv-loop μ-loop
+loop-again c =
+    let row = c .before .before .before in
+    let a = row .before in
+    let at = a .before .before in
+    let start = at .before .before .before .before in (
+      a .back-line .ensures .within,
+      λ J w.
+          tallying-row _ _ _ _ _ _ (at .loop .inv .1 J w) _ (a .before .loop-test .taken) (a .back-line .ensures) (row .if1 .taken) _ (start .pre .0 .1) w _
+          (c .process-timing-row .ensures),
+    )
+
+loop-less-2 : tie.Need-loop-less-2 Inv-loop μ-loop
+loop-less-2 c = omega (arith, c .before .back-line .ensures .next)
+
+loop-again-2 : tie.Need-loop-again-2 Inv-loop μ-loop
+loop-again-2 c =
+    let a = c .before in
+    (a .back-line .ensures .within, λ J w. tallying-passed _ _ _ _ _ _ (a .before .before .loop .inv .1 J w) _ (a .before .loop-test .taken) (a .back-line .ensures) (c .if1 .left))
+
+returns : tie.Need-returns Inv-loop μ-loop
+returns c = λ J w. tallying-end _ _ _ _ _ _ (c .before .before .loop .inv .1 J w) (c .before .loop-test .left)
+
+pub tally-timing-rows-spec : {M : Type 1} → statement M
+tally-timing-rows-spec =
+    tie.close
+    (tie.spec
+    Inv-loop
+    μ-loop
+    no-timing-requires
+    loop-holds
+    back-line-requires
+    add-end
+    sub-process-timing-row
+    part-process-timing-row-start
+    part-process-timing-row-end
+    mul-process-timing-row
+    shared-slice-read-process-timing-row
+    process-timing-row-requires
+    add-row
+    loop-less
+    loop-again
+    loop-less-2
+    loop-again-2
+    returns)

@@ -1,0 +1,2 @@
+-- Laws of what is noted: one row more, and a measure's end.
+pub mod Rows
