@@ -74,6 +74,8 @@ pub fn hold_effect(b: u8) -> DepthEffect
         Cell::Tap | Cell::Mine | Cell::Lift | Cell::Fake => DepthEffect::Blocks,
         Cell::Hold | Cell::Roll => DepthEffect::Opens,
         Cell::Tail => DepthEffect::Closes,
+        Cell::KeySound => DepthEffect::Nothing,
+        Cell::LowerMine => DepthEffect::Nothing,
         _ => DepthEffect::Nothing,
     }
 }
