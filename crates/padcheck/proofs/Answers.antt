@@ -9,6 +9,9 @@ use Rattle.definitions.specs.Refusals.{replaces}
 use Rattle.scans.specs.Answers.{refusedOr, refusedOrBeat}
 use Rattle.scans.specs.declared.MeasuresAnswer.the-variants.{Refused, Measures}
 use Rattle.scans.specs.declared.LastBeat.the-variants as last
+use Rattle.definitions.specs.declared.ArrowStats.{ArrowStats}
+use Rattle.judged.specs.Answers.{refusedOrTally}
+use Rattle.judged.specs.declared.JudgedAnswer.the-variants as judged
 
 -- a refused call: its number, and what was lent stays as it was
 pub refused-number : (k n m : ℕ) → refusedOr k n ≡ Refused m → m ≡ k
@@ -51,3 +54,21 @@ last-accepted-number (suc k) b c x y p q e = let z : _≡_ {A = ℕ} 0 1 = cc in
 pub last-accepted-beat : (k : ℕ) (b c : Float) (x y p q : ℕ) → refusedOrBeat k b x y ≡ last.Beat c p q → (p ≡ x) × (q ≡ y)
 last-accepted-beat zero b c x y p q e = (cc, cc)
 last-accepted-beat (suc k) b c x y p q e = let z : _≡_ {A = ℕ} 0 1 = cc in absurd (omega arith)
+
+-- the same of a tally
+pub tally-refused-number : (k : ℕ) (t : ArrowStats) (m : ℕ) → refusedOrTally k t ≡ judged.Refused m → m ≡ k
+tally-refused-number zero t m e = let z : _≡_ {A = ℕ} 0 1 = cc in absurd (omega arith)
+tally-refused-number (suc k) t m e = cc
+
+pub tally-refused-replaces : (k : ℕ) (t : ArrowStats) (m : ℕ) → refusedOrTally k t ≡ judged.Refused m → (a old : List ℕ) → old ≡ replaces k a old
+unfolding replaces
+tally-refused-replaces zero t m e a old = let z : _≡_ {A = ℕ} 0 1 = cc in absurd (omega arith)
+tally-refused-replaces (suc k) t m e a old = rw (eqb·suc-zero k)
+
+pub tally-accepted-number : (k : ℕ) (t u : ArrowStats) → refusedOrTally k t ≡ judged.Tally u → 0 ≡ k
+tally-accepted-number zero t u e = refl
+tally-accepted-number (suc k) t u e = let z : _≡_ {A = ℕ} 0 1 = cc in absurd (omega arith)
+
+pub tally-accepted : (k : ℕ) (t u : ArrowStats) → refusedOrTally k t ≡ judged.Tally u → u ≡ t
+tally-accepted zero t u e = cc
+tally-accepted (suc k) t u e = let z : _≡_ {A = ℕ} 0 1 = cc in absurd (omega arith)

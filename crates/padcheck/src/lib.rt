@@ -1,8 +1,10 @@
 // The entries for callers in Rust and C. Each returns document 01's number, 0 for accepted, and is thin over the proved crates below.
+use definitions::ArrowStats;
+use judged::JudgedAnswer;
 use scans::LastBeat;
 use scans::MeasuresAnswer;
 ghost use mathlib.Core.Path.{_≡_};
-ghost use Rattle.definitions.specs.Entries.{figures as figuresOf, noTally, measuresNumber, densitiesLeft, spacingsLeft, measuresFigures, lastNumber, lastFigures};
+ghost use Rattle.definitions.specs.Entries.{figures as figuresOf, noTally, measuresNumber, densitiesLeft, spacingsLeft, measuresFigures, lastNumber, lastFigures, tallyFigures, judgedNumber, judgedWork, judgedFigures, flaggedFigures};
 
 // The figures of a call that answers how many measures there are, and no other.
 fn measure_figures(n: usize) -> [u64; 32]
@@ -20,6 +22,34 @@ fn last_figures(bits: u64, row: u64) -> [u64; 32]
     let mut f = [0u64; 32];
     f[4] = bits;
     f[6] = row;
+    f
+}
+
+fn wide(n: u32) -> u64
+    ensures { λ r. ⌜ r ≡ n ⌝ }
+{
+    n as u64
+}
+
+// The figures of a call that answers a tally, and nothing else: its fields in their order, from place 8 on.
+fn tally_figures(t: ArrowStats) -> [u64; 32]
+    ensures { λ r. ⌜ r ≡ figuresOf 0 0 0 0 0 0 0 (tallyFigures t) ⌝ }
+{
+    let mut f = [0u64; 32];
+    f[8] = wide(t.total_arrows);
+    f[9] = wide(t.left);
+    f[10] = wide(t.down);
+    f[11] = wide(t.up);
+    f[12] = wide(t.right);
+    f[13] = wide(t.total_steps);
+    f[14] = wide(t.jumps);
+    f[15] = wide(t.hands);
+    f[16] = wide(t.mines);
+    f[17] = wide(t.holds);
+    f[18] = wide(t.rolls);
+    f[19] = wide(t.lifts);
+    f[20] = wide(t.fakes);
+    f[21] = wide(t.holding);
     f
 }
 
@@ -76,6 +106,47 @@ pub extern "C" fn padcheck_chart_last_beat(
         LastBeat::Refused(number) => number,
         LastBeat::Beat { beat: _, bits, row } => {
             *figures = last_figures(bits, row);
+            0
+        }
+    }
+}
+
+#[no_mangle]
+pub extern "C" fn padcheck_process_rows_judgable(
+    data: &[u8],
+    lanes: usize,
+    work: &mut [u16],
+    figures: &mut [u64; 32],
+) -> u32
+    ensures { λ r. ⌜ r ≡ judgedNumber lanes (now («data» .entry)) (now (work .entry)) ⌝ }
+    ensures { λ _. ⌜ now (work .exit) ≡ judgedWork lanes (now («data» .entry)) (now (work .entry)) ⌝ }
+    ensures { λ _. ⌜ now (figures .exit) ≡ judgedFigures lanes (now («data» .entry)) (now (work .entry)) (now (figures .entry)) ⌝ }
+{
+    match judged::process_rows_judgable(data, lanes, work) {
+        JudgedAnswer::Refused(number) => number,
+        JudgedAnswer::Tally(t) => {
+            *figures = tally_figures(t);
+            0
+        }
+    }
+}
+
+#[no_mangle]
+pub extern "C" fn padcheck_process_timing_rows(
+    data: &[u8],
+    lanes: usize,
+    flags: &[u8],
+    work: &mut [u16],
+    figures: &mut [u64; 32],
+) -> u32
+    ensures { λ r. ⌜ r ≡ judgedNumber lanes (now («data» .entry)) (now (work .entry)) ⌝ }
+    ensures { λ _. ⌜ now (work .exit) ≡ judgedWork lanes (now («data» .entry)) (now (work .entry)) ⌝ }
+    ensures { λ _. ⌜ now (figures .exit) ≡ flaggedFigures lanes (now («data» .entry)) (now (work .entry)) (now (flags .entry)) (now (figures .entry)) ⌝ }
+{
+    match judged::process_timing_rows(data, lanes, flags, work) {
+        JudgedAnswer::Refused(number) => number,
+        JudgedAnswer::Tally(t) => {
+            *figures = tally_figures(t);
             0
         }
     }
