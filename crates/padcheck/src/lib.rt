@@ -1,10 +1,17 @@
 // The entries for callers in Rust and C. Each returns document 01's number, 0 for accepted, and is thin over the proved crates below.
 use definitions::ArrowStats;
+use definitions::Note;
+use definitions::ReadNote;
+use definitions::Tail;
 use judged::JudgedAnswer;
+use records::NO_TAIL_ROW;
+use records::kind_number;
+use records::read_note;
 use scans::LastBeat;
 use scans::MeasuresAnswer;
 ghost use mathlib.Core.Path.{_≡_};
-ghost use Rattle.definitions.specs.Entries.{figures as figuresOf, noTally, measuresNumber, densitiesLeft, spacingsLeft, measuresFigures, lastNumber, lastFigures, tallyFigures, judgedNumber, judgedWork, judgedFigures, flaggedFigures};
+ghost use Rattle.definitions.specs.Entries.{figures as figuresOf, noTally, measuresNumber, densitiesLeft, spacingsLeft, measuresFigures, lastNumber, lastFigures, tallyFigures, judgedNumber, judgedWork, judgedFigures, flaggedFigures, noteFigures, readNumber, readFigures};
+ghost use Rattle.definitions.specs.Records.{tailNumber};
 
 // The figures of a call that answers how many measures there are, and no other.
 fn measure_figures(n: usize) -> [u64; 32]
@@ -147,6 +154,44 @@ pub extern "C" fn padcheck_process_timing_rows(
         JudgedAnswer::Refused(number) => number,
         JudgedAnswer::Tally(t) => {
             *figures = tally_figures(t);
+            0
+        }
+    }
+}
+
+// A tail as the number of its row.
+fn tail_number(tail: Tail) -> u32
+    ensures { λ r. ⌜ r ≡ tailNumber tail ⌝ }
+{
+    match tail {
+        Tail::Without => NO_TAIL_ROW,
+        Tail::Row(row) => row,
+    }
+}
+
+// The four places of a note.
+fn note_figures(n: Note) -> [u64; 4]
+    ensures { λ r. ⌜ r ≡ noteFigures n ⌝ }
+{
+    let tail = n.tail;
+    let kind = n.kind;
+    let mut f = [0u64; 4];
+    f[0] = wide(n.row);
+    f[1] = wide(tail_number(tail));
+    f[2] = wide(n.column);
+    f[3] = kind_number(kind) as u64;
+    f
+}
+
+#[no_mangle]
+pub extern "C" fn padcheck_read_note(records: &[u8], index: usize, note: &mut [u64; 4]) -> u32
+    ensures { λ r. ⌜ r ≡ readNumber (now (records .entry)) index ⌝ }
+    ensures { λ _. ⌜ now (note .exit) ≡ readFigures (now (records .entry)) index (now (note .entry)) ⌝ }
+{
+    match read_note(records, index) {
+        ReadNote::Refused(number) => number,
+        ReadNote::Found(n) => {
+            *note = note_figures(n);
             0
         }
     }
