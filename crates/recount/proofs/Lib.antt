@@ -4,3 +4,4 @@ pub mod Zeros
 pub mod Marking
 pub mod Counting
 pub mod OwnRows
+pub mod Corrected

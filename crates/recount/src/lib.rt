@@ -1,10 +1,14 @@
 // A tally counted anew with only tracker-paired heads, over rows that are read back out of minimised text.
 use definitions::ArrowStats;
+use phantoms::Phantoms;
 ghost use mathlib.Core.Path.{_≡_};
 ghost use Prim.Native.Nat.{ℕ};
 ghost use lib.ListN.{length, getD, replicate};
 ghost use Rattle.definitions.specs.Tally.{tally};
-ghost use Rattle.definitions.specs.Correction.{pairedOnly};
+ghost use mathlib.Core.List.{List};
+ghost use Rattle.definitions.specs.Lines.{Row};
+ghost use Rattle.definitions.specs.Correction.{pairedOnly, corrected};
+ghost use Rattle.phantoms.specs.Phantoms.{Counts};
 ghost use Rattle.reader.specs.BackReading.{rowsBack};
 ghost use Rattle.recount.specs.Heads.{Room, Heads};
 
@@ -68,4 +72,28 @@ pub fn recalc_phantom_stats(text: &[u8], lanes: usize, trim: bool, work: &mut [u
     let stats = count_kept(text, lanes, trim, &*work);
     slices::zero_u16(work, 0);
     stats
+}
+
+// The tally of rows as a call answers it: as it was counted, or, where heads and tails do not pair, counted anew over the minimised text.
+// The work slice may hold anything, and is 0 afterwards.
+pub fn corrected_stats(
+    stats: ArrowStats,
+    p: Phantoms,
+    text: &[u8],
+    lanes: usize,
+    trim: bool,
+    work: &mut [u16],
+) -> ArrowStats
+    requires { ⌜ Room trim lanes (now text) (now work) ⌝ }
+    ensures { λ r. ⌜ ((rows : List Row) → Counts lanes rows p → stats ≡ tally rows → r ≡ corrected lanes rows (rowsBack trim lanes (now (text .entry)))) ⌝ }
+    ensures { λ _. ⌜ now (work .exit) ≡ replicate (length (now (work .entry))) 0 ⌝ }
+{
+    let steps = stats.total_steps;
+    if phantoms::is_corrected(p, lanes) {
+        let anew = recalc_phantom_stats(text, lanes, trim, work);
+        tallies::with_steps(anew, steps)
+    } else {
+        slices::zero_u16(work, 0);
+        stats
+    }
 }
