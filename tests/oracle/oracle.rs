@@ -2,6 +2,7 @@
 //!
 //! - `calls`: the eight chart calls, each with its figures and the contents of its slices.
 //! - `leaves`: the functions below them.
+//! - `timed`: the calls with nothing around them.
 //! - `entry`: the calls as they are met from outside, with the refusals of document 01.
 //! - `card`: what the program card prints.
 //! - `vectors`: the stored sample of answers.
@@ -14,4 +15,4 @@ mod streams;
 mod timing;
 pub mod vectors;
 
-pub use stats::{calls, leaves};
+pub use stats::{calls, leaves, timed};

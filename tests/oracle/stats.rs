@@ -1,4 +1,4 @@
-//! `docs/src/stats.rs`, unchanged, and below it two modules that reach its private functions.
+//! `docs/src/stats.rs`, unchanged, and below it three modules that reach its private functions.
 
 include!("../../docs/src/stats.rs");
 
@@ -6,3 +6,5 @@ include!("../../docs/src/stats.rs");
 pub mod calls;
 #[warn(dead_code, unused_imports)]
 pub mod leaves;
+#[warn(dead_code, unused_imports)]
+pub mod timed;

@@ -1,6 +1,6 @@
 -- The loop of the pass: what has been read, and what the pass holds and has written of it.
-use mathlib.Core.Path.{_≡_, refl, ap, sym, _∙_, subst}
-use mathlib.Core.List.{List, [], _∷_, _++_, map, append-nil}
+use mathlib.Core.Path.{_≡_, ap, sym, _∙_, subst}
+use mathlib.Core.List.{List, [], _∷_, _++_, map, map-append, append-nil}
 use Prim.Native.Nat.{ℕ, suc, _+_, _*_, _/_, _≤_, _<_}
 use native.Mathlib.Nat.{le-trans, mul-le-mul-right, mul-le-mul-left, le-div-iff-mul-le, mul-comm, le-of-eq}
 use native.Mathlib.Numerals.{add-one}
@@ -18,13 +18,13 @@ use Rattle.definitions.specs.declared.LineKind.the-variants as line
 use Rattle.counting.specs.Counted.{Counted}
 use Rattle.output.specs.Wrote.{Wrote}
 use Rattle.output.proofs.Writing.{text-done}
+use Rattle.output.proofs.Measures.{reduce-short, rows-short}
 use Rattle.phantoms.specs.Phantoms.{Counts}
 use Rattle.reader.specs.declared.ReadLine.{ReadLine}
 use Rattle.reader.specs.Reading.{LineRead, Reading, ReadAll}
 use Rattle.reader.proofs.Reading.{read-start, read-passed, read-comma, read-row, read-semi, read-end, joined-snoc}
 use Rattle.kept.specs.declared.Pass.{Pass}
 use Rattle.kept.specs.Pass.{Open, Closed, SomeOpen, Kept, KeptAll}
-use Rattle.kept.proofs.Passing.{reduce-short, map-snoc}
 
 -- `done` and `cur` are the raw measures and rows
 pub record Keeping (L : ℕ) (p : Pass) (data-text text densities : List ℕ) (off : ℕ) : Type 0 where
@@ -39,14 +39,6 @@ pub record Over (L : ℕ) (p : Pass) (data-text text densities : List ℕ) : Typ
   pub cur : List Row
   pub read : ReadAll L data-text done cur
   pub kept : Kept L p text densities (map reduce done) cur
-
-rows-short : (ms : List (List Row)) → length (joined (map reduce ms)) ≤ length (joined ms)
-rows-short [] = omega arith
-rows-short (m ∷ ms) = omega (arith, length-append (reduce m) (joined (map reduce ms)), length-append m (joined ms), reduce-short m, rows-short ms)
-
-reduce-snoc : (done : List (List Row)) (cur : List Row) → map reduce (done ++ (cur ∷ [])) ≡ map reduce done ++ (reduce cur ∷ [])
-reduce-snoc [] cur = refl
-reduce-snoc (x ∷ done) cur = ap (λ l. reduce x ∷ l) (reduce-snoc done cur)
 
 pub keeping-start : (L : ℕ) (p : Pass) (data-text text densities : List ℕ) → Open L p text [] [] → p .midx ≡ 0 → Keeping L p data-text text densities 0
 keeping-start L p data-text text densities x e =
@@ -84,7 +76,7 @@ module _ (L : ℕ) (p : Pass) (data-text text densities : List ℕ) (off : ℕ) 
         done = x .done ++ (x .cur ∷ []);
         cur = [];
         reading = read-comma L data-text off r h l (x .done) (x .cur) (x .reading) e;
-        kept = subst (λ ms. Kept L q after dens ms []) (sym (reduce-snoc (x .done) (x .cur))) (f (map reduce (x .done)) (x .cur) (x .kept));
+        kept = subst (λ ms. Kept L q after dens ms []) (sym (map-append reduce (x .done) (x .cur ∷ []))) (f (map reduce (x .done)) (x .cur) (x .kept));
       }
 
   pub keeping-row : r .kind ≡ line.Row → (q : Pass) (after : List ℕ) (row : Row) → row ≡ take L (drop (r .start) data-text) → length row ≡ L
@@ -117,7 +109,7 @@ pub kept-all : (L : ℕ) (p e : Pass) (data-text text after densities dens : Lis
 unfolding minimisedText densities minimised mostRows
 kept-all L p e data-text text after densities dens w x f fits short m room ed =
     let k = f (map reduce (x .done)) (x .cur) (x .kept .open-is) in
-    let all : map reduce (chart L data-text) ≡ map reduce (x .done) ++ (reduce (x .cur) ∷ []) = ap (map reduce) (x .read .chart-is) ∙ reduce-snoc (x .done) (x .cur) in
+    let all : map reduce (chart L data-text) ≡ map reduce (x .done) ++ (reduce (x .cur) ∷ []) = ap (map reduce) (x .read .chart-is) ∙ map-append reduce (x .done) (x .cur ∷ []) in
     let rows-are : joined (map reduce (chart L data-text)) ≡ joined (map reduce (x .done)) ++ reduce (x .cur) = ap joined all ∙ joined-snoc (map reduce (x .done)) (reduce (x .cur)) in
     let bytes : take (e .out) after ≡ textOf (map reduce (chart L data-text)) = k .wrote .bytes ∙ sym (ap textOf all ∙ text-done (map reduce (x .done)) (reduce (x .cur))) in
     let few : length (joined (x .done)) + length (x .cur) ≤ (length data-text + 1) / (L + 1) =
@@ -131,7 +123,7 @@ kept-all L p e data-text text after densities dens w x f fits short m room ed =
           (ap (λ n. take n densities ++ (e .counting .steps ∷ [])) m
           ∙ ap (λ l. l ++ (e .counting .steps ∷ [])) (x .kept .stored)
           ∙ ap (λ n. map density (map reduce (x .done)) ++ (n ∷ [])) (k .counted .steps)
-          ∙ sym (ap (map density) all ∙ map-snoc (map reduce (x .done)) (reduce (x .cur))));
+          ∙ sym (ap (map density) all ∙ map-append density (map reduce (x .done)) (reduce (x .cur) ∷ [])));
       midx = sym (ap length all ∙ length-append (map reduce (x .done)) (reduce (x .cur) ∷ []) ∙ ap (λ n. n + 1) (sym (k .midx)));
       stats = k .counted .stats ∙ ap tally (sym rows-are);
       phantoms = subst (λ rs. Counts L rs (e .counting .phantoms)) (sym rows-are) (k .counted .phantoms);

@@ -1,34 +1,24 @@
 -- The pass with one row more, and with the open measure minimised and counted.
 use mathlib.Core.Path.{_≡_, refl, ap, sym, _∙_, subst}
-use mathlib.Core.List.{List, [], _∷_, _++_, map}
+use mathlib.Core.List.{List, [], _∷_, _++_, map, map-append}
 use Prim.Native.Nat.{ℕ, _+_, _*_, _≤_, _<_}
 use native.Mathlib.Nat.{mul-le-mul-right}
 use native.Mathlib.Omega.{arith}
 use native.Mathlib.Numerals.{add-one}
 use lib.ListN.{length, take, drop, set, length-append}
 use lib.Seq.{take-suc-set}
-use Rattle.definitions.specs.Lists.{joined}
 use Rattle.definitions.specs.Lines.{Row}
 use Rattle.definitions.specs.Reduction.{reduce}
 use Rattle.definitions.specs.Figures.{rowText, density}
-use Rattle.definitions.proofs.Thinned.{Thinned, none, keep, leave, reduce-thin}
 use Rattle.counting.specs.declared.Counting.{Counting}
 use Rattle.counting.specs.Counted.{Counted, SomeCounted}
 use Rattle.measures.specs.Rows.{rowsAt, placed, Holds, Reduced}
 use Rattle.measures.proofs.Forms.{Form, in-text, form-rows}
 use Rattle.output.specs.Wrote.{Wrote}
 use Rattle.output.proofs.Writing.{wrote-start, wrote-row, wrote-holds, wrote-reduced, wrote-sep}
+use Rattle.output.proofs.Measures.{reduce-short}
 use Rattle.kept.specs.declared.Pass.{Pass}
 use Rattle.kept.specs.Pass.{Open, Closed, SomeOpen, Kept}
-
--- minimising keeps no more rows than there are
-thin-short : {s t : List Row} → Thinned s t → length t ≤ length s
-thin-short none = omega arith
-thin-short (keep p) = omega (arith, thin-short p)
-thin-short (leave z p) = omega (arith, thin-short p)
-
-pub reduce-short : (rs : List Row) → length (reduce rs) ≤ length rs
-reduce-short rs = thin-short (reduce-thin rs)
 
 abbrev sep : List ℕ
 sep = 44 ∷ 10 ∷ []
@@ -86,10 +76,6 @@ module _ (L : ℕ) (p : Pass) (text after : List ℕ) (kept : ℕ) (fits : p .ou
       let k = kept-few (s .done) (s .cur) (s .open-is) in
       (k, omega (arith, mul-le-mul-right (L + 1) k, open-size L p text s))
 
-pub map-snoc : (done : List (List Row)) (m : List Row) → map density (done ++ (m ∷ [])) ≡ map density done ++ (density m ∷ [])
-map-snoc [] m = refl
-map-snoc (x ∷ done) m = ap (λ l. density x ∷ l) (map-snoc done m)
-
 -- the measure ends: its density is stored and the `,` line written
 pub kept-comma : (L : ℕ) (e : Pass) (text densities : List ℕ) (done : List (List Row)) (cur : List Row) → Closed L e text done cur → take (e .midx) densities ≡ map density done
     → e .out + 2 ≤ length text → e .midx < length densities → (c : Counting) (after dens : List ℕ)
@@ -106,5 +92,5 @@ kept-comma L e text densities done cur x stored fits room c after dens f ea ed =
             midx = rw length-append (omega (arith, x .midx));
           };
       stored =
-          rw (ed, add-one, take-suc-set densities (e .midx) (e .counting .steps) room, stored, x .counted .steps) (sym (map-snoc done cur));
+          rw (ed, add-one, take-suc-set densities (e .midx) (e .counting .steps) room, stored, x .counted .steps) (sym (map-append density done (cur ∷ [])));
     }

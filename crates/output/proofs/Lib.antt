@@ -1,2 +1,3 @@
 -- Laws of writing.
 pub mod Writing
+pub mod Measures

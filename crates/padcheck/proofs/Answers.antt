@@ -1,6 +1,7 @@
 -- From the answers of the crates below, by cases, to the number returned and the figures left.
 use mathlib.Core.Path.{_≡_, refl}
 use mathlib.Core.List.{List}
+use mathlib.Core.Bool.{Bool}
 use Prim.Native.Nat.{ℕ, zero, suc}
 use native.Mathlib.Omega.{arith}
 use lib.Dec.{eqb, eqb·suc-zero}
@@ -9,6 +10,8 @@ use Rattle.definitions.specs.Refusals.{replaces}
 use Rattle.scans.specs.Answers.{refusedOr, refusedOrBeat}
 use Rattle.scans.specs.declared.MeasuresAnswer.the-variants.{Refused, Measures}
 use Rattle.scans.specs.declared.LastBeat.the-variants as last
+use Rattle.timing.specs.Answers as timing-answers
+use Rattle.timing.specs.declared.TimingAnswer.the-variants as timing
 use Rattle.definitions.specs.declared.ArrowStats.{ArrowStats}
 use Rattle.judged.specs.Answers.{refusedOrTally}
 use Rattle.judged.specs.declared.JudgedAnswer.the-variants as judged
@@ -72,3 +75,21 @@ tally-accepted-number (suc k) t u e = let z : _≡_ {A = ℕ} 0 1 = cc in absurd
 pub tally-accepted : (k : ℕ) (t u : ArrowStats) → refusedOrTally k t ≡ judged.Tally u → u ≡ t
 tally-accepted zero t u e = cc
 tally-accepted (suc k) t u e = let z : _≡_ {A = ℕ} 0 1 = cc in absurd (omega arith)
+
+-- the same of the timing rows
+pub timing-refused-number : (k b r : ℕ) (h : Bool) (m : ℕ) → timing-answers.refusedOr k b r h ≡ timing.Refused m → m ≡ k
+timing-refused-number zero b r h m e = let z : _≡_ {A = ℕ} 0 1 = cc in absurd (omega arith)
+timing-refused-number (suc k) b r h m e = cc
+
+pub timing-refused-replaces : (k b r : ℕ) (h : Bool) (m : ℕ) → timing-answers.refusedOr k b r h ≡ timing.Refused m → (a old : List ℕ) → old ≡ replaces k a old
+unfolding replaces
+timing-refused-replaces zero b r h m e a old = let z : _≡_ {A = ℕ} 0 1 = cc in absurd (omega arith)
+timing-refused-replaces (suc k) b r h m e a old = rw (eqb·suc-zero k)
+
+pub timing-accepted-number : (k b r : ℕ) (h : Bool) (x y : ℕ) (z : Bool) → timing-answers.refusedOr k b r h ≡ timing.Rows x y z → 0 ≡ k
+timing-accepted-number zero b r h x y z e = refl
+timing-accepted-number (suc k) b r h x y z e = let n : _≡_ {A = ℕ} 0 1 = cc in absurd (omega arith)
+
+pub timing-accepted : (k b r : ℕ) (h : Bool) (x y : ℕ) (z : Bool) → timing-answers.refusedOr k b r h ≡ timing.Rows x y z → (x ≡ b) × (y ≡ r) × (z ≡ h)
+timing-accepted zero b r h x y z e = (cc, cc, cc)
+timing-accepted (suc k) b r h x y z e = let n : _≡_ {A = ℕ} 0 1 = cc in absurd (omega arith)

@@ -9,8 +9,10 @@ use records::kind_number;
 use records::read_note;
 use scans::LastBeat;
 use scans::MeasuresAnswer;
+use timing::TimingAnswer;
 ghost use mathlib.Core.Path.{_≡_};
-ghost use Rattle.definitions.specs.Entries.{figures as figuresOf, noTally, measuresNumber, densitiesLeft, spacingsLeft, measuresFigures, lastNumber, lastFigures, tallyFigures, judgedNumber, judgedWork, judgedFigures, flaggedFigures, noteFigures, readNumber, readFigures};
+ghost use Rattle.definitions.specs.Entries.{figures as figuresOf, noTally, measuresNumber, densitiesLeft, spacingsLeft, measuresFigures, lastNumber, lastFigures, tallyFigures, judgedNumber, judgedWork, judgedFigures, flaggedFigures, timingNumber, timingText, timingBeats, timingFigures, noteFigures, readNumber, readFigures};
+ghost use Rattle.definitions.specs.Lists.{oneIf};
 ghost use Rattle.definitions.specs.Records.{tailNumber};
 
 // The figures of a call that answers how many measures there are, and no other.
@@ -29,6 +31,23 @@ fn last_figures(bits: u64, row: u64) -> [u64; 32]
     let mut f = [0u64; 32];
     f[4] = bits;
     f[6] = row;
+    f
+}
+
+fn one_if(b: bool) -> u64
+    ensures { λ r. ⌜ r ≡ oneIf b ⌝ }
+{
+    if b { 1 } else { 0 }
+}
+
+// The figures of the timing rows: their bytes, their number, and whether any has a 2 or 4.
+fn timing_figures(bytes: usize, rows: usize, heads: bool) -> [u64; 32]
+    ensures { λ r. ⌜ r ≡ figuresOf bytes 0 rows 0 0 (oneIf heads) 0 noTally ⌝ }
+{
+    let mut f = [0u64; 32];
+    f[0] = bytes as u64;
+    f[2] = rows as u64;
+    f[5] = one_if(heads);
     f
 }
 
@@ -58,6 +77,28 @@ fn tally_figures(t: ArrowStats) -> [u64; 32]
     f[20] = wide(t.fakes);
     f[21] = wide(t.holding);
     f
+}
+
+#[no_mangle]
+pub extern "C" fn padcheck_minimize_timing_rows(
+    data: &[u8],
+    lanes: usize,
+    text: &mut [u8],
+    beats: &mut [f32],
+    figures: &mut [u64; 32],
+) -> u32
+    ensures { λ r. ⌜ r ≡ timingNumber lanes (now («data» .entry)) (now (text .entry)) (now (beats .entry)) ⌝ }
+    ensures { λ _. ⌜ now (text .exit) ≡ timingText lanes (now («data» .entry)) (now (text .entry)) (now (beats .entry)) ⌝ }
+    ensures { λ _. ⌜ now (beats .exit) ≡ timingBeats lanes (now («data» .entry)) (now (text .entry)) (now (beats .entry)) ⌝ }
+    ensures { λ _. ⌜ now (figures .exit) ≡ timingFigures lanes (now («data» .entry)) (now (text .entry)) (now (beats .entry)) (now (figures .entry)) ⌝ }
+{
+    match timing::minimize_timing_rows(data, lanes, text, beats) {
+        TimingAnswer::Refused(number) => number,
+        TimingAnswer::Rows { bytes, rows, heads } => {
+            *figures = timing_figures(bytes, rows, heads);
+            0
+        }
+    }
 }
 
 #[no_mangle]

@@ -1,0 +1,16 @@
+#!/bin/sh
+# Builds the timing program into target/bench: the static library (rt), the oracle and the program (rustc 1.88 or later).
+set -eu
+cd "$(dirname "$0")/.."
+for tool in rt rustc; do
+    if ! command -v "$tool" >/dev/null 2>&1; then
+        echo "build.sh: $tool is missing; the timing program is built with it" >&2
+        exit 1
+    fi
+done
+sh tests/oracle/build.sh
+rt staticlib padcheck
+out=target/bench
+mkdir -p "$out"
+rustc --edition 2024 -O --extern oracle=target/oracle/liboracle.rlib \
+    -L native=target/staticlib -l static=padcheck -o "$out/bench" bench/main.rs

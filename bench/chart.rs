@@ -1,0 +1,60 @@
+//! A long chart like those people play: mostly 16 rows a measure, taps, jumps, holds and rolls with their tails, mines, empty rows.
+
+/// Rows of a measure; most have 16.
+const ROWS: [usize; 8] = [16, 16, 16, 16, 16, 8, 24, 32];
+
+struct Draw(u64);
+
+impl Draw {
+    /// Below `n`, by a linear congruence of which only the high bits are used.
+    fn below(&mut self, n: usize) -> usize {
+        self.0 = self
+            .0
+            .wrapping_mul(6_364_136_223_846_793_005)
+            .wrapping_add(1_442_695_040_888_963_407);
+        ((self.0 >> 33) as usize) % n
+    }
+}
+
+/// A text of exactly `len` bytes; its last line may be cut short.
+pub fn text(lanes: usize, len: usize) -> Vec<u8> {
+    let mut draw = Draw(lanes as u64);
+    let mut held = vec![false; lanes];
+    let mut text = Vec::with_capacity(len + 1024);
+    while text.len() < len {
+        let rows = ROWS[draw.below(ROWS.len())];
+        for _ in 0..rows {
+            let start = text.len();
+            text.resize(start + lanes, b'0');
+            row(&mut draw, &mut held, &mut text[start..]);
+            text.push(b'\n');
+        }
+        text.extend_from_slice(b",\n");
+    }
+    text.truncate(len);
+    text
+}
+
+/// Of 20 rows 7 stay empty, 9 have a tap, 2 a jump, 1 a head and 1 a mine; a column that is held gets its tail instead.
+fn row(draw: &mut Draw, held: &mut [bool], cells: &mut [u8]) {
+    let column = draw.below(cells.len());
+    let other = (column + 1) % cells.len();
+    match draw.below(20) {
+        0..7 => {}
+        7..16 => put(held, cells, column, b'1'),
+        16 | 17 => {
+            put(held, cells, column, b'1');
+            put(held, cells, other, b'1');
+        }
+        18 => {
+            let head = if draw.below(4) == 0 { b'4' } else { b'2' };
+            put(held, cells, column, head);
+        }
+        _ => put(held, cells, column, b'M'),
+    }
+}
+
+fn put(held: &mut [bool], cells: &mut [u8], column: usize, cell: u8) {
+    cells[column] = if held[column] { b'3' } else { cell };
+    held[column] = matches!(cells[column], b'2' | b'4');
+}

@@ -1,0 +1,3 @@
+-- Laws for the leaves' tests.
+pub mod Tests
+pub mod Tracked

@@ -1,0 +1,125 @@
+// Cells, tap masks and object rows.
+use cells::Depths;
+use cells::Taps;
+use definitions::Cell;
+use definitions::DepthEffect;
+ghost use mathlib.Core.Path.{_≡_};
+ghost use mathlib.Core.Bool.{true};
+ghost use Prim.Native.Nat.{ℕ, _≤_};
+ghost use lib.ListN.{getD};
+
+// The number of the variant.
+#[no_mangle]
+pub extern "C" fn leaves_cell_of(b: u8) -> u32 {
+    match cells::cell_of(b) {
+        Cell::Empty => 0,
+        Cell::Tap => 1,
+        Cell::Hold => 2,
+        Cell::Tail => 3,
+        Cell::Roll => 4,
+        Cell::Mine => 5,
+        Cell::Lift => 6,
+        Cell::Fake => 7,
+        Cell::KeySound => 8,
+        Cell::LowerMine => 9,
+        Cell::LowerLift => 10,
+        Cell::LowerFake => 11,
+    }
+}
+
+fn effect_number(e: DepthEffect) -> u32 {
+    match e {
+        DepthEffect::Nothing => 0,
+        DepthEffect::Blocks => 1,
+        DepthEffect::Opens => 2,
+        DepthEffect::Closes => 3,
+    }
+}
+
+#[no_mangle]
+pub extern "C" fn leaves_hold_effect(b: u8) -> u32 {
+    effect_number(cells::hold_effect(b))
+}
+
+#[no_mangle]
+pub extern "C" fn leaves_object_effect(b: u8) -> u32 {
+    effect_number(cells::object_effect(b))
+}
+
+#[no_mangle]
+pub extern "C" fn leaves_row_has_note(row: &[u8]) -> bool {
+    cells::row_has_note(row)
+}
+
+// The mask, 256 for another row.
+fn mask_number(taps: Taps) -> u32 {
+    match taps {
+        Taps::Mask(mask) => mask as u32,
+        Taps::Other => 256,
+    }
+}
+
+#[no_mangle]
+pub extern "C" fn leaves_tap_mask4(row: &[u8]) -> u32 {
+    if row.len() < 4 {
+        return 257;
+    }
+    mask_number(cells::tap_mask4(row))
+}
+
+#[no_mangle]
+pub extern "C" fn leaves_tap_mask8(row: &[u8]) -> u32 {
+    if row.len() < 8 {
+        return 257;
+    }
+    mask_number(cells::tap_mask8(row))
+}
+
+// The sum's fields in their order.
+#[no_mangle]
+pub extern "C" fn leaves_tap_sum(mask: u8, sum: &mut [u32; 11]) {
+    let s = cells::tap_sum(mask);
+    sum[0] = s.arrows;
+    sum[1] = s.left;
+    sum[2] = s.down;
+    sum[3] = s.up;
+    sum[4] = s.right;
+    sum[5] = s.holds;
+    sum[6] = s.rolls;
+    sum[7] = s.tails;
+    sum[8] = s.mines;
+    sum[9] = s.lifts;
+    sum[10] = s.fakes;
+}
+
+// Whether none of the counts is over `most`.
+pub fn is_low(counts: &[u32], most: u32) -> bool
+    ensures { λ r. ⌜ (r ≡ true → (c : ℕ) → getD (now (counts .entry)) c 0 ≤ most) ⌝ }
+{
+    let mut i = 0;
+    while i < counts.len() {
+        if most < counts[i] {
+            return false;
+        }
+        i += 1;
+    }
+    true
+}
+
+// 1 for an object row, 0 for another, 2 where the row is too long or a depth too high. The depths are brought up to date.
+#[no_mangle]
+pub extern "C" fn leaves_row_has_object(row: &[u8], depths: &mut [u32; 10]) -> u32 {
+    if 10 < row.len() {
+        return 2;
+    }
+    if is_low(&*depths, 4294967294) {
+        let before = *depths;
+        let old = Depths { depths: before };
+        let objects = cells::row_has_object(row, old);
+        let new = objects.depths;
+        let after = new.depths;
+        *depths = after;
+        return objects.object as u32;
+    }
+    2
+}

@@ -1,0 +1,163 @@
+// Tallies, phantom depths and the hold tracker. What is kept from row to row is lent as plain arrays.
+use definitions::ArrowStats;
+use phantoms::Phantoms;
+ghost use Prim.Native.Nat.{ℕ, _≤_};
+ghost use lib.ListN.{getD};
+ghost use Rattle.tallies.specs.Bounds.{Below};
+
+fn stats_of(t: &[u32; 14]) -> ArrowStats
+    ensures { λ r. ⌜ ((k : ℕ) → ((c : ℕ) → getD (now (t .entry)) c 0 ≤ k) → Below k r) ⌝ }
+{
+    ArrowStats {
+        total_arrows: t[0],
+        left: t[1],
+        down: t[2],
+        up: t[3],
+        right: t[4],
+        total_steps: t[5],
+        jumps: t[6],
+        hands: t[7],
+        mines: t[8],
+        holds: t[9],
+        rolls: t[10],
+        lifts: t[11],
+        fakes: t[12],
+        holding: t[13],
+    }
+}
+
+fn counts_of(s: ArrowStats) -> [u32; 14] {
+    [
+        s.total_arrows,
+        s.left,
+        s.down,
+        s.up,
+        s.right,
+        s.total_steps,
+        s.jumps,
+        s.hands,
+        s.mines,
+        s.holds,
+        s.rolls,
+        s.lifts,
+        s.fakes,
+        s.holding,
+    ]
+}
+
+// The tally with one row more: 0, or 1 where the row is too long or a count too high.
+#[no_mangle]
+pub extern "C" fn leaves_count_line(tally: &mut [u32; 14], row: &[u8]) -> u32 {
+    if 10 < row.len() {
+        return 1;
+    }
+    if crate::cell::is_low(&*tally, 4294967285) {
+        let before = stats_of(&*tally);
+        let after = tallies::count_line(before, row);
+        *tally = counts_of(after);
+        return 0;
+    }
+    1
+}
+
+// The same, of which only the heads of a mask count.
+#[no_mangle]
+pub extern "C" fn leaves_count_line_masked(tally: &mut [u32; 14], row: &[u8], heads: u16) -> u32 {
+    if 10 < row.len() {
+        return 1;
+    }
+    if crate::cell::is_low(&*tally, 4294967285) {
+        let before = stats_of(&*tally);
+        let after = tallies::count_line_masked(before, row, heads);
+        *tally = counts_of(after);
+        return 0;
+    }
+    1
+}
+
+// The phantom depths with one row more: 0, or 1 where the row is too long or a count too high. `counts` has heads, tails and whether a
+// phantom depth was met.
+#[no_mangle]
+pub extern "C" fn leaves_phantom_row(
+    depths: &mut [u32; 10],
+    counts: &mut [u32; 3],
+    row: &[u8],
+) -> u32 {
+    if 10 < row.len() {
+        return 1;
+    }
+    let heads = counts[0];
+    if 4294967285 < heads {
+        return 1;
+    }
+    let tails = counts[1];
+    if 4294967285 < tails {
+        return 1;
+    }
+    if crate::cell::is_low(&*depths, 4294967285) {
+        let old = *depths;
+        let before = Phantoms {
+            depths: old,
+            heads,
+            tails,
+            met: counts[2] != 0,
+        };
+        let after = phantoms::phantom_row(before, row);
+        let new = after.depths;
+        *depths = new;
+        counts[0] = after.heads;
+        counts[1] = after.tails;
+        counts[2] = after.met as u32;
+        return 0;
+    }
+    1
+}
+
+// Whether the tally is counted anew: 1 or 0, or 2 where the lanes are over 10.
+#[no_mangle]
+pub extern "C" fn leaves_is_corrected(depths: &[u32; 10], counts: &[u32; 3], lanes: usize) -> u32 {
+    if 10 < lanes {
+        return 2;
+    }
+    let old = *depths;
+    let p = Phantoms {
+        depths: old,
+        heads: counts[0],
+        tails: counts[1],
+        met: counts[2] != 0,
+    };
+    if phantoms::is_corrected(p, lanes) {
+        1
+    } else {
+        0
+    }
+}
+
+// The marks of the paired heads of rows back to back, in the first entries of the work slice; its others become 0. Returns how many rows were
+// tracked, no more than the work slice has entries, or the largest number where the lanes are not 1 to 10.
+#[no_mangle]
+pub extern "C" fn leaves_track_rows(rows: &[u8], lanes: usize, work: &mut [u16]) -> u32 {
+    if lanes == 0 {
+        return 4294967295;
+    }
+    if 10 < lanes {
+        return 4294967295;
+    }
+    slices::zero_u16(work, 0);
+    let mut t = holds::no_tracker();
+    let mut i: u32 = 0;
+    let mut at = 0;
+    while lanes <= rows.len() - at {
+        if work.len() <= i as usize {
+            return i;
+        }
+        if i == 4294967295 {
+            return i;
+        }
+        let end = at + lanes;
+        t = holds::track_row(t, i, &rows[at..end], work);
+        at = end;
+        i += 1;
+    }
+    i
+}

@@ -1,0 +1,70 @@
+//! Texts that are not drawn: every short text over a few letters, and texts of the greatest length and one byte more.
+
+use crate::case::{Case, Check};
+use crate::random::Rng;
+use oracle::entry::MAX_LEN;
+
+/// Letters whose every text is tried, and up to which length.
+const ALPHABETS: [(&[u8], u32); 4] = [
+    (b"01\n,;", 7),
+    (b"03\n ", 7),
+    (b"12M\n", 6),
+    (b"\t\n\x0b\x0c\r /,;0", 4),
+];
+
+/// Lane numbers that the short texts are read by.
+const LANES: [usize; 3] = [4, 5, 0];
+
+pub fn short_texts(checks: &mut [Check]) {
+    for (letters, longest) in ALPHABETS {
+        for len in 0..=longest {
+            for number in 0..letters.len().pow(len) {
+                let text = word(letters, len, number);
+                let case = Case {
+                    seed: number as u64,
+                    lanes: LANES[number % LANES.len()],
+                    bytes: text,
+                };
+                checks.iter_mut().for_each(|check| check.run(&case));
+            }
+        }
+    }
+}
+
+fn word(letters: &[u8], len: u32, number: usize) -> Vec<u8> {
+    let mut rest = number;
+    (0..len)
+        .map(|_| {
+            let letter = letters[rest % letters.len()];
+            rest /= letters.len();
+            letter
+        })
+        .collect()
+}
+
+/// Texts of the greatest length and of one byte more; the seeds lend exact slices and others.
+pub fn long_texts(checks: &mut [Check]) {
+    let patterns: [(usize, &[u8]); 6] = [
+        (4, b"1000\n0000\n0200\n0300\n,\n"),
+        (5, b"00001\n20000\n30000\n00000\n00M00\n0K000\n,\n"),
+        (8, b"00000000\n00000001\n,\n"),
+        (10, b"0000000000\n2222222222\n3333333333\n4000000000\n"),
+        (4, b",\n"),
+        (4, b"0"),
+    ];
+    for (lanes, pattern) in patterns {
+        for len in [MAX_LEN, MAX_LEN + 1] {
+            let mut bytes: Vec<u8> = pattern.iter().copied().cycle().take(len).collect();
+            bytes[len - 1] = b'1';
+            let mut case = Case {
+                bytes,
+                lanes,
+                seed: 0,
+            };
+            for check in &mut *checks {
+                case.seed = Rng::new(case.seed).next();
+                check.run(&case);
+            }
+        }
+    }
+}
