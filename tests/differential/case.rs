@@ -112,26 +112,28 @@ impl Check {
     }
 }
 
-/// Takes out parts of the bytes, halves first and single bytes last, while the case still differs.
+/// Takes out parts of the bytes, halves first, then rows, single bytes last, while the case still differs.
 fn shrunk(case: &Case, differs: impl Fn(&Case) -> bool) -> Case {
     let mut small = case.clone();
     let started = Instant::now();
-    let mut part = small.bytes.len().div_ceil(2);
-    while part > 0 {
-        let mut at = 0;
-        let mut taken = false;
-        while at < small.bytes.len() && started.elapsed() < SHRINKING {
-            let mut fewer = small.clone();
-            fewer.bytes.drain(at..(at + part).min(small.bytes.len()));
-            if differs(&fewer) {
-                small = fewer;
-                taken = true;
-            } else {
-                at += part;
+    let halves = (1..).map(|n| case.bytes.len() >> n);
+    let mut parts: Vec<usize> = halves.take_while(|&part| part > 16).collect();
+    parts.extend([16, case.lanes.clamp(1, 16), 1]);
+    let mut taken = true;
+    while taken {
+        taken = false;
+        for &part in &parts {
+            let mut at = 0;
+            while at < small.bytes.len() && started.elapsed() < SHRINKING {
+                let mut fewer = small.clone();
+                fewer.bytes.drain(at..(at + part).min(small.bytes.len()));
+                if differs(&fewer) {
+                    small = fewer;
+                    taken = true;
+                } else {
+                    at += part;
+                }
             }
-        }
-        if !taken || part > 1 {
-            part /= 2;
         }
     }
     small

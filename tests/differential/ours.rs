@@ -1,4 +1,4 @@
-//! The leaves of libleaves.a as safe functions. What a leaf does not take comes back as `None`.
+//! The leaves of libleaves.a, and the entry that reads a note record, as safe functions. What a leaf does not take comes back as `None`.
 
 mod symbols {
     unsafe extern "C" {
@@ -67,6 +67,19 @@ mod symbols {
             lanes: usize,
             work: *mut u16,
             work_len: usize,
+        ) -> u32;
+        pub fn leaves_push_rows(
+            rows: *const u8,
+            len: usize,
+            lanes: usize,
+            slots: *mut u8,
+            slots_len: usize,
+        ) -> usize;
+        pub fn padcheck_read_note(
+            records: *const u8,
+            len: usize,
+            index: usize,
+            note: *mut u64,
         ) -> u32;
     }
 }
@@ -195,6 +208,17 @@ pub fn track_rows(rows: &[u8], lanes: usize, work: &mut [u16]) -> Option<u32> {
     let (work, len) = (work.as_mut_ptr(), work.len());
     let tracked = unsafe { leaves_track_rows(rows.as_ptr(), rows.len(), lanes, work, len) };
     (tracked != u32::MAX).then_some(tracked)
+}
+
+/// How many notes the rows have; their records are in the slice.
+pub fn push_rows(rows: &[u8], lanes: usize, slots: &mut [u8]) -> Option<usize> {
+    let (slots, len) = (slots.as_mut_ptr(), slots.len());
+    place(unsafe { leaves_push_rows(rows.as_ptr(), rows.len(), lanes, slots, len) })
+}
+
+/// The entry that reads a note record: its number, and the note where that is 0.
+pub fn read_note(records: &[u8], index: usize, note: &mut [u64; 4]) -> u32 {
+    unsafe { padcheck_read_note(records.as_ptr(), records.len(), index, note.as_mut_ptr()) }
 }
 
 fn place(number: usize) -> Option<usize> {

@@ -32,7 +32,7 @@ impl Rng {
         from[self.below(from.len())]
     }
 
-    fn byte(&mut self) -> u8 {
+    pub fn byte(&mut self) -> u8 {
         self.next() as u8
     }
 }

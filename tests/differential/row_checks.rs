@@ -1,8 +1,9 @@
-//! Checks over rows back to back: cells, tap masks, minimising, tallies, phantom depths and the hold tracker.
+//! Checks over rows back to back: cells, tap masks, minimising, tallies, phantom depths, the hold tracker, typed notes and their records.
 
 use crate::case::{Case, Check, Compare};
 use crate::ours::{self, Phantoms};
 use crate::random::Rng;
+use oracle::entry;
 use oracle::leaves;
 
 pub fn checks() -> Vec<Check> {
@@ -19,6 +20,8 @@ pub fn checks() -> Vec<Check> {
         Check::new("phantom_row, is_corrected", phantoms),
         Check::new("track_row", track_row),
         Check::new("corrected tally", corrected_tally),
+        Check::new("push_row, finish", push_rows),
+        Check::new("read_note", read_note),
     ]
 }
 
@@ -233,4 +236,48 @@ fn corrected_tally(case: &Case, compared: &mut Compare) {
     }
     let rust = leaves::recalc_phantom_stats(case.lanes, whole(case));
     compared.same_slices("tally", &wide(&tally), &rust);
+}
+
+/// The notes in a slice that is full of garbage and has bytes to spare.
+fn push_rows(case: &Case, compared: &mut Compare) {
+    let rows = whole(case);
+    let mut slots = vec![0xA5; rows.len() * 10 + case.seed as usize % 12];
+    let count = ours::push_rows(rows, case.lanes, &mut slots);
+    let mut want = leaves::count_line_notes(case.lanes, rows);
+    compared.same("notes", count, Some(want.len() / 10));
+    want.resize(slots.len(), 0);
+    compared.same_slices("records", &slots, &want);
+}
+
+/// Each record of the rows' notes, one past them, and one of them with a byte changed or with bytes too many.
+fn read_note(case: &Case, compared: &mut Compare) {
+    let mut rng = Rng::new(case.seed);
+    let mut records = leaves::count_line_notes(case.lanes, whole(case));
+    let count = records.len() / 10;
+    for index in 0..=count {
+        read_one(&records, index, compared);
+    }
+    if !records.is_empty() {
+        let at = rng.below(records.len());
+        records[at] = match rng.below(3) {
+            0 => rng.byte(),
+            1 => rng.pick(&[0, 1, 2, 5, 6, 9, 10, 255]),
+            _ => records[at].wrapping_add(1),
+        };
+        read_one(&records, at / 10, compared);
+        read_one(&records, usize::MAX - rng.below(3), compared);
+    }
+    records.resize(records.len() + 1 + rng.below(9), 0);
+    read_one(&records, rng.below(count + 1), compared);
+}
+
+fn read_one(records: &[u8], index: usize, compared: &mut Compare) {
+    let mut note = [7, 77, 777, 7777];
+    let number = ours::read_note(records, index, &mut note);
+    let (want, left) = match entry::read_note(records, index) {
+        Ok(read) => (0, read),
+        Err(refusal) => (refusal, [7, 77, 777, 7777]),
+    };
+    compared.same("number", number, want);
+    compared.same("note", note, left);
 }

@@ -161,3 +161,29 @@ pub extern "C" fn leaves_track_rows(rows: &[u8], lanes: usize, work: &mut [u16])
     }
     i
 }
+
+// The records of the notes of rows back to back; the slice is 0 after them. Returns how many notes there are, or the largest number where
+// the lanes are not 1 to 10, where there are more than 16,777,215 rows, or where the slice has no room for a record of each cell.
+#[no_mangle]
+pub extern "C" fn leaves_push_rows(rows: &[u8], lanes: usize, slots: &mut [u8]) -> usize {
+    if lanes == 0 {
+        return 18446744073709551615;
+    }
+    if 10 < lanes {
+        return 18446744073709551615;
+    }
+    let mut s = notes::begin();
+    let mut at = 0;
+    while lanes <= rows.len() - at {
+        if 16777215 <= s.row_index {
+            return 18446744073709551615;
+        }
+        if slots.len() / 10 < s.count + lanes {
+            return 18446744073709551615;
+        }
+        let end = at + lanes;
+        s = notes::push_row(s, &rows[at..end], slots);
+        at = end;
+    }
+    notes::finish(s, slots)
+}

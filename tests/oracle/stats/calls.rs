@@ -291,7 +291,7 @@ pub(super) fn in_48ths(last: f64) -> u64 {
 }
 
 /// A note as document 01 stores it: row, tail, column, kind.
-fn note_record(note: ParsedChartNote) -> [u8; NOTE_BYTES] {
+pub(super) fn note_record(note: ParsedChartNote) -> [u8; NOTE_BYTES] {
     let tail = note.tail_row_index.map_or(NO_TAIL, |row| row as u32);
     let mut record = [0; NOTE_BYTES];
     record[..4].copy_from_slice(&(note.row_index as u32).to_le_bytes());

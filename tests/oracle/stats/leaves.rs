@@ -1,7 +1,7 @@
 //! The functions below the chart calls, for runs against their ports one by one.
 //! Rows pass as bytes back to back, L bytes a row; anything else but whole rows is a panic.
 
-use super::calls::{Tally, in_48ths, is_judged, tally_of};
+use super::calls::{Tally, in_48ths, is_judged, note_record, tally_of};
 use super::{compact_output_rows as compact_in_text, reduce_output_measure as reduce_in_text, *};
 
 // Line reader
@@ -212,6 +212,34 @@ fn counted<const L: usize>(rows: &[u8]) -> Counted {
     counted.phantom_depths = phantom_depths.to_vec();
     counted.object_depths = object_depths.to_vec();
     counted
+}
+
+/// The records of the notes of a list of rows.
+#[must_use]
+pub fn count_line_notes(lanes: usize, rows: &[u8]) -> Vec<u8> {
+    dispatch_lanes!(lanes, noted(rows))
+}
+
+fn noted<const L: usize>(rows: &[u8]) -> Vec<u8> {
+    let mut stats = ArrowStats::default();
+    let (mut holds, mut ends, mut has_phantom) = (0, 0, false);
+    let (mut phantom_depths, mut object_depths) = ([0; L], [0; L]);
+    let mut notes = ChartNotesScratch::default();
+    notes.begin(L, 0);
+    for row in whole_rows::<L>(rows) {
+        super::count_line_notes(
+            row,
+            &mut stats,
+            &mut holds,
+            &mut ends,
+            &mut phantom_depths,
+            &mut has_phantom,
+            &mut object_depths,
+            &mut notes,
+        );
+    }
+    notes.finish();
+    notes.drain().flat_map(note_record).collect()
 }
 
 /// The tally of rows with a phantom mask each; a row past the masks has none.
