@@ -66,6 +66,7 @@ macro_rules! entries {
 }
 
 entries! {
+    ProcessChartKept padcheck_process_chart_kept(data, lanes, text, densities, work, figures);
     MinimizeTimingRows padcheck_minimize_timing_rows(data, lanes, text, beats, figures);
     MeasureDensities padcheck_measure_densities(data, lanes, densities, figures);
     EquallySpaced padcheck_equally_spaced(data, lanes, spacing, figures);

@@ -1,11 +1,11 @@
--- The lane count in force is at least 4 and at most 10.
-use mathlib.Core.Path.{_≡_, refl}
+-- The lane count in force is at least 4 and at most 10; a test of the most rows by it.
+use mathlib.Core.Path.{_≡_, refl, ap, sym, _∙_}
 use mathlib.Core.Bool.{Bool, true, false, cond, _||_}
-use Prim.Native.Nat.{ℕ, _≤_}
+use Prim.Native.Nat.{ℕ, _+_, _/_, _≤_}
 use native.Mathlib.Omega.{arith}
 use borrow.Author.Tests.{eqb-true}
-use lib.Dec.{eqb}
-use Rattle.definitions.specs.Lanes.{lanesOf}
+use lib.Dec.{eqb, ltb}
+use Rattle.definitions.specs.Lanes.{lanesOf, mostRows}
 
 lanes-by : (n : ℕ) (a b c : Bool) → eqb n 5 ≡ a → eqb n 8 ≡ b → eqb n 10 ≡ c
     → (4 ≤ cond (a || (b || (c || false))) n 4) × (cond (a || (b || (c || false))) n 4 ≤ 10)
@@ -21,3 +21,8 @@ lanes-at-least n = lanes-by n (eqb n 5) (eqb n 8) (eqb n 10) refl refl refl .0
 pub lanes-at-most : (n : ℕ) → lanesOf n ≤ 10
 unfolding lanesOf
 lanes-at-most n = lanes-by n (eqb n 5) (eqb n 8) (eqb n 10) refl refl refl .1
+
+-- a test against the most rows of a text, worked out of the lane count in force
+pub of-lanes : (room len : ℕ) {l k : ℕ} {t : Bool} → l ≡ k → ltb room ((len + 1) / (l + 1)) ≡ t → ltb room (mostRows k len) ≡ t
+unfolding mostRows
+of-lanes room len e h = ap (λ n. ltb room ((len + 1) / (n + 1))) (sym e) ∙ h

@@ -10,6 +10,9 @@ use Rattle.definitions.specs.Refusals.{replaces}
 use Rattle.scans.specs.Answers.{refusedOr, refusedOrBeat}
 use Rattle.scans.specs.declared.MeasuresAnswer.the-variants.{Refused, Measures}
 use Rattle.scans.specs.declared.LastBeat.the-variants as last
+use Rattle.kept.specs.declared.KeptFigures.{KeptFigures}
+use Rattle.kept.specs.Answers.{refusedOrKept}
+use Rattle.kept.specs.declared.KeptAnswer.the-variants as kept
 use Rattle.timing.specs.Answers as timing-answers
 use Rattle.timing.specs.declared.TimingAnswer.the-variants as timing
 use Rattle.definitions.specs.declared.ArrowStats.{ArrowStats}
@@ -93,3 +96,21 @@ timing-accepted-number (suc k) b r h x y z e = let n : _≡_ {A = ℕ} 0 1 = cc 
 pub timing-accepted : (k b r : ℕ) (h : Bool) (x y : ℕ) (z : Bool) → timing-answers.refusedOr k b r h ≡ timing.Rows x y z → (x ≡ b) × (y ≡ r) × (z ≡ h)
 timing-accepted zero b r h x y z e = (cc, cc, cc)
 timing-accepted (suc k) b r h x y z e = let n : _≡_ {A = ℕ} 0 1 = cc in absurd (omega arith)
+
+-- the same of the kept-row call
+pub kept-refused-number : (k : ℕ) (f : KeptFigures) (m : ℕ) → refusedOrKept k f ≡ kept.Refused m → m ≡ k
+kept-refused-number zero f m e = let z : _≡_ {A = ℕ} 0 1 = cc in absurd (omega arith)
+kept-refused-number (suc k) f m e = cc
+
+pub kept-refused-replaces : (k : ℕ) (f : KeptFigures) (m : ℕ) → refusedOrKept k f ≡ kept.Refused m → (a old : List ℕ) → old ≡ replaces k a old
+unfolding replaces
+kept-refused-replaces zero f m e a old = let z : _≡_ {A = ℕ} 0 1 = cc in absurd (omega arith)
+kept-refused-replaces (suc k) f m e a old = rw (eqb·suc-zero k)
+
+pub kept-accepted-number : (k : ℕ) (f g : KeptFigures) → refusedOrKept k f ≡ kept.Kept g → 0 ≡ k
+kept-accepted-number zero f g e = refl
+kept-accepted-number (suc k) f g e = let n : _≡_ {A = ℕ} 0 1 = cc in absurd (omega arith)
+
+pub kept-accepted : (k : ℕ) (f g : KeptFigures) → refusedOrKept k f ≡ kept.Kept g → g ≡ f
+kept-accepted zero f g e = cc
+kept-accepted (suc k) f g e = let n : _≡_ {A = ℕ} 0 1 = cc in absurd (omega arith)

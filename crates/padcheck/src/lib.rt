@@ -4,6 +4,8 @@ use definitions::Note;
 use definitions::ReadNote;
 use definitions::Tail;
 use judged::JudgedAnswer;
+use kept::KeptAnswer;
+use kept::KeptFigures;
 use records::NO_TAIL_ROW;
 use records::kind_number;
 use records::read_note;
@@ -11,7 +13,7 @@ use scans::LastBeat;
 use scans::MeasuresAnswer;
 use timing::TimingAnswer;
 ghost use mathlib.Core.Path.{_≡_};
-ghost use Rattle.definitions.specs.Entries.{figures as figuresOf, noTally, measuresNumber, densitiesLeft, spacingsLeft, measuresFigures, lastNumber, lastFigures, tallyFigures, judgedNumber, judgedWork, judgedFigures, flaggedFigures, timingNumber, timingText, timingBeats, timingFigures, noteFigures, readNumber, readFigures};
+ghost use Rattle.definitions.specs.Entries.{figures as figuresOf, noTally, measuresNumber, densitiesLeft, spacingsLeft, measuresFigures, lastNumber, lastFigures, tallyFigures, judgedNumber, judgedWork, judgedFigures, flaggedFigures, keptNumber, keptText, keptDensities, keptWork, keptFigures, timingNumber, timingText, timingBeats, timingFigures, noteFigures, readNumber, readFigures};
 ghost use Rattle.definitions.specs.Lists.{oneIf};
 ghost use Rattle.definitions.specs.Records.{tailNumber};
 
@@ -77,6 +79,42 @@ fn tally_figures(t: ArrowStats) -> [u64; 32]
     f[20] = wide(t.fakes);
     f[21] = wide(t.holding);
     f
+}
+
+// The figures of the kept-row call.
+fn kept_figures(k: KeptFigures) -> [u64; 32]
+    ensures { λ r. ⌜ r ≡ figuresOf (k .bytes) (k .measures) (k .rows) 0 0 0 0 (tallyFigures (k .stats)) ⌝ }
+{
+    let stats = k.stats;
+    let mut f = tally_figures(stats);
+    f[0] = k.bytes as u64;
+    f[1] = k.measures as u64;
+    f[2] = wide(k.rows);
+    f
+}
+
+#[no_mangle]
+pub extern "C" fn padcheck_process_chart_kept(
+    data: &[u8],
+    lanes: usize,
+    text: &mut [u8],
+    densities: &mut [u32],
+    work: &mut [u16],
+    figures: &mut [u64; 32],
+) -> u32
+    ensures { λ r. ⌜ r ≡ keptNumber lanes (now («data» .entry)) (now (text .entry)) (now (densities .entry)) (now (work .entry)) ⌝ }
+    ensures { λ _. ⌜ now (text .exit) ≡ keptText lanes (now («data» .entry)) (now (text .entry)) (now (densities .entry)) (now (work .entry)) ⌝ }
+    ensures { λ _. ⌜ now (densities .exit) ≡ keptDensities lanes (now («data» .entry)) (now (text .entry)) (now (densities .entry)) (now (work .entry)) ⌝ }
+    ensures { λ _. ⌜ now (work .exit) ≡ keptWork lanes (now («data» .entry)) (now (text .entry)) (now (densities .entry)) (now (work .entry)) ⌝ }
+    ensures { λ _. ⌜ now (figures .exit) ≡ keptFigures lanes (now («data» .entry)) (now (text .entry)) (now (densities .entry)) (now (work .entry)) (now (figures .entry)) ⌝ }
+{
+    match kept::process_chart_kept(data, lanes, text, densities, work) {
+        KeptAnswer::Refused(number) => number,
+        KeptAnswer::Kept(k) => {
+            *figures = kept_figures(k);
+            0
+        }
+    }
 }
 
 #[no_mangle]

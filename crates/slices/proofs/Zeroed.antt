@@ -1,5 +1,5 @@
 -- The laws of the filling loops, over the element.
-use mathlib.Core.Path.{_≡_}
+use mathlib.Core.Path.{_≡_, ap, sym, _∙_}
 use mathlib.Core.List.{List, [], _++_, append-assoc, append-nil}
 use Prim.Native.Nat.{ℕ, suc, _+_, _-_, _≤_, _<_}
 use native.Mathlib.Numerals.{add-one}
@@ -25,3 +25,12 @@ module _ {A : Type 0} (z : A) (i : ℕ) (l : List A) where
 -- a slice that begins with the answer, zeroed after it, is the answer padded
 pub zeroed-padded : {A : Type 0} (z : A) (answer l : List A) → take (length answer) l ≡ answer → zeroed z (length answer) l ≡ padded z (length l) answer
 zeroed-padded z answer l e = rw e
+
+-- the same of a slice that had n entries before it was written, where f gives the answer of a lane count
+pub zeroed-answer : {A : Type 0} (z : A) (l : List A) (k n : ℕ) (f : ℕ → List A) {L L₁ : ℕ} → L ≡ L₁ → length l ≡ n → k ≤ length l → take k l ≡ f L → zeroed z k l ≡ padded z n (f L₁)
+zeroed-answer z l k n f {L} same size h e =
+    let long : k ≡ length (f L) = sym (length-take-le k l h) ∙ ap length e in
+    ap (λ m. zeroed z m l) long
+    ∙ zeroed-padded z (f L) l (ap (λ m. take m l) (sym long) ∙ e)
+    ∙ ap (λ m. padded z m (f L)) size
+    ∙ ap (λ L. padded z n (f L)) same

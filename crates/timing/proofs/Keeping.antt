@@ -22,7 +22,7 @@ use Rattle.reader.specs.declared.ReadLine.{ReadLine}
 use Rattle.reader.specs.Reading.{LineRead, Reading, ReadAll}
 use Rattle.reader.proofs.Reading.{read-start, read-passed, read-comma, read-row, read-semi, read-end, joined-snoc}
 use Rattle.slices.specs.Zeroed.{zeroed}
-use Rattle.slices.proofs.Zeroed.{zeroed-padded}
+use Rattle.slices.proofs.Zeroed.{zeroed-answer}
 use Rattle.timing.specs.declared.Pass.{Pass}
 use Rattle.timing.specs.Pass.{Timed, TimedAll}
 
@@ -118,15 +118,6 @@ timed-all L p q data-text text after beats beats₁ x f fits room =
       rows = k .kept;
       heads = k .heads;
     }
-
--- What is past an answer zeroed: the slice had n entries before the pass, and f gives the answer of a lane count.
-zeroed-answer : {A : Type 0} (z : A) (l : List A) (k n : ℕ) (f : ℕ → List A) {L L₁ : ℕ} → L ≡ L₁ → length l ≡ n → k ≤ length l → take k l ≡ f L → zeroed z k l ≡ padded z n (f L₁)
-zeroed-answer z l k n f {L} same size h e =
-    let long : k ≡ length (f L) = sym (length-take-le k l h) ∙ ap length e in
-    ap (λ m. zeroed z m l) long
-    ∙ zeroed-padded z (f L) l (ap (λ m. take m l) (sym long) ∙ e)
-    ∙ ap (λ m. padded z m (f L)) size
-    ∙ ap (λ L. padded z n (f L)) same
 
 module _ (L : ℕ) (data-text : List ℕ) (p : Pass) (text : List ℕ) (beats : List Float) (x : TimedAll L data-text p text beats) where
   pub all-bytes : p .out ≡ length (timingRows L data-text)

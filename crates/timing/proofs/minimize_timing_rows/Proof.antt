@@ -1,17 +1,14 @@
 -- `timing::minimize_timing_rows` meets its contract: each return rewrites with the tests that led there.
-use mathlib.Core.Path.{_≡_, ap, sym, _∙_}
-use mathlib.Core.Bool.{Bool}
-use Prim.Native.Nat.{ℕ, _+_, _/_}
+use mathlib.Core.Path.{_≡_, _∙_}
 use native.Mathlib.Omega.{arith}
 use borrow.Author.Needs.{needs}
 use borrow.Author.Tests.{lt-ltb, le-ltb}
-use lib.Dec.{ltb}
 use lib.ListN.{length}
 use denote.Ref.{now}
 use Rattle.definitions.specs.Lanes.{mostRows}
 use Rattle.definitions.specs.Refusals.{leaves}
 use Rattle.definitions.specs.Entries.{timingNumber, timingText, timingBeats}
-use Rattle.measures.proofs.Lanes.{lanes-at-least, lanes-at-most}
+use Rattle.measures.proofs.Lanes.{lanes-at-least, lanes-at-most, of-lanes}
 use Rattle.timing.specs.Answers.{timingAnswer}
 use Rattle.timing.proofs.Keeping.{all-bytes, all-text, all-beats}
 use Rattle.timing.proofs.minimize_timing_rows.Statement.{statement}
@@ -44,11 +41,6 @@ add-most-2 c = omega (arith, c .lanes-of .ensures, lanes-at-most (c .before .bef
 
 div-most : tie.Need-div-most
 div-most c = search needs
-
--- the test of the beats, of the lane count in force
-of-lanes : (room len : ℕ) {l k : ℕ} {t : Bool} → l ≡ k → ltb room ((len + 1) / (l + 1)) ≡ t → ltb room (mostRows k len) ≡ t
-unfolding mostRows
-of-lanes room len e h = ap (λ n. ltb room ((len + 1) / (n + 1))) (sym e) ∙ h
 
 returns-3 : tie.Need-returns-3
 unfolding timingAnswer timingNumber timingText timingBeats leaves
