@@ -1,10 +1,15 @@
--- The list of a measure's beats: its length, and its elements. Assumes nothing.
+-- The list of a measure's beats: its length and its elements; and the beats of one measure more.
 use mathlib.Core.Path.{_≡_, refl, sym, ap, _∙_}
-use Prim.Native.Nat.{ℕ, zero, suc, _+_, _<_}
+use mathlib.Core.List.{List, [], _∷_, _++_}
+use Prim.Native.Nat.{ℕ, zero, suc, _+_, _≤_, _<_}
 use native.Mathlib.Nat.{le-of-suc-le-suc, not-suc-le-zero, add-zero, add-suc, suc-add, zero-add}
-use lib.ListN.{length, getD}
-use lib.Ieee.{nan}
-use Rattle.definitions.specs.Beats.{rowBeat, rowBeats}
+use lib.ListN.{length, take, drop, getD, length-append}
+use lib.Seq.{take-at, length-take-le}
+use lib.Ieee.{Float, nan}
+use Rattle.definitions.specs.Lists.{joined}
+use Rattle.definitions.specs.Lines.{Row}
+use Rattle.definitions.specs.Beats.{rowBeat, rowBeats, beatsFrom}
+use Rattle.definitions.proofs.Lists.{joined-snoc}
 
 pub length-beats : (m n r k : ℕ) → length (rowBeats m n r k) ≡ k
 length-beats m n r zero = refl
@@ -17,3 +22,23 @@ at-beats m n r (suc k) (suc j) h = at-beats m n (suc r) k j (le-of-suc-le-suc h)
 
 pub beat-at : (m n j : ℕ) → j < n → rowBeat m j n ≡ getD (rowBeats m n 0 n) j nan
 beat-at m n j h = ap (λ (i : ℕ). rowBeat m i n) (sym (zero-add j)) ∙ sym (at-beats m n 0 n j h)
+
+beats-measure : (k : ℕ) (done : List (List Row)) (m : List Row)
+    → beatsFrom k (done ++ (m ∷ [])) ≡ beatsFrom k done ++ (rowBeats (k + length done) (length m) 0 (length m) ∷ [])
+beats-measure k [] m = ap (λ n. rowBeats n (length m) 0 (length m) ∷ []) (sym (add-zero k))
+beats-measure k (x ∷ done) m =
+    ap (λ l. rowBeats k (length x) 0 (length x) ∷ l)
+    (beats-measure (suc k) done m ∙ ap (λ n. beatsFrom (suc k) done ++ (rowBeats n (length m) 0 (length m) ∷ [])) (suc-add k (length done) ∙ sym (add-suc k (length done))))
+
+-- What `append_row_beats` leaves: the beats of the measures before, and those of one more.
+pub beats-appended : (l : List Float) (at midx n : ℕ) (done : List (List Row)) (m : List Row) → at ≤ length l → take at l ≡ joined (beatsFrom 0 done) → midx ≡ length done → n ≡ length m
+    → take (at + n) ((take at l ++ rowBeats midx n 0 n) ++ drop (at + n) l) ≡ joined (beatsFrom 0 (done ++ (m ∷ [])))
+beats-appended l at midx n done m room before em en =
+    take-at (take at l ++ rowBeats midx n 0 n) (drop (at + n) l) (at + n) size
+    ∙ ap (λ b. b ++ rowBeats midx n 0 n) before
+    ∙ ap (λ k. joined (beatsFrom 0 done) ++ rowBeats k n 0 n) (em ∙ sym (zero-add (length done)))
+    ∙ ap (λ n. joined (beatsFrom 0 done) ++ rowBeats (0 + length done) n 0 n) en
+    ∙ sym (ap joined (beats-measure 0 done m) ∙ joined-snoc (beatsFrom 0 done) (rowBeats (0 + length done) (length m) 0 (length m)))
+  where
+    size : length (take at l ++ rowBeats midx n 0 n) ≡ at + n
+    size = rw (length-append, length-take-le at l room, length-beats midx n 0 n)

@@ -10,6 +10,7 @@ use Rattle.definitions.specs.Lines.{Row}
 use Rattle.definitions.specs.Figures.{isStep, density}
 use Rattle.definitions.specs.Tally.{rowSum, noStats, addRow, tally}
 use Rattle.definitions.specs.declared.ArrowStats.{ArrowStats}
+use Rattle.definitions.proofs.Lists.{joined-snoc}
 use Rattle.phantoms.specs.declared.Phantoms.{Phantoms}
 use Rattle.phantoms.specs.Phantoms.{Counts, RowCounted, Low}
 use Rattle.phantoms.proofs.Loop.{low-more}
@@ -18,10 +19,6 @@ use Rattle.tallies.proofs.Rows.{tally-none, tally-snoc}
 use Rattle.tallies.proofs.Bounds.{below-none, below-more, below-line}
 use Rattle.counting.specs.declared.Counting.{Counting}
 use Rattle.counting.specs.Counted.{Few, Counted}
-
-joined-snoc : (ls : List (List Row)) (l : List Row) → joined (ls ++ (l ∷ [])) ≡ joined ls ++ l
-joined-snoc [] l = append-nil l
-joined-snoc (x ∷ ls) l = rw append-assoc (ap (λ r. x ++ r) (joined-snoc ls l))
 
 density-snoc : (rs : List Row) (r : Row) → density (rs ++ (r ∷ [])) ≡ density rs + oneIf (isStep r)
 density-snoc [] r = omega arith

@@ -38,6 +38,11 @@ module _ {A : Type 0} where
   pub those-right : (p : A → Bool) {s : List A} (t : List A) → All (λ a. p a ≡ false) s → those p (s ++ t) ≡ those p t
   those-right p {s} t h = rw (those-append p s t, those-none p h)
 
+  -- lists run together, one list more
+  pub joined-snoc : (ls : List (List A)) (l : List A) → joined (ls ++ (l ∷ [])) ≡ joined ls ++ l
+  joined-snoc [] l = append-nil l
+  joined-snoc (x ∷ ls) l = rw append-assoc (ap (λ r. x ++ r) (joined-snoc ls l))
+
   -- a list of lists parts at each place d
   pub parts : (d : ℕ) (ls : List (List A)) → joined ls ≡ joined (take d ls) ++ (getD ls d [] ++ joined (drop (suc d) ls))
   parts zero [] = refl

@@ -1,6 +1,6 @@
 -- From the pass over a whole text to what the kept-row call answers.
 use mathlib.Core.Path.{_≡_, refl, ap, sym, _∙_, subst}
-use mathlib.Core.Bool.{false}
+use mathlib.Core.Bool.{Bool, false}
 use mathlib.Core.List.{List, [], map}
 use Prim.Native.Nat.{ℕ, _+_, _-_, _≤_}
 use native.Mathlib.Omega.{arith}
@@ -37,11 +37,11 @@ module _ (L : ℕ) (data-text : List ℕ) (p : Pass) (text densities : List ℕ)
   all-densities n size = zeroed-answer 0 densities (p .midx + 1) n (λ L. densitiesOf L data-text) refl size all-room (x .densities-are)
 
   -- the part of the text slice that is read back
-  own-part : take (p .out - 0) text ≡ minimisedText L data-text
+  pub own-part : take (p .out - 0) text ≡ minimisedText L data-text
   own-part = let n : p .out - 0 ≡ p .out = omega arith in ap (λ k. take k text) n ∙ x .text-is
 
-  pub all-recount : (work : List ℕ) → 4 ≤ L → L ≤ 10 → length data-text ≤ 16777215 → mostRows L (length data-text) ≤ length work → Room false L (take (p .out - 0) text) work
-  all-recount work l m s w = subst (λ t. Room false L t work) (sym own-part) (minimised-room false L data-text work l m s w)
+  pub all-recount : (trim : Bool) (work : List ℕ) → 4 ≤ L → L ≤ 10 → length data-text ≤ 16777215 → mostRows L (length data-text) ≤ length work → Room trim L (take (p .out - 0) text) work
+  all-recount trim work l m s w = subst (λ t. Room trim L t work) (sym own-part) (minimised-room trim L data-text work l m s w)
 
   pub all-figures : (stats : ArrowStats) → 1 ≤ L → stats ≡ corrected L (joined (minimised L data-text)) (rowsBack false L (take (p .out - 0) text))
       → record { bytes = p .out; measures = p .midx + 1; rows = p .counting .rows; stats = stats } ≡ keptFigures L data-text

@@ -16,9 +16,9 @@ use Rattle.measures.specs.Rows.{rowsAt, placed, Holds, Reduced}
 use Rattle.measures.proofs.Forms.{Form, in-text, form-rows}
 use Rattle.output.specs.Wrote.{Wrote}
 use Rattle.output.proofs.Writing.{wrote-start, wrote-row, wrote-holds, wrote-reduced, wrote-sep}
-use Rattle.output.proofs.Measures.{reduce-short}
+use Rattle.measures.proofs.Shorter.{reduce-short}
 use Rattle.kept.specs.declared.Pass.{Pass}
-use Rattle.kept.specs.Pass.{Open, Closed, SomeOpen, Kept}
+use Rattle.kept.specs.Pass.{Open, Closed, SomeOpen, Kept, Ended}
 
 abbrev sep : List ℕ
 sep = 44 ∷ 10 ∷ []
@@ -68,7 +68,7 @@ module _ (L : ℕ) (p : Pass) (text after : List ℕ) (kept : ℕ) (fits : p .ou
         → ((done : List (List Row)) → Counted L (p .counting) done [] → Counted L c done (rowsAt (L + 1) L kept (drop (p .start) after)))
         → Closed L (record { counting = c; start = p .start; out = p .start + kept * (L + 1); rows = kept; midx = p .midx }) after done (reduce cur)
     closed-rows c f =
-        record { wrote = wrote; counted = subst (λ rs. Counted L c done rs) rows-there (f done (x .counted)); midx = x .midx }
+        record { wrote = wrote; counted = subst (λ rs. Counted L c done rs) rows-there (f done (x .counted)); rows = reduced .count; midx = x .midx }
 
   -- no more rows and bytes than before
   pub closed-few : SomeOpen L p text → (kept ≤ p .rows) × (p .start + kept * (L + 1) ≤ p .out)
@@ -76,21 +76,39 @@ module _ (L : ℕ) (p : Pass) (text after : List ℕ) (kept : ℕ) (fits : p .ou
       let k = kept-few (s .done) (s .cur) (s .open-is) in
       (k, omega (arith, mul-le-mul-right (L + 1) k, open-size L p text s))
 
--- the measure ends: its density is stored and the `,` line written
-pub kept-comma : (L : ℕ) (e : Pass) (text densities : List ℕ) (done : List (List Row)) (cur : List Row) → Closed L e text done cur → take (e .midx) densities ≡ map density done
-    → e .out + 2 ≤ length text → e .midx < length densities → (c : Counting) (after dens : List ℕ)
-    → ((L : ℕ) (done : List (List Row)) (cur : List Row) → Counted L (e .counting) done cur → Counted L c (done ++ (cur ∷ [])) [])
-    → after ≡ placed (e .out) sep text → dens ≡ set densities (e .midx) (e .counting .steps)
-    → Kept L (record { counting = c; start = e .out + 2; out = e .out + 2; rows = 0; midx = e .midx + 1 }) after dens (done ++ (cur ∷ [])) []
-kept-comma L e text densities done cur x stored fits room c after dens f ea ed =
+-- the measure's density is stored
+pub ended-rows : (L : ℕ) (e : Pass) (text densities : List ℕ) (done : List (List Row)) (cur : List Row) → Closed L e text done cur → take (e .midx) densities ≡ map density done
+    → e .midx < length densities → Ended L e text (set densities (e .midx) (e .counting .steps)) done cur
+ended-rows L e text densities done cur x stored room =
+    record {
+      closed = x;
+      stored = rw (add-one, take-suc-set densities (e .midx) (e .counting .steps) room, stored, x .counted .steps) (sym (map-append density done (cur ∷ [])));
+    }
+
+-- the `,` line is written
+pub next-measure : (L : ℕ) (e : Pass) (text densities : List ℕ) (done : List (List Row)) (cur : List Row) → Ended L e text densities done cur → e .out + 2 ≤ length text
+    → (c : Counting) (after : List ℕ) → ((L : ℕ) (done : List (List Row)) (cur : List Row) → Counted L (e .counting) done cur → Counted L c (done ++ (cur ∷ [])) [])
+    → after ≡ placed (e .out) sep text
+    → Kept L (record { counting = c; start = e .out + 2; out = e .out + 2; rows = 0; midx = e .midx + 1 }) after densities (done ++ (cur ∷ [])) []
+next-measure L e text densities done cur x fits c after f ea =
     record {
       open-is =
           record {
-            wrote = subst (λ t. Wrote rowText sep (L + 1) L t (e .out + 2) (e .out + 2) (done ++ (cur ∷ [])) []) (sym ea) (wrote-sep (in-text L) sep text (e .start) (e .out) done cur (x .wrote) fits);
-            counted = f L done cur (x .counted);
+            wrote = subst (λ t. Wrote rowText sep (L + 1) L t (e .out + 2) (e .out + 2) (done ++ (cur ∷ [])) []) (sym ea)
+                (wrote-sep (in-text L) sep text (e .start) (e .out) done cur (x .closed .wrote) fits);
+            counted = f L done cur (x .closed .counted);
             rows = refl;
-            midx = rw length-append (omega (arith, x .midx));
+            midx = rw length-append (omega (arith, x .closed .midx));
           };
-      stored =
-          rw (ed, add-one, take-suc-set densities (e .midx) (e .counting .steps) room, stored, x .counted .steps) (sym (map-append density done (cur ∷ [])));
+      stored = x .stored;
+    }
+
+-- a row of L bytes is one row more
+pub kept-row : (L : ℕ) (p q : Pass) (text after densities : List ℕ) (row : Row) → length row ≡ L
+    → ((done : List (List Row)) (cur : List Row) → Open (length row) p text done cur → Open (length row) q after done (cur ++ (row ∷ []))) → q .midx ≡ p .midx
+    → (done : List (List Row)) (cur : List Row) → Kept L p text densities done cur → Kept L q after densities done (cur ++ (row ∷ []))
+kept-row L p q text after densities row w f m done cur x =
+    record {
+      open-is = subst (λ n. Open n p text done cur → Open n q after done (cur ++ (row ∷ []))) w (f done cur) (x .open-is);
+      stored = ap (λ n. take n densities) m ∙ x .stored;
     }

@@ -1,7 +1,7 @@
 -- What the pass holds and has written: `done` are the minimised measures, `cur` the rows of the open one.
 use mathlib.Core.Path.{_≡_}
-use mathlib.Core.List.{List, [], _∷_, map}
-use Prim.Native.Nat.{ℕ, _+_, _≤_}
+use mathlib.Core.List.{List, [], _∷_, _++_, map}
+use Prim.Native.Nat.{ℕ, _+_, _*_, _≤_}
 use lib.ListN.{length, take}
 use Rattle.definitions.specs.Lists.{joined}
 use Rattle.definitions.specs.Lanes.{mostRows}
@@ -26,6 +26,7 @@ pub record Open (L : ℕ) (p : Pass) (text : List ℕ) (done : List (List Row)) 
 pub record Closed (L : ℕ) (p : Pass) (text : List ℕ) (done : List (List Row)) (cur : List Row) : Type 0 where
   pub wrote : Wrote rowText (44 ∷ 10 ∷ []) (L + 1) L text (p .start) (p .out) done cur
   pub counted : Counted L (p .counting) done cur
+  pub rows : p .rows ≡ length cur
   pub midx : p .midx ≡ length done
 
 pub record SomeOpen (L : ℕ) (p : Pass) (text : List ℕ) : Type 0 where
@@ -38,6 +39,11 @@ pub record Kept (L : ℕ) (p : Pass) (text densities : List ℕ) (done : List (L
   pub open-is : Open L p text done cur
   pub stored : take (p .midx) densities ≡ map density done
 
+-- the open measure minimised and counted, and the densities with its own
+pub record Ended (L : ℕ) (p : Pass) (text densities : List ℕ) (done : List (List Row)) (cur : List Row) : Type 0 where
+  pub closed : Closed L p text done cur
+  pub stored : take (p .midx + 1) densities ≡ map density (done ++ (cur ∷ []))
+
 -- A whole text was read: the text, the densities and what is counted are those of its minimised measures.
 pub record KeptAll (L : ℕ) (chart-text : List ℕ) (p : Pass) (text densities : List ℕ) : Type 0 where
   pub text-is : take (p .out) text ≡ minimisedText L chart-text
@@ -45,6 +51,7 @@ pub record KeptAll (L : ℕ) (chart-text : List ℕ) (p : Pass) (text densities 
   pub short : p .out ≤ length chart-text + 1
   pub densities-are : take (p .midx + 1) densities ≡ densitiesOf L chart-text
   pub midx : p .midx + 1 ≡ measureCount L chart-text
+  pub measures-few : 2 * p .midx ≤ length chart-text + 1
   pub stats : p .counting .stats ≡ tally (joined (minimised L chart-text))
   pub phantoms : Counts L (joined (minimised L chart-text)) (p .counting .phantoms)
   pub rows : p .counting .rows ≡ length (joined (minimised L chart-text))

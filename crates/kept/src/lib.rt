@@ -13,7 +13,7 @@ ghost use Rattle.definitions.specs.Reduction.{reduce};
 ghost use Rattle.definitions.specs.Figures.{minimisedText, densities as densitiesOf};
 ghost use Rattle.definitions.specs.Entries.{keptText, keptDensities, keptWork};
 ghost use Rattle.kept.specs.Answers.{keptFigures, keptAnswer};
-ghost use Rattle.kept.specs.Pass.{Open, Closed, SomeOpen, Kept, KeptAll};
+ghost use Rattle.kept.specs.Pass.{Open, Closed, SomeOpen, Kept, Ended, KeptAll};
 
 // What is counted so far, where the open measure begins, how many bytes are written, and the open measure's rows and number.
 pub struct Pass {
@@ -69,7 +69,7 @@ pub fn pass_row(p: Pass, text: &mut [u8], row: &[u8]) -> Pass
 }
 
 // The open measure's rows minimised in place and counted.
-pub fn end_rows(p: Pass, text: &mut [u8], lanes: usize) -> Pass
+fn end_rows(p: Pass, text: &mut [u8], lanes: usize) -> Pass
     requires { ⌜ (0 < lanes) × (lanes ≤ 10) × (p .out ≤ length (now text)) × (p .counting .rows + p .rows < 4194304) × SomeOpen lanes p (now text) ⌝ }
     ensures { λ r. ⌜ ((done : List (List Row)) (cur : List Row) → Open lanes p (now (text .entry)) done cur → Closed lanes r (now (text .exit)) done (reduce cur)) ⌝ }
     ensures { λ r. ⌜ (r .out ≤ p .out) × (r .midx ≡ p .midx) ⌝ }
@@ -88,18 +88,27 @@ pub fn end_rows(p: Pass, text: &mut [u8], lanes: usize) -> Pass
     }
 }
 
-// The open measure ends with a `,` line: its density is stored, and the `,` line is written.
-pub fn pass_comma(p: Pass, text: &mut [u8], densities: &mut [u32], lanes: usize) -> Pass
-    requires { ⌜ (0 < lanes) × (lanes ≤ 10) × (p .out + 2 ≤ length (now text)) × (p .counting .rows + p .rows < 4194304) × SomeOpen lanes p (now text) ⌝ }
+// The open measure ends: its rows are minimised and counted, and its density is stored.
+pub fn end_measure(p: Pass, text: &mut [u8], densities: &mut [u32], lanes: usize) -> Pass
+    requires { ⌜ (0 < lanes) × (lanes ≤ 10) × (p .out ≤ length (now text)) × (p .counting .rows + p .rows < 4194304) × SomeOpen lanes p (now text) ⌝ }
     requires { ⌜ p .midx < length (now densities) ⌝ }
-    ensures { λ r. ⌜ ((done : List (List Row)) (cur : List Row) → Kept lanes p (now (text .entry)) (now (densities .entry)) done cur → Kept lanes r (now (text .exit)) (now (densities .exit)) (done ++ (reduce cur ∷ [])) []) ⌝ }
-    ensures { λ r. ⌜ (r .out ≤ p .out + 2) × (r .midx ≡ p .midx + 1) ⌝ }
+    ensures { λ r. ⌜ ((done : List (List Row)) (cur : List Row) → Kept lanes p (now (text .entry)) (now (densities .entry)) done cur → Ended lanes r (now (text .exit)) (now (densities .exit)) done (reduce cur)) ⌝ }
+    ensures { λ r. ⌜ (r .out ≤ p .out) × (r .midx ≡ p .midx) ⌝ }
 {
     let e = end_rows(p, text, lanes);
+    let m = e.midx;
+    densities[m] = e.counting.steps;
+    e
+}
+
+// The `,` line after a measure that has ended is written, and the next measure begins.
+pub fn begin_measure(e: Pass, text: &mut [u8]) -> Pass
+    requires { ⌜ (e .out + 2 ≤ length (now text)) × (e .midx ≤ 8388608) ⌝ }
+    ensures { λ r. ⌜ ((L : ℕ) (densities : List ℕ) (done : List (List Row)) (cur : List Row) → Ended L e (now (text .entry)) densities done cur → Kept L r (now (text .exit)) densities (done ++ (cur ∷ [])) []) ⌝ }
+    ensures { λ r. ⌜ (r .out ≡ e .out + 2) × (r .midx ≡ e .midx + 1) ⌝ }
+{
     let counting = e.counting;
     let at = e.out;
-    let m = e.midx;
-    densities[m] = counting.steps;
     output::put_comma(text, at);
     let next = counting::count_measure(counting);
     Pass {
@@ -107,8 +116,19 @@ pub fn pass_comma(p: Pass, text: &mut [u8], densities: &mut [u32], lanes: usize)
         start: at + 2,
         out: at + 2,
         rows: 0,
-        midx: m + 1,
+        midx: e.midx + 1,
     }
+}
+
+// The open measure ends with a `,` line.
+fn pass_comma(p: Pass, text: &mut [u8], densities: &mut [u32], lanes: usize) -> Pass
+    requires { ⌜ (0 < lanes) × (lanes ≤ 10) × (p .out + 2 ≤ length (now text)) × (p .counting .rows + p .rows < 4194304) × SomeOpen lanes p (now text) ⌝ }
+    requires { ⌜ (p .midx < length (now densities)) × (p .midx ≤ 8388608) ⌝ }
+    ensures { λ r. ⌜ ((done : List (List Row)) (cur : List Row) → Kept lanes p (now (text .entry)) (now (densities .entry)) done cur → Kept lanes r (now (text .exit)) (now (densities .exit)) (done ++ (reduce cur ∷ [])) []) ⌝ }
+    ensures { λ r. ⌜ (r .out ≤ p .out + 2) × (r .midx ≡ p .midx + 1) ⌝ }
+{
+    let e = end_measure(p, text, densities, lanes);
+    begin_measure(e, text)
 }
 
 // The whole text: what is counted in the end, and how much is written; the last measure's density is stored too.
@@ -139,10 +159,7 @@ fn keep_chart(data: &[u8], lanes: usize, text: &mut [u8], densities: &mut [u32])
         }
         off = next;
     }
-    let e = end_rows(p, text, lanes);
-    let m = e.midx;
-    densities[m] = e.counting.steps;
-    e
+    end_measure(p, text, densities, lanes)
 }
 
 // The kept-row call where it is accepted: the pass, the tally corrected over its own rows, and zeros past each answer.

@@ -13,3 +13,4 @@ pub mod Blocks
 pub mod Compaction
 pub mod Forms
 pub mod Compacted
+pub mod Shorter

@@ -7,13 +7,12 @@ use native.Mathlib.Omega.{arith}
 use lib.ListN.{length, length-append}
 use Rattle.definitions.specs.Lists.{joined}
 use Rattle.definitions.specs.Lines.{Row}
-use Rattle.definitions.proofs.Lists.{All, none, one, all-append}
+use Rattle.definitions.proofs.Lists.{All, none, one, all-append, joined-snoc}
 use Rattle.cells.specs.Rows.{Low}
 use Rattle.cells.proofs.Scan.{low-more}
 use Rattle.notes.specs.declared.ChartNotesScratch.{ChartNotesScratch}
 use Rattle.notes.specs.Written.{Written, Room}
 use Rattle.notes.proofs.Rows.{cells-within}
-use Rattle.reader.proofs.Reading.{joined-snoc}
 use Rattle.scans.specs.declared.LastScan.{LastScan}
 use Rattle.scans.specs.LastKept.{LastKept}
 use Rattle.noting.specs.declared.Noting.{Noting}

@@ -1,3 +1,2 @@
 -- Laws of writing.
 pub mod Writing
-pub mod Measures

@@ -8,17 +8,13 @@ use lib.ListN.{length, take, drop, length-append}
 use Rattle.definitions.specs.Lists.{joined, toFirst}
 use Rattle.definitions.specs.Lines.{Row, cut, lineKind, lineRow}
 use Rattle.definitions.specs.Measures.{addLine, measures, chart}
+use Rattle.definitions.proofs.Lists.{joined-snoc}
 use Rattle.definitions.specs.declared.LineKind.{LineKind}
 use Rattle.definitions.specs.declared.LineKind.the-variants as line
 use Rattle.lines.specs.Lines.{firstLine, linesFrom}
 use Rattle.lines.proofs.Lines.{lines-start, lines-next, lines-end}
 use Rattle.reader.specs.declared.ReadLine.{ReadLine}
 use Rattle.reader.specs.Reading.{LineRead, addFirst, Reading, ReadAll}
-
--- lists of lists run together, one list more
-pub joined-snoc : {A : Type 0} (ls : List (List A)) (l : List A) → joined (ls ++ (l ∷ [])) ≡ joined ls ++ l
-joined-snoc [] l = append-nil l
-joined-snoc (x ∷ ls) l = rw append-assoc (ap (λ r. x ++ r) (joined-snoc ls l))
 
 at-row : (cur : List Row) (r : Row) (ms : List (List Row)) → addFirst cur (toFirst r ms) ≡ addFirst (cur ++ (r ∷ [])) ms
 at-row cur r [] = refl

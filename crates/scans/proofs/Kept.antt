@@ -11,6 +11,7 @@ use Rattle.definitions.specs.Lists.{joined, onlyIf}
 use Rattle.definitions.specs.Lines.{Row}
 use Rattle.definitions.specs.Reduction.{allZero}
 use Rattle.definitions.specs.Objects.{Depths, afterRow, afterRows, objectRow, Place, objectsIn, objectsFrom, lastOf}
+use Rattle.definitions.proofs.Lists.{joined-snoc}
 use Rattle.beats.specs.Places.{Inside, placeOf, Placed}
 use Rattle.beats.specs.declared.LastObject.{LastObject}
 use Rattle.beats.specs.declared.LastObject.the-variants as last
@@ -19,7 +20,6 @@ use Rattle.cells.specs.declared.Depths.{Depths as Held}
 use Rattle.cells.specs.declared.Objects.{Objects}
 use Rattle.cells.specs.Rows.{Holds, Low, NoDepths, RowDone}
 use Rattle.cells.proofs.Scan.{low-more}
-use Rattle.reader.proofs.Reading.{joined-snoc}
 use Rattle.scans.specs.declared.LastRow.{LastRow}
 use Rattle.scans.specs.declared.LastRow.the-variants.{Nothing, At}
 use Rattle.scans.specs.declared.LastScan.{LastScan}

@@ -16,14 +16,14 @@ use Rattle.definitions.specs.Correction.{isOpening}
 use Rattle.definitions.specs.Reduction.{reduce}
 use Rattle.definitions.specs.Beats.{rowBeats, beatsFrom}
 use Rattle.definitions.specs.TimingRows.{hasHead}
-use Rattle.beats.proofs.Beats.{length-beats}
+use Rattle.definitions.proofs.Lists.{joined-snoc}
+use Rattle.beats.proofs.Beats.{beats-appended}
 use Rattle.measures.specs.Rows.{placed, Holds, Reduced}
 use Rattle.measures.proofs.Blocks.{joined-append}
 use Rattle.measures.proofs.Forms.{back-to-back, form-length}
 use Rattle.output.specs.Wrote.{Wrote}
 use Rattle.output.proofs.Writing.{wrote-start, wrote-row, wrote-holds, wrote-reduced, wrote-sep}
-use Rattle.output.proofs.Measures.{reduce-short}
-use Rattle.reader.proofs.Reading.{joined-snoc}
+use Rattle.measures.proofs.Shorter.{reduce-short}
 use Rattle.timing.specs.declared.Pass.{Pass}
 use Rattle.timing.specs.Pass.{Timed, SomeTimed}
 
@@ -35,16 +35,9 @@ head-append : (s t : List ℕ) → hasHead (s ++ t) ≡ (hasHead s || hasHead t)
 head-append [] t = refl
 head-append (b ∷ s) t = rw (head-append s t, or-assoc)
 
--- one measure more: the heads of its rows, and their beats
+-- one measure more: the heads of its rows
 head-measure : (done : List (List Row)) (m : List Row) → hasHead (joined (joined (done ++ (m ∷ [])))) ≡ (hasHead (joined (joined done)) || hasHead (joined m))
 head-measure done m = rw (joined-snoc done m, joined-append (joined done) m) (head-append (joined (joined done)) (joined m))
-
-beats-measure : (k : ℕ) (done : List (List Row)) (m : List Row)
-    → beatsFrom k (done ++ (m ∷ [])) ≡ beatsFrom k done ++ (rowBeats (k + length done) (length m) 0 (length m) ∷ [])
-beats-measure k [] m = ap (λ n. rowBeats n (length m) 0 (length m) ∷ []) (sym (add-zero k))
-beats-measure k (x ∷ done) m =
-    ap (λ l. rowBeats k (length x) 0 (length x) ∷ l)
-    (beats-measure (suc k) done m ∙ ap (λ n. beatsFrom (suc k) done ++ (rowBeats n (length m) 0 (length m) ∷ [])) (suc-add k (length done) ∙ sym (add-suc k (length done))))
 
 pub timed-start : (L : ℕ) (text : List ℕ) (beats : List Float) → Timed L (record { start = 0; out = 0; kept = 0; rows = 0; midx = 0; heads = false }) text beats [] []
 timed-start L text beats = record { wrote = wrote-start (back-to-back L) [] text; kept = refl; rows = refl; midx = refl; beats-are = refl; heads = refl }
@@ -106,18 +99,9 @@ module _ (L : ℕ) (p : Pass) (text after : List ℕ) (beats : List Float) (kept
           kept = rw (joined-snoc done (reduce cur), length-append, x .kept, reduced .count);
           rows = refl;
           midx = rw length-append (omega (arith, x .midx));
-          beats-are =
-              ap (take (p .kept + kept)) eb
-              ∙ take-at (take (p .kept) beats ++ rowBeats (p .midx) kept 0 kept) (drop (p .kept + kept) beats) (p .kept + kept) size
-              ∙ ap (λ l. l ++ rowBeats (p .midx) kept 0 kept) (x .beats-are)
-              ∙ ap (λ n. joined (beatsFrom 0 done) ++ rowBeats n kept 0 kept) (x .midx ∙ sym (zero-add (length done)))
-              ∙ ap (λ n. joined (beatsFrom 0 done) ++ rowBeats (0 + length done) n 0 n) (reduced .count)
-              ∙ sym (ap joined (beats-measure 0 done (reduce cur)) ∙ joined-snoc (beatsFrom 0 done) (rowBeats (0 + length done) (length (reduce cur)) 0 (length (reduce cur))));
+          beats-are = ap (take (p .kept + kept)) eb ∙ beats-appended beats (p .kept) (p .midx) kept done (reduce cur) room (x .beats-are) (x .midx) (reduced .count);
           heads = rw (x .heads, ef, bytes-there) (sym (head-measure done (reduce cur)));
         }
-      where
-        size : length (take (p .kept) beats ++ rowBeats (p .midx) kept 0 kept) ≡ p .kept + kept
-        size = rw (length-append, length-take-le (p .kept) beats room, length-beats (p .midx) kept 0 kept)
 
   -- no more rows and bytes than before
   pub timed-few : SomeTimed L p text beats → (kept ≤ p .rows) × (p .start + kept * L ≤ p .out)

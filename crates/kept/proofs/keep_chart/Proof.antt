@@ -8,20 +8,24 @@ use borrow.Author.Needs.{needs}
 use denote.Ref.{now}
 use lib.ListN.{length, take, drop, length-take, length-drop, length-set}
 use lib.Seq.{length-take-le}
-use Rattle.kept.specs.Pass.{SomeOpen}
-use Rattle.kept.proofs.Keeping.{Keeping, Over, Few, keeping-start, keeping-few, over-few, keeping-passed, keeping-comma, keeping-row, keeping-semi, keeping-end, kept-all}
+use Rattle.reader.proofs.Minimising.{Minimising, Over, minimising-start, minimising-few, over-few, minimising-passed, minimising-comma, minimising-row, minimising-semi, minimising-end}
+use Rattle.kept.specs.Pass.{Kept}
+use Rattle.kept.proofs.Passing.{kept-row}
+use Rattle.kept.proofs.Keeping.{Small, kept-few, kept-all}
 use Rattle.kept.proofs.keep_chart.Statement.{statement}
 use Rattle.kept.proofs.keep_chart.Tie as tie
 
 abbrev Inv-loop : tie.InvT-loop
 Inv-loop «data» lanes text₀ densities₀ off₀ p₀ text densities off p =
-    (off ≤ length «data» + 1) × (p .out ≤ off) × (length text ≡ length text₀) × (length densities ≡ length densities₀) × (Keeping lanes p «data» text densities off)
+    (off ≤ length «data» + 1) × (p .out ≤ off) × (length text ≡ length text₀) × (length densities ≡ length densities₀) × (Minimising lanes «data» off (Kept lanes p text densities))
 
 abbrev μ-loop : tie.MeasureT-loop
 μ-loop «data» lanes text₀ densities₀ off₀ p₀ text densities off p = length «data» + 1 - off
 
-few : (c : tie.At-loop Inv-loop μ-loop) → Few (c .loop .p) (c .loop .off)
-few c = keeping-few _ _ _ _ _ _ (c .before .before .before .before .before .pre .0 .0) (c .loop .inv .4)
+few : (c : tie.At-loop Inv-loop μ-loop) → let a = c .before .before .before .before .before .args in Small (a .lanes) (c .loop .p) (length (now (a .«data»)))
+few c =
+    let x = c .loop .inv .4 in
+    kept-few _ _ _ _ _ _ _ (minimising-few _ _ _ (c .before .before .before .before .before .pre .0 .0) (c .loop .inv .0) x) (x .held)
 
 -- a row's bytes stand in the text
 row-room : (c : tie.After-enum-told4 Inv-loop μ-loop) →
@@ -40,7 +44,7 @@ loop-holds : tie.Need-loop-holds Inv-loop μ-loop
 loop-holds c =
     let n = c .no-pass .ensures in
     let a = c .before .before .before .before .args in
-    (omega arith, omega (arith, n .1), refl, refl, keeping-start (a .lanes) _ (now (a .«data»)) (now (a .text)) (now (a .densities)) (n .0 (a .lanes) (now (a .text)) (omega (arith, c .before .before .before .before .pre .0))) (n .4))
+    (omega arith, omega (arith, n .1), refl, refl, minimising-start (a .lanes) (now (a .«data»)) (record { open-is = n .0 (a .lanes) (now (a .text)) (omega (arith, c .before .before .before .before .pre .0)); stored = ap (λ m. take m (now (a .densities))) (n .4) }))
 
 read-line-requires : tie.Need-read-line-requires Inv-loop μ-loop
 read-line-requires c κs = search needs
@@ -62,9 +66,9 @@ pass-comma-requires c κs =
         s .pre .0 .1,
         omega (arith, at .loop .inv .1, at .loop .inv .2, c .before .before .before .before .read-line .ensures .comma (c .before .before .enum-told2 .given .1), c .before .before .before .before .read-line .ensures .within, s .pre .1 .0),
         omega (arith, w .rows, s .pre .0 .2),
-        record { done = _; cur = x .cur; open-is = x .kept .open-is },
+        record { done = _; cur = x .cur; open-is = x .held .open-is },
       ),
-      omega (arith, w .midx, at .loop .inv .3, s .pre .0 .2, s .pre .1 .1),
+      (omega (arith, w .midx, at .loop .inv .3, s .pre .0 .2, s .pre .1 .1), omega (arith, w .midx, s .pre .0 .2)),
     )
 
 enum-told-3 : tie.Need-enum-told-3 Inv-loop μ-loop
@@ -104,7 +108,7 @@ loop-again c =
       omega (arith, a .read-line .ensures .next, at .loop .inv .1),
       at .loop .inv .2,
       at .loop .inv .3,
-      keeping-passed _ _ _ _ _ _ _ (a .before .loop-test .taken) (a .read-line .ensures) (at .loop .inv .4) (c .enum-told .given .1),
+      minimising-passed _ _ _ _ (a .before .loop-test .taken) (a .read-line .ensures) (at .loop .inv .4) (c .enum-told .given .1),
     )
 
 loop-less-2 : tie.Need-loop-less-2 Inv-loop μ-loop
@@ -120,7 +124,7 @@ loop-again-2 c =
       omega (arith, k .pass-comma .ensures .1 .0, a .read-line .ensures .comma e, at .loop .inv .1),
       omega (arith, k .pass-comma .kept .1 .0, at .loop .inv .2),
       omega (arith, k .pass-comma .kept .1 .1 .0, at .loop .inv .3),
-      keeping-comma _ _ _ _ _ _ _ (a .before .loop-test .taken) (a .read-line .ensures) (at .loop .inv .4) e _ _ _ (k .pass-comma .ensures .0),
+      minimising-comma _ _ _ _ (a .before .loop-test .taken) (a .read-line .ensures) (at .loop .inv .4) e (k .pass-comma .ensures .0),
     )
 
 loop-less-3 : tie.Need-loop-less-3 Inv-loop μ-loop
@@ -141,68 +145,59 @@ loop-again-3 c =
       omega (arith, k .pass-row .ensures .1 .0, wide, w .1, at .loop .inv .1),
       omega (arith, k .pass-row .kept .1 .0, at .loop .inv .2),
       at .loop .inv .3,
-      keeping-row _ _ _ _ _ _ _ (a .before .loop-test .taken) (a .read-line .ensures) (at .loop .inv .4) (k .before .before .before .enum-told4 .given .1) _ _ _ part wide (k .pass-row .ensures .0) (k .pass-row .ensures .1 .3),
+      minimising-row _ _ _ _ (a .before .loop-test .taken) (a .read-line .ensures) (at .loop .inv .4) (k .before .before .before .enum-told4 .given .1) _ part
+          (kept-row _ _ _ _ _ _ _ wide (k .pass-row .ensures .0) (k .pass-row .ensures .1 .3)),
     )
 
 -- at the loop's end one measure is still open
 over : (c : tie.Left-loop Inv-loop μ-loop) →
     let at = c .before in
     let a = at .before .before .before .before .before .args in
-    Over (a .lanes) (at .loop .p) (now (a .«data»)) (at .loop .text) (at .loop .densities)
+    Over (a .lanes) (now (a .«data»)) (Kept (a .lanes) (at .loop .p) (at .loop .text) (at .loop .densities))
 over c =
     let at = c .before in
     ⊎-elim
-    (λ w. keeping-end _ _ _ _ _ _ (w .left) (at .loop .inv .0) (at .loop .inv .4))
-    (λ w. keeping-semi _ _ _ _ _ _ _ (w .0 .taken) (w .1 .ensures) (at .loop .inv .4) (w .3 .given .1))
+    (λ w. minimising-end _ _ _ (w .left) (at .loop .inv .0) (at .loop .inv .4))
+    (λ w. minimising-semi _ _ _ _ (w .0 .taken) (w .1 .ensures) (at .loop .inv .4) (w .3 .given .1))
     (c .loop-test .came)
 
-end-rows-requires : tie.Need-end-rows-requires Inv-loop μ-loop
-end-rows-requires c κs =
-    let l = c .before in
-    let at = l .before in
-    let s = at .before .before .before .before .before in
-    let x = over l in
-    let w = over-few _ _ _ _ _ (s .pre .0 .0) x in
-    (omega (arith, s .pre .0 .0), s .pre .0 .1, omega (arith, at .loop .inv .0, at .loop .inv .1, at .loop .inv .2, s .pre .1 .0), omega (arith, w .rows, s .pre .0 .2), record { done = _; cur = x .cur; open-is = x .kept .open-is })
+over-small : (c : tie.Left-loop Inv-loop μ-loop) → let a = c .before .before .before .before .before .before .args in Small (a .lanes) (c .before .loop .p) (length (now (a .«data»)))
+over-small c =
+    let x = over c in
+    kept-few _ _ _ _ _ _ _ (over-few _ _ (c .before .before .before .before .before .before .pre .0 .0) x) (x .held)
 
--- the last measure's number is below the slice's length
-last-room : (c : tie.After-end-rows Inv-loop μ-loop) → c .end-rows .result .midx < length (c .before .before .before .loop .densities)
-last-room c =
+end-measure-requires : tie.Need-end-measure-requires Inv-loop μ-loop
+end-measure-requires c κs =
     let l = c .before .before in
     let at = l .before in
     let s = at .before .before .before .before .before in
-    let w = over-few _ _ _ _ _ (s .pre .0 .0) (over l) in
-    omega (arith, w .midx, c .end-rows .ensures .1 .1, at .loop .inv .3, s .pre .1 .1, s .pre .0 .2)
-
-mul-densities : tie.Need-mul-densities Inv-loop μ-loop
-mul-densities c =
-    let at = c .before .before .before .before .before in
-    let s = at .before .before .before .before .before in
-    let w = over-few _ _ _ _ _ (s .pre .0 .0) (over (c .before .before .before .before)) in
-    omega (arith, w .midx, c .before .before .end-rows .ensures .1 .1, s .pre .0 .2)
-
-slice-write-densities : tie.Need-slice-write-densities Inv-loop μ-loop
-slice-write-densities c = last-room (c .before .before)
+    let x = over l in
+    let w = over-small l in (
+      (omega (arith, s .pre .0 .0), s .pre .0 .1, omega (arith, at .loop .inv .0, at .loop .inv .1, at .loop .inv .2, s .pre .1 .0), omega (arith, w .rows, s .pre .0 .2), record { done = _; cur = x .cur; open-is = x .held .open-is }),
+      omega (arith, w .midx, at .loop .inv .3, s .pre .1 .1, s .pre .0 .2),
+    )
 
 same-length : tie.Need-same-length Inv-loop μ-loop
 same-length c =
-    let at = c .before .before .before .before .before in
-    omega (arith, c .before .before .end-rows .kept .1 .0, at .loop .inv .2)
+    let e = c .before .before .before .before in
+    omega (arith, e .end-measure .kept .1 .0, e .before .before .before .before .loop .inv .2)
 
 same-length-2 : tie.Need-same-length-2 Inv-loop μ-loop
 same-length-2 c =
-    let at = c .before .before .before .before .before in
-    omega (arith, at .loop .inv .3, length-set (at .loop .densities) (c .before .before .end-rows .result .midx) (c .before .before .end-rows .result .counting .steps))
+    let e = c .before .before .before .before in
+    omega (arith, e .end-measure .kept .1 .1 .0, e .before .before .before .before .loop .inv .3)
 
 returns : tie.Need-returns Inv-loop μ-loop
 returns c =
-    let e = c .before .before in
-    let l = e .before .before in
+    let e = c .before .before .before .before in
+    let l = e .before .before .before in
     let at = l .before in
     let s = at .before .before .before .before .before in
-    kept-all _ _ _ _ _ _ _ _ (s .pre .0 .0) (over l) (e .end-rows .ensures .0)
-    (omega (arith, e .end-rows .ensures .1 .0, at .loop .inv .0, at .loop .inv .1, at .loop .inv .2, s .pre .1 .0, e .end-rows .kept .1 .0))
-    (omega (arith, e .end-rows .ensures .1 .0, at .loop .inv .0, at .loop .inv .1)) (e .end-rows .ensures .1 .1) (last-room e) refl
+    let x = over l in
+    let r = e .end-measure .ensures in
+    kept-all _ _ _ _ _ _ _ (x .read) (over-few _ _ (s .pre .0 .0) x) (r .0 _ _ (x .held))
+    (omega (arith, r .1 .0, at .loop .inv .0, at .loop .inv .1, at .loop .inv .2, s .pre .1 .0, e .end-measure .kept .1 .0))
+    (omega (arith, r .1 .0, at .loop .inv .0, at .loop .inv .1))
 
 pub keep-chart-spec : {M : Type 1} → statement M
 keep-chart-spec =
@@ -229,9 +224,7 @@ keep-chart-spec =
     loop-again-2
     loop-less-3
     loop-again-3
-    end-rows-requires
-    mul-densities
-    slice-write-densities
+    end-measure-requires
     same-length
     same-length-2
     returns)

@@ -31,7 +31,7 @@ corrected-stats-requires : tie.Need-corrected-stats-requires
 corrected-stats-requires c κs =
     let k = c .before .before .before .before .before .before .before .before .before .before in
     let st = k .before .before .before .before .before .before .before in
-    all-recount _ _ _ _ _ (k .keep-chart .ensures) (now (st .args .work)) (st .pre .0 .0) (st .pre .0 .1) (st .pre .0 .2) (st .pre .1 .2)
+    all-recount _ _ _ _ _ (k .keep-chart .ensures) _ (now (st .args .work)) (st .pre .0 .0) (st .pre .0 .1) (st .pre .0 .2) (st .pre .1 .2)
 
 zero-u8-requires : tie.Need-zero-u8-requires
 zero-u8-requires c κs =

@@ -8,19 +8,23 @@ use borrow.Author.Needs.{needs}
 use denote.Ref.{now}
 use lib.ListN.{length, take, drop, length-take, length-drop}
 use lib.Seq.{length-take-le}
-use Rattle.timing.proofs.Keeping.{Keeping, Over, Few, keeping-start, keeping-few, keeping-passed, keeping-comma, keeping-row, keeping-semi, keeping-end, timed-all}
+use Rattle.reader.proofs.Minimising.{Minimising, Over, minimising-start, minimising-few, minimising-passed, minimising-comma, minimising-row, minimising-semi, minimising-end}
+use Rattle.timing.specs.Pass.{Timed}
+use Rattle.timing.proofs.Keeping.{Small, timed-small, timed-more, timed-all}
 use Rattle.timing.proofs.pass_chart.Statement.{statement}
 use Rattle.timing.proofs.pass_chart.Tie as tie
 
 abbrev Inv-loop : tie.InvT-loop
 Inv-loop «data» lanes text₀ beats₀ off₀ p₀ text beats off p =
-    (off ≤ length «data» + 1) × (p .out ≤ off) × (length text ≡ length text₀) × (length beats ≡ length beats₀) × (Keeping lanes p «data» text beats off)
+    (off ≤ length «data» + 1) × (p .out ≤ off) × (length text ≡ length text₀) × (length beats ≡ length beats₀) × (Minimising lanes «data» off (Timed lanes p text beats))
 
 abbrev μ-loop : tie.MeasureT-loop
 μ-loop «data» lanes text₀ beats₀ off₀ p₀ text beats off p = length «data» + 1 - off
 
-few : (c : tie.At-loop Inv-loop μ-loop) → let a = c .before .before .before .before .before .args in Few (a .lanes) (c .loop .p) (length (now (a .«data»)))
-few c = keeping-few _ _ _ _ _ _ (c .before .before .before .before .before .pre .0 .0) (c .loop .inv .0) (c .loop .inv .4)
+few : (c : tie.At-loop Inv-loop μ-loop) → let a = c .before .before .before .before .before .args in Small (a .lanes) (c .loop .p) (length (now (a .«data»)))
+few c =
+    let x = c .loop .inv .4 in
+    timed-small _ _ _ _ _ _ _ (minimising-few _ _ _ (c .before .before .before .before .before .pre .0 .0) (c .loop .inv .0) x) (x .held)
 
 -- a row's bytes stand in the text
 row-room : (c : tie.After-enum-told4 Inv-loop μ-loop) →
@@ -39,7 +43,7 @@ loop-holds : tie.Need-loop-holds Inv-loop μ-loop
 loop-holds c =
     let n = c .no-pass .ensures in
     let a = c .before .before .before .before .args in
-    (omega arith, omega (arith, n .1), refl, refl, keeping-start (a .lanes) _ (now (a .«data»)) (now (a .text)) (now (a .beats)) (n .0 (a .lanes) (now (a .text)) (now (a .beats))))
+    (omega arith, omega (arith, n .1), refl, refl, minimising-start (a .lanes) (now (a .«data»)) (n .0 (a .lanes) (now (a .text)) (now (a .beats))))
 
 read-line-requires : tie.Need-read-line-requires Inv-loop μ-loop
 read-line-requires c κs = search needs
@@ -61,7 +65,7 @@ finish-timing-rows-requires c κs =
         omega (arith, at .loop .inv .0, at .loop .inv .1, at .loop .inv .2, s .pre .1 .0),
         omega (arith, w .fifth, s .pre .0 .1),
         omega (arith, w .midx, s .pre .0 .1),
-        record { done = _; cur = x .cur; timed = x .timed },
+        record { done = _; cur = x .cur; timed = x .held },
       ),
       omega (arith, w .rows, at .loop .inv .3, s .pre .1 .1),
     )
@@ -103,7 +107,7 @@ loop-again c =
       omega (arith, a .read-line .ensures .next, at .loop .inv .1),
       at .loop .inv .2,
       at .loop .inv .3,
-      keeping-passed _ _ _ _ _ _ _ (a .before .loop-test .taken) (a .read-line .ensures) (at .loop .inv .4) (c .enum-told .given .1),
+      minimising-passed _ _ _ _ (a .before .loop-test .taken) (a .read-line .ensures) (at .loop .inv .4) (c .enum-told .given .1),
     )
 
 loop-less-2 : tie.Need-loop-less-2 Inv-loop μ-loop
@@ -119,7 +123,7 @@ loop-again-2 c =
       omega (arith, k .finish-timing-rows .ensures .1 .0, a .read-line .ensures .next, at .loop .inv .1),
       omega (arith, k .finish-timing-rows .kept .1 .0, at .loop .inv .2),
       omega (arith, k .finish-timing-rows .kept .1 .1 .0, at .loop .inv .3),
-      keeping-comma _ _ _ _ _ _ _ (a .before .loop-test .taken) (a .read-line .ensures) (at .loop .inv .4) e _ _ _ (k .finish-timing-rows .ensures .0),
+      minimising-comma _ _ _ _ (a .before .loop-test .taken) (a .read-line .ensures) (at .loop .inv .4) e (k .finish-timing-rows .ensures .0),
     )
 
 loop-less-3 : tie.Need-loop-less-3 Inv-loop μ-loop
@@ -140,19 +144,19 @@ loop-again-3 c =
       omega (arith, k .pass-row .ensures .1, wide, w .1, at .loop .inv .1),
       omega (arith, k .pass-row .kept .1 .0, at .loop .inv .2),
       at .loop .inv .3,
-      keeping-row _ _ _ _ _ _ _ (a .before .loop-test .taken) (a .read-line .ensures) (at .loop .inv .4) (k .before .before .before .enum-told4 .given .1) _ _ _ part wide (k .pass-row .ensures .0),
+      minimising-row _ _ _ _ (a .before .loop-test .taken) (a .read-line .ensures) (at .loop .inv .4) (k .before .before .before .enum-told4 .given .1) _ part (timed-more _ _ _ _ _ _ _ wide (k .pass-row .ensures .0)),
     )
 
 -- at the loop's end one measure is still open
 over : (c : tie.Left-loop Inv-loop μ-loop) →
     let at = c .before in
     let a = at .before .before .before .before .before .args in
-    Over (a .lanes) (at .loop .p) (now (a .«data»)) (at .loop .text) (at .loop .beats)
+    Over (a .lanes) (now (a .«data»)) (Timed (a .lanes) (at .loop .p) (at .loop .text) (at .loop .beats))
 over c =
     let at = c .before in
     ⊎-elim
-    (λ w. keeping-end _ _ _ _ _ _ (w .left) (at .loop .inv .0) (at .loop .inv .4))
-    (λ w. keeping-semi _ _ _ _ _ _ _ (w .0 .taken) (w .1 .ensures) (at .loop .inv .4) (w .3 .given .1))
+    (λ w. minimising-end _ _ _ (w .left) (at .loop .inv .0) (at .loop .inv .4))
+    (λ w. minimising-semi _ _ _ _ (w .0 .taken) (w .1 .ensures) (at .loop .inv .4) (w .3 .given .1))
     (c .loop-test .came)
 
 finish-timing-rows-requires-2 : tie.Need-finish-timing-rows-requires-2 Inv-loop μ-loop
@@ -167,7 +171,7 @@ finish-timing-rows-requires-2 c κs =
         omega (arith, at .loop .inv .0, at .loop .inv .1, at .loop .inv .2, s .pre .1 .0),
         omega (arith, w .fifth, s .pre .0 .1),
         omega (arith, w .midx, s .pre .0 .1),
-        record { done = _; cur = x .cur; timed = x .timed },
+        record { done = _; cur = x .cur; timed = x .held },
       ),
       omega (arith, w .rows, at .loop .inv .3, s .pre .1 .1),
     )

@@ -1,0 +1,88 @@
+-- From the pass over a whole text to what the main call answers.
+use mathlib.Core.Path.{_≡_, refl, ap, sym, _∙_, subst}
+use mathlib.Core.Bool.{Bool, true}
+use mathlib.Core.List.{List, [], _++_, append-nil}
+use Prim.Native.Nat.{ℕ, _+_, _-_, _*_, _/_, _≤_}
+use native.Mathlib.Nat.{le-trans, mul-le-mul-right, div-le-self}
+use native.Mathlib.Omega.{arith}
+use lib.Dec.{ltb}
+use lib.Ieee.{Float, binary64, toBits}
+use lib.ListN.{length, take}
+use Rattle.definitions.specs.Lists.{joined, padded}
+use Rattle.definitions.specs.Lanes.{mostRows}
+use Rattle.definitions.specs.Lines.{Row}
+use Rattle.definitions.specs.Reduction.{minimised}
+use Rattle.definitions.specs.Beats.{f32, rowToBeat, beats as beatsOf}
+use Rattle.definitions.specs.Objects.{lastObject, place48, last48, lastBeat}
+use Rattle.definitions.specs.Notes.{notes}
+use Rattle.definitions.specs.Records.{records}
+use Rattle.definitions.specs.Correction.{corrected}
+use Rattle.definitions.specs.ReadBack.{mainTally}
+use Rattle.definitions.specs.declared.ArrowStats.{ArrowStats}
+use Rattle.beats.specs.Places.{placeOf}
+use Rattle.kept.proofs.Answering.{own-part}
+use Rattle.notes.specs.Written.{Written, SomeRows, Finished}
+use Rattle.reader.specs.BackReading.{rowsBack}
+use Rattle.reader.proofs.BackReading.{back-trimmed}
+use Rattle.slices.specs.Zeroed.{zeroed}
+use Rattle.slices.proofs.Zeroed.{zeroed-answer}
+use Rattle.chart.specs.declared.ChartFigures.{ChartFigures}
+use Rattle.chart.specs.declared.ChartPass.{ChartPass}
+use Rattle.chart.specs.Answers.{chartFigures}
+use Rattle.chart.specs.Pass.{ChartAll}
+
+module _ (L : ℕ) (data-text : List ℕ) (p : ChartPass) (text densities : List ℕ) (beats : List Float) (slots : List ℕ) (x : ChartAll L data-text p text densities beats slots) where
+  pub all-beats : (n : ℕ) → length beats ≡ n → mostRows L (length data-text) ≤ n → zeroed (f32 0) (p .pass .counting .rows) beats ≡ padded (f32 0) n (beatsOf L data-text)
+  all-beats n size h =
+      zeroed-answer (f32 0) beats (p .pass .counting .rows) n (λ L. beatsOf L data-text) refl size (omega (arith, x .kept .rows-few, size, h)) (x .beats-are)
+
+  pub rows-small : p .pass .counting .rows ≤ length data-text + 1
+  unfolding mostRows
+  rows-small = le-trans (x .kept .rows-few) (div-le-self (length data-text + 1) (L + 1))
+
+  pub some-rows : SomeRows (p .noting .scratch) slots
+  some-rows = record { rows = joined (minimised L data-text) ++ []; written = x .noted .written }
+
+  module _ (n : ℕ) (after : List ℕ) (r : ℕ) (f : (rows : List Row) → Written rows (p .noting .scratch) slots → Finished rows n after r) where
+    finished : Finished (joined (minimised L data-text)) n after r
+    finished = f (joined (minimised L data-text)) (subst (λ rows. Written rows (p .noting .scratch) slots) (append-nil (joined (minimised L data-text))) (x .noted .written))
+
+    pub all-notes : after ≡ padded 0 n (records (notes L data-text))
+    unfolding notes
+    all-notes = finished .bytes
+
+    pub note-count : r ≡ length (notes L data-text)
+    unfolding notes
+    note-count = finished .count
+
+  last-is : placeOf (p .noting .last .found) ≡ lastObject L data-text
+  unfolding lastObject
+  last-is = x .noted .last .found
+
+  pub all-figures : (stats : ArrowStats) (count bits row : ℕ) → stats ≡ corrected L (joined (minimised L data-text)) (rowsBack true L (take (p .pass .out - 0) text))
+      → count ≡ length (notes L data-text) → bits ≡ toBits binary64 (rowToBeat (place48 (placeOf (p .noting .last .found)))) → row ≡ place48 (placeOf (p .noting .last .found))
+      → record { bytes = p .pass .out; measures = p .pass .midx + 1; rows = p .pass .counting .rows; notes = count; «last_bits» = bits; «last_row» = row; stats = stats } ≡ chartFigures L data-text
+  unfolding chartFigures mainTally lastBeat last48
+  all-figures stats count bits row es ec eb er =
+      made (x .kept .out) (x .kept .midx) (x .kept .rows) ec
+      (eb ∙ ap (λ o. toBits binary64 (rowToBeat (place48 o))) last-is)
+      (er ∙ ap place48 last-is)
+      (es ∙ ap (corrected L (joined (minimised L data-text))) (ap (rowsBack true L) (own-part L data-text (p .pass) text densities (x .kept)) ∙ back-trimmed L _))
+    where
+      made : {a₁ a₂ b₁ b₂ c₁ c₂ d₁ d₂ e₁ e₂ f₁ f₂ : ℕ} {s t : ArrowStats} → a₁ ≡ a₂ → b₁ ≡ b₂ → c₁ ≡ c₂ → d₁ ≡ d₂ → e₁ ≡ e₂ → f₁ ≡ f₂ → s ≡ t
+          → _≡_ {A = ChartFigures} (record { bytes = a₁; measures = b₁; rows = c₁; notes = d₁; «last_bits» = e₁; «last_row» = f₁; stats = s })
+          (record { bytes = a₂; measures = b₂; rows = c₂; notes = d₂; «last_bits» = e₂; «last_row» = f₂; stats = t })
+      made p q r s t u v = cc
+
+-- a test against the most note bytes of a text, worked out of the lane count in force
+pub notes-of-lanes : (room len : ℕ) {l k : ℕ} {t : Bool} → l ≡ k → ltb room (10 * l * ((len + 1) / (l + 1))) ≡ t → ltb room (10 * k * mostRows k len) ≡ t
+unfolding mostRows
+notes-of-lanes room len e h = ap (λ n. ltb room (10 * n * ((len + 1) / (n + 1)))) (sym e) ∙ h
+
+-- that many bytes are less than 2^31
+pub notes-few : (l len : ℕ) → l ≤ 10 → len ≤ 16777215 → 10 * l * ((len + 1) / (l + 1)) ≤ 1677721600
+notes-few l len h w =
+    let x = (len + 1) / (l + 1) in
+    let wide : 10 * l ≤ 100 = omega arith in
+    let rows : x ≤ len + 1 = div-le-self (len + 1) (l + 1) in
+    le-trans (mul-le-mul-right x wide) (omega (arith, rows, w))

@@ -1,0 +1,116 @@
+-- The main pass with its open measure ended: what is kept, noted and written of its beats.
+use mathlib.Core.Path.{_≡_, refl, ap, sym, _∙_, subst}
+use mathlib.Core.List.{List, [], _∷_, _++_, map, map-append, append-nil}
+use Prim.Native.Nat.{ℕ, _+_, _*_, _≤_, _<_}
+use native.Mathlib.Nat.{le-trans, le-of-eq, mul-le-mul-right, mul-comm, mul-assoc}
+use native.Mathlib.Omega.{arith}
+use lib.Ieee.{Float}
+use lib.ListN.{length, take, drop, length-append}
+use Rattle.definitions.specs.Lists.{joined}
+use Rattle.definitions.specs.Lines.{Row}
+use Rattle.definitions.specs.Measures.{chart}
+use Rattle.definitions.specs.Reduction.{reduce, minimised}
+use Rattle.definitions.specs.Figures.{rowText}
+use Rattle.definitions.specs.Beats.{rowBeats, beatsFrom, measureBeats, beats as beatsOf}
+use Rattle.definitions.proofs.Lists.{joined-snoc}
+use Rattle.beats.proofs.Beats.{beats-appended}
+use Rattle.kept.specs.declared.Pass.{Pass}
+use Rattle.kept.specs.Pass.{Kept, Closed, Ended}
+use Rattle.kept.proofs.Keeping.{kept-all}
+use Rattle.measures.specs.Rows.{rowsAt, Holds}
+use Rattle.measures.proofs.Forms.{in-text, form-rows}
+use Rattle.measures.proofs.Shorter.{reduce-short}
+use Rattle.noting.specs.declared.Noting.{Noting}
+use Rattle.noting.specs.Noted.{Noted, NoteRoom}
+use Rattle.output.proofs.Writing.{wrote-holds}
+use Rattle.reader.specs.Reading.{ReadAll}
+use Rattle.reader.proofs.Minimising.{Few}
+use Rattle.chart.specs.declared.ChartPass.{ChartPass}
+use Rattle.chart.specs.Pass.{Charted, SomeCharted, ChartEnded, ChartAll}
+
+-- the minimised rows stand where their measure begins
+rows-there : (L : ℕ) (e : Pass) (text : List ℕ) (done : List (List Row)) (cur : List Row) → Closed L e text done cur → rowsAt (L + 1) L (e .rows) (drop (e .start) text) ≡ cur
+rows-there L e text done cur x =
+    form-rows (in-text L)
+    (subst (λ n. Holds rowText L n (e .start) cur text) (sym (x .rows)) (wrote-holds (in-text L) (44 ∷ 10 ∷ []) text (e .start) (e .out) done cur (x .wrote)))
+
+module _ (L : ℕ) (p : ChartPass) (text densities : List ℕ) (beats : List Float) (slots : List ℕ) (e : Pass) (after dens : List ℕ)
+    (ends : (done : List (List Row)) (cur : List Row) → Kept L (p .pass) text densities done cur → Ended L e after dens done (reduce cur)) where
+  module _ (done : List (List Row)) (cur : List Row) (x : Charted L p text densities beats slots done cur) where
+    -- the rows before the open measure
+    pub rows-before : p .pass .counting .rows ≡ length (joined done)
+    rows-before = x .kept .open-is .counted .rows ∙ ap length (append-nil (joined done))
+
+    pub rows-after : p .pass .counting .rows + e .rows ≡ e .counting .rows
+    rows-after =
+        let k = ends done cur (x .kept) .closed in
+        omega (arith, rows-before, k .rows, k .counted .rows, length-append (joined done) (reduce cur))
+
+    pub rows-less : e .rows ≤ p .pass .rows
+    rows-less = omega (arith, ends done cur (x .kept) .closed .rows, reduce-short cur, x .kept .open-is .rows)
+
+    pub charted-end : p .pass .counting .rows ≤ length beats → (beats₁ : List Float)
+        → beats₁ ≡ (take (p .pass .counting .rows) beats ++ rowBeats (e .midx) (e .rows) 0 (e .rows)) ++ drop (p .pass .counting .rows + e .rows) beats
+        → (s : Noting) (slots₁ : List ℕ)
+        → ((done : List (List Row)) → Noted L (p .noting) slots done [] → Noted L s slots₁ (done ++ (rowsAt (L + 1) L (e .rows) (drop (e .start) after) ∷ [])) [])
+        → ChartEnded L (record { pass = e; noting = s }) after dens beats₁ slots₁ done (reduce cur)
+    charted-end room beats₁ eb s slots₁ f =
+        let k = ends done cur (x .kept) in
+        record {
+          ended = k;
+          noted = subst (λ rs. Noted L s slots₁ (done ++ (rs ∷ [])) []) (rows-there L e after done (reduce cur) (k .closed)) (f done (x .noted));
+          beats-are =
+              ap (λ n. take n beats₁) (sym rows-after)
+              ∙ ap (take (p .pass .counting .rows + e .rows)) eb
+              ∙ beats-appended beats (p .pass .counting .rows) (e .midx) (e .rows) done (reduce cur) room (x .beats-are) (k .closed .midx) (k .closed .rows);
+        }
+
+  module _ (s : SomeCharted L p text densities beats slots) where
+    pub some-less : e .rows ≤ p .pass .rows
+    some-less = rows-less (s .done) (s .cur) (s .charted)
+
+    -- the minimised rows stand within the text
+    pub rows-within : e .out ≤ length after → e .start + e .rows * (L + 1) ≤ length after
+    rows-within h =
+        let k = ends (s .done) (s .cur) (s .charted .kept) .closed in
+        omega (arith, h, k .wrote .size, ap (λ n. n * (L + 1)) (k .rows))
+
+    pub noted-midx : p .noting .last .midx ≡ p .pass .midx
+    noted-midx = s .charted .noted .last .midx ∙ sym (s .charted .kept .open-is .midx)
+
+    pub room-noted : p .pass .counting .rows + p .pass .rows < 4194304 → (p .pass .counting .rows + p .pass .rows) * L * 10 ≤ length slots → NoteRoom L (p .noting) (e .rows) slots
+    room-noted few room =
+        let here : p .noting .scratch .«row_index» ≡ p .pass .counting .rows = s .charted .noted .written .row ∙ sym (s .charted .kept .open-is .counted .rows) in
+        let less : p .noting .scratch .«row_index» + e .rows ≤ p .pass .counting .rows + p .pass .rows = omega (arith, here, some-less) in
+        record {
+          done = s .done;
+          noted = s .charted .noted;
+          few = omega (arith, less, few);
+          room = le-trans (mul-le-mul-right 10 (mul-le-mul-right L less)) room;
+        }
+
+-- The next measure begins.
+pub charted-next : (L : ℕ) (e : ChartPass) (text after densities : List ℕ) (beats : List Float) (slots : List ℕ) (done : List (List Row)) (cur : List Row) → ChartEnded L e text densities beats slots done cur
+    → (q : Pass) → Kept L q after densities (done ++ (cur ∷ [])) [] → Charted L (record { pass = q; noting = e .noting }) after densities beats slots (done ++ (cur ∷ [])) []
+charted-next L e text after densities beats slots done cur x q k =
+    let same : q .counting .rows ≡ e .pass .counting .rows =
+    k .open-is .counted .rows ∙ ap length (append-nil (joined (done ++ (cur ∷ []))) ∙ joined-snoc done cur) ∙ sym (x .ended .closed .counted .rows) in
+    record { kept = k; noted = x .noted; beats-are = ap (λ n. take n beats) same ∙ x .beats-are }
+
+-- a row's cells fit where the notes of as many rows as a text can have do
+pub slots-room : (L rows most : ℕ) (size : ℕ) → rows ≤ most → 10 * L * most ≤ size → rows * L * 10 ≤ size
+slots-room L rows most size h room =
+    le-trans (mul-le-mul-right 10 (mul-le-mul-right L h)) (le-trans (le-of-eq (mul-comm (most * L) 10 ∙ ap (λ n. 10 * n) (mul-comm most L) ∙ sym (mul-assoc 10 L most))) room)
+
+-- The last measure has ended too: all of the chart's.
+pub chart-all : (L : ℕ) (e : ChartPass) (data-text text densities : List ℕ) (beats : List Float) (slots : List ℕ) (done : List (List Row)) (cur : List Row) → ReadAll L data-text done cur
+    → Few L (length data-text) (map reduce done) cur → ChartEnded L e text densities beats slots (map reduce done) (reduce cur) → e .pass .out ≤ length text → e .pass .out ≤ length data-text + 1
+    → ChartAll L data-text e text densities beats slots
+unfolding beatsOf measureBeats minimised
+chart-all L e data-text text densities beats slots done cur read few x fits short =
+    let all : map reduce (chart L data-text) ≡ map reduce done ++ (reduce cur ∷ []) = ap (map reduce) (read .chart-is) ∙ map-append reduce done (cur ∷ []) in
+    record {
+      kept = kept-all L (e .pass) data-text text densities done cur read few (x .ended) fits short;
+      noted = subst (λ ms. Noted L (e .noting) slots ms []) (sym all) (x .noted);
+      beats-are = x .beats-are ∙ ap (λ ms. joined (beatsFrom 0 ms)) (sym all);
+    }

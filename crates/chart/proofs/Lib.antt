@@ -1,0 +1,3 @@
+-- Laws of the main pass.
+pub mod Charting
+pub mod Answering

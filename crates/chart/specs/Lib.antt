@@ -1,0 +1,3 @@
+-- What the contracts of the main call cite, beside the definitions.
+pub mod Pass
+pub mod Answers

@@ -1,0 +1,47 @@
+-- `kept::end_measure` meets its contract.
+use Prim.Native.Nat.{_+_, _≤_, _<_}
+use mathlib.Core.Path.{_≡_, ap, _∙_}
+use native.Mathlib.Omega.{arith}
+use denote.Ref.{now}
+use lib.ListN.{length, take}
+use Rattle.definitions.specs.Reduction.{reduce}
+use Rattle.kept.proofs.Passing.{ended-rows}
+use borrow.Author.Needs.{needs}
+use Rattle.kept.proofs.end_measure.Statement.{statement}
+use Rattle.kept.proofs.end_measure.Tie as tie
+
+end-rows-requires : tie.Need-end-rows-requires
+end-rows-requires c κs = search needs
+
+mul-densities : tie.Need-mul-densities
+mul-densities c = search needs
+
+slice-write-densities : tie.Need-slice-write-densities
+slice-write-densities c = search needs
+
+same-length : tie.Need-same-length
+same-length c = search needs
+
+same-length-2 : tie.Need-same-length-2
+same-length-2 c = search needs
+
+returns : tie.Need-returns
+returns c =
+    let e = c .before .before in
+    let s = e .before .before .before .before in
+    let a = s .args in
+    let r = e .end-rows .ensures in (
+      (λ done cur x. ended-rows (a .lanes) (e .end-rows .result) _ (now (a .densities)) done (reduce cur) (r .0 done cur (x .open-is)) (ap (λ n. take n (now (a .densities))) (r .1 .1) ∙ x .stored) (omega (arith, r .1 .1, s .pre .1))),
+      (r .1 .0, r .1 .1),
+    )
+
+pub end-measure-spec : {M : Type 1} → statement M
+end-measure-spec =
+    tie.close
+    (tie.spec
+    end-rows-requires
+    mul-densities
+    slice-write-densities
+    same-length
+    same-length-2
+    returns)
