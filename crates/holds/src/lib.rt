@@ -111,7 +111,7 @@ fn track_cells(
     work: &mut [u16],
 ) -> u16
     requires { ⌜ (length (now cells) ≤ 10) × (row < length (now work)) × Sized (tracker (now heads) (now depths)) × Reached row (tracker (now heads) (now depths)) (now work) ⌝ }
-    ensures { λ r. ⌜ Sized (tracker (now (heads .exit)) (now (depths .exit))) × CellsTracked row (now (cells .entry)) (tracker (now (heads .entry)) (now (depths .entry))) (now (work .entry)) (tracker (now (heads .exit)) (now (depths .exit))) (now (work .exit)) r ⌝ }
+    ensures { λ r. ⌜ CellsTracked row (now (cells .entry)) (tracker (now (heads .entry)) (now (depths .entry))) (now (work .entry)) (tracker (now (heads .exit)) (now (depths .exit))) (now (work .exit)) r ⌝ }
 {
     let mut ends: u16 = 0;
     let mut column = 0;
@@ -135,24 +135,7 @@ fn row_entry(judged: bool, ends: u16) -> u16
     }
 }
 
-// One row on arrays that are lent, so that none is copied. The row's own entry in the work slice is set last.
-pub fn track_lent_row(
-    heads: &mut [u32; 80],
-    depths: &mut [u32; 10],
-    row: u32,
-    cells: &[u8],
-    judged: bool,
-    work: &mut [u16],
-)
-    requires { ⌜ (length (now cells) ≤ 10) × (row < length (now work)) × Sized (tracker (now heads) (now depths)) × Reached row (tracker (now heads) (now depths)) (now work) ⌝ }
-    ensures { λ _. ⌜ Sized (tracker (now (heads .exit)) (now (depths .exit))) × RowTracked row (now (cells .entry)) judged (tracker (now (heads .entry)) (now (depths .entry))) (now (work .entry)) (tracker (now (heads .exit)) (now (depths .exit))) (now (work .exit)) ⌝ }
-{
-    let ends = track_cells(&mut *heads, &mut *depths, row, cells, &mut *work);
-    let at = row as usize;
-    work[at] = row_entry(judged, ends);
-}
-
-// One row: the tracker after it, and its pairs in the work slice.
+// One row: the tracker after it, and its pairs in the work slice. The row's own entry is set last.
 pub fn track_judged_row(
     t: Tracker,
     row: u32,
@@ -165,7 +148,9 @@ pub fn track_judged_row(
 {
     let mut heads = t.heads;
     let mut depths = t.depths;
-    track_lent_row(&mut heads, &mut depths, row, cells, judged, &mut *work);
+    let ends = track_cells(&mut heads, &mut depths, row, cells, &mut *work);
+    let at = row as usize;
+    work[at] = row_entry(judged, ends);
     Tracker { heads, depths }
 }
 
