@@ -136,8 +136,9 @@ fn row_entry(judged: bool, ends: u16) -> u16
 }
 
 // One row: the tracker after it, and its pairs in the work slice. The row's own entry is set last.
+// The heads are lent where they lie, which spares a copy of them; of one struct no two fields can be lent at once.
 pub fn track_judged_row(
-    t: Tracker,
+    mut t: Tracker,
     row: u32,
     cells: &[u8],
     judged: bool,
@@ -146,12 +147,12 @@ pub fn track_judged_row(
     requires { ⌜ (length (now cells) ≤ 10) × (row < length (now work)) × Reached row t (now work) ⌝ }
     ensures { λ r. ⌜ RowTracked row (now (cells .entry)) judged t (now (work .entry)) r (now (work .exit)) ⌝ }
 {
-    let mut heads = t.heads;
     let mut depths = t.depths;
-    let ends = track_cells(&mut heads, &mut depths, row, cells, &mut *work);
+    let ends = track_cells(&mut t.heads, &mut depths, row, cells, &mut *work);
     let at = row as usize;
     work[at] = row_entry(judged, ends);
-    Tracker { heads, depths }
+    t.depths = depths;
+    t
 }
 
 // The same where no row is judged: the work slice has the paired heads alone.

@@ -10,7 +10,7 @@ track-cells-requires c κs = search needs
 row-entry-requires : tie.Need-row-entry-requires
 row-entry-requires c κs =
     let cells = c .before .before in
-    let start = cells .before .before .before .before .before .before .before .before in
+    let start = cells .before .before .before .before .before .before .before in
     let from = start .pre .2 in
     cells .track-cells .ensures (from .judging) (from .rows) (from .size) (from .tracks) .few
 
@@ -26,7 +26,7 @@ same-length c = search needs
 returns : tie.Need-returns
 returns c =
     let cells = c .before .before .before in
-    let start = cells .before .before .before .before .before .before .before .before in
+    let start = cells .before .before .before .before .before .before .before in
     λ J rows size here tracks.
     rw (c .row-entry .ensures)
     (row-done J rows _ _ _ _ _ _ _ _ tracks (cells .track-cells .ensures J rows size tracks) size here (rw (cells .track-cells .kept .1 .1 .1 .1 .0) (start .pre .1)))
