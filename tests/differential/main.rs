@@ -1,4 +1,4 @@
-//! The differential run: libpadcheck.a and libleaves.a beside the Rust, in one process, on random and short texts.
+//! The differential run: libpadcheck.a, libleaves.a and librow_leaves.a beside the Rust, in one process, on random and short texts.
 //! Ends with `N passed, M failed`; the exit status is not 0 if anything differs.
 
 mod beat_checks;

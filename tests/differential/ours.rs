@@ -1,4 +1,5 @@
-//! The leaves of libleaves.a, and the entry that reads a note record, as safe functions. What a leaf does not take comes back as `None`.
+//! The leaves of libleaves.a and librow_leaves.a, and the entry that reads a note record, as safe functions.
+//! What a leaf does not take comes back as `None`.
 
 mod symbols {
     unsafe extern "C" {
@@ -14,7 +15,6 @@ mod symbols {
         pub fn leaves_tap_mask4(row: *const u8, len: usize) -> u32;
         pub fn leaves_tap_mask8(row: *const u8, len: usize) -> u32;
         pub fn leaves_tap_sum(mask: u8, sum: *mut u32);
-        pub fn leaves_row_has_object(row: *const u8, len: usize, depths: *mut u32) -> u32;
         pub fn leaves_is_all_zero(row: *const u8, len: usize) -> bool;
         pub safe fn leaves_lanes_of(lanes: usize) -> usize;
         pub fn leaves_measure_reduce_shift(
@@ -47,28 +47,30 @@ mod symbols {
             rows: u32,
         ) -> u32;
         pub fn leaves_calc_last_beat(m: u32, r: u32, n: u32, last: *mut u64) -> u32;
-        pub fn leaves_count_line(tally: *mut u32, row: *const u8, len: usize) -> u32;
-        pub fn leaves_count_line_masked(
+        pub fn row_leaves_row_has_object(row: *const u8, len: usize, depths: *mut u32) -> u32;
+        pub fn row_leaves_count_line(tally: *mut u32, row: *const u8, len: usize) -> u32;
+        pub fn row_leaves_count_line_masked(
             tally: *mut u32,
             row: *const u8,
             len: usize,
             heads: u16,
         ) -> u32;
-        pub fn leaves_phantom_row(
+        pub fn row_leaves_phantom_row(
             depths: *mut u32,
             counts: *mut u32,
             row: *const u8,
             len: usize,
         ) -> u32;
-        pub fn leaves_is_corrected(depths: *const u32, counts: *const u32, lanes: usize) -> u32;
-        pub fn leaves_track_rows(
+        pub fn row_leaves_is_corrected(depths: *const u32, counts: *const u32, lanes: usize)
+        -> u32;
+        pub fn row_leaves_track_rows(
             rows: *const u8,
             len: usize,
             lanes: usize,
             work: *mut u16,
             work_len: usize,
         ) -> u32;
-        pub fn leaves_push_rows(
+        pub fn row_leaves_push_rows(
             rows: *const u8,
             len: usize,
             lanes: usize,
@@ -132,7 +134,7 @@ pub fn tap_sum(mask: u8) -> [u32; 11] {
 }
 
 pub fn row_has_object(row: &[u8], depths: &mut [u32; 10]) -> Option<bool> {
-    match unsafe { leaves_row_has_object(row.as_ptr(), row.len(), depths.as_mut_ptr()) } {
+    match unsafe { row_leaves_row_has_object(row.as_ptr(), row.len(), depths.as_mut_ptr()) } {
         0 => Some(false),
         1 => Some(true),
         _ => None,
@@ -173,13 +175,13 @@ pub fn calc_last_beat(m: u32, r: u32, n: u32) -> Option<(u64, u64)> {
 }
 
 pub fn count_line(tally: &mut [u32; 14], row: &[u8]) -> Option<()> {
-    done(unsafe { leaves_count_line(tally.as_mut_ptr(), row.as_ptr(), row.len()) })
+    done(unsafe { row_leaves_count_line(tally.as_mut_ptr(), row.as_ptr(), row.len()) })
 }
 
 /// Of the row's heads only those of the mask count.
 pub fn count_line_masked(tally: &mut [u32; 14], row: &[u8], heads: u16) -> Option<()> {
     let tally = tally.as_mut_ptr();
-    done(unsafe { leaves_count_line_masked(tally, row.as_ptr(), row.len(), heads) })
+    done(unsafe { row_leaves_count_line_masked(tally, row.as_ptr(), row.len(), heads) })
 }
 
 /// The phantom depths, and heads, tails and whether a phantom depth was met.
@@ -191,12 +193,12 @@ pub struct Phantoms {
 
 pub fn phantom_row(phantoms: &mut Phantoms, row: &[u8]) -> Option<()> {
     let (depths, counts) = (phantoms.depths.as_mut_ptr(), phantoms.counts.as_mut_ptr());
-    done(unsafe { leaves_phantom_row(depths, counts, row.as_ptr(), row.len()) })
+    done(unsafe { row_leaves_phantom_row(depths, counts, row.as_ptr(), row.len()) })
 }
 
 pub fn is_corrected(phantoms: &Phantoms, lanes: usize) -> Option<bool> {
     let (depths, counts) = (phantoms.depths.as_ptr(), phantoms.counts.as_ptr());
-    match unsafe { leaves_is_corrected(depths, counts, lanes) } {
+    match unsafe { row_leaves_is_corrected(depths, counts, lanes) } {
         0 => Some(false),
         1 => Some(true),
         _ => None,
@@ -206,14 +208,14 @@ pub fn is_corrected(phantoms: &Phantoms, lanes: usize) -> Option<bool> {
 /// How many rows were tracked; their paired heads are in the work slice.
 pub fn track_rows(rows: &[u8], lanes: usize, work: &mut [u16]) -> Option<u32> {
     let (work, len) = (work.as_mut_ptr(), work.len());
-    let tracked = unsafe { leaves_track_rows(rows.as_ptr(), rows.len(), lanes, work, len) };
+    let tracked = unsafe { row_leaves_track_rows(rows.as_ptr(), rows.len(), lanes, work, len) };
     (tracked != u32::MAX).then_some(tracked)
 }
 
 /// How many notes the rows have; their records are in the slice.
 pub fn push_rows(rows: &[u8], lanes: usize, slots: &mut [u8]) -> Option<usize> {
     let (slots, len) = (slots.as_mut_ptr(), slots.len());
-    place(unsafe { leaves_push_rows(rows.as_ptr(), rows.len(), lanes, slots, len) })
+    place(unsafe { row_leaves_push_rows(rows.as_ptr(), rows.len(), lanes, slots, len) })
 }
 
 /// The entry that reads a note record: its number, and the note where that is 0.

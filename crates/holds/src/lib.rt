@@ -111,7 +111,7 @@ fn track_cells(
     work: &mut [u16],
 ) -> u16
     requires { ⌜ (length (now cells) ≤ 10) × (row < length (now work)) × Sized (tracker (now heads) (now depths)) × Reached row (tracker (now heads) (now depths)) (now work) ⌝ }
-    ensures { λ r. ⌜ Sized (tracker (now (heads .exit)) (now (depths .exit))) × CellsTracked row (now (cells .entry)) (tracker (now (heads .entry)) (now (depths .entry))) (now (work .entry)) (tracker (now (heads .exit)) (now (depths .exit))) (now (work .exit)) r ⌝ }
+    ensures { λ r. ⌜ CellsTracked row (now (cells .entry)) (tracker (now (heads .entry)) (now (depths .entry))) (now (work .entry)) (tracker (now (heads .exit)) (now (depths .exit))) (now (work .exit)) r ⌝ }
 {
     let mut ends: u16 = 0;
     let mut column = 0;
@@ -135,26 +135,10 @@ fn row_entry(judged: bool, ends: u16) -> u16
     }
 }
 
-// One row on arrays that are lent, so that none is copied. The row's own entry in the work slice is set last.
-pub fn track_lent_row(
-    heads: &mut [u32; 80],
-    depths: &mut [u32; 10],
-    row: u32,
-    cells: &[u8],
-    judged: bool,
-    work: &mut [u16],
-)
-    requires { ⌜ (length (now cells) ≤ 10) × (row < length (now work)) × Sized (tracker (now heads) (now depths)) × Reached row (tracker (now heads) (now depths)) (now work) ⌝ }
-    ensures { λ _. ⌜ Sized (tracker (now (heads .exit)) (now (depths .exit))) × RowTracked row (now (cells .entry)) judged (tracker (now (heads .entry)) (now (depths .entry))) (now (work .entry)) (tracker (now (heads .exit)) (now (depths .exit))) (now (work .exit)) ⌝ }
-{
-    let ends = track_cells(&mut *heads, &mut *depths, row, cells, &mut *work);
-    let at = row as usize;
-    work[at] = row_entry(judged, ends);
-}
-
-// One row: the tracker after it, and its pairs in the work slice.
+// One row: the tracker after it, and its pairs in the work slice. The row's own entry is set last.
+// The heads are lent where they lie, which spares a copy of them; of one struct no two fields can be lent at once.
 pub fn track_judged_row(
-    t: Tracker,
+    mut t: Tracker,
     row: u32,
     cells: &[u8],
     judged: bool,
@@ -163,10 +147,12 @@ pub fn track_judged_row(
     requires { ⌜ (length (now cells) ≤ 10) × (row < length (now work)) × Reached row t (now work) ⌝ }
     ensures { λ r. ⌜ RowTracked row (now (cells .entry)) judged t (now (work .entry)) r (now (work .exit)) ⌝ }
 {
-    let mut heads = t.heads;
     let mut depths = t.depths;
-    track_lent_row(&mut heads, &mut depths, row, cells, judged, &mut *work);
-    Tracker { heads, depths }
+    let ends = track_cells(&mut t.heads, &mut depths, row, cells, &mut *work);
+    let at = row as usize;
+    work[at] = row_entry(judged, ends);
+    t.depths = depths;
+    t
 }
 
 // The same where no row is judged: the work slice has the paired heads alone.

@@ -46,9 +46,7 @@ fn track_timing_rows(data: &[u8], lanes: usize, all: bool, flags: &[u8], work: &
     ensures { λ _. ⌜ Timed (judgedBy all (now (flags .entry))) (readBack lanes (now («data» .entry))) (now (work .exit)) ⌝ }
 {
     slices::zero_u16(&mut *work, 0);
-    let t = holds::no_tracker();
-    let mut heads = t.heads;
-    let mut depths = t.depths;
+    let mut t = holds::no_tracker();
     let mut off = 0;
     let mut row: u32 = 0;
     while off <= data.len() {
@@ -57,14 +55,7 @@ fn track_timing_rows(data: &[u8], lanes: usize, all: bool, flags: &[u8], work: &
         if line.row {
             let end = off + lanes;
             let judged = is_judged(all, flags, row as usize);
-            holds::track_lent_row(
-                &mut heads,
-                &mut depths,
-                row,
-                &data[off..end],
-                judged,
-                &mut *work,
-            );
+            t = holds::track_judged_row(t, row, &data[off..end], judged, &mut *work);
             row += 1;
         }
         off = next;

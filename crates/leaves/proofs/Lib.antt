@@ -1,3 +1,2 @@
 -- Laws for the leaves' tests.
 pub mod Tests
-pub mod Tracked

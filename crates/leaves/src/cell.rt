@@ -1,12 +1,7 @@
-// Cells, tap masks and object rows.
-use cells::Depths;
+// Cells and tap masks.
 use cells::Taps;
 use definitions::Cell;
 use definitions::DepthEffect;
-ghost use mathlib.Core.Path.{_≡_};
-ghost use mathlib.Core.Bool.{true};
-ghost use Prim.Native.Nat.{ℕ, _≤_};
-ghost use lib.ListN.{getD};
 
 // The number of the variant.
 #[no_mangle]
@@ -90,36 +85,4 @@ pub extern "C" fn leaves_tap_sum(mask: u8, sum: &mut [u32; 11]) {
     sum[8] = s.mines;
     sum[9] = s.lifts;
     sum[10] = s.fakes;
-}
-
-// Whether none of the counts is over `most`.
-pub fn is_low(counts: &[u32], most: u32) -> bool
-    ensures { λ r. ⌜ (r ≡ true → (c : ℕ) → getD (now (counts .entry)) c 0 ≤ most) ⌝ }
-{
-    let mut i = 0;
-    while i < counts.len() {
-        if most < counts[i] {
-            return false;
-        }
-        i += 1;
-    }
-    true
-}
-
-// 1 for an object row, 0 for another, 2 where the row is too long or a depth too high. The depths are brought up to date.
-#[no_mangle]
-pub extern "C" fn leaves_row_has_object(row: &[u8], depths: &mut [u32; 10]) -> u32 {
-    if 10 < row.len() {
-        return 2;
-    }
-    if is_low(&*depths, 4294967294) {
-        let before = *depths;
-        let old = Depths { depths: before };
-        let objects = cells::row_has_object(row, old);
-        let new = objects.depths;
-        let after = new.depths;
-        *depths = after;
-        return objects.object as u32;
-    }
-    2
 }

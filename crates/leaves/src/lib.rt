@@ -4,4 +4,3 @@ mod beat;
 mod cell;
 mod line;
 mod measure;
-mod row;

@@ -7,8 +7,8 @@ use native.Mathlib.Omega.{arith}
 use lib.ListN.{length, getD, take, drop, length-append}
 use Rattle.definitions.specs.Lines.{Row}
 use Rattle.holds.specs.declared.Tracker.{Tracker}
-use Rattle.holds.specs.Stacks.{stackOf, Sized}
-use Rattle.holds.specs.Tracks.{Tracks, Reached, RowTracked}
+use Rattle.holds.specs.Stacks.{stackOf}
+use Rattle.holds.specs.Tracks.{Tracks, Reached}
 use Rattle.holds.proofs.Rows.{tracks-start}
 use Rattle.reader.specs.declared.BackLine.{BackLine}
 use Rattle.reader.specs.BackReading.{rowsBack, BackRead, BackReading}
@@ -19,27 +19,26 @@ pub record Marking (trim : Bool) (L : ℕ) (text : List ℕ) (off row : ℕ) (t 
   pub rows : List Row
   pub reading : BackReading trim L text off rows
   pub size : length rows ≡ row
-  pub sized : Sized t
   pub tracks : Tracks rows t work
 
-pub marking-start : (trim : Bool) (L : ℕ) (text : List ℕ) (t : Tracker) (work : List ℕ) → Sized t → ((c : ℕ) → c < 10 → stackOf t c ≡ []) → ((i : ℕ) → getD work i 0 ≡ 0)
+pub marking-start : (trim : Bool) (L : ℕ) (text : List ℕ) (t : Tracker) (work : List ℕ) → ((c : ℕ) → c < 10 → stackOf t c ≡ []) → ((i : ℕ) → getD work i 0 ≡ 0)
     → Marking trim L text 0 0 t work
-marking-start trim L text t work s n z =
-    record { rows = []; reading = back-start trim L text; size = refl; sized = s; tracks = tracks-start (λ i. false) t work n z }
+marking-start trim L text t work n z =
+    record { rows = []; reading = back-start trim L text; size = refl; tracks = tracks-start (λ i. false) t work n z }
 
 pub marking-reached : (trim : Bool) (L : ℕ) (text : List ℕ) (off row : ℕ) (t : Tracker) (work : List ℕ) → Marking trim L text off row t work → Reached row t work
 marking-reached trim L text off row t work m = record { judging = λ i. false; rows = m .rows; size = m .size; tracks = m .tracks }
 
 module _ (trim : Bool) (L : ℕ) (text : List ℕ) (off row : ℕ) (t : Tracker) (work : List ℕ) (r : BackLine) (h : off ≤ length text) (x : BackRead trim L text off r) (m : Marking trim L text off row t work) where
-  pub marking-row : r .row ≡ true → (t' : Tracker) (work' : List ℕ) (cells : Row) → cells ≡ take L (drop off text) → Sized t' → RowTracked row cells false t work t' work'
+  pub marking-row : r .row ≡ true → (t' : Tracker) (work' : List ℕ) (cells : Row) → cells ≡ take L (drop off text)
+      → ((rows : List Row) → length rows ≡ row → Tracks rows t work → Tracks (rows ++ (cells ∷ [])) t' work')
       → Marking trim L text (r .next) (row + 1) t' work'
-  marking-row e t' work' cells q s f =
+  marking-row e t' work' cells q f =
       record {
         rows = m .rows ++ (take L (drop off text) ∷ []);
         reading = back-row trim L text off r h x (m .rows) (m .reading) e;
         size = rw length-append (omega (arith, m .size));
-        sized = s;
-        tracks = rw q at (f (λ i. false) (m .rows) (m .size) refl (m .tracks));
+        tracks = rw q at (f (m .rows) (m .size) (m .tracks));
       }
 
   pub marking-passed : r .row ≡ false → Marking trim L text (r .next) row t work
@@ -48,7 +47,6 @@ module _ (trim : Bool) (L : ℕ) (text : List ℕ) (off row : ℕ) (t : Tracker)
         rows = m .rows;
         reading = back-passed trim L text off r h x (m .rows) (m .reading) e;
         size = m .size;
-        sized = m .sized;
         tracks = m .tracks;
       }
 

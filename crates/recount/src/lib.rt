@@ -17,9 +17,7 @@ fn mark_heads(text: &[u8], lanes: usize, trim: bool, work: &mut [u16])
     requires { ⌜ Room trim lanes (now text) (now work) × ((i : ℕ) → getD (now work) i 0 ≡ 0) ⌝ }
     ensures { λ _. ⌜ Heads (rowsBack trim lanes (now (text .entry))) (now (work .exit)) ⌝ }
 {
-    let t = holds::no_tracker();
-    let mut heads = t.heads;
-    let mut depths = t.depths;
+    let mut t = holds::no_tracker();
     let mut off = 0;
     let mut row: u32 = 0;
     while off <= text.len() {
@@ -27,14 +25,7 @@ fn mark_heads(text: &[u8], lanes: usize, trim: bool, work: &mut [u16])
         let next = line.next;
         if line.row {
             let end = off + lanes;
-            holds::track_lent_row(
-                &mut heads,
-                &mut depths,
-                row,
-                &text[off..end],
-                false,
-                &mut *work,
-            );
+            t = holds::track_row(t, row, &text[off..end], &mut *work);
             row += 1;
         }
         off = next;

@@ -72,7 +72,7 @@ same-length c = c .before .loop .inv .long
 returns : tie.Need-returns Inv-loop μ-loop
 returns c =
     let start = c .before .before .before .before in
-    (c .before .loop .inv .sized, sweeping-end _ _ _ _ _ _ _ _ (c .before .loop .inv) (start .pre .3) (start .pre .0) (c .loop-test .left))
+    sweeping-end _ _ _ _ _ _ _ _ (c .before .loop .inv) (start .pre .3) (start .pre .0) (c .loop-test .left)
 
 pub track-cells-spec : {M : Type 1} → statement M
 track-cells-spec =

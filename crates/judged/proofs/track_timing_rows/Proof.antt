@@ -5,7 +5,6 @@ use native.Mathlib.Omega.{arith}
 use borrow.Author.Needs.{needs}
 use lib.ListN.{length}
 use denote.Ref.{now}
-use Rattle.holds.specs.Stacks.{Sized, tracker}
 use Rattle.judged.specs.Timing.{judgedBy}
 use Rattle.judged.proofs.Rows.{row-within, bytes-short}
 use Rattle.judged.proofs.Tracking.{Tracking, tracking-start, tracking-reached, tracking-room, tracking-passed, tracking-row, tracking-end}
@@ -13,21 +12,20 @@ use Rattle.judged.proofs.track_timing_rows.Statement.{statement}
 use Rattle.judged.proofs.track_timing_rows.Tie as tie
 
 abbrev Inv-loop : tie.InvT-loop
-Inv-loop «data» lanes all flags work₀ heads₀ depths₀ off₀ row₀ work heads depths off row =
+Inv-loop «data» lanes all flags work₀ t₀ off₀ row₀ work t off row =
     (off ≤ length «data» + 1)
     × (length work ≡ length work₀)
-    × Sized (tracker heads depths)
-    × Tracking (judgedBy all flags) lanes «data» off row (tracker heads depths) work
+    × Tracking (judgedBy all flags) lanes «data» off row t work
 
 abbrev μ-loop : tie.MeasureT-loop
-μ-loop «data» lanes all flags work₀ heads₀ depths₀ off₀ row₀ work heads depths off row = length «data» + 1 - off
+μ-loop «data» lanes all flags work₀ t₀ off₀ row₀ work t off row = length «data» + 1 - off
 
 -- a row's entry stands in the work slice
 row-room : (c : tie.Then1 Inv-loop μ-loop) → let at = c .before .before .before in at .loop .row < length (at .loop .work)
 row-room c =
     let at = c .before .before .before in
-    let zeroed = at .before .before .before .before .before .before in
-    tracking-room _ _ _ _ _ _ _ (at .loop .inv .3) _ (c .before .before .loop-test .taken) (c .before .back-line .ensures) (c .if1 .taken)
+    let zeroed = at .before .before .before .before in
+    tracking-room _ _ _ _ _ _ _ (at .loop .inv .2) _ (c .before .before .loop-test .taken) (c .before .back-line .ensures) (c .if1 .taken)
     (omega (arith, zeroed .before .before .before .before .before .pre .2, zeroed .zero-u16 .kept .0))
 
 zero-u16-requires : tie.Need-zero-u16-requires Inv-loop μ-loop
@@ -38,9 +36,9 @@ no-tracker-requires c κs = search needs
 
 loop-holds : tie.Need-loop-holds Inv-loop μ-loop
 loop-holds c =
-    let zeroed = c .before .before .before .before .before in
+    let zeroed = c .before .before .before in
     let a = zeroed .before .before .before .before .before .args in
-    (omega arith, refl, search needs, tracking-start _ _ _ _ (now (a .work)) _ (c .before .before .no-tracker .ensures) (zeroed .zero-u16 .ensures))
+    (omega arith, refl, tracking-start _ _ _ _ (now (a .work)) _ (c .no-tracker .ensures) (zeroed .zero-u16 .ensures))
 
 back-line-requires : tie.Need-back-line-requires Inv-loop μ-loop
 back-line-requires c κs = search needs
@@ -54,41 +52,40 @@ cast-is-judged c = search needs
 is-judged-requires : tie.Need-is-judged-requires Inv-loop μ-loop
 is-judged-requires c κs = search needs
 
-sub-track-lent-row : tie.Need-sub-track-lent-row Inv-loop μ-loop
-sub-track-lent-row c = omega arith
+sub-track-judged-row : tie.Need-sub-track-judged-row Inv-loop μ-loop
+sub-track-judged-row c = omega arith
 
-part-track-lent-row-start : tie.Need-part-track-lent-row-start Inv-loop μ-loop
-part-track-lent-row-start c = omega arith
+part-track-judged-row-start : tie.Need-part-track-judged-row-start Inv-loop μ-loop
+part-track-judged-row-start c = omega arith
 
-part-track-lent-row-end : tie.Need-part-track-lent-row-end Inv-loop μ-loop
-part-track-lent-row-end c =
-    let row = c .before .before .before in
+part-track-judged-row-end : tie.Need-part-track-judged-row-end Inv-loop μ-loop
+part-track-judged-row-end c =
+    let row = c .before in
     omega (arith, row-within _ _ _ _ (row .before .back-line .ensures) (row .if1 .taken))
 
-track-lent-row-requires : tie.Need-track-lent-row-requires Inv-loop μ-loop
-track-lent-row-requires c κs =
-    let row = c .before .before .before .before .before in
+track-judged-row-requires : tie.Need-track-judged-row-requires Inv-loop μ-loop
+track-judged-row-requires c κs =
+    let row = c .before .before .before in
     let at = row .before .before .before in
-    let start = at .before .before .before .before .before .before .before .before .before .before .before in
-    (bytes-short _ _ _ (start .pre .1), row-room row, at .loop .inv .2, tracking-reached _ _ _ _ _ _ _ (at .loop .inv .3))
+    let start = at .before .before .before .before .before .before .before .before .before in
+    (bytes-short _ _ _ (start .pre .1), row-room row, tracking-reached _ _ _ _ _ _ _ (at .loop .inv .2))
 
 add-row : tie.Need-add-row Inv-loop μ-loop
 add-row c = omega arith
 
 loop-less : tie.Need-loop-less Inv-loop μ-loop
-loop-less c = omega (arith, c .before .before .before .before .before .before .before .before .before .back-line .ensures .next)
+loop-less c = omega (arith, c .before .before .before .before .before .before .before .back-line .ensures .next)
 
 loop-again : tie.Need-loop-again Inv-loop μ-loop
 loop-again c =
-    let lent = c .before .before in
-    let row = lent .before .before .before .before .before .before in
+    let tracked = c .before .before in
+    let row = tracked .before .before .before .before in
     let a = row .before in
     let at = a .before .before in (
       a .back-line .ensures .within,
-      omega (arith, lent .track-lent-row .kept .1 .1 .1 .1 .1 .0),
-      lent .track-lent-row .ensures .0,
-      tracking-row _ _ _ _ _ _ _ (at .loop .inv .3) _ (a .before .loop-test .taken) (a .back-line .ensures) (row .if1 .taken) _ _ _
-          (sym (lent .before .before .before .before .before .is-judged .ensures)) (lent .track-lent-row .ensures .1),
+      omega (arith, tracked .track-judged-row .kept .1 .1 .1 .1 .0),
+      tracking-row _ _ _ _ _ _ _ (at .loop .inv .2) _ (a .before .loop-test .taken) (a .back-line .ensures) (row .if1 .taken) _ _ _
+          (sym (tracked .before .before .before .is-judged .ensures)) (tracked .track-judged-row .ensures),
     )
 
 loop-less-2 : tie.Need-loop-less-2 Inv-loop μ-loop
@@ -100,15 +97,14 @@ loop-again-2 c =
     let at = a .before .before in (
       a .back-line .ensures .within,
       at .loop .inv .1,
-      at .loop .inv .2,
-      tracking-passed _ _ _ _ _ _ _ (at .loop .inv .3) _ (a .before .loop-test .taken) (a .back-line .ensures) (c .if1 .left),
+      tracking-passed _ _ _ _ _ _ _ (at .loop .inv .2) _ (a .before .loop-test .taken) (a .back-line .ensures) (c .if1 .left),
     )
 
 same-length : tie.Need-same-length Inv-loop μ-loop
-same-length c = let zeroed = c .before .before .before .before .before .before .before in omega (arith, c .before .loop .inv .1, zeroed .zero-u16 .kept .0)
+same-length c = let zeroed = c .before .before .before .before .before in omega (arith, c .before .loop .inv .1, zeroed .zero-u16 .kept .0)
 
 returns : tie.Need-returns Inv-loop μ-loop
-returns c = tracking-end _ _ _ _ _ _ _ (c .before .loop .inv .3) (c .loop-test .left)
+returns c = tracking-end _ _ _ _ _ _ _ (c .before .loop .inv .2) (c .loop-test .left)
 
 pub track-timing-rows-spec : {M : Type 1} → statement M
 track-timing-rows-spec =
@@ -123,10 +119,10 @@ track-timing-rows-spec =
     add-end
     cast-is-judged
     is-judged-requires
-    sub-track-lent-row
-    part-track-lent-row-start
-    part-track-lent-row-end
-    track-lent-row-requires
+    sub-track-judged-row
+    part-track-judged-row-start
+    part-track-judged-row-end
+    track-judged-row-requires
     add-row
     loop-less
     loop-again

@@ -6,21 +6,20 @@ use native.Mathlib.Omega.{arith}
 use borrow.Author.Needs.{needs}
 use lib.ListN.{length, take, drop, length-take}
 use denote.Ref.{now}
-use Rattle.holds.specs.Stacks.{tracker}
 use Rattle.recount.proofs.Rows.{rows-few, row-inside}
 use Rattle.recount.proofs.Marking.{Marking, marking-start, marking-reached, marking-row, marking-passed, marking-end}
 use Rattle.recount.proofs.mark_heads.Statement.{statement}
 use Rattle.recount.proofs.mark_heads.Tie as tie
 
 abbrev Inv-loop : tie.InvT-loop
-Inv-loop text lanes trim work₀ heads₀ depths₀ off₀ row₀ work heads depths off row = (off ≤ length text + 1) × (length work ≡ length work₀) × Marking trim lanes text off row (tracker heads depths) work
+Inv-loop text lanes trim work₀ t₀ off₀ row₀ work t off row = (off ≤ length text + 1) × (length work ≡ length work₀) × Marking trim lanes text off row t work
 
 abbrev μ-loop : tie.MeasureT-loop
-μ-loop text lanes trim work₀ heads₀ depths₀ off₀ row₀ work heads depths off row = length text + 1 - off
+μ-loop text lanes trim work₀ t₀ off₀ row₀ work t off row = length text + 1 - off
 
 -- a row's bytes stand in the text
 row-room : (c : tie.Then1 Inv-loop μ-loop) →
-    let args = c .before .before .before .before .before .before .before .before .before .args in
+    let args = c .before .before .before .before .before .before .before .args in
     c .before .before .before .loop .off + args .lanes ≤ length (now (args .text))
 row-room c =
     let line = c .before .back-line .ensures in
@@ -28,10 +27,10 @@ row-room c =
 
 -- its entry stands in the work slice
 entry-inside : (c : tie.Then1 Inv-loop μ-loop) →
-    let args = c .before .before .before .before .before .before .before .before .before .args in
+    let args = c .before .before .before .before .before .before .before .args in
     c .before .before .before .loop .row < length (now (args .work))
 entry-inside c =
-    let start = c .before .before .before .before .before .before .before .before .before in
+    let start = c .before .before .before .before .before .before .before in
     let at = c .before .before .before .loop in
     omega (arith, start .pre .0 .room, at .inv .2 .size, row-inside _ _ _ _ _ (c .before .before .loop-test .taken) (c .before .back-line .ensures) _ (at .inv .2 .reading) (c .if1 .taken))
 
@@ -40,8 +39,8 @@ no-tracker-requires c κs = search needs
 
 loop-holds : tie.Need-loop-holds Inv-loop μ-loop
 loop-holds c =
-    let start = c .before .before .before .before .before in
-    (omega arith, refl, marking-start _ _ _ _ _ (search needs) (c .before .before .no-tracker .ensures) (start .pre .1))
+    let start = c .before .before .before in
+    (omega arith, refl, marking-start _ _ _ _ _ (c .no-tracker .ensures) (start .pre .1))
 
 back-line-requires : tie.Need-back-line-requires Inv-loop μ-loop
 back-line-requires c κs = search needs
@@ -49,46 +48,46 @@ back-line-requires c κs = search needs
 add-end : tie.Need-add-end Inv-loop μ-loop
 add-end c = omega (arith, row-room c)
 
-sub-track-lent-row : tie.Need-sub-track-lent-row Inv-loop μ-loop
-sub-track-lent-row c = omega arith
+sub-track-row : tie.Need-sub-track-row Inv-loop μ-loop
+sub-track-row c = omega arith
 
-part-track-lent-row-start : tie.Need-part-track-lent-row-start Inv-loop μ-loop
-part-track-lent-row-start c = omega (arith, row-room (c .before .before))
+part-track-row-start : tie.Need-part-track-row-start Inv-loop μ-loop
+part-track-row-start c = omega (arith, row-room c)
 
-part-track-lent-row-end : tie.Need-part-track-lent-row-end Inv-loop μ-loop
-part-track-lent-row-end c = omega (arith, row-room (c .before .before))
+part-track-row-end : tie.Need-part-track-row-end Inv-loop μ-loop
+part-track-row-end c = omega (arith, row-room c)
 
-track-lent-row-requires : tie.Need-track-lent-row-requires Inv-loop μ-loop
-track-lent-row-requires c κs =
-    let here = c .before .before .before .before in
-    let start = here .before .before .before .before .before .before .before .before .before in
+track-row-requires : tie.Need-track-row-requires Inv-loop μ-loop
+track-row-requires c κs =
+    let here = c .before .before in
+    let start = here .before .before .before .before .before .before .before in
     let at = here .before .before .before .loop in
-    (rw length-take (omega (arith, start .pre .0 .most)), omega (arith, at .inv .1, entry-inside here), at .inv .2 .sized, marking-reached _ _ _ _ _ _ _ (at .inv .2))
+    (rw length-take (omega (arith, start .pre .0 .most)), omega (arith, at .inv .1, entry-inside here), marking-reached _ _ _ _ _ _ _ (at .inv .2))
 
 add-row : tie.Need-add-row Inv-loop μ-loop
 add-row c =
-    let here = c .before .before .before .before .before .before .before in
-    let start = here .before .before .before .before .before .before .before .before .before in
+    let here = c .before .before .before .before .before in
+    let start = here .before .before .before .before .before .before .before in
     let at = here .before .before .before .loop in
     omega (arith, start .pre .0 .short, at .inv .0, at .inv .2 .size, rows-few _ _ _ _ _ (start .pre .0 .least) (at .inv .2 .reading))
 
 loop-less : tie.Need-loop-less Inv-loop μ-loop
 loop-less c =
-    let here = c .before .before .before .before .before .before .before in
+    let here = c .before .before .before .before .before in
     omega (arith, here .before .back-line .ensures .next, here .before .before .loop-test .taken)
 
 loop-again : tie.Need-loop-again Inv-loop μ-loop
 loop-again c =
-    let here = c .before .before .before .before .before .before .before in
-    let args = here .before .before .before .before .before .before .before .before .before .args in
+    let here = c .before .before .before .before .before in
+    let args = here .before .before .before .before .before .before .before .args in
     let at = here .before .before .before .loop in
     let line = here .before .back-line .ensures in
-    let call = c .before .before .track-lent-row in (
+    let call = c .before .before .track-row in (
       line .within,
-      call .kept .1 .1 .1 .1 .1 .0 ∙ at .inv .1,
+      call .kept .1 .1 .1 .0 ∙ at .inv .1,
       marking-row _ _ _ _ _ _ _ _ (here .before .before .loop-test .taken) line (at .inv .2) (here .if1 .taken) _ _ _
           (ap (λ n. take n (drop (at .off) (now (args .text)))) (add-sub-cancel-left (at .off) (args .lanes)))
-          (call .ensures .0) (call .ensures .1),
+          (call .ensures),
     )
 
 loop-less-2 : tie.Need-loop-less-2 Inv-loop μ-loop
@@ -116,10 +115,10 @@ mark-heads-spec =
     loop-holds
     back-line-requires
     add-end
-    sub-track-lent-row
-    part-track-lent-row-start
-    part-track-lent-row-end
-    track-lent-row-requires
+    sub-track-row
+    part-track-row-start
+    part-track-row-end
+    track-row-requires
     add-row
     loop-less
     loop-again

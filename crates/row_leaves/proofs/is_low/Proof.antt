@@ -1,10 +1,12 @@
--- `leaves::cell::is_low` meets its contract. The loop's invariant: no count before `i` is over.
+-- `row_leaves::is_low` meets its contract. The loop's invariant: no count before `i` is over.
 use Prim.Native.Nat.{ℕ, _≤_, _<_, _-_}
+use mathlib.Core.Path.{sym}
+use mathlib.Core.Bool.{true≢false}
 use native.Mathlib.Omega.{arith}
 use lib.ListN.{length, getD}
-use Rattle.leaves.proofs.Tests.{failed, low-next, low-all}
-use Rattle.leaves.proofs.cell.is_low.Statement.{statement}
-use Rattle.leaves.proofs.cell.is_low.Tie as tie
+use Rattle.row_leaves.proofs.Low.{low-next, low-all}
+use Rattle.row_leaves.proofs.is_low.Statement.{statement}
+use Rattle.row_leaves.proofs.is_low.Tie as tie
 
 abbrev Inv-loop : tie.InvT-loop
 Inv-loop counts most i₀ i = (i ≤ length counts) × ((k : ℕ) → k < i → getD counts k 0 ≤ most)
@@ -22,7 +24,7 @@ shared-slice-read-if1 : tie.Need-shared-slice-read-if1 Inv-loop μ-loop
 shared-slice-read-if1 c = omega arith
 
 returns : tie.Need-returns Inv-loop μ-loop
-returns c = failed
+returns c = λ e. absurd (true≢false (sym e))
 
 add-i : tie.Need-add-i Inv-loop μ-loop
 add-i c = omega arith

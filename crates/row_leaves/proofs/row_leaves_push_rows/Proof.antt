@@ -1,4 +1,4 @@
--- `leaves::row::leaves_push_rows` is safe. The loop's invariant: the struct and the slice are those of some rows.
+-- `row_leaves::row_leaves_push_rows` is safe. The loop's invariant: the struct and the slice are those of some rows.
 use Prim.Native.Nat.{_+_, _≤_, _-_}
 use mathlib.Core.Path.{_≡_, refl, _∙_}
 use mathlib.Core.List.{[], _∷_, _++_}
@@ -6,10 +6,10 @@ use borrow.Author.Needs.{needs}
 use native.Mathlib.Omega.{arith}
 use denote.Ref.{now}
 use lib.ListN.{length, drop}
-use Rattle.leaves.proofs.Tracked.{part-most}
+use Rattle.row_leaves.proofs.Tracked.{part-most}
 use Rattle.notes.specs.Written.{SomeRows}
-use Rattle.leaves.proofs.row.leaves_push_rows.Statement.{statement}
-use Rattle.leaves.proofs.row.leaves_push_rows.Tie as tie
+use Rattle.row_leaves.proofs.row_leaves_push_rows.Statement.{statement}
+use Rattle.row_leaves.proofs.row_leaves_push_rows.Tie as tie
 
 abbrev Inv-loop : tie.InvT-loop
 Inv-loop rows lanes slots₀ s₀ at₀ slots s at = (at ≤ length rows) × (length slots ≡ length slots₀) × SomeRows s slots
@@ -96,8 +96,8 @@ same-length-3 c = search needs
 returns-5 : tie.Need-returns-5 Inv-loop μ-loop
 returns-5 c = search needs
 
-pub leaves-push-rows-spec : {M : Type 1} → statement M
-leaves-push-rows-spec =
+pub row-leaves-push-rows-spec : {M : Type 1} → statement M
+row-leaves-push-rows-spec =
     tie.close
     (tie.spec
     Inv-loop

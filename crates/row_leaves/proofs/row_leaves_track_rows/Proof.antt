@@ -1,12 +1,12 @@
--- `leaves::row::leaves_track_rows` is safe. The loop's invariant: the tracker and the work slice are those of `i` rows.
+-- `row_leaves::row_leaves_track_rows` is safe. The loop's invariant: the tracker and the work slice are those of `i` rows.
 use Prim.Native.Nat.{_+_, _≤_, _-_}
 use mathlib.Core.Path.{_≡_, refl, _∙_}
 use borrow.Author.Needs.{needs}
 use native.Mathlib.Omega.{arith}
 use lib.ListN.{length}
-use Rattle.leaves.proofs.Tracked.{Tracked, tracked-start, tracked-reached, tracked-next, part-most}
-use Rattle.leaves.proofs.row.leaves_track_rows.Statement.{statement}
-use Rattle.leaves.proofs.row.leaves_track_rows.Tie as tie
+use Rattle.row_leaves.proofs.Tracked.{Tracked, tracked-start, tracked-reached, tracked-next, part-most}
+use Rattle.row_leaves.proofs.row_leaves_track_rows.Statement.{statement}
+use Rattle.row_leaves.proofs.row_leaves_track_rows.Tie as tie
 
 abbrev Inv-loop : tie.InvT-loop
 Inv-loop rows lanes work₀ t₀ i₀ at₀ work t i at = (at ≤ length rows) × (i ≤ 4294967295) × (length work ≡ length work₀) × Tracked i t work
@@ -85,8 +85,8 @@ same-length-3 c = search needs
 returns-5 : tie.Need-returns-5 Inv-loop μ-loop
 returns-5 c = search needs
 
-pub leaves-track-rows-spec : {M : Type 1} → statement M
-leaves-track-rows-spec =
+pub row-leaves-track-rows-spec : {M : Type 1} → statement M
+row-leaves-track-rows-spec =
     tie.close
     (tie.spec
     Inv-loop

@@ -1,9 +1,45 @@
-// Tallies, phantom depths and the hold tracker. What is kept from row to row is lent as plain arrays.
+// Leaves that carry something from row to row, exported to Rust for the differential runs: object rows, tallies, phantom depths, the hold
+// tracker and typed notes. As in `leaves`, each is called with anything; what is kept from row to row is lent as plain arrays.
+use cells::Depths;
 use definitions::ArrowStats;
 use phantoms::Phantoms;
+ghost use mathlib.Core.Path.{_≡_};
+ghost use mathlib.Core.Bool.{true};
 ghost use Prim.Native.Nat.{ℕ, _≤_};
 ghost use lib.ListN.{getD};
 ghost use Rattle.tallies.specs.Bounds.{Below};
+
+// Whether none of the counts is over `most`.
+fn is_low(counts: &[u32], most: u32) -> bool
+    ensures { λ r. ⌜ (r ≡ true → (c : ℕ) → getD (now (counts .entry)) c 0 ≤ most) ⌝ }
+{
+    let mut i = 0;
+    while i < counts.len() {
+        if most < counts[i] {
+            return false;
+        }
+        i += 1;
+    }
+    true
+}
+
+// 1 for an object row, 0 for another, 2 where the row is too long or a depth too high. The depths are brought up to date.
+#[no_mangle]
+pub extern "C" fn row_leaves_row_has_object(row: &[u8], depths: &mut [u32; 10]) -> u32 {
+    if 10 < row.len() {
+        return 2;
+    }
+    if is_low(&*depths, 4294967294) {
+        let before = *depths;
+        let old = Depths { depths: before };
+        let objects = cells::row_has_object(row, old);
+        let new = objects.depths;
+        let after = new.depths;
+        *depths = after;
+        return objects.object as u32;
+    }
+    2
+}
 
 fn stats_of(t: &[u32; 14]) -> ArrowStats
     ensures { λ r. ⌜ ((k : ℕ) → ((c : ℕ) → getD (now (t .entry)) c 0 ≤ k) → Below k r) ⌝ }
@@ -47,11 +83,11 @@ fn counts_of(s: ArrowStats) -> [u32; 14] {
 
 // The tally with one row more: 0, or 1 where the row is too long or a count too high.
 #[no_mangle]
-pub extern "C" fn leaves_count_line(tally: &mut [u32; 14], row: &[u8]) -> u32 {
+pub extern "C" fn row_leaves_count_line(tally: &mut [u32; 14], row: &[u8]) -> u32 {
     if 10 < row.len() {
         return 1;
     }
-    if crate::cell::is_low(&*tally, 4294967285) {
+    if is_low(&*tally, 4294967285) {
         let before = stats_of(&*tally);
         let after = tallies::count_line(before, row);
         *tally = counts_of(after);
@@ -62,11 +98,15 @@ pub extern "C" fn leaves_count_line(tally: &mut [u32; 14], row: &[u8]) -> u32 {
 
 // The same, of which only the heads of a mask count.
 #[no_mangle]
-pub extern "C" fn leaves_count_line_masked(tally: &mut [u32; 14], row: &[u8], heads: u16) -> u32 {
+pub extern "C" fn row_leaves_count_line_masked(
+    tally: &mut [u32; 14],
+    row: &[u8],
+    heads: u16,
+) -> u32 {
     if 10 < row.len() {
         return 1;
     }
-    if crate::cell::is_low(&*tally, 4294967285) {
+    if is_low(&*tally, 4294967285) {
         let before = stats_of(&*tally);
         let after = tallies::count_line_masked(before, row, heads);
         *tally = counts_of(after);
@@ -78,7 +118,7 @@ pub extern "C" fn leaves_count_line_masked(tally: &mut [u32; 14], row: &[u8], he
 // The phantom depths with one row more: 0, or 1 where the row is too long or a count too high. `counts` has heads, tails and whether a
 // phantom depth was met.
 #[no_mangle]
-pub extern "C" fn leaves_phantom_row(
+pub extern "C" fn row_leaves_phantom_row(
     depths: &mut [u32; 10],
     counts: &mut [u32; 3],
     row: &[u8],
@@ -94,7 +134,7 @@ pub extern "C" fn leaves_phantom_row(
     if 4294967285 < tails {
         return 1;
     }
-    if crate::cell::is_low(&*depths, 4294967285) {
+    if is_low(&*depths, 4294967285) {
         let old = *depths;
         let before = Phantoms {
             depths: old,
@@ -115,7 +155,11 @@ pub extern "C" fn leaves_phantom_row(
 
 // Whether the tally is counted anew: 1 or 0, or 2 where the lanes are over 10.
 #[no_mangle]
-pub extern "C" fn leaves_is_corrected(depths: &[u32; 10], counts: &[u32; 3], lanes: usize) -> u32 {
+pub extern "C" fn row_leaves_is_corrected(
+    depths: &[u32; 10],
+    counts: &[u32; 3],
+    lanes: usize,
+) -> u32 {
     if 10 < lanes {
         return 2;
     }
@@ -136,7 +180,7 @@ pub extern "C" fn leaves_is_corrected(depths: &[u32; 10], counts: &[u32; 3], lan
 // The marks of the paired heads of rows back to back, in the first entries of the work slice; its others become 0. Returns how many rows were
 // tracked, no more than the work slice has entries, or the largest number where the lanes are not 1 to 10.
 #[no_mangle]
-pub extern "C" fn leaves_track_rows(rows: &[u8], lanes: usize, work: &mut [u16]) -> u32 {
+pub extern "C" fn row_leaves_track_rows(rows: &[u8], lanes: usize, work: &mut [u16]) -> u32 {
     if lanes == 0 {
         return 4294967295;
     }
@@ -165,7 +209,7 @@ pub extern "C" fn leaves_track_rows(rows: &[u8], lanes: usize, work: &mut [u16])
 // The records of the notes of rows back to back; the slice is 0 after them. Returns how many notes there are, or the largest number where
 // the lanes are not 1 to 10, where there are more than 16,777,215 rows, or where the slice has no room for a record of each cell.
 #[no_mangle]
-pub extern "C" fn leaves_push_rows(rows: &[u8], lanes: usize, slots: &mut [u8]) -> usize {
+pub extern "C" fn row_leaves_push_rows(rows: &[u8], lanes: usize, slots: &mut [u8]) -> usize {
     if lanes == 0 {
         return 18446744073709551615;
     }

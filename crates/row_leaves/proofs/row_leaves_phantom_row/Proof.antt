@@ -1,8 +1,8 @@
--- `leaves::row::leaves_phantom_row` is safe: what its leaf requires was tested.
+-- `row_leaves::row_leaves_phantom_row` is safe: what its leaf requires was tested.
 use borrow.Author.Needs.{needs}
 use native.Mathlib.Omega.{arith}
-use Rattle.leaves.proofs.row.leaves_phantom_row.Statement.{statement}
-use Rattle.leaves.proofs.row.leaves_phantom_row.Tie as tie
+use Rattle.row_leaves.proofs.row_leaves_phantom_row.Statement.{statement}
+use Rattle.row_leaves.proofs.row_leaves_phantom_row.Tie as tie
 
 returns : tie.Need-returns
 returns c = search needs
@@ -48,8 +48,8 @@ returns-4 c = search needs
 returns-5 : tie.Need-returns-5
 returns-5 c = search needs
 
-pub leaves-phantom-row-spec : {M : Type 1} → statement M
-leaves-phantom-row-spec =
+pub row-leaves-phantom-row-spec : {M : Type 1} → statement M
+row-leaves-phantom-row-spec =
     tie.close
     (tie.spec
     returns

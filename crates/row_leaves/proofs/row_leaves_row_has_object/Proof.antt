@@ -1,8 +1,8 @@
--- `leaves::cell::leaves_row_has_object` is safe: what its leaf requires was tested.
+-- `row_leaves::row_leaves_row_has_object` is safe: what its leaf requires was tested.
 use borrow.Author.Needs.{needs}
 use native.Mathlib.Omega.{arith}
-use Rattle.leaves.proofs.cell.leaves_row_has_object.Statement.{statement}
-use Rattle.leaves.proofs.cell.leaves_row_has_object.Tie as tie
+use Rattle.row_leaves.proofs.row_leaves_row_has_object.Statement.{statement}
+use Rattle.row_leaves.proofs.row_leaves_row_has_object.Tie as tie
 
 returns : tie.Need-returns
 returns c = search needs
@@ -24,7 +24,7 @@ returns-2 c = search needs
 returns-3 : tie.Need-returns-3
 returns-3 c = search needs
 
-pub leaves-row-has-object-spec : {M : Type 1} → statement M
-leaves-row-has-object-spec =
+pub row-leaves-row-has-object-spec : {M : Type 1} → statement M
+row-leaves-row-has-object-spec =
     tie.close
     (tie.spec returns is-low-requires row-has-object-requires cast-result returns-2 returns-3)

@@ -1,7 +1,7 @@
--- `leaves::row::stats_of` meets its contract.
+-- `row_leaves::stats_of` meets its contract.
 use borrow.Author.Needs.{needs}
-use Rattle.leaves.proofs.row.stats_of.Statement.{statement}
-use Rattle.leaves.proofs.row.stats_of.Tie as tie
+use Rattle.row_leaves.proofs.stats_of.Statement.{statement}
+use Rattle.row_leaves.proofs.stats_of.Tie as tie
 
 element-copy-out-t4 : tie.Need-element-copy-out-t4
 element-copy-out-t4 c = search needs

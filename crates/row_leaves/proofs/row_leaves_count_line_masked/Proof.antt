@@ -1,8 +1,8 @@
--- `leaves::row::leaves_count_line_masked` is safe: what its leaf requires was tested.
+-- `row_leaves::row_leaves_count_line_masked` is safe: what its leaf requires was tested.
 use borrow.Author.Needs.{needs}
 use native.Mathlib.Omega.{arith}
-use Rattle.leaves.proofs.row.leaves_count_line_masked.Statement.{statement}
-use Rattle.leaves.proofs.row.leaves_count_line_masked.Tie as tie
+use Rattle.row_leaves.proofs.row_leaves_count_line_masked.Statement.{statement}
+use Rattle.row_leaves.proofs.row_leaves_count_line_masked.Tie as tie
 
 returns : tie.Need-returns
 returns c = search needs
@@ -27,8 +27,8 @@ returns-2 c = search needs
 returns-3 : tie.Need-returns-3
 returns-3 c = search needs
 
-pub leaves-count-line-masked-spec : {M : Type 1} → statement M
-leaves-count-line-masked-spec =
+pub row-leaves-count-line-masked-spec : {M : Type 1} → statement M
+row-leaves-count-line-masked-spec =
     tie.close
     (tie.spec
     returns

@@ -1,0 +1,3 @@
+-- Laws for the leaves that go row by row.
+pub mod Low
+pub mod Tracked
