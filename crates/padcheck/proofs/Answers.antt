@@ -13,6 +13,9 @@ use Rattle.scans.specs.declared.LastBeat.the-variants as last
 use Rattle.kept.specs.declared.KeptFigures.{KeptFigures}
 use Rattle.kept.specs.Answers.{refusedOrKept}
 use Rattle.kept.specs.declared.KeptAnswer.the-variants as kept
+use Rattle.chart.specs.declared.ChartFigures.{ChartFigures}
+use Rattle.chart.specs.Answers.{refusedOrChart}
+use Rattle.chart.specs.declared.ChartAnswer.the-variants as chart
 use Rattle.timing.specs.Answers as timing-answers
 use Rattle.timing.specs.declared.TimingAnswer.the-variants as timing
 use Rattle.definitions.specs.declared.ArrowStats.{ArrowStats}
@@ -114,3 +117,21 @@ kept-accepted-number (suc k) f g e = let n : _≡_ {A = ℕ} 0 1 = cc in absurd 
 pub kept-accepted : (k : ℕ) (f g : KeptFigures) → refusedOrKept k f ≡ kept.Kept g → g ≡ f
 kept-accepted zero f g e = cc
 kept-accepted (suc k) f g e = let n : _≡_ {A = ℕ} 0 1 = cc in absurd (omega arith)
+
+-- the same of the main call
+pub chart-refused-number : (k : ℕ) (f : ChartFigures) (m : ℕ) → refusedOrChart k f ≡ chart.Refused m → m ≡ k
+chart-refused-number zero f m e = let z : _≡_ {A = ℕ} 0 1 = cc in absurd (omega arith)
+chart-refused-number (suc k) f m e = cc
+
+pub chart-refused-replaces : (k : ℕ) (f : ChartFigures) (m : ℕ) → refusedOrChart k f ≡ chart.Refused m → (a old : List ℕ) → old ≡ replaces k a old
+unfolding replaces
+chart-refused-replaces zero f m e a old = let z : _≡_ {A = ℕ} 0 1 = cc in absurd (omega arith)
+chart-refused-replaces (suc k) f m e a old = rw (eqb·suc-zero k)
+
+pub chart-accepted-number : (k : ℕ) (f g : ChartFigures) → refusedOrChart k f ≡ chart.Chart g → 0 ≡ k
+chart-accepted-number zero f g e = refl
+chart-accepted-number (suc k) f g e = let n : _≡_ {A = ℕ} 0 1 = cc in absurd (omega arith)
+
+pub chart-accepted : (k : ℕ) (f g : ChartFigures) → refusedOrChart k f ≡ chart.Chart g → g ≡ f
+chart-accepted zero f g e = cc
+chart-accepted (suc k) f g e = let n : _≡_ {A = ℕ} 0 1 = cc in absurd (omega arith)

@@ -1,4 +1,6 @@
 // The entries for callers in Rust and C. Each returns document 01's number, 0 for accepted, and is thin over the proved crates below.
+use chart::ChartAnswer;
+use chart::ChartFigures;
 use definitions::ArrowStats;
 use definitions::Note;
 use definitions::ReadNote;
@@ -13,7 +15,7 @@ use scans::LastBeat;
 use scans::MeasuresAnswer;
 use timing::TimingAnswer;
 ghost use mathlib.Core.Path.{_≡_};
-ghost use Rattle.definitions.specs.Entries.{figures as figuresOf, noTally, measuresNumber, densitiesLeft, spacingsLeft, measuresFigures, lastNumber, lastFigures, tallyFigures, judgedNumber, judgedWork, judgedFigures, flaggedFigures, keptNumber, keptText, keptDensities, keptWork, keptFigures, timingNumber, timingText, timingBeats, timingFigures, noteFigures, readNumber, readFigures};
+ghost use Rattle.definitions.specs.Entries.{figures as figuresOf, noTally, measuresNumber, densitiesLeft, spacingsLeft, measuresFigures, lastNumber, lastFigures, tallyFigures, mainNumber, mainText, mainDensities, mainBeats, mainWork, mainNotes, mainFigures, judgedNumber, judgedWork, judgedFigures, flaggedFigures, keptNumber, keptText, keptDensities, keptWork, keptFigures, timingNumber, timingText, timingBeats, timingFigures, noteFigures, readNumber, readFigures};
 ghost use Rattle.definitions.specs.Lists.{oneIf};
 ghost use Rattle.definitions.specs.Records.{tailNumber};
 
@@ -79,6 +81,49 @@ fn tally_figures(t: ArrowStats) -> [u64; 32]
     f[20] = wide(t.fakes);
     f[21] = wide(t.holding);
     f
+}
+
+// The figures of the main call.
+fn chart_figures(k: ChartFigures) -> [u64; 32]
+    ensures { λ r. ⌜ r ≡ figuresOf (k .bytes) (k .measures) (k .rows) (k .notes) (k .«last_bits») 0 (k .«last_row») (tallyFigures (k .stats)) ⌝ }
+{
+    let stats = k.stats;
+    let mut f = tally_figures(stats);
+    f[0] = k.bytes as u64;
+    f[1] = k.measures as u64;
+    f[2] = wide(k.rows);
+    f[3] = k.notes as u64;
+    f[4] = k.last_bits;
+    f[6] = k.last_row;
+    f
+}
+
+#[no_mangle]
+pub extern "C" fn padcheck_minimize_chart_count_rows_notes(
+    data: &[u8],
+    lanes: usize,
+    text: &mut [u8],
+    densities: &mut [u32],
+    beats: &mut [f32],
+    work: &mut [u16],
+    notes: &mut [u8],
+    figures: &mut [u64; 32],
+) -> u32
+    ensures { λ r. ⌜ r ≡ mainNumber lanes (now («data» .entry)) (now (text .entry)) (now (densities .entry)) (now (beats .entry)) (now (work .entry)) (now (notes .entry)) ⌝ }
+    ensures { λ _. ⌜ now (text .exit) ≡ mainText lanes (now («data» .entry)) (now (text .entry)) (now (densities .entry)) (now (beats .entry)) (now (work .entry)) (now (notes .entry)) ⌝ }
+    ensures { λ _. ⌜ now (densities .exit) ≡ mainDensities lanes (now («data» .entry)) (now (text .entry)) (now (densities .entry)) (now (beats .entry)) (now (work .entry)) (now (notes .entry)) ⌝ }
+    ensures { λ _. ⌜ now (beats .exit) ≡ mainBeats lanes (now («data» .entry)) (now (text .entry)) (now (densities .entry)) (now (beats .entry)) (now (work .entry)) (now (notes .entry)) ⌝ }
+    ensures { λ _. ⌜ now (work .exit) ≡ mainWork lanes (now («data» .entry)) (now (text .entry)) (now (densities .entry)) (now (beats .entry)) (now (work .entry)) (now (notes .entry)) ⌝ }
+    ensures { λ _. ⌜ now (notes .exit) ≡ mainNotes lanes (now («data» .entry)) (now (text .entry)) (now (densities .entry)) (now (beats .entry)) (now (work .entry)) (now (notes .entry)) ⌝ }
+    ensures { λ _. ⌜ now (figures .exit) ≡ mainFigures lanes (now («data» .entry)) (now (text .entry)) (now (densities .entry)) (now (beats .entry)) (now (work .entry)) (now (notes .entry)) (now (figures .entry)) ⌝ }
+{
+    match chart::minimize_chart_count_rows_notes(data, lanes, text, densities, beats, work, notes) {
+        ChartAnswer::Refused(number) => number,
+        ChartAnswer::Chart(k) => {
+            *figures = chart_figures(k);
+            0
+        }
+    }
 }
 
 // The figures of the kept-row call.
