@@ -66,6 +66,7 @@ macro_rules! entries {
 }
 
 entries! {
+    MinimizeChartCountRowsNotes padcheck_minimize_chart_count_rows_notes(data, lanes, text, densities, beats, work, notes, figures);
     ProcessChartKept padcheck_process_chart_kept(data, lanes, text, densities, work, figures);
     MinimizeTimingRows padcheck_minimize_timing_rows(data, lanes, text, beats, figures);
     MeasureDensities padcheck_measure_densities(data, lanes, densities, figures);
