@@ -136,7 +136,7 @@ fn read_chart(
         match kind {
             LineKind::Passed => {}
             LineKind::Comma => {
-                break;
+                p = chart_comma(p, text, densities, beats, slots, lanes);
             }
             LineKind::Semi => {
                 break;
