@@ -7,8 +7,10 @@ use definitions::DepthEffect;
 use definitions::Kind;
 use definitions::NoteEffect;
 use definitions::RowSum;
+use lines::words;
 ghost use mathlib.Core.Path.{_≡_};
-ghost use Prim.Native.Nat.{_≤_, _<_};
+ghost use mathlib.Core.List.{List};
+ghost use Prim.Native.Nat.{ℕ, _≤_, _<_};
 ghost use lib.ListN.{length, take};
 ghost use Rattle.definitions.specs.Lists.{oneIf};
 ghost use Rattle.definitions.specs.Cells.{cellOf, isArrow};
@@ -16,6 +18,7 @@ ghost use Rattle.definitions.specs.Figures.{isStep};
 ghost use Rattle.definitions.specs.Tracker.{holdAt};
 ghost use Rattle.definitions.specs.Objects.{objectAt};
 ghost use Rattle.definitions.specs.Notes.{effectAt};
+ghost use Rattle.lines.specs.Words.{wordOf, Bytes};
 ghost use Rattle.cells.specs.Rows.{Low, NoDepths, CellDone, RowDone};
 ghost use Rattle.cells.specs.Taps.{tapMask, tapLineMask, maskCounts, unpack};
 
@@ -54,7 +57,7 @@ pub fn is_note(b: u8) -> bool
 }
 
 // Whether the row has an arrow. It looks at every byte, so that no turn of the loop branches on one.
-pub fn row_has_note(row: &[u8]) -> bool
+fn cells_have_note(row: &[u8]) -> bool
     ensures { λ r. ⌜ r ≡ isStep (now (row .entry)) ⌝ }
 {
     let mut has = false;
@@ -64,6 +67,26 @@ pub fn row_has_note(row: &[u8]) -> bool
         i += 1;
     }
     has
+}
+
+// Whether one of the word's bytes is an arrow.
+fn word_has_note(word: u64) -> bool
+    ensures { λ r. ⌜ ((xs : List ℕ) → length xs ≡ 8 → Bytes xs → wordOf xs ≡ word → r ≡ isStep xs) ⌝ }
+{
+    words::has_byte(word, b'1') | words::has_byte(word, b'2') | words::has_byte(word, b'4')
+}
+
+// Whether the row has an arrow: by one word where it has four or eight cells.
+pub fn row_has_note(row: &[u8]) -> bool
+    ensures { λ r. ⌜ r ≡ isStep (now (row .entry)) ⌝ }
+{
+    if row.len() == 4 {
+        return word_has_note(words::half_at(row, 0));
+    }
+    if row.len() == 8 {
+        return word_has_note(words::halves_at(row, 0));
+    }
+    cells_have_note(row)
 }
 
 // What the byte does to the tracker's stack and to the phantom depth of its column.
