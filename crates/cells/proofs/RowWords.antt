@@ -1,45 +1,17 @@
--- A row as a word: four or eight bytes, the first one lowest.
+-- What a row that is read as a word has, and a half with nothing above it.
 use mathlib.Core.Path.{_≡_, refl, ap, sym, _∙_}
 use mathlib.Core.Bool.{Bool, true, false, _||_}
 use mathlib.Core.List.{List, [], _∷_, _++_}
-use Prim.Native.Nat.{ℕ, suc, _+_, _*_, _<_}
+use Prim.Native.Nat.{ℕ, _+_, _*_}
 use native.Mathlib.Omega.{arith}
 use borrow.Author.Tests.{eqb-true, eqb-false, eq-eqb, ne-eqb}
 use lib.Dec.{eqb}
-use lib.ListN.{length, getD}
 use Rattle.definitions.specs.Lists.{among}
 use Rattle.definitions.specs.Lines.{Row}
 use Rattle.definitions.specs.Cells.{cellOf, isArrow}
 use Rattle.definitions.specs.Figures.{isStep}
-use Rattle.lines.specs.Words.{halfAt, wordAt, wordOf, Bytes}
+use Rattle.lines.specs.Words.{wordOf, Bytes}
 use Rattle.cells.proofs.Arrows.{arrow-byte}
-
--- four bytes that are read as a half, and eight that are read as a word
-pub four : (r : Row) → length r ≡ 4 → wordOf r ≡ halfAt r 0
-unfolding wordOf
-four [] e = absurd (omega arith)
-four (a ∷ []) e = absurd (omega arith)
-four (a ∷ b ∷ []) e = absurd (omega arith)
-four (a ∷ b ∷ c ∷ []) e = absurd (omega arith)
-four (a ∷ b ∷ c ∷ d ∷ []) e = omega arith
-four (a ∷ b ∷ c ∷ d ∷ x ∷ r) e = absurd (omega arith)
-
-pub eight : (r : Row) → length r ≡ 8 → wordOf r ≡ wordAt r 0
-unfolding wordOf
-eight [] e = absurd (omega arith)
-eight (a ∷ []) e = absurd (omega arith)
-eight (a ∷ b ∷ []) e = absurd (omega arith)
-eight (a ∷ b ∷ c ∷ []) e = absurd (omega arith)
-eight (a ∷ b ∷ c ∷ d ∷ []) e = absurd (omega arith)
-eight (a ∷ b ∷ c ∷ d ∷ f ∷ []) e = absurd (omega arith)
-eight (a ∷ b ∷ c ∷ d ∷ f ∷ g ∷ []) e = absurd (omega arith)
-eight (a ∷ b ∷ c ∷ d ∷ f ∷ g ∷ h ∷ []) e = absurd (omega arith)
-eight (a ∷ b ∷ c ∷ d ∷ f ∷ g ∷ h ∷ i ∷ []) e = omega arith
-eight (a ∷ b ∷ c ∷ d ∷ f ∷ g ∷ h ∷ i ∷ x ∷ r) e = absurd (omega arith)
-
-pub bytes-of : (r : Row) → ((k : ℕ) → getD r k 0 < 256) → Bytes r
-bytes-of [] h = tt
-bytes-of (x ∷ r) h = (h 0, bytes-of r (λ k. h (suc k)))
 
 -- a half with nothing above it
 abbrev pub nothing : List ℕ

@@ -5,7 +5,8 @@ use native.Mathlib.Omega.{arith}
 use lib.ListN.{length, length-append}
 use denote.Ref.{now}
 use borrow.Author.Needs.{needs}
-use Rattle.cells.proofs.RowWords.{four, eight, bytes-of, nothing, over-word, over-bytes, over-step}
+use Rattle.lines.proofs.RowWords.{four, eight, bytes-of}
+use Rattle.cells.proofs.RowWords.{nothing, over-word, over-bytes, over-step}
 use Rattle.cells.proofs.row_has_note.Statement.{statement}
 use Rattle.cells.proofs.row_has_note.Tie as tie
 
