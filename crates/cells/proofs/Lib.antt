@@ -5,3 +5,4 @@ pub mod RowWords
 pub mod Scan
 pub mod Masks
 pub mod Tables
+pub mod Closed
