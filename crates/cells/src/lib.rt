@@ -7,16 +7,20 @@ use definitions::DepthEffect;
 use definitions::Kind;
 use definitions::NoteEffect;
 use definitions::RowSum;
+use lines::words;
 ghost use mathlib.Core.Path.{_≡_};
-ghost use Prim.Native.Nat.{_≤_, _<_};
+ghost use mathlib.Core.Bool.{true, _||_};
+ghost use mathlib.Core.List.{List};
+ghost use Prim.Native.Nat.{ℕ, _≤_, _<_};
 ghost use lib.ListN.{length, take};
-ghost use Rattle.definitions.specs.Lists.{oneIf};
+ghost use Rattle.definitions.specs.Lists.{oneIf, among};
 ghost use Rattle.definitions.specs.Cells.{cellOf, isArrow};
 ghost use Rattle.definitions.specs.Figures.{isStep};
 ghost use Rattle.definitions.specs.Tracker.{holdAt};
-ghost use Rattle.definitions.specs.Objects.{objectAt};
+ghost use Rattle.definitions.specs.Objects.{objectAt, objectRow};
 ghost use Rattle.definitions.specs.Notes.{effectAt};
-ghost use Rattle.cells.specs.Rows.{Low, NoDepths, CellDone, RowDone};
+ghost use Rattle.lines.specs.Words.{wordOf, Bytes};
+ghost use Rattle.cells.specs.Rows.{Holds, Low, NoDepths, CellDone, RowDone};
 ghost use Rattle.cells.specs.Taps.{tapMask, tapLineMask, maskCounts, unpack};
 
 // 1 where the test holds, else 0.
@@ -54,7 +58,7 @@ pub fn is_note(b: u8) -> bool
 }
 
 // Whether the row has an arrow. It looks at every byte, so that no turn of the loop branches on one.
-pub fn row_has_note(row: &[u8]) -> bool
+fn cells_have_note(row: &[u8]) -> bool
     ensures { λ r. ⌜ r ≡ isStep (now (row .entry)) ⌝ }
 {
     let mut has = false;
@@ -64,6 +68,26 @@ pub fn row_has_note(row: &[u8]) -> bool
         i += 1;
     }
     has
+}
+
+// Whether one of the word's bytes is an arrow.
+fn word_has_note(word: u64) -> bool
+    ensures { λ r. ⌜ ((xs : List ℕ) → length xs ≡ 8 → Bytes xs → wordOf xs ≡ word → r ≡ isStep xs) ⌝ }
+{
+    words::has_byte(word, b'1') | words::has_byte(word, b'2') | words::has_byte(word, b'4')
+}
+
+// Whether the row has an arrow: by one word where it has four or eight cells.
+pub fn row_has_note(row: &[u8]) -> bool
+    ensures { λ r. ⌜ r ≡ isStep (now (row .entry)) ⌝ }
+{
+    if row.len() == 4 {
+        return word_has_note(words::half_at(row, 0));
+    }
+    if row.len() == 8 {
+        return word_has_note(words::halves_at(row, 0));
+    }
+    cells_have_note(row)
 }
 
 // What the byte does to the tracker's stack and to the phantom depth of its column.
@@ -168,8 +192,8 @@ fn object_cell(b: u8, depth: u32) -> ObjectCell
     }
 }
 
-// Whether the row is an object row where its columns have these depths, and the depths after it. Each grows by at most 1.
-pub fn row_has_object(row: &[u8], old: Depths) -> Objects
+// Whether the row is an object row where its columns have these depths, and the depths after it, cell by cell.
+fn cells_have_object(row: &[u8], old: Depths) -> Objects
     requires { ⌜ (length (now row) ≤ 10) × Low 4294967294 old ⌝ }
     ensures { λ r. ⌜ RowDone (now (row .entry)) old r ⌝ }
 {
@@ -187,6 +211,70 @@ pub fn row_has_object(row: &[u8], old: Depths) -> Objects
         object,
         depths: after,
     }
+}
+
+// Whether no column is open.
+fn is_closed(old: Depths) -> bool
+    ensures { λ r. ⌜ (r ≡ true → Holds (λ c. 0) old) ⌝ }
+{
+    let d = old.depths;
+    (d[0] == 0)
+        & (d[1] == 0)
+        & (d[2] == 0)
+        & (d[3] == 0)
+        & (d[4] == 0)
+        & (d[5] == 0)
+        & (d[6] == 0)
+        & (d[7] == 0)
+        & (d[8] == 0)
+        & (d[9] == 0)
+}
+
+// Whether one of the word's bytes opens its column: a 2 or 4.
+fn word_opens(word: u64) -> bool
+    ensures { λ r. ⌜ ((xs : List ℕ) → length xs ≡ 8 → Bytes xs → wordOf xs ≡ word → r ≡ (among 50 xs || among 52 xs)) ⌝ }
+{
+    words::has_byte(word, b'2') | words::has_byte(word, b'4')
+}
+
+// Whether the word's bytes make an object row where no column is open: by a 1, M, L, F or K.
+fn word_has_object(word: u64) -> bool
+    ensures { λ r. ⌜ ((xs : List ℕ) → length xs ≡ 8 → Bytes xs → wordOf xs ≡ word → r ≡ objectRow (λ c. 0) xs) ⌝ }
+{
+    words::has_byte(word, b'1')
+        | words::has_byte(word, b'M')
+        | words::has_byte(word, b'L')
+        | words::has_byte(word, b'F')
+        | words::has_byte(word, b'K')
+}
+
+// Whether the row is an object row where its columns have these depths, and the depths after it. Each grows by at most 1. Where no column is
+// open, a row of four or eight cells that opens none is told by one word: it leaves the depths, and a 3 in it closes nothing.
+pub fn row_has_object(row: &[u8], old: Depths) -> Objects
+    requires { ⌜ (length (now row) ≤ 10) × Low 4294967294 old ⌝ }
+    ensures { λ r. ⌜ RowDone (now (row .entry)) old r ⌝ }
+{
+    if is_closed(old) {
+        if row.len() == 4 {
+            let word = words::half_at(row, 0);
+            if !word_opens(word) {
+                return Objects {
+                    object: word_has_object(word),
+                    depths: old,
+                };
+            }
+        }
+        if row.len() == 8 {
+            let word = words::halves_at(row, 0);
+            if !word_opens(word) {
+                return Objects {
+                    object: word_has_object(word),
+                    depths: old,
+                };
+            }
+        }
+    }
+    cells_have_object(row, old)
 }
 
 // A row of `0` and `1` alone as a mask, its first column in the lowest bit, or another row.

@@ -6,3 +6,4 @@ pub mod Bytes
 pub mod Hits
 pub mod Matches
 pub mod SliceWords
+pub mod RowWords

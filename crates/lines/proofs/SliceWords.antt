@@ -1,17 +1,21 @@
--- The eight bytes of a slice that a word is read from, and what a search and a count over the slice learn from them.
-use mathlib.Core.Path.{_≡_, sym, ap, _∙_}
-use mathlib.Core.Bool.{Bool, true, false, cond}
+-- The bytes of a slice that a word is read from, and what a search and a count over the slice learn from them.
+use mathlib.Core.Path.{_≡_, refl, sym, ap, _∙_}
+use mathlib.Core.Bool.{Bool, true, false, cond, not, _||_}
 use mathlib.Core.List.{List, [], _∷_, _++_}
-use Prim.Native.Nat.{ℕ, zero, suc, _+_, _≤_, _<_}
+use Prim.Native.Nat.{ℕ, zero, suc, _+_, _*_, _/_, _^_, _≤_, _<_}
 use native.Mathlib.Nat.{add-zero, add-suc}
 use native.Mathlib.Omega.{arith}
 use lib.Dec.{eqb}
+use lib.Count.{trailingZeros, trailing-of-zero}
 use lib.ListN.{length, getD, take, drop, take-append-drop}
 use lib.Seq.{drop-cons, drop-drop, getD-drop}
+use borrow.Author.Tests.{eqb-true, eqb-false, eq-eqb, ne-eqb}
+use Rattle.definitions.specs.Lists.{among}
 use Rattle.lines.specs.Search.{findFrom, countOf}
 use Rattle.lines.specs.declared.Found.the-variants.{At}
-use Rattle.lines.specs.Words.{wordAt, wordOf, Bytes, firstIn}
+use Rattle.lines.specs.Words.{halfAt, wordAt, wordOf, Bytes, firstIn}
 use Rattle.lines.proofs.Search.{count-append}
+use Rattle.lines.proofs.Hits.{trailing-lt}
 
 eight-step : (s : List ℕ) (n i k : ℕ) → i + k < length s → take (suc n) (drop (i + k) s) ≡ getD s (i + k) 0 ∷ take n (drop (i + suc k) s)
 eight-step s n i k h = rw (drop-cons s (i + k) 0, add-suc)
@@ -72,3 +76,45 @@ module _ (b : ℕ) (s : List ℕ) (i : ℕ) (h : i + 8 ≤ length s) where
 
   pub word-count : countOf b (drop i s) ≡ countOf b (take 8 (drop i s)) + countOf b (drop (i + 8) s)
   word-count = ap (countOf b) parts ∙ count-append b (take 8 (drop i s)) (drop (i + 8) s)
+
+-- a word by its halves
+pub halves : (s : List ℕ) (i : ℕ) → halfAt s i + halfAt s (i + 4) * 4294967296 ≡ wordAt s i
+halves s i =
+    let a : i + 4 + 1 ≡ i + 5 = omega arith in
+    let b : i + 4 + 2 ≡ i + 6 = omega arith in
+    let c : i + 4 + 3 ≡ i + 7 = omega arith in
+    rw (a, b, c) (omega arith)
+
+-- ---- a byte among those of a word
+
+-- it is among them where its first place is one of theirs
+in-place : (b : ℕ) (xs : List ℕ) → firstIn b xs < length xs → among b xs ≡ true
+unfolding firstIn
+in-place b [] h = absurd (omega arith)
+in-place b (x ∷ xs) h = go (eqb x b) refl h (in-place b xs)
+  where
+    go : (t : Bool) → eqb x b ≡ t → cond t 0 (suc (firstIn b xs)) < suc (length xs) → (firstIn b xs < length xs → among b xs ≡ true) → (eqb b x || among b xs) ≡ true
+    go true e h ih = rw (eq-eqb b x (sym (eqb-true x b e)))
+    go false e h ih = rw (ne-eqb b x (λ q. eqb-false x b e (sym q))) (ih (omega arith))
+
+no-place : (b : ℕ) (xs : List ℕ) → length xs ≤ firstIn b xs → among b xs ≡ false
+unfolding firstIn
+no-place b [] h = refl
+no-place b (x ∷ xs) h = go (eqb x b) refl h (no-place b xs)
+  where
+    go : (t : Bool) → eqb x b ≡ t → suc (length xs) ≤ cond t 0 (suc (firstIn b xs)) → (length xs ≤ firstIn b xs → among b xs ≡ false) → (eqb b x || among b xs) ≡ false
+    go true e h ih = absurd (omega arith)
+    go false e h ih = rw (ne-eqb b x (λ q. eqb-false x b e (sym q))) (ih (omega arith))
+
+-- and so where `byte_hits` has a bit
+pub hits-among : (b r : ℕ) (xs : List ℕ) → length xs ≡ 8 → r < 2 ^ 64 → trailingZeros 64 r / 8 ≡ firstIn b xs → not (eqb r 0) ≡ among b xs
+hits-among b r xs eight h e = go (eqb r 0) refl
+  where
+    go : (t : Bool) → eqb r 0 ≡ t → not (eqb r 0) ≡ among b xs
+    go true q =
+        let z : r ≡ 0 = eqb-true r 0 q in
+        let far : trailingZeros 64 r ≡ 64 = rw (z, trailing-of-zero) in
+        rw q (sym (no-place b xs (omega arith)))
+    go false q =
+        let near : trailingZeros 64 r < 64 = trailing-lt 64 r h (eqb-false r 0 q) in
+        rw q (sym (in-place b xs (omega arith)))

@@ -1,9 +1,13 @@
--- Internal: words of bytes, the first one lowest. Only contracts of functions that no other crate can call cite these.
+-- Words of bytes, the first one lowest. Only contracts of functions that go by words cite these.
 use mathlib.Core.Bool.{cond}
 use mathlib.Core.List.{List, [], _∷_}
 use Prim.Native.Nat.{ℕ, suc, _+_, _*_, _<_}
 use lib.Dec.{eqb}
 use lib.ListN.{getD}
+
+-- the word of the four bytes from i on
+abbrev pub halfAt : List ℕ → ℕ → ℕ
+halfAt s i = getD s i 0 + getD s (i + 1) 0 * 256 + getD s (i + 2) 0 * 65536 + getD s (i + 3) 0 * 16777216
 
 -- the word of the eight bytes from i on
 abbrev pub wordAt : List ℕ → ℕ → ℕ

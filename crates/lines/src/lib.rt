@@ -1,11 +1,13 @@
 // The line reader: lines of a chart's text, the trimming of a line, and the search and count of a byte. A line is a part of the caller's text.
-mod words;
+pub mod words;
 
 ghost use mathlib.Core.Path.{_≡_};
-ghost use lib.ListN.{drop};
+ghost use Prim.Native.Nat.{_+_, _≤_};
+ghost use lib.ListN.{length, take, drop};
 ghost use Rattle.definitions.specs.Lines.{isBlank, trim};
 ghost use Rattle.definitions.specs.ReadBack.{trimCr};
 ghost use Rattle.lines.specs.Search.{findFrom, countOf};
+ghost use Rattle.lines.specs.Words.{firstIn};
 ghost use Rattle.lines.specs.Lines.{firstLine};
 
 // The line without one carriage return at its end.
@@ -97,6 +99,14 @@ pub fn find_byte(slice: &[u8], needle: u8) -> Found
         i += 1;
     }
     Found::Nothing
+}
+
+// How many of the eight bytes from `start` on stand before the first newline among them: 8 where there is none.
+pub fn near_newline(data: &[u8], start: usize) -> usize
+    requires { ⌜ start + 8 ≤ length (now «data») ⌝ }
+    ensures { λ r. ⌜ r ≡ firstIn 10 (take 8 (drop start (now («data» .entry)))) ⌝ }
+{
+    (u64::trailing_zeros(words::byte_hits(words::halves_at(data, start), 10)) / 8) as usize
 }
 
 // The line that starts at `start`, without its newline; past the text's end an empty one. The next line starts one byte past its end.

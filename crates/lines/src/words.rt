@@ -5,7 +5,8 @@ ghost use Prim.Native.Nat.{ℕ, _+_, _/_, _≤_, _<_};
 ghost use lib.ListN.{length};
 ghost use lib.Count.{ones, trailingZeros};
 ghost use Rattle.lines.specs.Search.{countOf};
-ghost use Rattle.lines.specs.Words.{wordAt, wordOf, Bytes, firstIn};
+ghost use Rattle.definitions.specs.Lists.{among};
+ghost use Rattle.lines.specs.Words.{halfAt, wordAt, wordOf, Bytes, firstIn};
 
 // In each byte: a one, the seven low bits, the high bit.
 const LO: u64 = 0x0101_0101_0101_0101;
@@ -36,12 +37,35 @@ pub fn word_at(s: &[u8], i: usize) -> u64
         + wide(s[i + 7]) * 0x100_0000_0000_0000
 }
 
+// The four bytes from i on.
+pub fn half_at(s: &[u8], i: usize) -> u64
+    requires { ⌜ i + 4 ≤ length (now s) ⌝ }
+    ensures { λ r. ⌜ (r ≡ halfAt (now (s .entry)) i) × (r < 4294967296) ⌝ }
+{
+    wide(s[i]) + wide(s[i + 1]) * 0x100 + wide(s[i + 2]) * 0x1_0000 + wide(s[i + 3]) * 0x100_0000
+}
+
+// The eight bytes from i on, by halves: the compiler finds two loads before it decides what to write into its callers.
+pub fn halves_at(s: &[u8], i: usize) -> u64
+    requires { ⌜ i + 8 ≤ length (now s) ⌝ }
+    ensures { λ r. ⌜ r ≡ wordAt (now (s .entry)) i ⌝ }
+{
+    half_at(s, i) + half_at(s, i + 4) * 0x1_0000_0000
+}
+
 // Bits for bytes of the word that equal `byte`: the lowest set bit stands in the first of them, higher ones mean nothing.
 pub fn byte_hits(word: u64, byte: u8) -> u64
     ensures { λ r. ⌜ ((xs : List ℕ) → length xs ≡ 8 → Bytes xs → wordOf xs ≡ word → trailingZeros 64 r / 8 ≡ firstIn byte xs) ⌝ }
 {
     let x = word ^ (wide(byte) * LO);
     std::num::wrapping_sub_u64(x, LO) & !x & HI
+}
+
+// Whether one of the word's bytes equals `byte`.
+pub fn has_byte(word: u64, byte: u8) -> bool
+    ensures { λ r. ⌜ ((xs : List ℕ) → length xs ≡ 8 → Bytes xs → wordOf xs ≡ word → r ≡ among byte xs) ⌝ }
+{
+    byte_hits(word, byte) != 0
 }
 
 // One bit for each byte of the word that equals `byte`. A sum of seven bits and seven bits carries into no other byte, so each bit is exact.

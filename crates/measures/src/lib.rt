@@ -11,6 +11,7 @@ ghost use Rattle.definitions.specs.Figures.{rowText};
 ghost use Rattle.definitions.specs.Reduction.{allZero, stride, reduce};
 ghost use Rattle.measures.specs.Rows.{rowsAt, compacted, Holds, Reduced};
 use definitions::LineKind;
+use lines::words;
 
 // The lane count in force.
 pub fn lanes_of(lanes: usize) -> usize
@@ -52,8 +53,8 @@ pub fn line_kind(line: &[u8], lanes: usize) -> LineKind
     }
 }
 
-// Whether every byte of a row is `0`.
-pub fn is_all_zero(row: &[u8]) -> bool
+// Whether every byte of a row is `0`, byte by byte.
+fn are_all_zero(row: &[u8]) -> bool
     ensures { λ r. ⌜ r ≡ allZero (now (row .entry)) ⌝ }
 {
     let mut i = 0;
@@ -64,6 +65,19 @@ pub fn is_all_zero(row: &[u8]) -> bool
         i += 1;
     }
     true
+}
+
+// Whether every byte of a row is `0`: by one word where it has four or eight.
+pub fn is_all_zero(row: &[u8]) -> bool
+    ensures { λ r. ⌜ r ≡ allZero (now (row .entry)) ⌝ }
+{
+    if row.len() == 4 {
+        return words::half_at(row, 0) == 0x3030_3030;
+    }
+    if row.len() == 8 {
+        return words::halves_at(row, 0) == 0x3030_3030_3030_3030;
+    }
+    are_all_zero(row)
 }
 
 // The exponent of the stride. `step` is the stride found so far, 2 to the power `shift`, and `left` the number of its multiples. Looked at

@@ -3,9 +3,10 @@ pub mod back;
 
 use definitions::LineKind;
 ghost use mathlib.Core.Path.{_≡_};
-ghost use Prim.Native.Nat.{_≤_};
+ghost use mathlib.Core.Bool.{true};
+ghost use Prim.Native.Nat.{_+_, _≤_};
 ghost use lib.ListN.{length};
-ghost use Rattle.reader.specs.Reading.{LineRead};
+ghost use Rattle.reader.specs.Reading.{LineRead, plainRow};
 
 // A line that was read: its row, where it is one, begins at `start`, and the next line at `next`.
 pub struct ReadLine {
@@ -20,8 +21,21 @@ pub struct BackLine {
     pub next: usize,
 }
 
-// The line at `off`, which is within the text or just past its last newline.
-pub fn read_line(data: &[u8], off: usize, lanes: usize) -> ReadLine
+// Whether the line at `off` is a row with nothing before it and nothing after it but the newline, as its first word shows. It may say no of
+// such a row: of one longer than a word always.
+fn is_plain_row(data: &[u8], off: usize, lanes: usize) -> bool
+    requires { ⌜ off + 9 ≤ length (now «data») ⌝ }
+    ensures { λ r. ⌜ (r ≡ true → LineRead lanes (now («data» .entry)) off (plainRow off lanes)) ⌝ }
+{
+    if lines::near_newline(data, off) < lanes {
+        return false;
+    }
+    let first = data[off];
+    (b'/' < first) & (first != b';') & (data[off + lanes] == 10)
+}
+
+// Any line, byte by byte.
+fn read_any_line(data: &[u8], off: usize, lanes: usize) -> ReadLine
     requires { ⌜ off ≤ length (now «data») ⌝ }
     ensures { λ r. ⌜ LineRead lanes (now («data» .entry)) off r ⌝ }
 {
@@ -32,5 +46,24 @@ pub fn read_line(data: &[u8], off: usize, lanes: usize) -> ReadLine
         kind: measures::line_kind(line, lanes),
         start: end - line.len(),
         next: end + 1,
+    }
+}
+
+// The line at `off`, which is within the text or just past its last newline. A plain row, as most lines are, is told by one look, which the
+// compiler writes into the caller's loop.
+pub fn read_line(data: &[u8], off: usize, lanes: usize) -> ReadLine
+    requires { ⌜ off ≤ length (now «data») ⌝ }
+    ensures { λ r. ⌜ LineRead lanes (now («data» .entry)) off r ⌝ }
+{
+    if data.len() - off < 9 {
+        return read_any_line(data, off, lanes);
+    }
+    if !is_plain_row(data, off, lanes) {
+        return read_any_line(data, off, lanes);
+    }
+    ReadLine {
+        kind: LineKind::Row,
+        start: off,
+        next: off + lanes + 1,
     }
 }

@@ -1,60 +1,58 @@
--- `cells::row_has_note` meets its contract. The loop's invariant: the row is a step where `has` is true or the cells from `i` on are one.
-use mathlib.Core.Path.{_≡_, refl, sym, _∙_}
-use mathlib.Core.Bool.{_||_, or-false}
-use Prim.Native.Nat.{_≤_, _-_}
+-- `cells::row_has_note` meets its contract: a row of four or eight cells is the word that is looked at.
+use mathlib.Core.Path.{_≡_, sym, _∙_}
+use mathlib.Core.List.{_++_}
 use native.Mathlib.Omega.{arith}
+use lib.ListN.{length, length-append}
+use denote.Ref.{now}
 use borrow.Author.Needs.{needs}
-use lib.ListN.{length, drop, drop-of-length-le}
-use Rattle.definitions.specs.Figures.{isStep}
-use Rattle.cells.proofs.Arrows.{step-next}
+use Rattle.lines.proofs.RowWords.{four, eight, bytes-of}
+use Rattle.cells.proofs.RowWords.{nothing, over-word, over-bytes, over-step}
 use Rattle.cells.proofs.row_has_note.Statement.{statement}
 use Rattle.cells.proofs.row_has_note.Tie as tie
 
-abbrev Inv-loop : tie.InvT-loop
-Inv-loop row has₀ i₀ has i = (i ≤ length row) × (isStep row ≡ (has || isStep (drop i row)))
+half-at-requires : tie.Need-half-at-requires
+half-at-requires c κs = search needs
 
-abbrev μ-loop : tie.MeasureT-loop
-μ-loop row has₀ i₀ has i = length row - i
+word-has-note-requires : tie.Need-word-has-note-requires
+word-has-note-requires c κs = search needs
 
-loop-holds : tie.Need-loop-holds Inv-loop μ-loop
-loop-holds c = (omega arith, refl)
-
-shared-slice-read-is-note : tie.Need-shared-slice-read-is-note Inv-loop μ-loop
-shared-slice-read-is-note c = omega arith
-
-is-note-requires : tie.Need-is-note-requires Inv-loop μ-loop
-is-note-requires c κs = search needs
-
-add-i : tie.Need-add-i Inv-loop μ-loop
-add-i c = omega arith
-
-loop-less : tie.Need-loop-less Inv-loop μ-loop
-loop-less c = omega arith
-
-loop-again : tie.Need-loop-again Inv-loop μ-loop
-loop-again c =
-    let row = c .before .before .before .before .before .args .row .now in
-    let at = c .before .before .before .loop in
-    (omega arith, at .inv .1 ∙ step-next row (at .i) (at .has) _ (omega arith) (c .is-note .ensures))
-
-returns : tie.Need-returns Inv-loop μ-loop
-unfolding isStep
+returns : tie.Need-returns
 returns c =
-    let row = c .before .before .before .args .row .now in
-    let at = c .before .loop in
-    let past : length row ≤ at .i = omega arith in
-    sym (at .inv .1 ∙ rw (drop-of-length-le row past, or-false))
+    let known = c .before .before .before in
+    let row = now (known .before .args .row) in
+    let long : length row ≡ 4 = c .before .before .if1 .taken in
+    c .word-has-note .ensures (row ++ nothing) (rw length-append (omega arith)) (over-bytes row (bytes-of row (λ k. known .shared-slice-known .given k .fits)))
+    (over-word row ∙ four row long ∙ sym (c .before .half-at .ensures .0))
+    ∙ over-step row
+
+halves-at-requires : tie.Need-halves-at-requires
+halves-at-requires c κs = search needs
+
+word-has-note-requires-2 : tie.Need-word-has-note-requires-2
+word-has-note-requires-2 c κs = search needs
+
+returns-2 : tie.Need-returns-2
+returns-2 c =
+    let known = c .before .before .before .before in
+    let row = now (known .before .args .row) in
+    let long : length row ≡ 8 = c .before .before .if2 .taken in
+    c .word-has-note2 .ensures row long (bytes-of row (λ k. known .shared-slice-known .given k .fits)) (eight row long ∙ sym (c .before .halves-at .ensures))
+
+cells-have-note-requires : tie.Need-cells-have-note-requires
+cells-have-note-requires c κs = search needs
+
+returns-3 : tie.Need-returns-3
+returns-3 c = search needs
 
 pub row-has-note-spec : {M : Type 1} → statement M
 row-has-note-spec =
     tie.close
     (tie.spec
-    Inv-loop
-    μ-loop
-    loop-holds
-    shared-slice-read-is-note
-    is-note-requires
-    add-i
-    loop-less
-    loop-again
-    returns)
+    half-at-requires
+    word-has-note-requires
+    returns
+    halves-at-requires
+    word-has-note-requires-2
+    returns-2
+    cells-have-note-requires
+    returns-3)

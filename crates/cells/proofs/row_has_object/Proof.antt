@@ -1,74 +1,83 @@
--- `cells::row_has_object` meets its contract. The loop's invariant: the columns before `i` are done, and those from `i` on are as they were.
-use Prim.Native.Nat.{_<_, _-_}
+-- `cells::row_has_object` meets its contract: where no column is open, a row that opens none is told by its word.
+use mathlib.Core.Path.{_≡_, refl, ap₂, sym, _∙_}
+use mathlib.Core.Bool.{_||_}
+use mathlib.Core.List.{_++_}
 use native.Mathlib.Omega.{arith}
+use lib.ListN.{length, length-append}
+use denote.Ref.{now}
 use borrow.Author.Needs.{needs}
-use lib.ListN.{length}
-use Rattle.cells.proofs.Scan.{Scanned, scan-start, scan-depth, scan-next, scan-end}
+use borrow.Author.Tests.{not-true}
+use Rattle.lines.proofs.RowWords.{four, eight, bytes-of}
+use Rattle.cells.proofs.RowWords.{nothing, over-word, over-bytes}
+use Rattle.cells.proofs.Closed.{closed-row, over-among, over-object}
 use Rattle.cells.proofs.row_has_object.Statement.{statement}
 use Rattle.cells.proofs.row_has_object.Tie as tie
 
-abbrev Inv-loop : tie.InvT-loop
-Inv-loop row depths₀ object₀ i₀ depths object i = Scanned row depths₀ depths object i
+is-closed-requires : tie.Need-is-closed-requires
+is-closed-requires c κs = search needs
 
-abbrev μ-loop : tie.MeasureT-loop
-μ-loop row depths₀ object₀ i₀ depths object i = length row - i
+half-at-requires : tie.Need-half-at-requires
+half-at-requires c κs = search needs
 
-loop-holds : tie.Need-loop-holds Inv-loop μ-loop
-loop-holds c = scan-start _ _ (search needs)
+word-opens-requires : tie.Need-word-opens-requires
+word-opens-requires c κs = search needs
 
-shared-slice-read-object-cell : tie.Need-shared-slice-read-object-cell Inv-loop μ-loop
-shared-slice-read-object-cell c = omega arith
+word-has-object-requires : tie.Need-word-has-object-requires
+word-has-object-requires c κs = search needs
 
-mul-object-cell : tie.Need-mul-object-cell Inv-loop μ-loop
-mul-object-cell c = omega (arith, c .before .before .before .before .before .pre .0)
+returns : tie.Need-returns
+returns c =
+    let half = c .before .before .before in
+    let known = half .before .before .before .before in
+    let row = now (known .before .args .row) in
+    let long : length row ≡ 4 = half .before .if2 .taken in
+    let small = bytes-of row (λ k. known .shared-slice-known .given k .fits) in
+    let eight-long : length (row ++ nothing) ≡ 8 = rw length-append (omega arith) in
+    let word = over-word row ∙ four row long ∙ sym (half .half-at .ensures .0) in
+    let opens = c .before .before .word-opens .ensures (row ++ nothing) eight-long (over-bytes row small) word in
+    closed-row row (known .before .args .old) _ (known .before .pre .0) small (half .before .before .before .is-closed .ensures (half .before .before .if1 .taken))
+    (ap₂ _||_ (sym (over-among 50 refl row)) (sym (over-among 52 refl row)) ∙ sym opens ∙ not-true (c .before .before .word-opens .result) (c .before .if3 .taken))
+    (c .word-has-object .ensures (row ++ nothing) eight-long (over-bytes row small) word ∙ over-object (λ c. 0) 0 row)
 
-array-read-object-cell : tie.Need-array-read-object-cell Inv-loop μ-loop
-array-read-object-cell c = omega (arith, c .before .before .before .before .before .pre .0)
+halves-at-requires : tie.Need-halves-at-requires
+halves-at-requires c κs = search needs
 
-object-cell-requires : tie.Need-object-cell-requires Inv-loop μ-loop
-object-cell-requires c κs =
-    let start = c .before .before .before .before .before in
-    let at = c .before .before .loop in
-    let inside : at .i < 10 = omega (arith, start .pre .0) in
-    omega (arith, scan-depth _ _ _ _ _ (at .inv), start .pre .1 (at .i) inside)
+word-opens-requires-2 : tie.Need-word-opens-requires-2
+word-opens-requires-2 c κs = search needs
 
-mul-depths : tie.Need-mul-depths Inv-loop μ-loop
-mul-depths c = omega (arith, c .before .before .before .before .before .before .pre .0)
+word-has-object-requires-2 : tie.Need-word-has-object-requires-2
+word-has-object-requires-2 c κs = search needs
 
-array-write-depths : tie.Need-array-write-depths Inv-loop μ-loop
-array-write-depths c = omega (arith, c .before .before .before .before .before .before .pre .0)
+returns-2 : tie.Need-returns-2
+returns-2 c =
+    let whole = c .before .before .before in
+    let known = whole .before .before .before .before .before in
+    let row = now (known .before .args .row) in
+    let long : length row ≡ 8 = whole .before .if4 .taken in
+    let small = bytes-of row (λ k. known .shared-slice-known .given k .fits) in
+    let word = eight row long ∙ sym (whole .halves-at .ensures) in
+    closed-row row (known .before .args .old) _ (known .before .pre .0) small (whole .before .before .before .before .is-closed .ensures (whole .before .before .before .if1 .taken))
+    (sym (c .before .before .word-opens2 .ensures row long small word) ∙ not-true (c .before .before .word-opens2 .result) (c .before .if5 .taken))
+    (c .word-has-object2 .ensures row long small word)
 
-add-i : tie.Need-add-i Inv-loop μ-loop
-add-i c = omega arith
+cells-have-object-requires : tie.Need-cells-have-object-requires
+cells-have-object-requires c κs = search needs
 
-loop-less : tie.Need-loop-less Inv-loop μ-loop
-loop-less c = omega arith
-
-loop-again : tie.Need-loop-again Inv-loop μ-loop
-loop-again c =
-    let start = c .before .before .before .before .before .before .before in
-    let at = c .before .before .before .before .loop in
-    let inside : at .i < 10 = omega (arith, start .pre .0) in
-    let cell = c .before .object-cell .ensures in
-    scan-next _ _ _ _ _ (at .inv) _ _ (c .before .before .before .loop-test .taken) inside (cell .object) (cell .depth)
-
-returns : tie.Need-returns Inv-loop μ-loop
-returns c = scan-end _ (c .before .before .before .before .args .old) _ _ _ (c .before .loop .inv) (c .loop-test .left)
+returns-3 : tie.Need-returns-3
+returns-3 c = search needs
 
 pub row-has-object-spec : {M : Type 1} → statement M
 row-has-object-spec =
     tie.close
     (tie.spec
-    Inv-loop
-    μ-loop
-    loop-holds
-    shared-slice-read-object-cell
-    mul-object-cell
-    array-read-object-cell
-    object-cell-requires
-    mul-depths
-    array-write-depths
-    add-i
-    loop-less
-    loop-again
-    returns)
+    is-closed-requires
+    half-at-requires
+    word-opens-requires
+    word-has-object-requires
+    returns
+    halves-at-requires
+    word-opens-requires-2
+    word-has-object-requires-2
+    returns-2
+    cells-have-object-requires
+    returns-3)

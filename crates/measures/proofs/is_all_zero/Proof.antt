@@ -1,39 +1,50 @@
--- `measures::is_all_zero` meets its contract: the row is all zero if what it has from `i` on is. Assumes nothing.
-use Prim.Native.Nat.{_≤_, _-_}
-use mathlib.Core.Path.{_≡_, refl, sym, _∙_}
-use native.Mathlib.Omega.{arith}
-use lib.ListN.{length, drop}
-use Rattle.definitions.specs.Reduction.{allZero}
-use Rattle.measures.proofs.ZeroRows.{zero-turn, zero-stop, zero-end}
+-- `measures::is_all_zero` meets its contract: one word alone is that of a row of zeros.
+use mathlib.Core.Path.{_≡_, ap, sym, _∙_}
+use Prim.Native.Nat.{ℕ}
+use lib.Dec.{eqb}
+use lib.ListN.{length}
+use denote.Ref.{now}
+use borrow.Author.Needs.{needs}
+use Rattle.lines.proofs.RowWords.{four, eight, bytes-of}
+use Rattle.measures.proofs.ZeroRows.{zero-word}
 use Rattle.measures.proofs.is_all_zero.Statement.{statement}
 use Rattle.measures.proofs.is_all_zero.Tie as tie
 
-abbrev Inv-loop : tie.InvT-loop
-Inv-loop row i₀ i = (i ≤ length row) × (allZero row ≡ allZero (drop i row))
+half-at-requires : tie.Need-half-at-requires
+half-at-requires c κs = search needs
 
-abbrev μ-loop : tie.MeasureT-loop
-μ-loop row i₀ i = length row - i
+returns : tie.Need-returns
+returns c =
+    let known = c .before .before in
+    let row = now (known .before .args .row) in
+    let long : length row ≡ 4 = c .before .if1 .taken in
+    let word = rw long at (zero-word row (bytes-of row (λ k. known .shared-slice-known .given k .fits))) in
+    ap (λ (w : ℕ). eqb w 808464432) (c .half-at .ensures .0 ∙ sym (four row long)) ∙ word
 
-loop-holds : tie.Need-loop-holds Inv-loop μ-loop
-loop-holds c = (omega arith, refl)
+halves-at-requires : tie.Need-halves-at-requires
+halves-at-requires c κs = search needs
 
-shared-slice-read-if1 : tie.Need-shared-slice-read-if1 Inv-loop μ-loop
-shared-slice-read-if1 c = omega arith
+returns-2 : tie.Need-returns-2
+returns-2 c =
+    let known = c .before .before .before in
+    let row = now (known .before .args .row) in
+    let long : length row ≡ 8 = c .before .if2 .taken in
+    let word = rw long at (zero-word row (bytes-of row (λ k. known .shared-slice-known .given k .fits))) in
+    ap (λ (w : ℕ). eqb w 3472328296227680304) (c .halves-at .ensures ∙ sym (eight row long)) ∙ word
 
-returns : tie.Need-returns Inv-loop μ-loop
-returns c = sym (c .before .before .before .loop .inv .1 ∙ zero-stop _ _ (c .before .before .loop-test .taken) (c .if1 .taken))
+are-all-zero-requires : tie.Need-are-all-zero-requires
+are-all-zero-requires c κs = search needs
 
-add-i : tie.Need-add-i Inv-loop μ-loop
-add-i c = omega arith
-
-loop-less : tie.Need-loop-less Inv-loop μ-loop
-loop-less c = omega arith
-
-loop-again : tie.Need-loop-again Inv-loop μ-loop
-loop-again c = (omega arith, c .before .before .before .loop .inv .1 ∙ zero-turn _ _ (c .before .before .loop-test .taken) (c .if1 .left))
-
-returns-2 : tie.Need-returns-2 Inv-loop μ-loop
-returns-2 c = sym (c .before .loop .inv .1 ∙ zero-end _ _ (c .loop-test .left))
+returns-3 : tie.Need-returns-3
+returns-3 c = search needs
 
 pub is-all-zero-spec : {M : Type 1} → statement M
-is-all-zero-spec = tie.close (tie.spec Inv-loop μ-loop loop-holds shared-slice-read-if1 returns add-i loop-less loop-again returns-2)
+is-all-zero-spec =
+    tie.close
+    (tie.spec
+    half-at-requires
+    returns
+    halves-at-requires
+    returns-2
+    are-all-zero-requires
+    returns-3)

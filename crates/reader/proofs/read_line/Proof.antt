@@ -1,49 +1,52 @@
--- `reader::read_line` meets its contract: what it works out is `line-read`.
-use mathlib.Core.Path.{ap}
+-- `reader::read_line` meets its contract: a plain row is read as any line is.
 use native.Mathlib.Omega.{arith}
-use borrow.Author.Needs.{needs}
-use lib.ListN.{length}
 use denote.Ref.{now}
-use Rattle.reader.proofs.Parts.{line-read, trim-short}
+use borrow.Author.Needs.{needs}
+use borrow.Author.Tests.{not-false}
+use Rattle.reader.specs.Reading.{LineRead, plainRow}
 use Rattle.reader.proofs.read_line.Statement.{statement}
 use Rattle.reader.proofs.read_line.Tie as tie
-use Rattle.reader.proofs.read_line.Reads as reads
-use Rattle.reader.proofs.read_line.Lts as lts
-use Rattle.lines.proofs.next_line.Reads as next-line-reads
-use Rattle.lines.proofs.skip_ws.Reads as skip-ws-reads
-use Rattle.measures.proofs.line_kind.Reads as line-kind-reads
 
-next-line-requires : tie.Need-next-line-requires
-next-line-requires c κs = search needs
+plain : (c : tie.Else2) → let a = c .before .before .before .before .args in LineRead (a .lanes) (now (a .«data»)) (a .off) (plainRow (a .off) (a .lanes))
+plain c = c .before .is-plain-row .ensures (not-false (c .before .is-plain-row .result) (c .if2 .left))
 
-skip-ws-requires : tie.Need-skip-ws-requires
-skip-ws-requires c κs = search needs
+sub-if1 : tie.Need-sub-if1
+sub-if1 c = search needs
 
-add-end : tie.Need-add-end
-add-end c = search needs
-
-line-kind-requires : tie.Need-line-kind-requires
-line-kind-requires c κs = search needs
-
-sub-t9 : tie.Need-sub-t9
-sub-t9 c = omega (arith, ap length (c .before .skip-ws .ensures), trim-short (now (c .before .before .next-line .result)))
-
-add-t10 : tie.Need-add-t10
-add-t10 c = search needs
+read-any-line-requires : tie.Need-read-any-line-requires
+read-any-line-requires c κs = search needs
 
 returns : tie.Need-returns
-returns c =
-    let start = c .before .before .before .before in
-    line-read _ _ _ (start .pre) _ _ _ (c .before .before .next-line .ensures) (c .before .skip-ws .ensures) (c .line-kind .ensures)
+returns c = search needs
+
+is-plain-row-requires : tie.Need-is-plain-row-requires
+is-plain-row-requires c κs = search needs
+
+read-any-line-requires-2 : tie.Need-read-any-line-requires-2
+read-any-line-requires-2 c κs = search needs
+
+returns-2 : tie.Need-returns-2
+returns-2 c = search needs
+
+add-t4 : tie.Need-add-t4
+add-t4 c = omega (arith, plain c .within)
+
+add-t5 : tie.Need-add-t5
+add-t5 c = omega (arith, plain c .within)
+
+returns-3 : tie.Need-returns-3
+returns-3 c = plain c
 
 pub read-line-spec : {M : Type 1} → statement M
 read-line-spec =
     tie.close
     (tie.spec
-    next-line-requires
-    skip-ws-requires
-    add-end
-    line-kind-requires
-    sub-t9
-    add-t10
-    returns)
+    sub-if1
+    read-any-line-requires
+    returns
+    is-plain-row-requires
+    read-any-line-requires-2
+    returns-2
+    add-t4
+    add-t5
+    returns-3)
