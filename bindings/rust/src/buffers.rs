@@ -1,0 +1,204 @@
+//! The calls over buffers that are kept from one chart to the next.
+
+use crate::figures::{ArrowStats, Figures, count, place};
+use crate::{Lengths, Refusal, lent};
+
+/// Slices to lend, kept and grown as charts need them: reuse one for many charts, and only the longest allocates.
+///
+/// What a call answers is borrowed from the buffers and stands until the next call.
+///
+/// ```
+/// use padcheck::{Buffers, Refusal};
+///
+/// let mut buffers = Buffers::new();
+/// for (data, steps) in [(&b"1000\n0110\n"[..], 2), (b"0000\n", 0)] {
+///     let chart = buffers.process_chart_kept(data, 4)?;
+///     assert_eq!(chart.text, data);
+///     assert_eq!(chart.stats.total_steps, steps);
+///     assert_eq!(chart.densities, [steps]);
+/// }
+/// # Ok::<(), Refusal>(())
+/// ```
+#[derive(Clone, Debug, Default)]
+pub struct Buffers {
+    text: Vec<u8>,
+    densities: Vec<u32>,
+    spacing: Vec<u8>,
+    beats: Vec<f32>,
+    work: Vec<u16>,
+    figures: Figures,
+}
+
+/// What the kept-row call answers.
+#[derive(Clone, Debug, PartialEq)]
+pub struct KeptChart<'a> {
+    /// Minimised text.
+    pub text: &'a [u8],
+    /// The tally, corrected over the pass's own rows.
+    pub stats: ArrowStats,
+    /// For each measure how many of its minimised rows have a 1, 2 or 4.
+    pub densities: &'a [u32],
+    /// How many minimised rows there are.
+    pub rows: usize,
+}
+
+/// Minimised rows with their beats.
+#[derive(Clone, Debug, PartialEq)]
+pub struct TimingRows<'a> {
+    /// The rows, [`lanes_in_force`](crate::lanes_in_force) bytes each, back to back.
+    pub rows: &'a [u8],
+    /// One beat a row.
+    pub beats: &'a [f32],
+    /// Whether any row has a 2 or 4.
+    pub has_heads: bool,
+}
+
+/// Where the last object row stands.
+#[derive(Clone, Copy, Debug, PartialEq)]
+pub struct LastBeat {
+    /// In beats.
+    pub beat: f64,
+    /// In 48ths of a beat; `beat` is this number divided by 48.
+    pub in_48ths: u64,
+}
+
+impl LastBeat {
+    pub(crate) fn from_figures(figures: &Figures) -> Self {
+        Self {
+            beat: f64::from_bits(figures[place::LAST_BEAT]),
+            in_48ths: figures[place::LAST_BEAT_48THS],
+        }
+    }
+}
+
+/// The first `len` elements of a buffer, which grows where it is shorter.
+fn part<T: Clone + Default>(buffer: &mut Vec<T>, len: usize) -> &mut [T] {
+    if buffer.len() < len {
+        buffer.resize(len, T::default());
+    }
+    &mut buffer[..len]
+}
+
+impl Buffers {
+    /// Empty buffers; the first call allocates.
+    #[must_use]
+    pub fn new() -> Self {
+        Self::default()
+    }
+
+    /// The kept-row call: minimised text, tally and densities.
+    ///
+    /// # Errors
+    ///
+    /// [`Refusal::TextTooLong`].
+    pub fn process_chart_kept(
+        &mut self,
+        data: &[u8],
+        lanes: usize,
+    ) -> Result<KeptChart<'_>, Refusal> {
+        let lengths = Lengths::of(data.len(), lanes);
+        lent::process_chart_kept(
+            data,
+            lanes,
+            part(&mut self.text, lengths.text),
+            part(&mut self.densities, lengths.measures),
+            part(&mut self.work, lengths.work),
+            &mut self.figures,
+        )?;
+        Ok(KeptChart {
+            text: &self.text[..count(&self.figures, place::TEXT_BYTES)],
+            stats: ArrowStats::from_figures(&self.figures),
+            densities: &self.densities[..count(&self.figures, place::MEASURES)],
+            rows: count(&self.figures, place::ROWS),
+        })
+    }
+
+    /// Minimised rows, their beats, and whether any has a 2 or 4.
+    ///
+    /// # Errors
+    ///
+    /// [`Refusal::TextTooLong`].
+    pub fn minimize_timing_rows(
+        &mut self,
+        data: &[u8],
+        lanes: usize,
+    ) -> Result<TimingRows<'_>, Refusal> {
+        let lengths = Lengths::of(data.len(), lanes);
+        lent::minimize_timing_rows(
+            data,
+            lanes,
+            part(&mut self.text, lengths.text),
+            part(&mut self.beats, lengths.beats),
+            &mut self.figures,
+        )?;
+        Ok(TimingRows {
+            rows: &self.text[..count(&self.figures, place::TEXT_BYTES)],
+            beats: &self.beats[..count(&self.figures, place::ROWS)],
+            has_heads: self.figures[place::HAS_HEADS] == 1,
+        })
+    }
+
+    /// For each measure how many of its minimised rows have a 1, 2 or 4.
+    ///
+    /// # Errors
+    ///
+    /// [`Refusal::TextTooLong`].
+    pub fn measure_densities(&mut self, data: &[u8], lanes: usize) -> Result<&[u32], Refusal> {
+        let len = Lengths::of(data.len(), lanes).measures;
+        lent::measure_densities(
+            data,
+            lanes,
+            part(&mut self.densities, len),
+            &mut self.figures,
+        )?;
+        Ok(&self.densities[..count(&self.figures, place::MEASURES)])
+    }
+
+    /// For each measure 1 where it has no rows or each minimised row has a 1, 2 or 4, else 0.
+    ///
+    /// # Errors
+    ///
+    /// [`Refusal::TextTooLong`].
+    pub fn equally_spaced(&mut self, data: &[u8], lanes: usize) -> Result<&[u8], Refusal> {
+        let len = Lengths::of(data.len(), lanes).measures;
+        lent::equally_spaced(data, lanes, part(&mut self.spacing, len), &mut self.figures)?;
+        Ok(&self.spacing[..count(&self.figures, place::MEASURES)])
+    }
+
+    /// The judged tally of minimised text, every row judged.
+    ///
+    /// # Errors
+    ///
+    /// [`Refusal::TextTooLong`].
+    pub fn process_rows_judgable(
+        &mut self,
+        data: &[u8],
+        lanes: usize,
+    ) -> Result<ArrowStats, Refusal> {
+        let len = Lengths::of(data.len(), lanes).work;
+        lent::process_rows_judgable(data, lanes, part(&mut self.work, len), &mut self.figures)?;
+        Ok(ArrowStats::from_figures(&self.figures))
+    }
+
+    /// The judged tally of minimised text with one flag a row: 0 unjudged, else judged. A row past the flags is judged.
+    ///
+    /// # Errors
+    ///
+    /// [`Refusal::TextTooLong`].
+    pub fn process_timing_rows(
+        &mut self,
+        data: &[u8],
+        lanes: usize,
+        flags: &[u8],
+    ) -> Result<ArrowStats, Refusal> {
+        let len = Lengths::of(data.len(), lanes).work;
+        lent::process_timing_rows(
+            data,
+            lanes,
+            flags,
+            part(&mut self.work, len),
+            &mut self.figures,
+        )?;
+        Ok(ArrowStats::from_figures(&self.figures))
+    }
+}

@@ -1,0 +1,37 @@
+//! The chart figures of StepMania charts, proved: safe Rust over libpadcheck.a.
+//!
+//! Every answer is proved equal to definitions written from a specification, document 01; nothing is computed on this
+//! side. Four ways to call, from the least to the most control:
+//!
+//! - [`stats`] has the names and signatures of rssp's `stats.rs`, for a loader that changes one `use` line.
+//! - The functions here take a text and a lane number and answer a `Result`: the one [`Refusal`] they can meet is a
+//!   text longer than [`MAX_LEN`].
+//! - [`Buffers`] does the same over buffers that are kept from one chart to the next.
+//! - [`lent`] has the entries as they are, over slices of the caller's.
+//!
+//! `lanes` is the lane number as the caller has it: 5, 8 and 10 are taken as such, every other number as 4.
+//!
+//! # Linking
+//!
+//! The build script looks for libpadcheck.a in the folder that `PADCHECK_LIB_DIR` names (an absolute path), else in `target/staticlib` of
+//! the repository, where `rt staticlib padcheck` writes it. The archive is for x86-64 Linux.
+
+mod buffers;
+mod figures;
+mod lengths;
+pub mod lent;
+mod note;
+mod owned;
+mod refusal;
+pub mod stats;
+mod symbols;
+
+pub use buffers::{Buffers, KeptChart, LastBeat, TimingRows};
+pub use figures::{ArrowStats, Figures, place};
+pub use lengths::{Lengths, MAX_LEN, NOTE_BYTES, lanes_in_force};
+pub use note::{ChartNoteType, ParsedChartNote, read_note};
+pub use owned::{
+    chart_last_beat, equally_spaced, measure_densities, minimize_timing_rows, process_chart_kept,
+    process_rows_judgable, process_timing_rows,
+};
+pub use refusal::Refusal;

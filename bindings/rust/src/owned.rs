@@ -1,0 +1,139 @@
+//! The calls that allocate what they answer.
+
+use crate::buffers::{Buffers, LastBeat};
+use crate::{ArrowStats, Refusal, lent};
+
+/// The kept-row call (`process_chart_in_impl` with KEEP): minimised text, tally and densities.
+///
+/// ```
+/// let (text, stats, densities) = padcheck::process_chart_kept(b"1000\n0000\n0100\n0000\n;\n", 4)?;
+/// assert_eq!(text, b"1000\n0100\n");
+/// assert_eq!((stats.total_arrows, stats.left, stats.down), (2, 1, 1));
+/// assert_eq!(densities, [2]);
+/// # Ok::<(), padcheck::Refusal>(())
+/// ```
+///
+/// # Errors
+///
+/// [`Refusal::TextTooLong`].
+pub fn process_chart_kept(
+    data: &[u8],
+    lanes: usize,
+) -> Result<(Vec<u8>, ArrowStats, Vec<usize>), Refusal> {
+    let mut buffers = Buffers::new();
+    let chart = buffers.process_chart_kept(data, lanes)?;
+    Ok((chart.text.to_vec(), chart.stats, widened(chart.densities)))
+}
+
+/// Minimised rows, their beats, and whether any has a 2 or 4. `L` is 4, 5, 8 or 10; another does not compile.
+///
+/// ```
+/// let (rows, beats, has_heads) = padcheck::minimize_timing_rows::<4>(b"2000\n0000\n3000\n0000\n")?;
+/// assert_eq!(rows, [*b"2000", *b"3000"]);
+/// assert_eq!(beats, [0.0, 2.0]);
+/// assert!(has_heads);
+/// # Ok::<(), padcheck::Refusal>(())
+/// ```
+///
+/// ```compile_fail
+/// let _ = padcheck::minimize_timing_rows::<7>(b"1000000\n");
+/// ```
+///
+/// # Errors
+///
+/// [`Refusal::TextTooLong`].
+pub fn minimize_timing_rows<const L: usize>(
+    data: &[u8],
+) -> Result<(Vec<[u8; L]>, Vec<f32>, bool), Refusal> {
+    const {
+        assert!(
+            crate::lanes_in_force(L) == L,
+            "a row has 4, 5, 8 or 10 lanes"
+        )
+    };
+    let mut buffers = Buffers::new();
+    let timing = buffers.minimize_timing_rows(data, L)?;
+    let (rows, _) = timing.rows.as_chunks();
+    Ok((rows.to_vec(), timing.beats.to_vec(), timing.has_heads))
+}
+
+/// For each measure how many of its minimised rows have a 1, 2 or 4.
+///
+/// ```
+/// assert_eq!(padcheck::measure_densities(b"1000\n0000\n,\n,\n0040\n", 4)?, [1, 0, 1]);
+/// # Ok::<(), padcheck::Refusal>(())
+/// ```
+///
+/// # Errors
+///
+/// [`Refusal::TextTooLong`].
+pub fn measure_densities(data: &[u8], lanes: usize) -> Result<Vec<usize>, Refusal> {
+    Buffers::new().measure_densities(data, lanes).map(widened)
+}
+
+/// For each measure whether it has no rows or each minimised row has a 1, 2 or 4.
+///
+/// ```
+/// assert_eq!(padcheck::equally_spaced(b"1000\n0100\n,\n,\n0040\n0000\n0030\n0000\n", 4)?, [true, true, false]);
+/// # Ok::<(), padcheck::Refusal>(())
+/// ```
+///
+/// # Errors
+///
+/// [`Refusal::TextTooLong`].
+pub fn equally_spaced(data: &[u8], lanes: usize) -> Result<Vec<bool>, Refusal> {
+    let mut buffers = Buffers::new();
+    let spacing = buffers.equally_spaced(data, lanes)?;
+    Ok(spacing.iter().map(|&spaced| spaced == 1).collect())
+}
+
+/// The last object row's beat; 0 where there is none.
+///
+/// ```
+/// let last = padcheck::chart_last_beat(b"1000\n0000\n0100\n0000\n;\n", 4)?;
+/// assert_eq!((last.beat, last.in_48ths), (2.0, 96));
+/// # Ok::<(), padcheck::Refusal>(())
+/// ```
+///
+/// # Errors
+///
+/// [`Refusal::TextTooLong`].
+pub fn chart_last_beat(data: &[u8], lanes: usize) -> Result<LastBeat, Refusal> {
+    let mut figures = [0; 32];
+    lent::chart_last_beat(data, lanes, &mut figures)?;
+    Ok(LastBeat::from_figures(&figures))
+}
+
+/// The judged tally of minimised text, every row judged.
+///
+/// ```
+/// let stats = padcheck::process_rows_judgable(b"2000\n0110\n3000\n", 4)?;
+/// assert_eq!((stats.total_steps, stats.holds, stats.jumps, stats.hands), (2, 1, 1, 1));
+/// # Ok::<(), padcheck::Refusal>(())
+/// ```
+///
+/// # Errors
+///
+/// [`Refusal::TextTooLong`].
+pub fn process_rows_judgable(data: &[u8], lanes: usize) -> Result<ArrowStats, Refusal> {
+    Buffers::new().process_rows_judgable(data, lanes)
+}
+
+/// The judged tally of minimised text with one flag a row: 0 unjudged, else judged. A row past the flags is judged.
+///
+/// ```
+/// let stats = padcheck::process_timing_rows(b"1000\n0110\n0001\n", 4, &[1, 0])?;
+/// assert_eq!((stats.total_arrows, stats.fakes), (2, 2));
+/// # Ok::<(), padcheck::Refusal>(())
+/// ```
+///
+/// # Errors
+///
+/// [`Refusal::TextTooLong`].
+pub fn process_timing_rows(data: &[u8], lanes: usize, flags: &[u8]) -> Result<ArrowStats, Refusal> {
+    Buffers::new().process_timing_rows(data, lanes, flags)
+}
+
+pub(crate) fn widened(counts: &[u32]) -> Vec<usize> {
+    counts.iter().map(|&count| count as usize).collect()
+}

@@ -1,0 +1,238 @@
+//! Every refusal, and that a refused call leaves what it was lent as it was.
+
+use padcheck::{Buffers, Figures, Lengths, MAX_LEN, Refusal, lent};
+
+const DATA: &[u8] = b"1000\n0000\n0100\n0000\n;\n";
+
+/// Slices of the exact lengths for `DATA` at 4 lanes, each entry marked.
+struct Loan {
+    text: Vec<u8>,
+    densities: Vec<u32>,
+    spacing: Vec<u8>,
+    beats: Vec<f32>,
+    work: Vec<u16>,
+    figures: Figures,
+}
+
+impl Loan {
+    fn marked() -> Self {
+        let lengths = Lengths::of(DATA.len(), 4);
+        Self {
+            text: vec![7; lengths.text],
+            densities: vec![7; lengths.measures],
+            spacing: vec![7; lengths.measures],
+            beats: vec![7.0; lengths.beats],
+            work: vec![7; lengths.work],
+            figures: [7; 32],
+        }
+    }
+
+    fn is_marked(&self) -> bool {
+        self.text.iter().chain(&self.spacing).all(|&byte| byte == 7)
+            && self.densities.iter().all(|&density| density == 7)
+            && self.beats.iter().all(|&beat| beat == 7.0)
+            && self.work.iter().all(|&work| work == 7)
+            && self.figures == [7; 32]
+    }
+}
+
+/// Calls with one slice shortened and expects this refusal.
+fn refused(
+    want: Refusal,
+    shorten: impl Fn(&mut Loan),
+    call: impl Fn(&mut Loan) -> Result<(), Refusal>,
+) {
+    let mut whole = Loan::marked();
+    assert_eq!(call(&mut whole), Ok(()));
+    assert!(!whole.is_marked());
+    let mut short = Loan::marked();
+    shorten(&mut short);
+    assert_eq!(call(&mut short), Err(want));
+    assert!(short.is_marked());
+}
+
+#[test]
+fn a_slice_one_short_is_refused() {
+    let kept = |loan: &mut Loan| {
+        let figures = &mut loan.figures;
+        lent::process_chart_kept(
+            DATA,
+            4,
+            &mut loan.text,
+            &mut loan.densities,
+            &mut loan.work,
+            figures,
+        )
+    };
+    refused(
+        Refusal::TextShort,
+        |loan| {
+            loan.text.pop();
+        },
+        kept,
+    );
+    refused(
+        Refusal::MeasuresShort,
+        |loan| {
+            loan.densities.pop();
+        },
+        kept,
+    );
+    refused(
+        Refusal::WorkShort,
+        |loan| {
+            loan.work.pop();
+        },
+        kept,
+    );
+    let rows = |loan: &mut Loan| {
+        lent::minimize_timing_rows(DATA, 4, &mut loan.text, &mut loan.beats, &mut loan.figures)
+    };
+    refused(
+        Refusal::TextShort,
+        |loan| {
+            loan.text.pop();
+        },
+        rows,
+    );
+    refused(
+        Refusal::BeatsShort,
+        |loan| {
+            loan.beats.pop();
+        },
+        rows,
+    );
+    refused(
+        Refusal::MeasuresShort,
+        |loan| {
+            loan.densities.pop();
+        },
+        |loan| lent::measure_densities(DATA, 4, &mut loan.densities, &mut loan.figures),
+    );
+    refused(
+        Refusal::MeasuresShort,
+        |loan| {
+            loan.spacing.pop();
+        },
+        |loan| lent::equally_spaced(DATA, 4, &mut loan.spacing, &mut loan.figures),
+    );
+    refused(
+        Refusal::WorkShort,
+        |loan| {
+            loan.work.pop();
+        },
+        |loan| lent::process_rows_judgable(DATA, 4, &mut loan.work, &mut loan.figures),
+    );
+    refused(
+        Refusal::WorkShort,
+        |loan| {
+            loan.work.pop();
+        },
+        |loan| lent::process_timing_rows(DATA, 4, &[], &mut loan.work, &mut loan.figures),
+    );
+}
+
+#[test]
+fn a_text_that_is_too_long_is_refused_first() {
+    let data = vec![b'1'; MAX_LEN + 1];
+    let mut figures = [7; 32];
+    let too_long = Err(Refusal::TextTooLong);
+    assert_eq!(
+        lent::process_chart_kept(&data, 4, &mut [], &mut [], &mut [], &mut figures),
+        too_long
+    );
+    assert_eq!(
+        lent::minimize_timing_rows(&data, 4, &mut [], &mut [], &mut figures),
+        too_long
+    );
+    assert_eq!(
+        lent::measure_densities(&data, 4, &mut [], &mut figures),
+        too_long
+    );
+    assert_eq!(
+        lent::equally_spaced(&data, 4, &mut [], &mut figures),
+        too_long
+    );
+    assert_eq!(lent::chart_last_beat(&data, 4, &mut figures), too_long);
+    assert_eq!(
+        lent::process_rows_judgable(&data, 4, &mut [], &mut figures),
+        too_long
+    );
+    assert_eq!(
+        lent::process_timing_rows(&data, 4, &[], &mut [], &mut figures),
+        too_long
+    );
+    assert_eq!(figures, [7; 32]);
+}
+
+#[test]
+fn allocating_calls_refuse_a_text_that_is_too_long_and_nothing_else() {
+    let data = vec![b'1'; MAX_LEN + 1];
+    assert_eq!(
+        padcheck::process_chart_kept(&data, 4),
+        Err(Refusal::TextTooLong)
+    );
+    assert_eq!(
+        padcheck::minimize_timing_rows::<5>(&data),
+        Err(Refusal::TextTooLong)
+    );
+    assert_eq!(
+        padcheck::measure_densities(&data, 4),
+        Err(Refusal::TextTooLong)
+    );
+    assert_eq!(
+        padcheck::equally_spaced(&data, 4),
+        Err(Refusal::TextTooLong)
+    );
+    assert_eq!(
+        padcheck::chart_last_beat(&data, 4),
+        Err(Refusal::TextTooLong)
+    );
+    assert_eq!(
+        padcheck::process_rows_judgable(&data, 4),
+        Err(Refusal::TextTooLong)
+    );
+    assert_eq!(
+        padcheck::process_timing_rows(&data, 4, &[0]),
+        Err(Refusal::TextTooLong)
+    );
+
+    let data = &data[..MAX_LEN];
+    let mut buffers = Buffers::new();
+    assert_eq!(
+        buffers.process_chart_kept(data, 10).map(|chart| chart.rows),
+        Ok(1)
+    );
+    assert_eq!(buffers.measure_densities(data, 4).map(<[u32]>::len), Ok(1));
+    // The buffers are longer now than a small text needs.
+    let chart = buffers.process_chart_kept(DATA, 4).unwrap();
+    assert_eq!(
+        (chart.text, chart.densities),
+        (&b"1000\n0100\n"[..], &[2][..])
+    );
+}
+
+#[test]
+fn records_are_read_or_refused() {
+    let tap = [9, 1, 0, 0, 255, 255, 255, 255, 3, 0];
+    let mut note = [7; 4];
+    assert_eq!(lent::read_note(&tap, 0, &mut note), Ok(()));
+    assert_eq!(note, [265, 4_294_967_295, 3, 0]);
+    let read = padcheck::read_note;
+    assert_eq!(
+        read(&tap, 0).map(|note| (note.row_index, note.tail_row_index)),
+        Ok((265, None))
+    );
+    assert_eq!(read(&tap, 1), Err(Refusal::NoRecord));
+    assert_eq!(read(&tap[..9], 0), Err(Refusal::NoRecord));
+    assert_eq!(read(&[], 0), Err(Refusal::NoRecord));
+    for (place, byte) in [(8, 10), (9, 6), (3, 1), (4, 0), (9, 1)] {
+        let mut bad = tap;
+        bad[place] = byte;
+        assert_eq!(
+            read(&bad, 0),
+            Err(Refusal::BadRecord),
+            "byte {place} set to {byte}"
+        );
+    }
+}
