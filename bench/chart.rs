@@ -16,8 +16,8 @@ impl Draw {
     }
 }
 
-/// A text of exactly `len` bytes; its last line may be cut short.
-pub fn text(lanes: usize, len: usize) -> Vec<u8> {
+/// A text of exactly `len` bytes whose lines end with `newline`; its last line may be cut short.
+pub fn text(lanes: usize, len: usize, newline: &[u8]) -> Vec<u8> {
     let mut draw = Draw(lanes as u64);
     let mut held = vec![false; lanes];
     let mut text = Vec::with_capacity(len + 1024);
@@ -27,9 +27,10 @@ pub fn text(lanes: usize, len: usize) -> Vec<u8> {
             let start = text.len();
             text.resize(start + lanes, b'0');
             row(&mut draw, &mut held, &mut text[start..]);
-            text.push(b'\n');
+            text.extend_from_slice(newline);
         }
-        text.extend_from_slice(b",\n");
+        text.push(b',');
+        text.extend_from_slice(newline);
     }
     text.truncate(len);
     text

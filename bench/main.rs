@@ -12,15 +12,17 @@ use std::process::ExitCode;
 use std::time::{Duration, Instant};
 
 const HELP: &str = "\
-bench [--runs N] [NAME..]
+bench [--runs N] [--crlf] [NAME..]
 
 Times the exported entries, or those of the given names, beside the Rust on texts of 16,777,215 bytes
 with 4 and 8 lanes: the best of N runs each, in turns (N is 7). Prints a table: MB/s of both (1 MB is
 1,000,000 bytes) and the ratio, ours to the Rust's. Both answers are compared first. Run it on a
-machine that does nothing else; on a busy one take more runs.";
+machine that does nothing else; on a busy one take more runs. With --crlf lines end with the bytes
+13 and 10.";
 
 fn main() -> ExitCode {
     let mut runs = 7;
+    let mut newline: &[u8] = b"\n";
     let mut names = Vec::new();
     let mut args = std::env::args().skip(1);
     while let Some(arg) = args.next() {
@@ -33,6 +35,7 @@ fn main() -> ExitCode {
                 Some(number) if number > 0 => runs = number,
                 _ => return refused("--runs wants a number"),
             },
+            "--crlf" => newline = b"\r\n",
             _ if ENTRIES.iter().any(|entry| entry.call.name() == arg) => names.push(arg),
             _ => return refused(&format!("{arg} is no exported entry")),
         }
@@ -40,7 +43,7 @@ fn main() -> ExitCode {
     println!("| entry | lanes | ours, MB/s | the Rust, MB/s | ratio |");
     println!("|---|---|---|---|---|");
     for lanes in [4, 8] {
-        let text = chart::text(lanes, MAX_LEN);
+        let text = chart::text(lanes, MAX_LEN, newline);
         for entry in ENTRIES {
             let name = entry.call.name();
             if !names.is_empty() && !names.iter().any(|given| given == name) {

@@ -1,15 +1,17 @@
--- A plain row: its line begins with no blank, `,`, `;` or `/`, and has the newline right after its L bytes.
+-- A plain row: its line begins with no blank, `,`, `;` or `/`, and has the newline right after its L bytes or after one byte 13 more.
 use mathlib.Core.Path.{_≡_, refl, ap, sym, _∙_}
 use mathlib.Core.Bool.{Bool, true, false, cond}
 use mathlib.Core.List.{List, [], _∷_}
 use Prim.Native.Nat.{ℕ, zero, suc, _+_, _-_, _≤_, _<_}
 use native.Mathlib.Decide.{decLt}
-use native.Mathlib.Nat.{add-zero}
+use native.Mathlib.Nat.{add-zero, zero-add, suc-add}
+use native.Mathlib.Numerals.{add-one}
 use native.Mathlib.Omega.{arith}
-use borrow.Author.Tests.{eq-eqb, ne-eqb, le-leb}
+use borrow.Author.Tests.{eqb-true, eq-eqb, ne-eqb, le-leb}
 use lib.Dec.{eqb}
 use lib.ListN.{length, getD, take, drop, length-drop}
-use lib.Seq.{getD-take, getD-drop, length-take-le}
+use lib.Seq.{drop-cons, getD-take, getD-drop, length-take-le}
+use Rattle.definitions.specs.Lists.{oneIf}
 use Rattle.definitions.specs.Lines.{isBlank, trim, isRow, kindOf}
 use Rattle.definitions.specs.declared.LineKind.the-variants as line
 use Rattle.lines.specs.Lines.{firstLine}
@@ -28,17 +30,30 @@ place-few b (suc n) (x ∷ s) = go (eqb x b) (place-few b n s)
     go true h = omega arith
     go false h = omega arith
 
--- The newline stands at k, and none before it among the first n bytes: the line has k bytes.
-line-to : (k n : ℕ) (s : List ℕ) → k ≤ firstIn 10 (take n s) → k < length s → getD s k 0 ≡ 10 → firstLine s ≡ take k s
+-- None of the first k bytes is a newline: the line has them, and then what the line from there on has.
+line-past : (k n m : ℕ) (s : List ℕ) → k ≤ firstIn 10 (take n s) → firstLine (drop k s) ≡ take m (drop k s) → firstLine s ≡ take (k + m) s
 unfolding firstIn firstLine
-line-to k n [] h w e = absurd (omega arith)
-line-to zero n (x ∷ s) h w e = rw (eq-eqb x 10 e)
-line-to (suc k) zero (x ∷ s) h w e = absurd (omega arith)
-line-to (suc k) (suc n) (x ∷ s) h w e = go (eqb x 10) h (λ l. line-to k n s l (omega arith) e)
+line-past zero n m s h e = rw zero-add e
+line-past (suc k) n m [] h e = rw suc-add
+line-past (suc k) zero m (x ∷ s) h e = absurd (omega arith)
+line-past (suc k) (suc n) m (x ∷ s) h e = rw suc-add (go (eqb x 10) h (λ l. line-past k n m s l e))
   where
-    go : (t : Bool) → suc k ≤ cond t 0 (suc (firstIn 10 (take n s))) → (k ≤ firstIn 10 (take n s) → firstLine s ≡ take k s) → cond t [] (x ∷ firstLine s) ≡ x ∷ take k s
+    go : (t : Bool) → suc k ≤ cond t 0 (suc (firstIn 10 (take n s))) → (k ≤ firstIn 10 (take n s) → firstLine s ≡ take (k + m) s) → cond t [] (x ∷ firstLine s) ≡ x ∷ take (k + m) s
     go true l ih = absurd (omega arith)
-    go false l ih = ap (λ m. x ∷ m) (ih (omega arith))
+    go false l ih = ap (λ p. x ∷ p) (ih (omega arith))
+
+-- a newline at k, and one after a byte 13
+ends-here : (k : ℕ) (s : List ℕ) → k < length s → getD s k 0 ≡ 10 → firstLine (drop k s) ≡ take 0 (drop k s)
+unfolding firstLine
+ends-here k s h e = rw (drop-cons s k 0) (simp (eq-eqb (getD s k 0) 10 e))
+
+ends-next : (k : ℕ) (s : List ℕ) → k + 1 < length s → getD s k 0 ≡ 13 → getD s (k + 1) 0 ≡ 10 → firstLine (drop k s) ≡ take 1 (drop k s)
+unfolding firstLine
+ends-next k s h e f =
+    let a : k < length s = omega arith in
+    let b : suc k < length s = omega arith in
+    let g : getD s (suc k) 0 ≡ 10 = rw add-one at f in
+    rw (drop-cons s k 0 a, drop-cons s (suc k) 0 b, e) (simp (eq-eqb (getD s (suc k) 0) 10 g))
 
 -- a line that begins with a byte past `/` loses nothing at its front
 bare : (l : List ℕ) → 47 < getD l 0 0 → l ≡ trim l
@@ -54,22 +69,42 @@ bare-row L [] w h n = absurd (omega arith)
 bare-row L (b ∷ l) w h n =
     simp (ne-eqb b 47 (omega arith), ne-eqb b 44 (omega arith), ne-eqb b 59 n, le-leb L (length (b ∷ l)) w)
 
-pub plain-row : (L : ℕ) (text : List ℕ) (off : ℕ) → off + 9 ≤ length text → L ≤ firstIn 10 (take 8 (drop off text))
-    → 47 < getD text off 0 → (getD text off 0 ≡ 59 → ⊥) → getD text (off + L) 0 ≡ 10 → LineRead L text off (plainRow off L)
-plain-row L text off h near low semi newline = elim (decLt 0 L) [
-  | yes some ↦
-      let s = drop off text in
-      let raw = take L s in
-      let few : L ≤ 8 = omega (arith, place-few 10 8 s) in
-      let long : L < length s = omega (arith, length-drop off text) in
-      let n : length raw ≡ L = length-take-le L s (omega arith) in
-      let first : getD raw 0 0 ≡ getD text off 0 = getD-take L s 0 0 some ∙ getD-drop off text 0 0 ∙ ap (λ k. getD text k 0) (add-zero off) in
-      let found : firstLine s ≡ raw = line-to L 8 s near long (getD-drop off text L 0 ∙ newline) in
-      let read = line-read L text off (omega arith) raw raw line.Row (sym found) (bare raw (rw first low)) (bare-row L raw (omega arith) (rw first low) (λ e. semi (sym first ∙ e))) in
-      let at : off + L - L ≡ off = omega arith in
-      rw (n, at) at read
-  | no none ↦
-      let zero : L ≡ 0 = omega arith in
-      let first : getD text off 0 ≡ 10 = ap (λ k. getD text k 0) (omega arith) ∙ newline in
-      absurd (omega arith)
-]
+-- a line of m bytes
+plain-line : (L m : ℕ) (text : List ℕ) (off : ℕ) → off + m < length text → L ≤ m → 0 < m → firstLine (drop off text) ≡ take m (drop off text)
+    → 47 < getD text off 0 → (getD text off 0 ≡ 59 → ⊥) → LineRead L text off (plainRow off (off + m))
+plain-line L m text off h w some found low semi =
+    let s = drop off text in
+    let raw = take m s in
+    let n : length raw ≡ m = length-take-le m s (omega (arith, length-drop off text)) in
+    let first : getD raw 0 0 ≡ getD text off 0 = getD-take m s 0 0 some ∙ getD-drop off text 0 0 ∙ ap (λ k. getD text k 0) (add-zero off) in
+    let read = line-read L text off (omega arith) raw raw line.Row (sym found) (bare raw (rw first low)) (bare-row L raw (omega arith) (rw first low) (λ e. semi (sym first ∙ e))) in
+    let at : off + m - m ≡ off = omega arith in
+    rw (n, at) at read
+
+pub plain-row : (L : ℕ) (text : List ℕ) (off end : ℕ) → off + 10 ≤ length text → L ≤ firstIn 10 (take 8 (drop off text))
+    → 47 < getD text off 0 → (getD text off 0 ≡ 59 → ⊥) → end ≡ off + L + oneIf (eqb (getD text (off + L) 0) 13) → getD text end 0 ≡ 10
+    → LineRead L text off (plainRow off end)
+plain-row L text off end h near low semi e newline = go (eqb (getD text (off + L) 0) 13) refl
+  where
+    few : L ≤ 8
+    few = omega (arith, place-few 10 8 (drop off text))
+
+    long : L + 1 < length (drop off text)
+    long = omega (arith, few, length-drop off text)
+
+    go : (t : Bool) → eqb (getD text (off + L) 0) 13 ≡ t → LineRead L text off (plainRow off end)
+    go true q =
+        let at : end ≡ off + (L + 1) = e ∙ ap (λ t. off + L + oneIf t) q ∙ omega arith in
+        let last : getD (drop off text) L 0 ≡ 13 = getD-drop off text L 0 ∙ eqb-true (getD text (off + L) 0) 13 q in
+        let after : getD (drop off text) (L + 1) 0 ≡ 10 = getD-drop off text (L + 1) 0 ∙ ap (λ k. getD text k 0) (sym at) ∙ newline in
+        rw at (plain-line L (L + 1) text off (omega (arith, few)) (omega arith) (omega arith) (line-past L 8 1 (drop off text) near (ends-next L (drop off text) long last after)) low semi)
+    go false q =
+        let at : end ≡ off + L = e ∙ ap (λ t. off + L + oneIf t) q ∙ omega arith in
+        let after : getD text (off + L) 0 ≡ 10 = ap (λ k. getD text k 0) (sym at) ∙ newline in
+        let found : firstLine (drop off text) ≡ take L (drop off text) = line-past L 8 0 (drop off text) near (ends-here L (drop off text) (omega (arith, long)) (getD-drop off text L 0 ∙ after)) ∙ ap (λ k. take k (drop off text)) (add-zero L) in
+        elim (decLt 0 L) [
+          | yes some ↦ rw at (plain-line L L text off (omega (arith, few)) (omega arith) some found low semi)
+          | no none ↦
+              let first : getD text off 0 ≡ 10 = ap (λ k. getD text k 0) (omega arith) ∙ after in
+              absurd (omega arith)
+        ]

@@ -20,9 +20,9 @@ pub record LineRead (L : ℕ) (text : List ℕ) (off : ℕ) (r : ReadLine) : Typ
   pub row : r .kind ≡ line.Row → take L (drop (r .start) text) ≡ lineRow L (firstLine (drop off text))
   pub room : r .kind ≡ line.Row → (off + L + 1 ≤ r .next) × (r .start + L + 1 ≤ r .next)
 
--- a row of L bytes that begins where its line does, with the newline right after it
+-- a row that begins where its line does, of a line that ends at `end`
 abbrev pub plainRow : ℕ → ℕ → ReadLine
-plainRow off L = record { kind = line.Row; start = off; next = off + L + 1 }
+plainRow off end = record { kind = line.Row; start = off; next = end + 1 }
 
 -- rows put before the first of some measures
 abbrev pub addFirst : List Row → List (List Row) → List (List Row)

@@ -3,9 +3,9 @@ pub mod back;
 
 use definitions::LineKind;
 ghost use mathlib.Core.Path.{_≡_};
-ghost use mathlib.Core.Bool.{true};
 ghost use Prim.Native.Nat.{_+_, _≤_};
 ghost use lib.ListN.{length};
+ghost use Rattle.definitions.specs.Lists.{oneIf};
 ghost use Rattle.reader.specs.Reading.{LineRead, plainRow};
 
 // A line that was read: its row, where it is one, begins at `start`, and the next line at `next`.
@@ -21,17 +21,29 @@ pub struct BackLine {
     pub next: usize,
 }
 
-// Whether the line at `off` is a row with nothing before it and nothing after it but the newline, as its first word shows. It may say no of
-// such a row: of one longer than a word always.
-fn is_plain_row(data: &[u8], off: usize, lanes: usize) -> bool
-    requires { ⌜ off + 9 ≤ length (now «data») ⌝ }
-    ensures { λ r. ⌜ (r ≡ true → LineRead lanes (now («data» .entry)) off (plainRow off lanes)) ⌝ }
+// 1 where the test holds, else 0.
+fn one_if(test: bool) -> usize
+    ensures { λ r. ⌜ (r ≡ oneIf test) × (r ≤ 1) ⌝ }
+{
+    if test { 1 } else { 0 }
+}
+
+// Where the line at `off` ends, if its first word shows that it is a row with nothing before it and nothing after it but one byte 13; else 0.
+// It may say 0 of such a row: of one longer than a word always.
+fn plain_row_end(data: &[u8], off: usize, lanes: usize) -> usize
+    requires { ⌜ off + 10 ≤ length (now «data») ⌝ }
+    ensures { λ r. ⌜ ((r ≡ 0 → ⊥) → LineRead lanes (now («data» .entry)) off (plainRow off r)) ⌝ }
 {
     if lines::near_newline(data, off) < lanes {
-        return false;
+        return 0;
     }
     let first = data[off];
-    (b'/' < first) & (first != b';') & (data[off + lanes] == 10)
+    let end = off + lanes + one_if(data[off + lanes] == 13);
+    if (b'/' < first) & (first != b';') & (data[end] == 10) {
+        end
+    } else {
+        0
+    }
 }
 
 // Any line, byte by byte.
@@ -55,15 +67,16 @@ pub fn read_line(data: &[u8], off: usize, lanes: usize) -> ReadLine
     requires { ⌜ off ≤ length (now «data») ⌝ }
     ensures { λ r. ⌜ LineRead lanes (now («data» .entry)) off r ⌝ }
 {
-    if data.len() - off < 9 {
+    if data.len() - off < 10 {
         return read_any_line(data, off, lanes);
     }
-    if !is_plain_row(data, off, lanes) {
+    let end = plain_row_end(data, off, lanes);
+    if end == 0 {
         return read_any_line(data, off, lanes);
     }
     ReadLine {
         kind: LineKind::Row,
         start: off,
-        next: off + lanes + 1,
+        next: end + 1,
     }
 }

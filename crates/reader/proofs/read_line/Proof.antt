@@ -2,13 +2,12 @@
 use native.Mathlib.Omega.{arith}
 use denote.Ref.{now}
 use borrow.Author.Needs.{needs}
-use borrow.Author.Tests.{not-false}
 use Rattle.reader.specs.Reading.{LineRead, plainRow}
 use Rattle.reader.proofs.read_line.Statement.{statement}
 use Rattle.reader.proofs.read_line.Tie as tie
 
-plain : (c : tie.Else2) → let a = c .before .before .before .before .args in LineRead (a .lanes) (now (a .«data»)) (a .off) (plainRow (a .off) (a .lanes))
-plain c = c .before .is-plain-row .ensures (not-false (c .before .is-plain-row .result) (c .if2 .left))
+plain : (c : tie.Else2) → let a = c .before .before .before .before .args in LineRead (a .lanes) (now (a .«data»)) (a .off) (plainRow (a .off) (c .before .plain-row-end .result))
+plain c = c .before .plain-row-end .ensures (c .if2 .left)
 
 sub-if1 : tie.Need-sub-if1
 sub-if1 c = search needs
@@ -19,17 +18,14 @@ read-any-line-requires c κs = search needs
 returns : tie.Need-returns
 returns c = search needs
 
-is-plain-row-requires : tie.Need-is-plain-row-requires
-is-plain-row-requires c κs = search needs
+plain-row-end-requires : tie.Need-plain-row-end-requires
+plain-row-end-requires c κs = search needs
 
 read-any-line-requires-2 : tie.Need-read-any-line-requires-2
 read-any-line-requires-2 c κs = search needs
 
 returns-2 : tie.Need-returns-2
 returns-2 c = search needs
-
-add-t4 : tie.Need-add-t4
-add-t4 c = omega (arith, plain c .within)
 
 add-t5 : tie.Need-add-t5
 add-t5 c = omega (arith, plain c .within)
@@ -44,9 +40,8 @@ read-line-spec =
     sub-if1
     read-any-line-requires
     returns
-    is-plain-row-requires
+    plain-row-end-requires
     read-any-line-requires-2
     returns-2
-    add-t4
     add-t5
     returns-3)
