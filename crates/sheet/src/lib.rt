@@ -53,7 +53,8 @@ fn put_digits(out: &mut [u8], at: usize, n: u64, most: usize) -> usize
     put_byte(out, next, digit(n % 10))
 }
 
-fn put_word(out: &mut [u8], at: usize, word: &[u8]) -> usize
+// A word as it stands.
+pub fn put_word(out: &mut [u8], at: usize, word: &[u8]) -> usize
     requires { ⌜ at + length (now word) ≤ length (now out) ⌝ }
     ensures { λ r. ⌜ Put at (now (word .entry)) (now (out .entry)) r (now (out .exit)) ⌝ }
 {
