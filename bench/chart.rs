@@ -16,12 +16,13 @@ impl Draw {
     }
 }
 
-/// A text of exactly `len` bytes whose lines end with `newline`; its last line may be cut short.
-pub fn text(lanes: usize, len: usize, newline: &[u8]) -> Vec<u8> {
-    let mut draw = Draw(lanes as u64);
+/// A text of exactly `len` bytes, at least 1,000, whose lines end with `newline`; the last line is blank. Another seed draws another chart.
+/// The last row closes every head, and where `unclosed` says so the row after it opens one more.
+pub fn text(lanes: usize, len: usize, newline: &[u8], seed: u64, unclosed: bool) -> Vec<u8> {
+    let mut draw = Draw(lanes as u64 + 16 * seed);
     let mut held = vec![false; lanes];
-    let mut text = Vec::with_capacity(len + 1024);
-    while text.len() < len {
+    let mut text = Vec::with_capacity(len);
+    while text.len() + 800 < len {
         let rows = ROWS[draw.below(ROWS.len())];
         for _ in 0..rows {
             let start = text.len();
@@ -32,7 +33,14 @@ pub fn text(lanes: usize, len: usize, newline: &[u8]) -> Vec<u8> {
         text.push(b',');
         text.extend_from_slice(newline);
     }
-    text.truncate(len);
+    text.extend(held.iter().map(|&held| if held { b'3' } else { b'0' }));
+    text.extend_from_slice(newline);
+    if unclosed {
+        text.push(b'2');
+        text.resize(text.len() + lanes - 1, b'0');
+        text.extend_from_slice(newline);
+    }
+    text.resize(len, b' ');
     text
 }
 

@@ -1,4 +1,4 @@
-//! Times each exported entry beside the Rust: one process, the same text, slices and buffers reused, the best of some runs each.
+//! Times each exported entry beside the Rust: one process, the same texts, slices and buffers reused, the best of some runs each.
 
 mod chart;
 #[path = "../tests/differential/entries.rs"]
@@ -12,18 +12,56 @@ use std::process::ExitCode;
 use std::time::{Duration, Instant};
 
 const HELP: &str = "\
-bench [--runs N] [--crlf] [NAME..]
+bench [--runs N] [--crlf] [--growth] [NAME..]
 
-Times the exported entries, or those of the given names, beside the Rust on texts of 16,777,215 bytes
-with 4 and 8 lanes: the best of N runs each, in turns (N is 7). Prints a table: MB/s of both (1 MB is
-1,000,000 bytes) and the ratio, ours to the Rust's. Both answers are compared first. Run it on a
-machine that does nothing else; on a busy one take more runs. With --crlf lines end with the bytes
-13 and 10.";
+Times the exported entries, or those of the given names, beside the Rust: texts of 16,777,215 bytes
+with 4 and 8 lanes, 2,000 charts of 20,000 bytes one after the other, and a long text with a head that
+nothing closes, where the tally is counted anew. The best of N runs each, in turns (N is 7). Prints a
+table: MB/s of both (1 MB is 1,000,000 bytes) and the ratio, ours to the Rust's; beside the main call,
+the time that memset takes for the bytes that it is lent. Both answers are compared first. With
+--growth it prints instead what a byte costs in texts of 1, 4 and 16 MB. Run it on a machine that does
+nothing else; on a busy one take more runs. With --crlf lines end with the bytes 13 and 10.";
+
+/// Texts that are timed together, and what the table calls them.
+struct Load {
+    name: &'static str,
+    lanes: usize,
+    texts: Vec<Vec<u8>>,
+}
+
+impl Load {
+    fn bytes(&self) -> f64 {
+        self.texts.iter().map(Vec::len).sum::<usize>() as f64
+    }
+
+    /// Millions of bytes a second.
+    fn speed(&self, time: Duration) -> f64 {
+        self.bytes() / 1e6 / time.as_secs_f64()
+    }
+}
+
+struct Options {
+    runs: usize,
+    newline: &'static [u8],
+    growth: bool,
+    names: Vec<String>,
+}
+
+impl Options {
+    fn entries(&self) -> impl Iterator<Item = &'static Entry> {
+        ENTRIES.iter().filter(|entry| {
+            self.names.is_empty() || self.names.iter().any(|name| name == entry.call.name())
+        })
+    }
+}
 
 fn main() -> ExitCode {
-    let mut runs = 7;
-    let mut newline: &[u8] = b"\n";
-    let mut names = Vec::new();
+    let mut options = Options {
+        runs: 7,
+        newline: b"\n",
+        growth: false,
+        names: Vec::new(),
+    };
     let mut args = std::env::args().skip(1);
     while let Some(arg) = args.next() {
         match arg.as_str() {
@@ -32,32 +70,24 @@ fn main() -> ExitCode {
                 return ExitCode::SUCCESS;
             }
             "--runs" => match args.next().and_then(|number| number.parse().ok()) {
-                Some(number) if number > 0 => runs = number,
+                Some(number) if number > 0 => options.runs = number,
                 _ => return refused("--runs wants a number"),
             },
-            "--crlf" => newline = b"\r\n",
-            _ if ENTRIES.iter().any(|entry| entry.call.name() == arg) => names.push(arg),
+            "--crlf" => options.newline = b"\r\n",
+            "--growth" => options.growth = true,
+            _ if ENTRIES.iter().any(|entry| entry.call.name() == arg) => options.names.push(arg),
             _ => return refused(&format!("{arg} is no exported entry")),
         }
     }
-    println!("| entry | lanes | ours, MB/s | the Rust, MB/s | ratio |");
-    println!("|---|---|---|---|---|");
-    for lanes in [4, 8] {
-        let text = chart::text(lanes, MAX_LEN, newline);
-        for entry in ENTRIES {
-            let name = entry.call.name();
-            if !names.is_empty() && !names.iter().any(|given| given == name) {
-                continue;
-            }
-            let Some((ours, rust)) = timed(entry, &text, lanes, runs) else {
-                return refused(&format!("{name} and the Rust differ; nothing is timed"));
-            };
-            let (ours, rust) = (speed(&text, ours), speed(&text, rust));
-            let ratio = ours / rust;
-            println!("| `{name}` | {lanes} | {ours:.0} | {rust:.0} | {ratio:.2} |");
-        }
+    let done = if options.growth {
+        growth(&options)
+    } else {
+        table(&options)
+    };
+    match done {
+        Ok(()) => ExitCode::SUCCESS,
+        Err(name) => refused(&format!("{name} and the Rust differ; nothing is timed")),
     }
-    ExitCode::SUCCESS
 }
 
 fn refused(message: &str) -> ExitCode {
@@ -65,37 +95,127 @@ fn refused(message: &str) -> ExitCode {
     ExitCode::FAILURE
 }
 
-/// Millions of bytes a second.
-fn speed(text: &[u8], time: Duration) -> f64 {
-    text.len() as f64 / 1e6 / time.as_secs_f64()
+/// Every entry on every load. The error is the name of an entry that differs from the Rust.
+fn table(options: &Options) -> Result<(), &'static str> {
+    let newline = options.newline;
+    let long = |lanes| vec![chart::text(lanes, MAX_LEN, newline, 0, false)];
+    let load = |name, lanes, texts| Load { name, lanes, texts };
+    println!("| entry | text | lanes | ours, MB/s | the Rust, MB/s | ratio |");
+    println!("|---|---|---|---|---|---|");
+    let loads: [&dyn Fn() -> Load; 4] = [
+        &|| load("long", 4, long(4)),
+        &|| load("long", 8, long(8)),
+        &|| {
+            load(
+                "pack",
+                4,
+                (0..2000)
+                    .map(|seed| chart::text(4, 20_000, newline, seed, false))
+                    .collect(),
+            )
+        },
+        &|| {
+            load(
+                "unclosed",
+                4,
+                vec![chart::text(4, MAX_LEN, newline, 0, true)],
+            )
+        },
+    ];
+    for load in loads {
+        let load = load();
+        for entry in options.entries() {
+            let (ours, rust) = timed(entry, &load, options.runs)?;
+            let (name, text, lanes) = (entry.call.name(), load.name, load.lanes);
+            let (ours, rust) = (load.speed(ours), load.speed(rust));
+            let ratio = ours / rust;
+            println!("| `{name}` | {text} | {lanes} | {ours:.0} | {rust:.0} | {ratio:.2} |");
+            if entry.call == Call::MinimizeChartCountRowsNotes {
+                let memset = load.speed(zeroing(entry.call, &load, options.runs));
+                println!("| memset of what it is lent | {text} | {lanes} | | {memset:.0} | |");
+            }
+        }
+    }
+    Ok(())
 }
 
-/// The best times of ours and of the Rust, in turns; none where their answers differ.
-fn timed(entry: &Entry, text: &[u8], lanes: usize, runs: usize) -> Option<(Duration, Duration)> {
-    let call = entry.call;
-    // Every third row is unjudged, for the call that is lent flags.
-    let flags: Vec<u8> = (0..text.len() / 5)
-        .map(|row| u8::from(row % 3 > 0))
-        .collect();
-    let mut loan = lent(call, text.len(), lanes);
-    let mut want = loan.clone();
-    (entry.enter)(text, lanes, &flags, &mut loan);
-    enter(call, text, lanes, &flags, &mut want);
-    if !loan.same(&want) {
-        return None;
+/// What a byte costs in texts of 1, 4 and 16 MB, and the largest of the three beside the smallest.
+fn growth(options: &Options) -> Result<(), &'static str> {
+    println!("| entry | lanes | ns a byte at 1 MB | at 4 MB | at 16 MB | largest by smallest |");
+    println!("|---|---|---|---|---|---|");
+    for lanes in [4, 8] {
+        for entry in options.entries() {
+            let mut costs = [0.0; 3];
+            for (cost, len) in costs.iter_mut().zip([1_000_000, 4_000_000, 16_000_000]) {
+                let texts = vec![chart::text(lanes, len, options.newline, 0, false)];
+                let load = Load {
+                    name: "long",
+                    lanes,
+                    texts,
+                };
+                let (ours, _) = timed(entry, &load, options.runs)?;
+                *cost = ours.as_secs_f64() * 1e9 / load.bytes();
+            }
+            let [one, four, sixteen] = costs;
+            let most = one.max(four).max(sixteen) / one.min(four).min(sixteen);
+            let name = entry.call.name();
+            println!("| `{name}` | {lanes} | {one:.3} | {four:.3} | {sixteen:.3} | {most:.2} |");
+        }
     }
-    drop(want);
+    Ok(())
+}
+
+/// The best times of ours and of the Rust over all texts of a load, in turns.
+fn timed(entry: &Entry, load: &Load, runs: usize) -> Result<(Duration, Duration), &'static str> {
+    let (call, lanes) = (entry.call, load.lanes);
+    let len = load.texts.iter().map(Vec::len).max().unwrap_or_default();
+    // Every third row is unjudged, for the call that is lent flags.
+    let flags: Vec<u8> = (0..len / 5).map(|row| u8::from(row % 3 > 0)).collect();
+    for text in &load.texts {
+        let mut loan = lent(call, text.len(), lanes);
+        let mut want = loan.clone();
+        (entry.enter)(text, lanes, &flags, &mut loan);
+        enter(call, text, lanes, &flags, &mut want);
+        if !loan.same(&want) {
+            return Err(call.name());
+        }
+    }
+    let mut loan = lent(call, len, lanes);
     let mut buffers = Buffers::default();
     let (mut ours, mut rust) = (Duration::MAX, Duration::MAX);
     for _ in 0..runs {
         let start = Instant::now();
-        (entry.enter)(text, lanes, &flags, &mut loan);
+        for text in &load.texts {
+            (entry.enter)(text, lanes, &flags, &mut loan);
+        }
         ours = ours.min(start.elapsed());
         let start = Instant::now();
-        timed::run(call, text, lanes, &flags, &mut buffers);
+        for text in &load.texts {
+            timed::run(call, text, lanes, &flags, &mut buffers);
+        }
         rust = rust.min(start.elapsed());
     }
-    Some((ours, rust))
+    Ok((ours, rust))
+}
+
+/// The best time in which all bytes lent to a call are set to 0, once for each text.
+fn zeroing(call: Call, load: &Load, runs: usize) -> Duration {
+    let len = load.texts.iter().map(Vec::len).max().unwrap_or_default();
+    let mut loan = lent(call, len, load.lanes);
+    let mut best = Duration::MAX;
+    for _ in 0..runs {
+        let start = Instant::now();
+        for _ in &load.texts {
+            loan.text.fill(0);
+            loan.densities.fill(0);
+            loan.beats.fill(0.0);
+            loan.work.fill(0);
+            loan.notes.fill(0);
+            std::hint::black_box(&mut loan);
+        }
+        best = best.min(start.elapsed());
+    }
+    best
 }
 
 /// The shortest slices that the call takes, and none that it is not lent.

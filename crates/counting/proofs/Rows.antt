@@ -2,7 +2,6 @@
 use mathlib.Core.Path.{_≡_, refl, ap, sym, _∙_, subst}
 use mathlib.Core.List.{List, [], _∷_, _++_, append-assoc, append-nil}
 use Prim.Native.Nat.{ℕ, _+_, _*_, _≤_}
-use native.Mathlib.Nat.{add-assoc}
 use native.Mathlib.Omega.{arith}
 use lib.ListN.{length, length-append}
 use Rattle.definitions.specs.Lists.{oneIf, count, joined}
@@ -11,6 +10,7 @@ use Rattle.definitions.specs.Figures.{isStep, density}
 use Rattle.definitions.specs.Tally.{rowSum, noStats, addRow, tally}
 use Rattle.definitions.specs.declared.ArrowStats.{ArrowStats}
 use Rattle.definitions.proofs.Lists.{joined-snoc}
+use Rattle.definitions.proofs.Figures.{density-snoc}
 use Rattle.phantoms.specs.declared.Phantoms.{Phantoms}
 use Rattle.phantoms.specs.Phantoms.{Counts, RowCounted, Low}
 use Rattle.phantoms.proofs.Loop.{low-more}
@@ -19,10 +19,6 @@ use Rattle.tallies.proofs.Rows.{tally-none, tally-snoc}
 use Rattle.tallies.proofs.Bounds.{below-none, below-more, below-line}
 use Rattle.counting.specs.declared.Counting.{Counting}
 use Rattle.counting.specs.Counted.{Few, Counted}
-
-density-snoc : (rs : List Row) (r : Row) → density (rs ++ (r ∷ [])) ≡ density rs + oneIf (isStep r)
-density-snoc [] r = omega arith
-density-snoc (x ∷ rs) r = ap (λ n. oneIf (isStep x) + n) (density-snoc rs r) ∙ sym (add-assoc (oneIf (isStep x)) (density rs) (oneIf (isStep r)))
 
 pub counted-start : (L : ℕ) (t : ArrowStats) (p : Phantoms) → t ≡ noStats → Counts L [] p → Counted L (record { stats = t; phantoms = p; rows = 0; steps = 0 }) [] []
 counted-start L t p e x =

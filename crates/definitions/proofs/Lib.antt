@@ -5,3 +5,4 @@ pub mod Cells
 pub mod Reduction
 pub mod Thinned
 pub mod Damage
+pub mod Figures

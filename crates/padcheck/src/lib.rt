@@ -38,10 +38,10 @@ fn last_figures(bits: u64, row: u64) -> [u64; 32]
     f
 }
 
-fn one_if(b: bool) -> u64
-    ensures { λ r. ⌜ r ≡ oneIf b ⌝ }
+fn wide(n: u32) -> u64
+    ensures { λ r. ⌜ r ≡ n ⌝ }
 {
-    if b { 1 } else { 0 }
+    n as u64
 }
 
 // The figures of the timing rows: their bytes, their number, and whether any has a 2 or 4.
@@ -51,14 +51,8 @@ fn timing_figures(bytes: usize, rows: usize, heads: bool) -> [u64; 32]
     let mut f = [0u64; 32];
     f[0] = bytes as u64;
     f[2] = rows as u64;
-    f[5] = one_if(heads);
+    f[5] = wide(cells::one_if(heads));
     f
-}
-
-fn wide(n: u32) -> u64
-    ensures { λ r. ⌜ r ≡ n ⌝ }
-{
-    n as u64
 }
 
 // The figures of a call that answers a tally, and nothing else: its fields in their order, from place 8 on.

@@ -13,10 +13,10 @@ use Rattle.definitions.specs.Lines.{Row}
 use Rattle.definitions.specs.Measures.{chart}
 use Rattle.definitions.specs.Reduction.{allZero, reduce, stride, minimised}
 use Rattle.definitions.specs.Figures.{isStep, density, spacing, spacings}
+use Rattle.definitions.proofs.Figures.{density-snoc}
 use Rattle.scans.specs.declared.MeasureSpacing.{MeasureSpacing}
 use Rattle.scans.specs.Spaces.{Spaces}
 use Rattle.scans.proofs.Raw.{spacing-raw, steps-most}
-use Rattle.scans.proofs.Steps.{density-snoc}
 use Rattle.scans.proofs.Strides.{off-zero-row, off-other-row, stride-shift, reduce-length}
 
 -- the figure of a measure as the scan stores it

@@ -3,12 +3,12 @@ use mathlib.Core.Path.{_≡_, refl, ap, sym, _∙_}
 use mathlib.Core.Bool.{Bool, true, false}
 use mathlib.Core.List.{List, [], _∷_, _++_}
 use Prim.Native.Nat.{ℕ, _+_, _≤_}
-use native.Mathlib.Nat.{add-zero, add-assoc}
 use native.Mathlib.Omega.{arith}
 use lib.ListN.{length}
 use Rattle.definitions.specs.Lists.{oneIf, count}
 use Rattle.definitions.specs.Lines.{Row}
 use Rattle.definitions.specs.Figures.{isStep, density}
+use Rattle.definitions.proofs.Figures.{density-snoc}
 use Rattle.scans.proofs.Raw.{steps-most}
 
 -- n is the density of the rows so far
@@ -17,10 +17,6 @@ Steps n cur = n ≡ density cur
 
 pub steps-start : Steps 0 []
 steps-start = refl
-
-pub density-snoc : (rs : List Row) (r : Row) → density (rs ++ (r ∷ [])) ≡ density rs + oneIf (isStep r)
-density-snoc [] r = omega arith
-density-snoc (x ∷ rs) r = ap (λ n. oneIf (isStep x) + n) (density-snoc rs r) ∙ sym (add-assoc (oneIf (isStep x)) (density rs) (oneIf (isStep r)))
 
 pub steps-more : (n k : ℕ) (r : Row) → k ≡ oneIf (isStep r) → (cur : List Row) → Steps n cur → Steps (n + k) (cur ++ (r ∷ []))
 steps-more n k r e cur h = rw (h, e) (sym (density-snoc cur r))

@@ -8,7 +8,6 @@ ghost use mathlib.Core.Path.{_≡_};
 ghost use mathlib.Core.Bool.{true};
 ghost use Prim.Native.Nat.{_+_, _-_, _≤_, _<_};
 ghost use lib.ListN.{length};
-ghost use Rattle.definitions.specs.Lists.{oneIf};
 ghost use Rattle.definitions.specs.Cells.{cellOf, isArrow};
 ghost use Rattle.definitions.specs.Tracker.{holdAt};
 ghost use Rattle.definitions.specs.Tally.{noStats, rowSum, rowSumBy, addSum, addRow};
@@ -140,21 +139,14 @@ pub fn no_stats() -> ArrowStats
     }
 }
 
-// 1 where the test holds, else 0.
-fn one_if(test: bool) -> u32
-    ensures { λ r. ⌜ (r ≡ oneIf test) × (r ≤ 1) ⌝ }
-{
-    if test { 1 } else { 0 }
-}
-
 // The tally with one row more, where `hand` says whether it is a hand and `holding` what is held after it.
 fn add_sum(t: ArrowStats, s: RowSum, hand: bool, holding: u32) -> ArrowStats
     requires { ⌜ Below 4294967285 t × Under 10 s ⌝ }
     ensures { λ r. ⌜ r ≡ addSum t s hand holding ⌝ }
 {
-    let step = one_if(1 <= s.arrows);
-    let jump = one_if(2 <= s.arrows);
-    let hands = one_if(hand);
+    let step = cells::one_if(1 <= s.arrows);
+    let jump = cells::one_if(2 <= s.arrows);
+    let hands = cells::one_if(hand);
     ArrowStats {
         total_arrows: t.total_arrows + s.arrows,
         left: t.left + s.left,
