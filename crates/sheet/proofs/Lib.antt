@@ -1,2 +1,3 @@
 -- Laws of the lines.
 pub mod Putting
+pub mod Decimal

@@ -26,7 +26,8 @@ put-none at d h = record { next-place = sym (add-zero at); room = h; contents = 
 placed-then : (at : ℕ) (s t d : List ℕ) → at + length s ≤ length d → placed (at + length s) t (placed at s d) ≡ placed at (s ++ t) d
 placed-then at s t d h =
     let low : at ≤ length d = omega arith in
-    rw (placed-front at s d low, placed-past at s d (at + length s + length t) low (omega arith), length-append, append-assoc, append-assoc, add-assoc)
+    rw (placed-front at s d low, placed-past at s d (at + length s + length t) low (omega arith), length-append s t)
+    (simp (append-assoc, add-assoc))
 
 -- one after the other
 pub put-then : {at next last : ℕ} {s t d d₁ d₂ : List ℕ} → Put at s d next d₁ → Put next t d₁ last d₂ → Put at (s ++ t) d last d₂

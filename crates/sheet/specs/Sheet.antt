@@ -19,7 +19,8 @@ abbrev pub ascii : String → List ℕ
 ascii end = []
 ascii (_then_ c s) = code c ∷ ascii s
 
--- "All numbers are decimal": the digits of a number below 10 ^ most, the most significant first
+-- "All numbers are decimal": the digits of a number below 10 ^ most, the most significant first. They are read back as the
+-- number: `digits-read` in proofs/Decimal.antt.
 abbrev pub digits : ℕ → ℕ → List ℕ
 digits zero n = []
 digits (suc most) n = cond (ltb n 10) ((48 + n) ∷ []) (digits most (n / 10) ++ ((48 + n % 10) ∷ []))
