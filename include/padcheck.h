@@ -156,6 +156,18 @@ enum padcheck_kind {
  */
 
 /*
+ * The main call: minimised text, densities, row beats, note records, last beat, and the tally corrected over the
+ * minimised text read back. Notes stand in rising row, then column; padcheck_read_note reads a record.
+ * Lengths: text padcheck_text_len, densities padcheck_measures_len, beats padcheck_beats_len, work padcheck_work_len,
+ * notes padcheck_notes_len.
+ * Refusals: 1 2 3 4 5 6. Figures: TEXT_BYTES, MEASURES, ROWS, NOTES, LAST_BEAT, LAST_BEAT_48THS and the tally.
+ */
+uint32_t padcheck_minimize_chart_count_rows_notes(const uint8_t *data, size_t data_len, size_t lanes, uint8_t *text,
+                                                  size_t text_len, uint32_t *densities, size_t densities_len,
+                                                  float *beats, size_t beats_len, uint16_t *work, size_t work_len,
+                                                  uint8_t *notes, size_t notes_len, uint64_t *figures);
+
+/*
  * The kept-row call: minimised text, densities, and the tally corrected over the pass's own rows.
  * Lengths: text padcheck_text_len, densities padcheck_measures_len, work padcheck_work_len.
  * Refusals: 1 2 3 5. Figures: TEXT_BYTES, MEASURES, ROWS and the tally.

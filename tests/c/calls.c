@@ -112,7 +112,12 @@ static uint32_t enter(enum call call, const struct question *q, struct loan *loa
 {
     struct slice text = loan->slices[TEXT], densities = loan->slices[MEASURE_DENSITIES];
     struct slice spacing = loan->slices[MEASURE_SPACING], beats = loan->slices[BEATS], work = loan->slices[WORK];
+    struct slice notes = loan->slices[NOTES];
     switch (call) {
+    case MAIN:
+        return padcheck_minimize_chart_count_rows_notes(q->data, q->len, q->lanes, text.at, text.len, densities.at,
+                                                        densities.len, beats.at, beats.len, work.at, work.len, notes.at,
+                                                        notes.len, loan->figures);
     case KEPT:
         return padcheck_process_chart_kept(q->data, q->len, q->lanes, text.at, text.len, densities.at, densities.len,
                                            work.at, work.len, loan->figures);

@@ -6,8 +6,8 @@
 
 #include <stdbool.h>
 
-/* In the order of the stored sample; FIRST_CALL is the first that the library exports. */
-enum call { MAIN, KEPT, TIMING_ROWS, DENSITIES, SPACING, LAST_BEAT, JUDGED, FLAGGED, CALLS, FIRST_CALL = KEPT };
+/* In the order of the stored sample. */
+enum call { MAIN, KEPT, TIMING_ROWS, DENSITIES, SPACING, LAST_BEAT, JUDGED, FLAGGED, CALLS };
 
 /* What can be lent for writing. */
 enum lent { TEXT, MEASURE_DENSITIES, MEASURE_SPACING, BEATS, WORK, NOTES, LENT };

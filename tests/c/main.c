@@ -36,8 +36,21 @@ static void check_example(void)
     static const uint32_t density = 2;
     static const uint8_t spaced = 1;
     static const float beats[] = {0, 2};
+    static const uint8_t notes[] = {0, 0, 0, 0, 255, 255, 255, 255, 0, 0, 1, 0, 0, 0, 255, 255, 255, 255, 1, 0};
     struct question question = {(const uint8_t *)text, sizeof text - 1, 4, (const uint8_t *)"", 0};
     struct answer answers[CALLS] = {0};
+
+    answers[MAIN].figures[PADCHECK_TEXT_BYTES] = 10;
+    answers[MAIN].figures[PADCHECK_MEASURES] = 1;
+    answers[MAIN].figures[PADCHECK_ROWS] = 2;
+    answers[MAIN].figures[PADCHECK_NOTES] = 2;
+    answers[MAIN].figures[PADCHECK_LAST_BEAT] = bits_of(2);
+    answers[MAIN].figures[PADCHECK_LAST_BEAT_48THS] = 96;
+    set_two_taps(&answers[MAIN]);
+    set_contents(&answers[MAIN], TEXT, minimised, sizeof minimised - 1);
+    set_contents(&answers[MAIN], MEASURE_DENSITIES, &density, sizeof density);
+    set_contents(&answers[MAIN], BEATS, beats, sizeof beats);
+    set_contents(&answers[MAIN], NOTES, notes, sizeof notes);
 
     answers[KEPT].figures[PADCHECK_TEXT_BYTES] = 10;
     answers[KEPT].figures[PADCHECK_MEASURES] = 1;
@@ -59,7 +72,7 @@ static void check_example(void)
     answers[LAST_BEAT].figures[PADCHECK_LAST_BEAT_48THS] = 96;
     set_two_taps(&answers[JUDGED]);
     set_two_taps(&answers[FLAGGED]);
-    for (enum call call = FIRST_CALL; call < CALLS; call++)
+    for (enum call call = 0; call < CALLS; call++)
         check_call("example", call, &question, &answers[call]);
 
     /* The rows are read as they stand, so the third has the second tap; unjudged it is a fake. */
@@ -85,7 +98,7 @@ static void check_longest(void)
     }
     memset(data, '1', len);
     struct question question = {data, len, 4, (const uint8_t *)"", 0};
-    for (enum call call = FIRST_CALL; call < CALLS; call++)
+    for (enum call call = 0; call < CALLS; call++)
         check_refused("16777216 bytes", call, &question, 0, PADCHECK_TEXT_TOO_LONG);
     question.len = PADCHECK_MAX_LEN;
     struct answer answer = {0};

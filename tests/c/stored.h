@@ -2,7 +2,7 @@
 #ifndef STORED_H
 #define STORED_H
 
-/* Asks every exported call about every text of the sample and checks the answers. */
+/* Asks every call about every text of the sample and checks the answers. */
 void check_stored(const char *path);
 
 #endif
