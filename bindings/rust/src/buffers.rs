@@ -1,7 +1,7 @@
 //! The calls over buffers that are kept from one chart to the next.
 
 use crate::figures::{ArrowStats, Figures, count, place};
-use crate::{Lengths, Refusal, lent};
+use crate::{Lengths, NOTE_BYTES, Notes, Refusal, lent};
 
 /// Slices to lend, kept and grown as charts need them: reuse one for many charts, and only the longest allocates.
 ///
@@ -26,7 +26,25 @@ pub struct Buffers {
     spacing: Vec<u8>,
     beats: Vec<f32>,
     work: Vec<u16>,
+    pub(crate) notes: Vec<u8>,
     figures: Figures,
+}
+
+/// What the main call answers.
+#[derive(Clone, Debug)]
+pub struct Chart<'a> {
+    /// Minimised text.
+    pub text: &'a [u8],
+    /// The tally, corrected over the minimised text read back.
+    pub stats: ArrowStats,
+    /// For each measure how many of its minimised rows have a 1, 2 or 4.
+    pub densities: &'a [u32],
+    /// One beat a minimised row.
+    pub beats: &'a [f32],
+    /// The notes, in rising row, then column.
+    pub notes: Notes<'a>,
+    /// Where the last object row stands.
+    pub last: LastBeat,
 }
 
 /// What the kept-row call answers.
@@ -84,6 +102,48 @@ impl Buffers {
     #[must_use]
     pub fn new() -> Self {
         Self::default()
+    }
+
+    /// The main call: minimised text, tally, densities, row beats, notes and last beat.
+    ///
+    /// ```
+    /// use padcheck::{Buffers, ChartNoteType};
+    ///
+    /// let mut buffers = Buffers::new();
+    /// let chart = buffers.minimize_chart_count_rows_notes(b"2000\n0000\n3000\n0000\n", 4)?;
+    /// assert_eq!(chart.beats, [0.0, 2.0]);
+    /// let hold = chart.notes.clone().next().unwrap();
+    /// assert_eq!((hold.note_type, hold.tail_row_index), (ChartNoteType::Hold, Some(1)));
+    /// # Ok::<(), padcheck::Refusal>(())
+    /// ```
+    ///
+    /// # Errors
+    ///
+    /// [`Refusal::TextTooLong`].
+    pub fn minimize_chart_count_rows_notes(
+        &mut self,
+        data: &[u8],
+        lanes: usize,
+    ) -> Result<Chart<'_>, Refusal> {
+        let lengths = Lengths::of(data.len(), lanes);
+        lent::minimize_chart_count_rows_notes(
+            data,
+            lanes,
+            part(&mut self.text, lengths.text),
+            part(&mut self.densities, lengths.measures),
+            part(&mut self.beats, lengths.beats),
+            part(&mut self.work, lengths.work),
+            part(&mut self.notes, lengths.notes),
+            &mut self.figures,
+        )?;
+        Ok(Chart {
+            text: &self.text[..count(&self.figures, place::TEXT_BYTES)],
+            stats: ArrowStats::from_figures(&self.figures),
+            densities: &self.densities[..count(&self.figures, place::MEASURES)],
+            beats: &self.beats[..count(&self.figures, place::ROWS)],
+            notes: Notes::new(&self.notes[..NOTE_BYTES * count(&self.figures, place::NOTES)]),
+            last: LastBeat::from_figures(&self.figures),
+        })
     }
 
     /// The kept-row call: minimised text, tally and densities.

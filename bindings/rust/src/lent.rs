@@ -23,6 +23,43 @@ use crate::{Figures, Refusal};
 
 // In each call below a pointer goes with the length of its slice, and `figures` and `note` have the size that the entry names.
 
+/// The main call: minimised text, densities, row beats, note records, last beat, and the tally corrected over the
+/// minimised text read back.
+///
+/// # Errors
+///
+/// Refusals 1 to 6.
+#[expect(clippy::too_many_arguments, reason = "the entry is lent these")]
+pub fn minimize_chart_count_rows_notes(
+    data: &[u8],
+    lanes: usize,
+    text: &mut [u8],
+    densities: &mut [u32],
+    beats: &mut [f32],
+    work: &mut [u16],
+    notes: &mut [u8],
+    figures: &mut Figures,
+) -> Result<(), Refusal> {
+    Refusal::of(unsafe {
+        padcheck_minimize_chart_count_rows_notes(
+            data.as_ptr(),
+            data.len(),
+            lanes,
+            text.as_mut_ptr(),
+            text.len(),
+            densities.as_mut_ptr(),
+            densities.len(),
+            beats.as_mut_ptr(),
+            beats.len(),
+            work.as_mut_ptr(),
+            work.len(),
+            notes.as_mut_ptr(),
+            notes.len(),
+            figures,
+        )
+    })
+}
+
 /// The kept-row call: minimised text, densities, and the tally corrected over the pass's own rows.
 ///
 /// # Errors

@@ -26,12 +26,13 @@ mod refusal;
 pub mod stats;
 mod symbols;
 
-pub use buffers::{Buffers, KeptChart, LastBeat, TimingRows};
+pub use buffers::{Buffers, Chart, KeptChart, LastBeat, TimingRows};
 pub use figures::{ArrowStats, Figures, place};
 pub use lengths::{Lengths, MAX_LEN, NOTE_BYTES, lanes_in_force};
-pub use note::{ChartNoteType, ParsedChartNote, read_note};
+pub use note::{ChartNoteType, Notes, ParsedChartNote, read_note};
 pub use owned::{
-    chart_last_beat, equally_spaced, measure_densities, minimize_timing_rows, process_chart_kept,
+    OwnedChart, chart_last_beat, equally_spaced, measure_densities,
+    minimize_chart_count_rows_notes, minimize_timing_rows, process_chart_kept,
     process_rows_judgable, process_timing_rows,
 };
 pub use refusal::Refusal;

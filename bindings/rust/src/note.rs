@@ -1,6 +1,7 @@
 //! Notes, and the records they are stored in.
 
-use crate::{Refusal, lent};
+use crate::{NOTE_BYTES, Refusal, lent};
+use std::ops::Range;
 
 /// Kind of a note.
 #[repr(u8)]
@@ -60,6 +61,42 @@ pub fn read_note(records: &[u8], index: usize) -> Result<ParsedChartNote, Refusa
         tail_row_index: (tail != NO_TAIL).then_some(tail as usize),
     })
 }
+
+/// The notes of a chart, read from the records that the main call wrote.
+#[derive(Clone, Debug)]
+pub struct Notes<'a> {
+    records: &'a [u8],
+    left: Range<usize>,
+}
+
+impl<'a> Notes<'a> {
+    pub(crate) fn new(records: &'a [u8]) -> Self {
+        let left = 0..records.len() / NOTE_BYTES;
+        Self { records, left }
+    }
+
+    /// All records, ten bytes each and back to back, for storing.
+    #[must_use]
+    pub fn records(&self) -> &'a [u8] {
+        self.records
+    }
+}
+
+impl Iterator for Notes<'_> {
+    type Item = ParsedChartNote;
+
+    fn next(&mut self) -> Option<ParsedChartNote> {
+        let index = self.left.next()?;
+        let note = read_note(self.records, index);
+        Some(note.expect("a record that the library wrote can be read back"))
+    }
+
+    fn size_hint(&self) -> (usize, Option<usize>) {
+        self.left.size_hint()
+    }
+}
+
+impl ExactSizeIterator for Notes<'_> {}
 
 /// The kind with this number; a record that is accepted has one below 6.
 fn kind_of(number: u64) -> ChartNoteType {

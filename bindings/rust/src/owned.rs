@@ -1,7 +1,52 @@
 //! The calls that allocate what they answer.
 
 use crate::buffers::{Buffers, LastBeat};
-use crate::{ArrowStats, Refusal, lent};
+use crate::{ArrowStats, ParsedChartNote, Refusal, lent};
+
+/// What the main call answers, owned.
+#[derive(Clone, Debug, PartialEq)]
+pub struct OwnedChart {
+    /// Minimised text.
+    pub text: Vec<u8>,
+    /// The tally, corrected over the minimised text read back.
+    pub stats: ArrowStats,
+    /// For each measure how many of its minimised rows have a 1, 2 or 4.
+    pub densities: Vec<usize>,
+    /// One beat a minimised row.
+    pub beats: Vec<f32>,
+    /// The notes, in rising row, then column.
+    pub notes: Vec<ParsedChartNote>,
+    /// Where the last object row stands.
+    pub last: LastBeat,
+}
+
+/// The main call: minimised text, tally, densities, row beats, notes and last beat.
+///
+/// ```
+/// let chart = padcheck::minimize_chart_count_rows_notes(b"1000\n0000\n0100\n0000\n;\n", 4)?;
+/// assert_eq!(chart.text, b"1000\n0100\n");
+/// assert_eq!((chart.stats.total_arrows, chart.stats.total_steps), (2, 2));
+/// assert_eq!(chart.beats, [0.0, 2.0]);
+/// assert_eq!((chart.notes[1].row_index, chart.notes[1].column), (1, 1));
+/// assert_eq!(chart.last.in_48ths, 96);
+/// # Ok::<(), padcheck::Refusal>(())
+/// ```
+///
+/// # Errors
+///
+/// [`Refusal::TextTooLong`].
+pub fn minimize_chart_count_rows_notes(data: &[u8], lanes: usize) -> Result<OwnedChart, Refusal> {
+    let mut buffers = Buffers::new();
+    let chart = buffers.minimize_chart_count_rows_notes(data, lanes)?;
+    Ok(OwnedChart {
+        text: chart.text.to_vec(),
+        stats: chart.stats,
+        densities: widened(chart.densities),
+        beats: chart.beats.to_vec(),
+        notes: chart.notes.collect(),
+        last: chart.last,
+    })
+}
 
 /// The kept-row call (`process_chart_in_impl` with KEEP): minimised text, tally and densities.
 ///

@@ -5,15 +5,69 @@
 //! [`MAX_LEN`](crate::MAX_LEN), with the refusal in words; the functions of the crate's root answer it instead.
 //!
 //! ```
-//! use padcheck::stats::{measure_densities, measure_equally_spaced};
+//! use padcheck::stats::{ChartNotesScratch, measure_densities, minimize_chart_count_rows_notes};
 //!
 //! let data = b"1000\n0100\n,\n0000\n0010\n";
-//! assert_eq!(measure_densities(data, 4), [2, 1]);
-//! assert_eq!(measure_equally_spaced(data, 4), [true, false]);
+//! let mut notes = ChartNotesScratch::default();
+//! let (text, stats, densities, beats, last) = minimize_chart_count_rows_notes(data, 4, &mut notes);
+//! assert_eq!(text, data);
+//! assert_eq!((stats.total_steps, last), (3, 6.0));
+//! assert_eq!(densities, measure_densities(data, 4));
+//! assert_eq!(beats, [0.0, 2.0, 4.0, 6.0]);
+//! assert!(notes.drain().map(|note| note.column).eq([0, 1, 2]));
 //! ```
 
-use crate::Refusal;
+use crate::owned::widened;
 pub use crate::{ArrowStats, ChartNoteType, ParsedChartNote};
+use crate::{Buffers, NOTE_BYTES, Notes, Refusal};
+use std::mem;
+
+/// The notes of the last chart, and the buffers that serve the next.
+#[derive(Clone, Debug, Default)]
+pub struct ChartNotesScratch {
+    buffers: Buffers,
+    /// How many notes of the last chart have not been handed out.
+    notes: usize,
+}
+
+impl ChartNotesScratch {
+    /// Hands out the notes of the last chart, once, and keeps their allocation.
+    pub fn drain(&mut self) -> impl ExactSizeIterator<Item = ParsedChartNote> + '_ {
+        let bytes = NOTE_BYTES * mem::take(&mut self.notes);
+        Notes::new(&self.buffers.notes[..bytes])
+    }
+
+    /// How many notes fit without a new allocation.
+    #[must_use]
+    pub fn capacity(&self) -> usize {
+        self.buffers.notes.capacity() / NOTE_BYTES
+    }
+}
+
+/// Minimised text, tally, densities, row beats and last beat; the notes are in `chart_notes`.
+///
+/// # Panics
+///
+/// On a text longer than [`MAX_LEN`](crate::MAX_LEN).
+pub fn minimize_chart_count_rows_notes(
+    data: &[u8],
+    lanes: usize,
+    chart_notes: &mut ChartNotesScratch,
+) -> (Vec<u8>, ArrowStats, Vec<usize>, Vec<f32>, f64) {
+    let chart = accepted(
+        chart_notes
+            .buffers
+            .minimize_chart_count_rows_notes(data, lanes),
+    );
+    chart_notes.notes = chart.notes.len();
+    (
+        chart.text.to_vec(),
+        chart.stats,
+        widened(chart.densities),
+        chart.beats.to_vec(),
+        chart.last.beat,
+    )
+}
 
 /// For each measure how many of its minimised rows have a 1, 2 or 4.
 ///
@@ -60,6 +114,27 @@ mod tests {
         assert_eq!(measure_densities(&data, 4), [0]);
         assert_eq!(measure_equally_spaced(&data, 4), [true]);
         assert_eq!(chart_last_beat(&data, 4).to_bits(), 0);
+    }
+
+    #[test]
+    fn notes_are_handed_out_once() {
+        let mut notes = ChartNotesScratch::default();
+        assert_eq!(notes.drain().len(), 0);
+        assert_eq!(notes.capacity(), 0);
+        let _ = minimize_chart_count_rows_notes(b"1000\n0110\n", 4, &mut notes);
+        let capacity = notes.capacity();
+        assert!(capacity >= 3);
+        assert_eq!(notes.drain().len(), 3);
+        assert_eq!(notes.drain().len(), 0);
+        assert_eq!(notes.capacity(), capacity);
+        let _ = minimize_chart_count_rows_notes(b"000M\n", 4, &mut notes);
+        let mine = ParsedChartNote {
+            row_index: 0,
+            column: 3,
+            note_type: ChartNoteType::Mine,
+            tail_row_index: None,
+        };
+        assert!(notes.drain().eq([mine]));
     }
 
     #[test]

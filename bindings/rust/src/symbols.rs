@@ -3,6 +3,22 @@
 use crate::Figures;
 
 unsafe extern "C" {
+    pub fn padcheck_minimize_chart_count_rows_notes(
+        data: *const u8,
+        data_len: usize,
+        lanes: usize,
+        text: *mut u8,
+        text_len: usize,
+        densities: *mut u32,
+        densities_len: usize,
+        beats: *mut f32,
+        beats_len: usize,
+        work: *mut u16,
+        work_len: usize,
+        notes: *mut u8,
+        notes_len: usize,
+        figures: *mut Figures,
+    ) -> u32;
     pub fn padcheck_process_chart_kept(
         data: *const u8,
         data_len: usize,

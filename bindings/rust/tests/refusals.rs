@@ -11,6 +11,7 @@ struct Loan {
     spacing: Vec<u8>,
     beats: Vec<f32>,
     work: Vec<u16>,
+    notes: Vec<u8>,
     figures: Figures,
 }
 
@@ -23,12 +24,17 @@ impl Loan {
             spacing: vec![7; lengths.measures],
             beats: vec![7.0; lengths.beats],
             work: vec![7; lengths.work],
+            notes: vec![7; lengths.notes],
             figures: [7; 32],
         }
     }
 
     fn is_marked(&self) -> bool {
-        self.text.iter().chain(&self.spacing).all(|&byte| byte == 7)
+        self.text
+            .iter()
+            .chain(&self.spacing)
+            .chain(&self.notes)
+            .all(|&byte| byte == 7)
             && self.densities.iter().all(|&density| density == 7)
             && self.beats.iter().all(|&beat| beat == 7.0)
             && self.work.iter().all(|&work| work == 7)
@@ -53,6 +59,46 @@ fn refused(
 
 #[test]
 fn a_slice_one_short_is_refused() {
+    let main = |loan: &mut Loan| {
+        let (text, densities, beats) = (&mut loan.text, &mut loan.densities, &mut loan.beats);
+        let (work, notes, figures) = (&mut loan.work, &mut loan.notes, &mut loan.figures);
+        lent::minimize_chart_count_rows_notes(DATA, 4, text, densities, beats, work, notes, figures)
+    };
+    refused(
+        Refusal::TextShort,
+        |loan| {
+            loan.text.pop();
+        },
+        main,
+    );
+    refused(
+        Refusal::MeasuresShort,
+        |loan| {
+            loan.densities.pop();
+        },
+        main,
+    );
+    refused(
+        Refusal::BeatsShort,
+        |loan| {
+            loan.beats.pop();
+        },
+        main,
+    );
+    refused(
+        Refusal::WorkShort,
+        |loan| {
+            loan.work.pop();
+        },
+        main,
+    );
+    refused(
+        Refusal::NotesShort,
+        |loan| {
+            loan.notes.pop();
+        },
+        main,
+    );
     let kept = |loan: &mut Loan| {
         let figures = &mut loan.figures;
         lent::process_chart_kept(
@@ -137,6 +183,20 @@ fn a_text_that_is_too_long_is_refused_first() {
     let data = vec![b'1'; MAX_LEN + 1];
     let mut figures = [7; 32];
     let too_long = Err(Refusal::TextTooLong);
+    let main = lent::minimize_chart_count_rows_notes;
+    assert_eq!(
+        main(
+            &data,
+            4,
+            &mut [],
+            &mut [],
+            &mut [],
+            &mut [],
+            &mut [],
+            &mut figures
+        ),
+        too_long
+    );
     assert_eq!(
         lent::process_chart_kept(&data, 4, &mut [], &mut [], &mut [], &mut figures),
         too_long
@@ -168,6 +228,10 @@ fn a_text_that_is_too_long_is_refused_first() {
 #[test]
 fn allocating_calls_refuse_a_text_that_is_too_long_and_nothing_else() {
     let data = vec![b'1'; MAX_LEN + 1];
+    assert_eq!(
+        padcheck::minimize_chart_count_rows_notes(&data, 4),
+        Err(Refusal::TextTooLong)
+    );
     assert_eq!(
         padcheck::process_chart_kept(&data, 4),
         Err(Refusal::TextTooLong)

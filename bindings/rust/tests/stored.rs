@@ -1,7 +1,8 @@
 //! Every function beside the stored sample of the Rust's answers, `tests/vectors/answers.bin` of the repository.
 //! One set of buffers serves all texts, so that what one chart leaves in them meets the next.
 
-use padcheck::{ArrowStats, Buffers, Figures, KeptChart, place};
+use padcheck::stats::ChartNotesScratch;
+use padcheck::{ArrowStats, Buffers, ChartNoteType, Figures, KeptChart, ParsedChartNote, place};
 use std::fs;
 use std::path::Path;
 
@@ -11,6 +12,7 @@ struct Answer<'a> {
     /// Densities, or one byte a measure for the spacing.
     measures: &'a [u8],
     beats: &'a [u8],
+    notes: &'a [u8],
 }
 
 impl Answer<'_> {
@@ -35,6 +37,7 @@ struct Record<'a> {
 }
 
 /// Places of the answers in a record.
+const MAIN: usize = 0;
 const KEPT: usize = 1;
 const TIMING_ROWS: usize = 2;
 const DENSITIES: usize = 3;
@@ -65,14 +68,13 @@ impl<'a> Reader<'a> {
     fn answer(&mut self) -> Answer<'a> {
         let figures = std::array::from_fn(|_| self.number(8));
         let [text, measures, beats, notes] = std::array::from_fn(|_| self.length());
-        let answer = Answer {
+        Answer {
             figures,
             text: self.bytes(text),
             measures: self.bytes(measures),
             beats: self.bytes(beats),
-        };
-        self.bytes(notes);
-        answer
+            notes: self.bytes(notes),
+        }
     }
 
     fn record(&mut self) -> Record<'a> {
@@ -110,6 +112,77 @@ fn each_record(mut test: impl FnMut(&Record)) {
         test(&reader.record());
     }
     assert!(reader.0.is_empty());
+}
+
+#[test]
+fn main_charts() {
+    let mut buffers = Buffers::new();
+    let mut scratch = ChartNotesScratch::default();
+    each_record(|record| {
+        let answer = &record.answers[MAIN];
+        let last_bits = answer.figures[place::LAST_BEAT];
+
+        let kept = buffers
+            .minimize_chart_count_rows_notes(record.text, record.lanes)
+            .unwrap();
+        assert_eq!(kept.text, answer.text);
+        assert_eq!(kept.stats, answer.stats());
+        assert!(words(answer.measures).eq(kept.densities.iter().copied()));
+        assert_eq!(bits(kept.beats), answer.beat_bits());
+        assert_eq!(kept.notes.records(), answer.notes);
+        assert_eq!(kept.last.beat.to_bits(), last_bits);
+        assert_eq!(kept.last.in_48ths, answer.figures[place::LAST_BEAT_48THS]);
+        let notes: Vec<_> = kept.notes.collect();
+        assert_eq!(notes, stored_notes(answer.notes));
+
+        let chart = padcheck::minimize_chart_count_rows_notes(record.text, record.lanes).unwrap();
+        assert_eq!(chart.text, answer.text);
+        assert_eq!(chart.stats, answer.stats());
+        assert_eq!(chart.densities, answer.densities());
+        assert_eq!(bits(&chart.beats), answer.beat_bits());
+        assert_eq!(chart.notes, notes);
+        assert_eq!(chart.last.beat.to_bits(), last_bits);
+
+        let (text, stats, densities, beats, last) =
+            padcheck::stats::minimize_chart_count_rows_notes(
+                record.text,
+                record.lanes,
+                &mut scratch,
+            );
+        assert_eq!(
+            (text, stats, densities),
+            (chart.text, chart.stats, chart.densities)
+        );
+        assert_eq!(
+            (bits(&beats), last.to_bits()),
+            (answer.beat_bits(), last_bits)
+        );
+        assert!(scratch.drain().eq(notes));
+    });
+}
+
+/// The notes of stored records, read by the layout of document 01.
+fn stored_notes(records: &[u8]) -> Vec<ParsedChartNote> {
+    const KINDS: [ChartNoteType; 6] = [
+        ChartNoteType::Tap,
+        ChartNoteType::Hold,
+        ChartNoteType::Roll,
+        ChartNoteType::Mine,
+        ChartNoteType::Lift,
+        ChartNoteType::Fake,
+    ];
+    let mut reader = Reader(records);
+    let mut notes = Vec::new();
+    while !reader.0.is_empty() {
+        let (row, tail) = (reader.length(), reader.length());
+        notes.push(ParsedChartNote {
+            row_index: row,
+            tail_row_index: (tail != 4_294_967_295).then_some(tail),
+            column: reader.number(1) as usize,
+            note_type: KINDS[reader.number(1) as usize],
+        });
+    }
+    notes
 }
 
 #[test]
