@@ -1,0 +1,4 @@
+-- Laws of the card.
+pub mod Accepted
+pub mod Lines
+pub mod Answering
