@@ -47,6 +47,35 @@ pub fn next_answer(s: &[u8], at: usize) -> usize {
     after(p.notes, p.notes_len)
 }
 
+pub fn main_agrees(data: &[u8], lanes: usize, s: &[u8], at: usize) -> bool {
+    let mut text = [165u8; 4096];
+    let mut densities = [2779096485u32; 2049];
+    let mut beats = [1.5f32; 820];
+    let mut work = [42405u16; 820];
+    let mut notes = [165u8; 40960];
+    let mut figures = [165u64; 32];
+    let number = padcheck::padcheck_minimize_chart_count_rows_notes(
+        data,
+        lanes,
+        &mut text,
+        &mut densities,
+        &mut beats,
+        &mut work,
+        &mut notes,
+        &mut figures,
+    );
+    if number != 0 {
+        return false;
+    }
+    let p = contents_of(s, at);
+    same_figures(&figures, s, at)
+        && same_bytes(&text, s, p.text, p.text_len)
+        && same_numbers(&densities, s, p.measures, p.measures_len)
+        && same_floats(&beats, s, p.beats, p.beats_len)
+        && all_zero(&work)
+        && same_bytes(&notes, s, p.notes, p.notes_len)
+}
+
 pub fn kept_agrees(data: &[u8], lanes: usize, s: &[u8], at: usize) -> bool {
     let mut text = [165u8; 4096];
     let mut densities = [2779096485u32; 2049];

@@ -37,6 +37,9 @@ fn answers_agree(data: &[u8], lanes: usize, flags: &[u8], s: &[u8], at: usize) -
     if calls::next_answer(s, flagged) != s.len() {
         return Compared::Malformed;
     }
+    if !calls::main_agrees(data, lanes, s, at) {
+        return Compared::Differs(0);
+    }
     if !calls::kept_agrees(data, lanes, s, kept) {
         return Compared::Differs(1);
     }
@@ -138,7 +141,7 @@ fn replay_all(fd: i32, count: u64) -> u64 {
     index
 }
 
-const CALLS: u64 = 7;
+const CALLS: u64 = 8;
 
 fn replay(fd: i32) {
     let mut head = [0u8; 24];
