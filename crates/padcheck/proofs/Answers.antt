@@ -1,5 +1,5 @@
 -- From the answers of the crates below, by cases, to the number returned and the figures left.
-use mathlib.Core.Path.{_≡_, refl, ap}
+use mathlib.Core.Path.{_≡_, refl}
 use mathlib.Core.List.{List}
 use mathlib.Core.Bool.{Bool}
 use Prim.Native.Nat.{ℕ, zero, suc}
@@ -7,107 +7,131 @@ use native.Mathlib.Omega.{arith}
 use lib.Dec.{eqb, eqb·suc-zero}
 use lib.Ieee.{Float}
 use Rattle.definitions.specs.Refusals.{replaces}
-use Rattle.definitions.specs.declared.ArrowStats.{ArrowStats}
 use Rattle.scans.specs.Answers.{refusedOr, refusedOrBeat}
-use Rattle.scans.specs.declared.MeasuresAnswer.{MeasuresAnswer}
-use Rattle.scans.specs.declared.MeasuresAnswer.the-variants as measures
-use Rattle.scans.specs.declared.LastBeat.{LastBeat}
+use Rattle.scans.specs.declared.MeasuresAnswer.the-variants.{Refused, Measures}
 use Rattle.scans.specs.declared.LastBeat.the-variants as last
-use Rattle.chart.specs.Answers.{refusedOrChart}
-use Rattle.chart.specs.declared.ChartFigures.{ChartFigures}
-use Rattle.chart.specs.declared.ChartAnswer.{ChartAnswer}
-use Rattle.chart.specs.declared.ChartAnswer.the-variants as chart
-use Rattle.kept.specs.Answers.{refusedOrKept}
 use Rattle.kept.specs.declared.KeptFigures.{KeptFigures}
-use Rattle.kept.specs.declared.KeptAnswer.{KeptAnswer}
+use Rattle.kept.specs.Answers.{refusedOrKept}
 use Rattle.kept.specs.declared.KeptAnswer.the-variants as kept
+use Rattle.chart.specs.declared.ChartFigures.{ChartFigures}
+use Rattle.chart.specs.Answers.{refusedOrChart}
+use Rattle.chart.specs.declared.ChartAnswer.the-variants as chart
 use Rattle.timing.specs.Answers as timing-answers
-use Rattle.timing.specs.declared.TimingAnswer.{TimingAnswer}
 use Rattle.timing.specs.declared.TimingAnswer.the-variants as timing
+use Rattle.definitions.specs.declared.ArrowStats.{ArrowStats}
 use Rattle.judged.specs.Answers.{refusedOrTally}
-use Rattle.judged.specs.declared.JudgedAnswer.{JudgedAnswer}
 use Rattle.judged.specs.declared.JudgedAnswer.the-variants as judged
 
--- An answer of any call: a refusal's number, or what an accepted call answers.
-pub data Answered (A : Type 0) : Type 0 where
-  refused : ℕ → Answered A
-  accepted : A → Answered A
+-- a refused call: its number, and what was lent stays as it was
+pub refused-number : (k n m : ℕ) → refusedOr k n ≡ Refused m → m ≡ k
+refused-number zero n m e = let z : _≡_ {A = ℕ} 0 1 = cc in absurd (omega arith)
+refused-number (suc k) n m e = cc
 
-module _ {A : Type 0} where
-  -- by the number of document 01, 0 for accepted
-  abbrev pub answered : ℕ → A → Answered A
-  answered zero x = accepted x
-  answered (suc k) x = refused (suc k)
+pub refused-replaces : (k n m : ℕ) → refusedOr k n ≡ Refused m → (a old : List ℕ) → old ≡ replaces k a old
+unfolding replaces
+refused-replaces zero n m e a old = let z : _≡_ {A = ℕ} 0 1 = cc in absurd (omega arith)
+refused-replaces (suc k) n m e a old = rw (eqb·suc-zero k)
 
-  -- a refused call: its number, and what was lent stays as it was
-  pub refused-number : (k : ℕ) (x : A) (m : ℕ) → answered k x ≡ refused m → m ≡ k
-  refused-number zero x m e = let z : _≡_ {A = ℕ} 0 1 = cc in absurd (omega arith)
-  refused-number (suc k) x m e = cc
+-- an accepted call: 0, the measures, and the figures
+pub accepted-number : (k n m : ℕ) → refusedOr k n ≡ Measures m → 0 ≡ k
+accepted-number zero n m e = refl
+accepted-number (suc k) n m e = let z : _≡_ {A = ℕ} 0 1 = cc in absurd (omega arith)
 
-  pub refused-replaces : (k : ℕ) (x : A) (m : ℕ) → answered k x ≡ refused m → (a old : List ℕ) → old ≡ replaces k a old
-  unfolding replaces
-  refused-replaces zero x m e a old = let z : _≡_ {A = ℕ} 0 1 = cc in absurd (omega arith)
-  refused-replaces (suc k) x m e a old = rw (eqb·suc-zero k)
-
-  -- an accepted call: 0, and what it answers
-  pub accepted-number : (k : ℕ) (x y : A) → answered k x ≡ accepted y → 0 ≡ k
-  accepted-number zero x y e = refl
-  accepted-number (suc k) x y e = let z : _≡_ {A = ℕ} 0 1 = cc in absurd (omega arith)
-
-  pub accepted-value : (k : ℕ) (x y : A) → answered k x ≡ accepted y → y ≡ x
-  accepted-value zero x y e = cc
-  accepted-value (suc k) x y e = let z : _≡_ {A = ℕ} 0 1 = cc in absurd (omega arith)
+pub accepted-measures : (k n m : ℕ) → refusedOr k n ≡ Measures m → m ≡ n
+accepted-measures zero n m e = cc
+accepted-measures (suc k) n m e = let z : _≡_ {A = ℕ} 0 1 = cc in absurd (omega arith)
 
 pub accepted-replaces : (k : ℕ) → 0 ≡ k → (a old : List ℕ) → a ≡ replaces k a old
 unfolding replaces
 accepted-replaces zero e a old = refl
 accepted-replaces (suc k) e a old = absurd (omega arith)
 
--- Each call's answer is such an answer.
-abbrev measures-of : MeasuresAnswer → Answered ℕ
-measures-of (measures.Refused m) = refused m
-measures-of (measures.Measures n) = accepted n
+-- the same of the last beat
+pub last-refused-number : (k : ℕ) (b : Float) (x y m : ℕ) → refusedOrBeat k b x y ≡ last.Refused m → m ≡ k
+last-refused-number zero b x y m e = let z : _≡_ {A = ℕ} 0 1 = cc in absurd (omega arith)
+last-refused-number (suc k) b x y m e = cc
 
-pub measures-answer : (k n : ℕ) (b : MeasuresAnswer) → refusedOr k n ≡ b → answered k n ≡ measures-of b
-measures-answer zero n b e = ap measures-of e
-measures-answer (suc k) n b e = ap measures-of e
+pub last-refused-replaces : (k : ℕ) (b : Float) (x y m : ℕ) → refusedOrBeat k b x y ≡ last.Refused m → (a old : List ℕ) → old ≡ replaces k a old
+unfolding replaces
+last-refused-replaces zero b x y m e a old = let z : _≡_ {A = ℕ} 0 1 = cc in absurd (omega arith)
+last-refused-replaces (suc k) b x y m e a old = rw (eqb·suc-zero k)
 
-abbrev last-of : LastBeat → Answered (ℕ × ℕ)
-last-of (last.Refused m) = refused m
-last-of (last.Beat beat bits row) = accepted (bits, row)
+pub last-accepted-number : (k : ℕ) (b c : Float) (x y p q : ℕ) → refusedOrBeat k b x y ≡ last.Beat c p q → 0 ≡ k
+last-accepted-number zero b c x y p q e = refl
+last-accepted-number (suc k) b c x y p q e = let z : _≡_ {A = ℕ} 0 1 = cc in absurd (omega arith)
 
-pub last-answer : (k : ℕ) (beat : Float) (bits row : ℕ) (b : LastBeat) → refusedOrBeat k beat bits row ≡ b → answered k (bits, row) ≡ last-of b
-last-answer zero beat bits row b e = ap last-of e
-last-answer (suc k) beat bits row b e = ap last-of e
+pub last-accepted-beat : (k : ℕ) (b c : Float) (x y p q : ℕ) → refusedOrBeat k b x y ≡ last.Beat c p q → (p ≡ x) × (q ≡ y)
+last-accepted-beat zero b c x y p q e = (cc, cc)
+last-accepted-beat (suc k) b c x y p q e = let z : _≡_ {A = ℕ} 0 1 = cc in absurd (omega arith)
 
-abbrev tally-of : JudgedAnswer → Answered ArrowStats
-tally-of (judged.Refused m) = refused m
-tally-of (judged.Tally t) = accepted t
+-- the same of a tally
+pub tally-refused-number : (k : ℕ) (t : ArrowStats) (m : ℕ) → refusedOrTally k t ≡ judged.Refused m → m ≡ k
+tally-refused-number zero t m e = let z : _≡_ {A = ℕ} 0 1 = cc in absurd (omega arith)
+tally-refused-number (suc k) t m e = cc
 
-pub tally-answer : (k : ℕ) (t : ArrowStats) (b : JudgedAnswer) → refusedOrTally k t ≡ b → answered k t ≡ tally-of b
-tally-answer zero t b e = ap tally-of e
-tally-answer (suc k) t b e = ap tally-of e
+pub tally-refused-replaces : (k : ℕ) (t : ArrowStats) (m : ℕ) → refusedOrTally k t ≡ judged.Refused m → (a old : List ℕ) → old ≡ replaces k a old
+unfolding replaces
+tally-refused-replaces zero t m e a old = let z : _≡_ {A = ℕ} 0 1 = cc in absurd (omega arith)
+tally-refused-replaces (suc k) t m e a old = rw (eqb·suc-zero k)
 
-abbrev timing-of : TimingAnswer → Answered (ℕ × ℕ × Bool)
-timing-of (timing.Refused m) = refused m
-timing-of (timing.Rows bytes rows heads) = accepted (bytes, rows, heads)
+pub tally-accepted-number : (k : ℕ) (t u : ArrowStats) → refusedOrTally k t ≡ judged.Tally u → 0 ≡ k
+tally-accepted-number zero t u e = refl
+tally-accepted-number (suc k) t u e = let z : _≡_ {A = ℕ} 0 1 = cc in absurd (omega arith)
 
-pub timing-answer : (k bytes rows : ℕ) (heads : Bool) (b : TimingAnswer) → timing-answers.refusedOr k bytes rows heads ≡ b → answered k (bytes, rows, heads) ≡ timing-of b
-timing-answer zero bytes rows heads b e = ap timing-of e
-timing-answer (suc k) bytes rows heads b e = ap timing-of e
+pub tally-accepted : (k : ℕ) (t u : ArrowStats) → refusedOrTally k t ≡ judged.Tally u → u ≡ t
+tally-accepted zero t u e = cc
+tally-accepted (suc k) t u e = let z : _≡_ {A = ℕ} 0 1 = cc in absurd (omega arith)
 
-abbrev kept-of : KeptAnswer → Answered KeptFigures
-kept-of (kept.Refused m) = refused m
-kept-of (kept.Kept f) = accepted f
+-- the same of the timing rows
+pub timing-refused-number : (k b r : ℕ) (h : Bool) (m : ℕ) → timing-answers.refusedOr k b r h ≡ timing.Refused m → m ≡ k
+timing-refused-number zero b r h m e = let z : _≡_ {A = ℕ} 0 1 = cc in absurd (omega arith)
+timing-refused-number (suc k) b r h m e = cc
 
-pub kept-answer : (k : ℕ) (f : KeptFigures) (b : KeptAnswer) → refusedOrKept k f ≡ b → answered k f ≡ kept-of b
-kept-answer zero f b e = ap kept-of e
-kept-answer (suc k) f b e = ap kept-of e
+pub timing-refused-replaces : (k b r : ℕ) (h : Bool) (m : ℕ) → timing-answers.refusedOr k b r h ≡ timing.Refused m → (a old : List ℕ) → old ≡ replaces k a old
+unfolding replaces
+timing-refused-replaces zero b r h m e a old = let z : _≡_ {A = ℕ} 0 1 = cc in absurd (omega arith)
+timing-refused-replaces (suc k) b r h m e a old = rw (eqb·suc-zero k)
 
-abbrev chart-of : ChartAnswer → Answered ChartFigures
-chart-of (chart.Refused m) = refused m
-chart-of (chart.Chart f) = accepted f
+pub timing-accepted-number : (k b r : ℕ) (h : Bool) (x y : ℕ) (z : Bool) → timing-answers.refusedOr k b r h ≡ timing.Rows x y z → 0 ≡ k
+timing-accepted-number zero b r h x y z e = refl
+timing-accepted-number (suc k) b r h x y z e = let n : _≡_ {A = ℕ} 0 1 = cc in absurd (omega arith)
 
-pub chart-answer : (k : ℕ) (f : ChartFigures) (b : ChartAnswer) → refusedOrChart k f ≡ b → answered k f ≡ chart-of b
-chart-answer zero f b e = ap chart-of e
-chart-answer (suc k) f b e = ap chart-of e
+pub timing-accepted : (k b r : ℕ) (h : Bool) (x y : ℕ) (z : Bool) → timing-answers.refusedOr k b r h ≡ timing.Rows x y z → (x ≡ b) × (y ≡ r) × (z ≡ h)
+timing-accepted zero b r h x y z e = (cc, cc, cc)
+timing-accepted (suc k) b r h x y z e = let n : _≡_ {A = ℕ} 0 1 = cc in absurd (omega arith)
+
+-- the same of the kept-row call
+pub kept-refused-number : (k : ℕ) (f : KeptFigures) (m : ℕ) → refusedOrKept k f ≡ kept.Refused m → m ≡ k
+kept-refused-number zero f m e = let z : _≡_ {A = ℕ} 0 1 = cc in absurd (omega arith)
+kept-refused-number (suc k) f m e = cc
+
+pub kept-refused-replaces : (k : ℕ) (f : KeptFigures) (m : ℕ) → refusedOrKept k f ≡ kept.Refused m → (a old : List ℕ) → old ≡ replaces k a old
+unfolding replaces
+kept-refused-replaces zero f m e a old = let z : _≡_ {A = ℕ} 0 1 = cc in absurd (omega arith)
+kept-refused-replaces (suc k) f m e a old = rw (eqb·suc-zero k)
+
+pub kept-accepted-number : (k : ℕ) (f g : KeptFigures) → refusedOrKept k f ≡ kept.Kept g → 0 ≡ k
+kept-accepted-number zero f g e = refl
+kept-accepted-number (suc k) f g e = let n : _≡_ {A = ℕ} 0 1 = cc in absurd (omega arith)
+
+pub kept-accepted : (k : ℕ) (f g : KeptFigures) → refusedOrKept k f ≡ kept.Kept g → g ≡ f
+kept-accepted zero f g e = cc
+kept-accepted (suc k) f g e = let n : _≡_ {A = ℕ} 0 1 = cc in absurd (omega arith)
+
+-- the same of the main call
+pub chart-refused-number : (k : ℕ) (f : ChartFigures) (m : ℕ) → refusedOrChart k f ≡ chart.Refused m → m ≡ k
+chart-refused-number zero f m e = let z : _≡_ {A = ℕ} 0 1 = cc in absurd (omega arith)
+chart-refused-number (suc k) f m e = cc
+
+pub chart-refused-replaces : (k : ℕ) (f : ChartFigures) (m : ℕ) → refusedOrChart k f ≡ chart.Refused m → (a old : List ℕ) → old ≡ replaces k a old
+unfolding replaces
+chart-refused-replaces zero f m e a old = let z : _≡_ {A = ℕ} 0 1 = cc in absurd (omega arith)
+chart-refused-replaces (suc k) f m e a old = rw (eqb·suc-zero k)
+
+pub chart-accepted-number : (k : ℕ) (f g : ChartFigures) → refusedOrChart k f ≡ chart.Chart g → 0 ≡ k
+chart-accepted-number zero f g e = refl
+chart-accepted-number (suc k) f g e = let n : _≡_ {A = ℕ} 0 1 = cc in absurd (omega arith)
+
+pub chart-accepted : (k : ℕ) (f g : ChartFigures) → refusedOrChart k f ≡ chart.Chart g → g ≡ f
+chart-accepted zero f g e = cc
+chart-accepted (suc k) f g e = let n : _≡_ {A = ℕ} 0 1 = cc in absurd (omega arith)

@@ -3,7 +3,7 @@ use mathlib.Core.Path.{_≡_, sym, ap, _∙_}
 use denote.Ref.{now}
 use Rattle.definitions.specs.Entries.{figures, tallyFigures, mainNumber, mainFigures}
 use Rattle.chart.specs.Answers.{chartFigures, chartAnswer}
-use Rattle.padcheck.proofs.Answers.{chart-answer, refused-number, refused-replaces, accepted-number, accepted-value, accepted-replaces}
+use Rattle.padcheck.proofs.Answers.{chart-refused-number, chart-refused-replaces, chart-accepted-number, chart-accepted, accepted-replaces}
 use borrow.Author.Needs.{needs}
 use Rattle.padcheck.proofs.padcheck_minimize_chart_count_rows_notes.Statement.{statement}
 use Rattle.padcheck.proofs.padcheck_minimize_chart_count_rows_notes.Tie as tie
@@ -39,8 +39,8 @@ returns : tie.Need-returns
 unfolding chartAnswer mainFigures
 returns c =
     let r = c .before .before .before .before .before .before .before .before .before .before .before .before .before .minimize-chart-count-rows-notes .ensures in
-    let e = chart-answer _ _ _ (sym (r .0) ∙ c .before .number .given .1) in
-    (refused-number _ _ _ e, (r .1 .0, (r .1 .1 .0, (r .1 .1 .1 .0, (r .1 .1 .1 .1 .0, (r .1 .1 .1 .1 .1, refused-replaces _ _ _ e _ _))))))
+    let e = sym (r .0) ∙ c .before .number .given .1 in
+    (chart-refused-number _ _ _ e, (r .1 .0, (r .1 .1 .0, (r .1 .1 .1 .0, (r .1 .1 .1 .1 .0, (r .1 .1 .1 .1 .1, chart-refused-replaces _ _ _ e _ _))))))
 
 same-length-6 : tie.Need-same-length-6
 same-length-6 c = search needs
@@ -63,9 +63,9 @@ returns-2 c =
     let call = c .before .before .before .before .before .before .before .before .before .before .before .before .before .before in
     let a = call .before .before .before .before .before .before .before .before .before .before .before .before .args in
     let r = call .minimize-chart-count-rows-notes .ensures in
-    let e = chart-answer _ _ _ (sym (r .0) ∙ c .before .before .k .given .1) in
-    let zero-is = accepted-number _ _ _ e in
-    let same = accepted-value (mainNumber (a .lanes) (now (a .«data»)) (now (a .text)) (now (a .densities)) (now (a .beats)) (now (a .work)) (now (a .notes))) _ _ e in
+    let e = sym (r .0) ∙ c .before .before .k .given .1 in
+    let zero-is = chart-accepted-number _ _ _ e in
+    let same = chart-accepted (mainNumber (a .lanes) (now (a .«data»)) (now (a .text)) (now (a .densities)) (now (a .beats)) (now (a .work)) (now (a .notes))) _ _ e in
     let answered = c .chart-figures .ensures ∙ ap (λ f. figures (f .bytes) (f .measures) (f .rows) (f .notes) (f .«last_bits») 0 (f .«last_row») (tallyFigures (f .stats))) same ∙ accepted-replaces _ zero-is _ _ in
     (zero-is, (r .1 .0, (r .1 .1 .0, (r .1 .1 .1 .0, (r .1 .1 .1 .1 .0, (r .1 .1 .1 .1 .1, answered))))))
 

@@ -4,7 +4,7 @@ use denote.Ref.{now}
 use Rattle.definitions.specs.Entries.{figures, tallyFigures, keptNumber, keptFigures}
 use Rattle.kept.specs.Answers as answered
 use Rattle.kept.specs.Answers.{keptAnswer}
-use Rattle.padcheck.proofs.Answers.{kept-answer, refused-number, refused-replaces, accepted-number, accepted-value, accepted-replaces}
+use Rattle.padcheck.proofs.Answers.{kept-refused-number, kept-refused-replaces, kept-accepted-number, kept-accepted, accepted-replaces}
 use borrow.Author.Needs.{needs}
 use Rattle.padcheck.proofs.padcheck_process_chart_kept.Statement.{statement}
 use Rattle.padcheck.proofs.padcheck_process_chart_kept.Tie as tie
@@ -34,8 +34,8 @@ returns : tie.Need-returns
 unfolding keptAnswer keptFigures
 returns c =
     let r = c .before .before .before .before .before .before .before .before .before .process-chart-kept .ensures in
-    let e = kept-answer _ _ _ (sym (r .0) ∙ c .before .number .given .1) in
-    (refused-number _ _ _ e, (r .1 .0, (r .1 .1 .0, (r .1 .1 .1, refused-replaces _ _ _ e _ _))))
+    let e = sym (r .0) ∙ c .before .number .given .1 in
+    (kept-refused-number _ _ _ e, (r .1 .0, (r .1 .1 .0, (r .1 .1 .1, kept-refused-replaces _ _ _ e _ _))))
 
 same-length-4 : tie.Need-same-length-4
 same-length-4 c = search needs
@@ -52,9 +52,9 @@ returns-2 c =
     let call = c .before .before .before .before .before .before .before .before .before .before in
     let a = call .before .before .before .before .before .before .before .before .args in
     let r = call .process-chart-kept .ensures in
-    let e = kept-answer _ _ _ (sym (r .0) ∙ c .before .before .k .given .1) in
-    let zero-is = accepted-number _ _ _ e in
-    let same = accepted-value (keptNumber (a .lanes) (now (a .«data»)) (now (a .text)) (now (a .densities)) (now (a .work))) _ _ e in
+    let e = sym (r .0) ∙ c .before .before .k .given .1 in
+    let zero-is = kept-accepted-number _ _ _ e in
+    let same = kept-accepted (keptNumber (a .lanes) (now (a .«data»)) (now (a .text)) (now (a .densities)) (now (a .work))) _ _ e in
     let answered = c .kept-figures .ensures ∙ ap (λ f. figures (f .bytes) (f .measures) (f .rows) 0 0 0 0 (tallyFigures (f .stats))) same ∙ accepted-replaces _ zero-is _ _ in
     (zero-is, (r .1 .0, (r .1 .1 .0, (r .1 .1 .1, answered))))
 

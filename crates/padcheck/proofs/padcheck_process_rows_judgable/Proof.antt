@@ -2,7 +2,7 @@
 use mathlib.Core.Path.{_≡_, sym, ap, _∙_}
 use Rattle.definitions.specs.Entries.{figures, tallyFigures, judgedNumber, judgedFigures}
 use Rattle.judged.specs.Answers.{judgedAnswer}
-use Rattle.padcheck.proofs.Answers.{tally-answer, refused-number, refused-replaces, accepted-number, accepted-value, accepted-replaces}
+use Rattle.padcheck.proofs.Answers.{tally-refused-number, tally-refused-replaces, tally-accepted-number, tally-accepted, accepted-replaces}
 use borrow.Author.Needs.{needs}
 use denote.Ref.{now}
 use Rattle.padcheck.proofs.padcheck_process_rows_judgable.Statement.{statement}
@@ -27,8 +27,8 @@ returns : tie.Need-returns
 unfolding judgedAnswer judgedFigures
 returns c =
     let k = c .before .before .before .before .before in
-    let e = tally-answer _ _ _ (sym (k .process-rows-judgable .ensures .0) ∙ c .before .number .given .1) in
-    (refused-number _ _ _ e, (k .process-rows-judgable .ensures .1, refused-replaces _ _ _ e _ _))
+    let e = sym (k .process-rows-judgable .ensures .0) ∙ c .before .number .given .1 in
+    (tally-refused-number _ _ _ e, (k .process-rows-judgable .ensures .1, tally-refused-replaces _ _ _ e _ _))
 
 same-length-2 : tie.Need-same-length-2
 same-length-2 c = search needs
@@ -38,9 +38,9 @@ unfolding judgedAnswer judgedFigures
 returns-2 c =
     let k = c .before .before .before .before .before .before in
     let a = k .before .before .before .before .args in
-    let e = tally-answer _ _ _ (sym (k .process-rows-judgable .ensures .0) ∙ c .before .before .t .given .1) in
-    let zero-is = accepted-number _ _ _ e in
-    (zero-is, (k .process-rows-judgable .ensures .1, c .tally-figures .ensures ∙ ap (λ t. figures 0 0 0 0 0 0 0 (tallyFigures t)) (accepted-value (judgedNumber (a .lanes) (now (a .«data»)) (now (a .work))) _ _ e) ∙ accepted-replaces _ zero-is _ _))
+    let e = sym (k .process-rows-judgable .ensures .0) ∙ c .before .before .t .given .1 in
+    let zero-is = tally-accepted-number _ _ _ e in
+    (zero-is, (k .process-rows-judgable .ensures .1, c .tally-figures .ensures ∙ ap (λ t. figures 0 0 0 0 0 0 0 (tallyFigures t)) (tally-accepted (judgedNumber (a .lanes) (now (a .«data»)) (now (a .work))) _ _ e) ∙ accepted-replaces _ zero-is _ _))
 
 pub padcheck-process-rows-judgable-spec : {M : Type 1} → statement M
 padcheck-process-rows-judgable-spec =
