@@ -1,7 +1,7 @@
 -- From the pass over a whole text to what the main call answers.
-use mathlib.Core.Path.{_≡_, refl, ap, sym, _∙_, subst}
+use mathlib.Core.Path.{_≡_, refl, ap, sym, _∙_}
 use mathlib.Core.Bool.{Bool, true}
-use mathlib.Core.List.{List, [], _++_, append-nil}
+use mathlib.Core.List.{List}
 use Prim.Native.Nat.{ℕ, _+_, _-_, _*_, _/_, _≤_}
 use native.Mathlib.Nat.{le-trans, mul-le-mul-right, div-le-self}
 use native.Mathlib.Omega.{arith}
@@ -13,13 +13,12 @@ use Rattle.definitions.specs.Lanes.{mostRows}
 use Rattle.definitions.specs.Lines.{Row}
 use Rattle.definitions.specs.Reduction.{minimised}
 use Rattle.definitions.specs.Beats.{f32, rowToBeat, beats as beatsOf}
-use Rattle.definitions.specs.Objects.{lastObject, place48, last48, lastBeat}
+use Rattle.definitions.specs.Objects.{last48, lastBeat}
 use Rattle.definitions.specs.Notes.{notes}
 use Rattle.definitions.specs.Records.{records}
 use Rattle.definitions.specs.Correction.{corrected}
 use Rattle.definitions.specs.ReadBack.{mainTally}
 use Rattle.definitions.specs.declared.ArrowStats.{ArrowStats}
-use Rattle.beats.specs.Places.{placeOf}
 use Rattle.kept.proofs.Answering.{own-part}
 use Rattle.notes.specs.Written.{Written, SomeRows, Finished}
 use Rattle.reader.specs.BackReading.{rowsBack}
@@ -40,12 +39,12 @@ module _ (L : ℕ) (data-text : List ℕ) (p : ChartPass) (text densities : List
   unfolding mostRows
   rows-small = le-trans (x .kept .rows-few) (div-le-self (length data-text + 1) (L + 1))
 
-  pub some-rows : SomeRows (p .noting .scratch) slots
-  some-rows = record { rows = joined (minimised L data-text) ++ []; written = x .noted .written }
+  pub some-rows : SomeRows (p .scratch) slots
+  some-rows = record { rows = joined (minimised L data-text); written = x .noted .written }
 
-  module _ (n : ℕ) (after : List ℕ) (r : ℕ) (f : (rows : List Row) → Written rows (p .noting .scratch) slots → Finished rows n after r) where
+  module _ (n : ℕ) (after : List ℕ) (r : ℕ) (f : (rows : List Row) → Written rows (p .scratch) slots → Finished rows n after r) where
     finished : Finished (joined (minimised L data-text)) n after r
-    finished = f (joined (minimised L data-text)) (subst (λ rows. Written rows (p .noting .scratch) slots) (append-nil (joined (minimised L data-text))) (x .noted .written))
+    finished = f (joined (minimised L data-text)) (x .noted .written)
 
     pub all-notes : after ≡ padded 0 n (records (notes L data-text))
     unfolding notes
@@ -55,18 +54,14 @@ module _ (L : ℕ) (data-text : List ℕ) (p : ChartPass) (text densities : List
     unfolding notes
     note-count = finished .count
 
-  last-is : placeOf (p .noting .last .found) ≡ lastObject L data-text
-  unfolding lastObject
-  last-is = x .noted .last .found
-
-  pub all-figures : (stats : ArrowStats) (count bits row : ℕ) → stats ≡ corrected L (joined (minimised L data-text)) (rowsBack true L (take (p .pass .out - 0) text))
-      → count ≡ length (notes L data-text) → bits ≡ toBits binary64 (rowToBeat (place48 (placeOf (p .noting .last .found)))) → row ≡ place48 (placeOf (p .noting .last .found))
+  pub all-figures : (stats : ArrowStats) (count bits row last : ℕ) → stats ≡ corrected L (joined (minimised L data-text)) (rowsBack true L (take (p .pass .out - 0) text))
+      → count ≡ length (notes L data-text) → last ≡ last48 L data-text → bits ≡ toBits binary64 (rowToBeat last) → row ≡ last
       → record { bytes = p .pass .out; measures = p .pass .midx + 1; rows = p .pass .counting .rows; notes = count; «last_bits» = bits; «last_row» = row; stats = stats } ≡ chartFigures L data-text
-  unfolding chartFigures mainTally lastBeat last48
-  all-figures stats count bits row es ec eb er =
+  unfolding chartFigures mainTally lastBeat
+  all-figures stats count bits row last es ec el eb er =
       made (x .kept .out) (x .kept .midx) (x .kept .rows) ec
-      (eb ∙ ap (λ o. toBits binary64 (rowToBeat (place48 o))) last-is)
-      (er ∙ ap place48 last-is)
+      (eb ∙ ap (λ n. toBits binary64 (rowToBeat n)) el)
+      (er ∙ el)
       (es ∙ ap (corrected L (joined (minimised L data-text))) (ap (rowsBack true L) (own-part L data-text (p .pass) text densities (x .kept)) ∙ back-trimmed L _))
     where
       made : {a₁ a₂ b₁ b₂ c₁ c₂ d₁ d₂ e₁ e₂ f₁ f₂ : ℕ} {s t : ArrowStats} → a₁ ≡ a₂ → b₁ ≡ b₂ → c₁ ≡ c₂ → d₁ ≡ d₂ → e₁ ≡ e₂ → f₁ ≡ f₂ → s ≡ t

@@ -1,8 +1,8 @@
-// The main call: minimised text, densities, row beats, typed notes, tally and last beat of a whole text, in one reading of its lines.
+// The main call: minimised text, densities, row beats, typed notes, tally and last beat of a whole text, over its minimised measures.
 use definitions::ArrowStats;
 use definitions::LineKind;
 use kept::Pass;
-use noting::Noting;
+use notes::ChartNotesScratch;
 ghost use mathlib.Core.Path.{_≡_};
 ghost use mathlib.Core.List.{List, [], _∷_, _++_};
 ghost use Prim.Native.Nat.{ℕ, _+_, _*_, _/_, _≤_, _<_};
@@ -20,10 +20,10 @@ ghost use Rattle.definitions.specs.Entries.{mainText, mainDensities, mainBeats,
 ghost use Rattle.chart.specs.Pass.{Charted, SomeCharted, ChartEnded, ChartAll};
 ghost use Rattle.chart.specs.Answers.{chartFigures, chartAnswer};
 
-// What the pass has written and counted, and what it has noted of the measures that have ended.
+// What the pass has written and counted, and the notes of the measures that have ended.
 pub struct ChartPass {
     pub pass: Pass,
-    pub noting: Noting,
+    pub scratch: ChartNotesScratch,
 }
 
 // What the main call answers beside its slices: bytes of the minimised text, measures, minimised rows, note records, the last beat as the
@@ -48,8 +48,8 @@ fn no_chart() -> ChartPass
     ensures { λ r. ⌜ ((L : ℕ) (text densities : List ℕ) (beats : List Float) (slots : List ℕ) → L ≤ 10 → Charted L r text densities beats slots [] []) × (r .pass .out ≡ 0) ⌝ }
 {
     let pass = kept::no_pass();
-    let noting = noting::no_noting();
-    ChartPass { pass, noting }
+    let scratch = notes::begin();
+    ChartPass { pass, scratch }
 }
 
 // One row more of the open measure.
@@ -58,9 +58,9 @@ fn chart_row(p: ChartPass, text: &mut [u8], row: &[u8]) -> ChartPass
     ensures { λ r. ⌜ ((L : ℕ) (densities : List ℕ) (beats : List Float) (slots : List ℕ) (done : List (List Row)) (cur : List Row) → length (now (row .entry)) ≡ L → Charted L p (now (text .entry)) densities beats slots done cur → Charted L r (now (text .exit)) densities beats slots done (cur ++ (now (row .entry) ∷ []))) ⌝ }
     ensures { λ r. ⌜ r .pass .out ≡ p .pass .out + length (now (row .entry)) + 1 ⌝ }
 {
-    let noting = p.noting;
+    let scratch = p.scratch;
     let pass = kept::pass_row(p.pass, text, row);
-    ChartPass { pass, noting }
+    ChartPass { pass, scratch }
 }
 
 // The open measure ends: its rows are minimised and counted, its density is stored, and the beats and notes of its rows are written.
@@ -78,18 +78,15 @@ fn end_measure(
     ensures { λ r. ⌜ ((done : List (List Row)) (cur : List Row) → Charted lanes p (now (text .entry)) (now (densities .entry)) (now (beats .entry)) (now (slots .entry)) done cur → ChartEnded lanes r (now (text .exit)) (now (densities .exit)) (now (beats .exit)) (now (slots .exit)) done (reduce cur)) ⌝ }
     ensures { λ r. ⌜ (r .pass .out ≤ p .pass .out) × (r .pass .midx ≡ p .pass .midx) ⌝ }
 {
-    let noting = p.noting;
+    let notes = p.scratch;
     let before = p.pass.counting.rows;
     let pass = kept::end_measure(p.pass, text, densities, lanes);
     let start = pass.start;
     let rows = pass.rows;
     let midx = pass.midx;
     beats::append_row_beats(beats, before as usize, midx as u32, rows as u32);
-    let noted = noting::note_chart_measure(noting, text, start, rows, lanes, slots);
-    ChartPass {
-        pass,
-        noting: noted,
-    }
+    let scratch = noting::note_rows(notes, text, start, rows, lanes, slots);
+    ChartPass { pass, scratch }
 }
 
 // The open measure ends with a `,` line.
@@ -108,9 +105,9 @@ fn chart_comma(
     ensures { λ r. ⌜ r .pass .out ≤ p .pass .out + 2 ⌝ }
 {
     let e = end_measure(p, text, densities, beats, slots, lanes);
-    let noting = e.noting;
+    let scratch = e.scratch;
     let pass = kept::begin_measure(e.pass, text);
-    ChartPass { pass, noting }
+    ChartPass { pass, scratch }
 }
 
 // The whole text, its last measure too.
@@ -177,10 +174,9 @@ fn chart_figures(
     let rows = p.pass.counting.rows;
     let stats = p.pass.counting.stats;
     let depths = p.pass.counting.phantoms;
-    let scan = p.noting.last;
-    let last = scan.found;
     let corrected = recount::corrected_stats(stats, depths, &text[0..out], lanes, true, work);
-    let count = notes::finish(p.noting.scratch, slots);
+    let count = notes::finish(p.scratch, slots);
+    let last = scans::last::scan_last(data, lanes);
     slices::zero_u8(text, out);
     slices::zero_u32(densities, measures);
     slices::zero_f32(beats, rows as usize);

@@ -1,2 +1,2 @@
--- Laws of what is noted: one row more, and a measure's end.
+-- Laws of what is noted: one row more.
 pub mod Rows

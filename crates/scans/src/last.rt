@@ -16,7 +16,7 @@ ghost use Rattle.cells.specs.Rows.{Low};
 ghost use Rattle.scans.specs.Answers.{lastAnswer};
 ghost use Rattle.scans.specs.LastKept.{LastKept};
 
-pub fn no_last() -> LastScan
+fn no_last() -> LastScan
     ensures { λ r. ⌜ LastKept r [] [] ⌝ }
 {
     let depths = cells::no_depths();
@@ -30,7 +30,7 @@ pub fn no_last() -> LastScan
 }
 
 // One row more. A row that is all zero is no object row and changes no depth.
-pub fn last_row(s: LastScan, cells: &[u8]) -> LastScan
+fn last_row(s: LastScan, cells: &[u8]) -> LastScan
     requires { ⌜ (length (now cells) ≤ 10) × (s .rows < 16777216) × Low 4294967294 (s .depths) ⌝ }
     ensures { λ r. ⌜ ((done : List (List Row)) (cur : List Row) → LastKept s done cur → LastKept r done (cur ++ (now (cells .entry) ∷ []))) ⌝ }
 {
@@ -67,7 +67,7 @@ pub fn last_row(s: LastScan, cells: &[u8]) -> LastScan
 }
 
 // The open measure ends.
-pub fn last_measure(s: LastScan) -> LastScan
+fn last_measure(s: LastScan) -> LastScan
     requires { ⌜ (s .rows < 4194304) × (s .midx ≤ 8388608) ⌝ }
     ensures { λ r. ⌜ ((done : List (List Row)) (cur : List Row) → LastKept s done cur → LastKept r (done ++ (cur ∷ [])) []) ⌝ }
 {
@@ -93,7 +93,7 @@ pub fn last_measure(s: LastScan) -> LastScan
 }
 
 // The last object row of an accepted text, among its raw rows.
-fn scan_last(data: &[u8], lanes: usize) -> LastObject
+pub fn scan_last(data: &[u8], lanes: usize) -> LastObject
     requires { ⌜ (length (now «data») ≤ 16777215) × (4 ≤ lanes) × (lanes ≤ 10) ⌝ }
     ensures { λ r. ⌜ (Placed r) × (placeOf r ≡ lastOf (objectsFrom (λ c. 0) 0 (chart lanes (now («data» .entry))))) ⌝ }
 {

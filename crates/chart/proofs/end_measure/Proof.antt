@@ -2,7 +2,7 @@
 use Prim.Native.Nat.{_+_, _*_, _≤_, _<_}
 use native.Mathlib.Omega.{arith}
 use denote.Ref.{now}
-use Rattle.chart.proofs.Charting.{charted-end, some-less, rows-within, noted-midx, room-noted}
+use Rattle.chart.proofs.Charting.{charted-end, some-less, rows-within, room-noted}
 use borrow.Author.Needs.{needs}
 use Rattle.chart.proofs.end_measure.Statement.{statement}
 use Rattle.chart.proofs.end_measure.Tie as tie
@@ -32,15 +32,13 @@ append-row-beats-requires c κs =
     let less = some-less _ _ _ _ _ _ _ _ _ (e .end-measure .ensures .0) (s .pre .0 .3) in
     (omega (arith, less, s .pre .1 .1 .0), omega (arith, less, s .pre .1 .0 .2), omega (arith, e .end-measure .ensures .1 .1, s .pre .1 .0 .1))
 
-note-chart-measure-requires : tie.Need-note-chart-measure-requires
-note-chart-measure-requires c κs =
+note-rows-requires : tie.Need-note-rows-requires
+note-rows-requires c κs =
     let e = c .before .before .before .before .before .before .before .before .before .before in
     let s = e .before .before .before .before .before .before .before .before in
     let x = s .pre .0 .3 in
-    let r = e .end-measure .ensures in (
-      (s .pre .0 .0, s .pre .0 .1, rows-within _ _ _ _ _ _ _ _ _ (r .0) x (omega (arith, r .1 .0, s .pre .0 .2, e .end-measure .kept .1 .0))),
-      (omega (arith, noted-midx _ _ _ _ _ _ _ _ _ (r .0) x, s .pre .1 .0 .1), room-noted _ _ _ _ _ _ _ _ _ (r .0) x (s .pre .1 .0 .2) (s .pre .1 .1 .1)),
-    )
+    let r = e .end-measure .ensures in
+    ((s .pre .0 .0, s .pre .0 .1, rows-within _ _ _ _ _ _ _ _ _ (r .0) x (omega (arith, r .1 .0, s .pre .0 .2, e .end-measure .kept .1 .0))), room-noted _ _ _ _ _ _ _ _ _ (r .0) x (s .pre .1 .0 .2) (s .pre .1 .1 .1))
 
 same-length : tie.Need-same-length
 same-length c = search needs
@@ -61,7 +59,7 @@ returns c =
     let e = b .before .before .before .before .before .before in
     let s = e .before .before .before .before .before .before .before .before in
     let r = e .end-measure .ensures in (
-      (λ done cur x. charted-end _ _ _ _ _ _ _ _ _ (r .0) done cur x (omega (arith, s .pre .1 .1 .0)) _ (b .append-row-beats .ensures) _ _ (n .note-chart-measure .ensures)),
+      (λ done cur x. charted-end _ _ _ _ _ _ _ _ _ (r .0) done cur x (omega (arith, s .pre .1 .1 .0)) _ (b .append-row-beats .ensures) _ _ (n .note-rows .ensures)),
       (r .1 .0, r .1 .1),
     )
 
@@ -74,7 +72,7 @@ end-measure-spec =
     cast-append-row-beats-2
     cast-append-row-beats-3
     append-row-beats-requires
-    note-chart-measure-requires
+    note-rows-requires
     same-length
     same-length-2
     same-length-3
