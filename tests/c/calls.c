@@ -1,3 +1,4 @@
+/* The chart calls in one form, as calls.h declares them. */
 #include "calls.h"
 #include "checks.h"
 

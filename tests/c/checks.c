@@ -1,3 +1,4 @@
+/* Counting of checks, as checks.h declares it. */
 #include "checks.h"
 
 #include <stdarg.h>

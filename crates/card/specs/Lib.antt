@@ -1,1 +1,2 @@
+-- What the card's contracts cite, beside the definitions.
 pub mod Answered

@@ -1,1 +1,2 @@
+-- What the contracts of the counting cite, beside the definitions.
 pub mod Counted

@@ -1,2 +1,3 @@
+-- What the contracts of the kept-row pass cite, beside the definitions.
 pub mod Pass
 pub mod Answers

@@ -1,1 +1,2 @@
+-- What the laws of writing speak of.
 pub mod Wrote

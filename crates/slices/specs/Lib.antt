@@ -1,1 +1,2 @@
+-- What the contracts of the filling functions cite.
 pub mod Zeroed

@@ -1,3 +1,4 @@
+-- The recursion of `sheet::put_digits` meets its contract.
 use mathlib.Core.Path.{_∙_}
 use Prim.Native.Nat.{ℕ, _-_, _/_, _<_}
 use native.Mathlib.Omega.{arith}

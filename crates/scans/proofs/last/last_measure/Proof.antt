@@ -1,3 +1,4 @@
+-- `scans::last::last_measure` meets its contract.
 use Rattle.scans.proofs.Kept.{kept-none, kept-at}
 use borrow.Author.Needs.{needs}
 use Rattle.scans.proofs.last.last_measure.Statement.{statement}

@@ -1,3 +1,4 @@
+-- `scans::last::last_row` meets its contract.
 use mathlib.Core.Path.{sym, _∙_}
 use Rattle.scans.proofs.Kept.{kept-zero, kept-object, kept-other}
 use borrow.Author.Needs.{needs}

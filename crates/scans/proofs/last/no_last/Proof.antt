@@ -1,3 +1,4 @@
+-- `scans::last::no_last` meets its contract.
 use Rattle.scans.proofs.Kept.{kept-start}
 use borrow.Author.Needs.{needs}
 use Rattle.scans.proofs.last.no_last.Statement.{statement}

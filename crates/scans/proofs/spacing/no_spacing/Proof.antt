@@ -1,3 +1,4 @@
+-- `scans::spacing::no_spacing` meets its contract.
 use Rattle.scans.proofs.Spaces.{spaces-start}
 use Rattle.scans.proofs.spacing.no_spacing.Statement.{statement}
 use Rattle.scans.proofs.spacing.no_spacing.Tie as tie

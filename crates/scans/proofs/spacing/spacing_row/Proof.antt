@@ -1,3 +1,4 @@
+-- `scans::spacing::spacing_row` meets its contract.
 use mathlib.Core.Path.{ap, sym, _∙_}
 use Rattle.definitions.specs.Lists.{oneIf}
 use Rattle.scans.proofs.Spaces.{spaces-zero, spaces-other}
