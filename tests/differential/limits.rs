@@ -1,4 +1,5 @@
-//! Texts that are not drawn: every short text over a few letters, and texts of the greatest length and one byte more.
+//! Texts that are not drawn: every short text over a few letters, a few texts for each lane number whose slices are lent too short, and
+//! texts of the greatest length and one byte more.
 
 use crate::case::{Case, Check};
 use crate::random::Rng;
@@ -40,6 +41,26 @@ fn word(letters: &[u8], len: u32, number: usize) -> Vec<u8> {
             letter
         })
         .collect()
+}
+
+/// A few texts of at least a row, at lane numbers 0 to 12 and some large ones.
+pub fn every_lane(checks: &mut [Check]) {
+    let texts: [&[u8]; 4] = [
+        b"1000000000\n0000000000\n,\n0200000000\n0300000000\n",
+        b"2000000000\n0M0000000K\r\n,\n,\n;\n1111111111\n",
+        b"           ",
+        b"1111\n22222\n33333333\n4444444444",
+    ];
+    for lanes in (0..=12).chain([1 << 32, usize::MAX >> 2, usize::MAX]) {
+        for (seed, text) in texts.iter().enumerate() {
+            let case = Case {
+                bytes: text.to_vec(),
+                lanes,
+                seed: seed as u64,
+            };
+            checks.iter_mut().for_each(|check| check.run(&case));
+        }
+    }
 }
 
 /// Texts of the greatest length and of one byte more; the seeds lend exact slices and others.

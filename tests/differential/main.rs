@@ -18,8 +18,8 @@ const HELP: &str = "\
 differential [--long | --cases N] [SEED..]
 
 Compares the exported entries and the leaves with the Rust: N random texts, N random lists of rows and
-N beats for each SEED (1 where none is given), then every short text over a few letters and texts of
-the greatest length. N is 200000, or 10000000 with --long. A text that differs is shown as short as it
+N beats for each SEED (1 where none is given), then every short text over a few letters, each entry
+with every combination of its slices one entry too short, and texts of the greatest length. N is 200000, or 10000000 with --long. A text that differs is shown as short as it
 can be made. The last line is 'N passed, M failed', counted in comparisons.";
 
 struct Options {
@@ -90,6 +90,8 @@ fn run(options: &Options) -> ExitCode {
         bytes.iter_mut().for_each(|check| check.run(&case));
     }
     limits::short_texts(&mut texts);
+    let mut shortages: Vec<_> = text_checks::shortages().collect();
+    limits::every_lane(&mut shortages);
     let mut long: Vec<_> = text_checks::entries().collect();
     if case::any_differs(&texts) {
         println!("the longest texts are left out: shorter ones differ already");
@@ -103,6 +105,10 @@ fn run(options: &Options) -> ExitCode {
         ("rows", &rows),
         ("beats", &beats),
         ("bytes", &bytes),
+        (
+            "every combination of slices one entry too short",
+            &shortages,
+        ),
         ("longest texts", &long),
     ] {
         println!("{title}:");

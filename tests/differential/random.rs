@@ -177,22 +177,39 @@ fn nest(rng: &mut Rng, lanes: usize, count: usize, rows: &mut [u8]) {
 
 /// What a call is lent: slices exact, with room to spare, or one entry too short, all full of garbage.
 pub fn loan(rng: &mut Rng, call: Call, len: usize, lanes: usize) -> Loan {
+    let (figure, garbage) = (rng.next(), rng.next());
+    lent(figure, garbage, call, len, lanes, |_, enough| {
+        vary(rng, enough)
+    })
+}
+
+/// Slices full of garbage, of the lengths that `length` gives for each refusal's number and the shortest length without it.
+pub fn lent(
+    figure: u64,
+    garbage: u64,
+    call: Call,
+    len: usize,
+    lanes: usize,
+    mut length: impl FnMut(u32, usize) -> usize,
+) -> Loan {
     let enough = Lengths::enough(len, lanes);
     let mut loan = Loan {
-        figures: [rng.next() | 1; 32],
+        figures: [figure | 1; 32],
         ..Loan::default()
     };
-    let garbage = rng.next() | 0x0101_0101_0101_0101;
-    for number in refusals(call) {
+    let garbage = garbage | 0x0101_0101_0101_0101;
+    for &number in refusals(call) {
         match number {
-            2 => loan.text = vec![garbage as u8; vary(rng, enough.text)],
+            2 => loan.text = vec![garbage as u8; length(number, enough.text)],
             3 if call == Call::EquallySpaced => {
-                loan.spacing = vec![garbage as u8; vary(rng, enough.measure)];
+                loan.spacing = vec![garbage as u8; length(number, enough.measure)];
             }
-            3 => loan.densities = vec![garbage as u32; vary(rng, enough.measure)],
-            4 => loan.beats = vec![f32::from_bits(garbage as u32); vary(rng, enough.beat)],
-            5 => loan.work = vec![garbage as u16; vary(rng, enough.work)],
-            6 => loan.notes = vec![garbage as u8; vary(rng, enough.note)],
+            3 => loan.densities = vec![garbage as u32; length(number, enough.measure)],
+            4 => {
+                loan.beats = vec![f32::from_bits(garbage as u32); length(number, enough.beat)];
+            }
+            5 => loan.work = vec![garbage as u16; length(number, enough.work)],
+            6 => loan.notes = vec![garbage as u8; length(number, enough.note)],
             _ => {}
         }
     }

@@ -5,7 +5,7 @@ use crate::entries::{ENTRIES, Enter};
 use crate::ours;
 use crate::random::{self, Rng};
 use oracle::calls::Call;
-use oracle::entry::{enter, refusals};
+use oracle::entry::{Loan, enter, refusals};
 use oracle::leaves;
 
 pub fn checks() -> Vec<Check> {
@@ -28,6 +28,36 @@ pub fn entries() -> impl Iterator<Item = Check> {
             entered(entry.call, entry.enter, case, compared);
         })
     })
+}
+
+/// The exported entries with every combination of their slices one entry too short, the others exact.
+pub fn shortages() -> impl Iterator<Item = Check> {
+    ENTRIES.iter().map(|entry| {
+        Check::new(entry.call.name(), |case, compared| {
+            // Refusal 1 is of no slice.
+            for short in 0..1 << (refusals(entry.call).len() - 1) {
+                let loan = shortened(entry.call, case, short);
+                entered_with(entry.call, entry.enter, case, &[], loan, compared);
+            }
+        })
+    })
+}
+
+/// Slices of the exact lengths, but for those whose refusal has its bit in `short`: they lack an entry.
+fn shortened(call: Call, case: &Case, short: u32) -> Loan {
+    let mut bit = 1;
+    random::lent(
+        case.seed,
+        case.seed,
+        call,
+        case.bytes.len(),
+        case.lanes,
+        |_, enough| {
+            let lacking = usize::from(short & bit != 0);
+            bit <<= 1;
+            enough - lacking
+        },
+    )
 }
 
 fn skip_ws(case: &Case, compared: &mut Compare) {
@@ -84,14 +114,26 @@ fn lanes_of(case: &Case, compared: &mut Compare) {
     compared.same("lanes", ours::lanes_of(case.lanes), rust);
 }
 
-/// An entry's number, figures and slices beside what the oracle leaves in an equal loan.
+/// An entry's number, figures and slices beside what the oracle leaves in an equal loan, which is drawn.
 fn entered(call: Call, ours: Enter, case: &Case, compared: &mut Compare) {
     let mut rng = Rng::new(case.seed);
     let flags = random::flags(&mut rng);
-    let mut left = random::loan(&mut rng, call, case.bytes.len(), case.lanes);
+    let loan = random::loan(&mut rng, call, case.bytes.len(), case.lanes);
+    entered_with(call, ours, case, &flags, loan, compared);
+}
+
+/// The same with a loan at hand.
+fn entered_with(
+    call: Call,
+    ours: Enter,
+    case: &Case,
+    flags: &[u8],
+    mut left: Loan,
+    compared: &mut Compare,
+) {
     let mut want = left.clone();
-    let number = ours(&case.bytes, case.lanes, &flags, &mut left);
-    let rust = enter(call, &case.bytes, case.lanes, &flags, &mut want);
+    let number = ours(&case.bytes, case.lanes, flags, &mut left);
+    let rust = enter(call, &case.bytes, case.lanes, flags, &mut want);
     compared.same("number", number, rust);
     compared.same_slices("figures", &left.figures, &want.figures);
     for number in refusals(call) {
