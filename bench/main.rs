@@ -19,8 +19,8 @@ with 4 and 8 lanes, 2,000 charts of 20,000 bytes one after the other, and a long
 nothing closes, where the tally is counted anew. The best of N runs each, in turns (N is 7). Prints a
 table: MB/s of both (1 MB is 1,000,000 bytes) and the ratio, ours to the Rust's; beside the main call,
 the time that memset takes for the bytes that it is lent. Both answers are compared first. With
---growth it prints instead what a byte costs in texts of 1, 4 and 16 MB. Run it on a machine that does
-nothing else; on a busy one take more runs. With --crlf lines end with the bytes 13 and 10.";
+--growth it prints instead what a byte costs in texts of 1, 4 and 16 MB, as many as make 16 MB. Run it
+on a machine that does nothing else; on a busy one take more runs. With --crlf lines end with the bytes 13 and 10.";
 
 /// Texts that are timed together, and what the table calls them.
 struct Load {
@@ -147,7 +147,10 @@ fn growth(options: &Options) -> Result<(), &'static str> {
         for entry in options.entries() {
             let mut costs = [0.0; 3];
             for (cost, len) in costs.iter_mut().zip([1_000_000, 4_000_000, 16_000_000]) {
-                let texts = vec![chart::text(lanes, len, options.newline, 0, false)];
+                // As many texts as make 16 MB, so that no length is favoured by the processor's cache.
+                let texts = (0..16_000_000 / len as u64)
+                    .map(|seed| chart::text(lanes, len, options.newline, seed, false))
+                    .collect();
                 let load = Load {
                     name: "long",
                     lanes,

@@ -3,10 +3,8 @@
 # The last line is 'N passed, 0 failed'.
 set -eu
 cd "$(dirname "$0")"
-if ! command -v cargo >/dev/null 2>&1; then
-    echo "test.sh: cargo is missing; the binding is built with it" >&2
-    exit 1
-fi
+. ../../tests/need.sh
+need "the binding is built with it" cargo
 export CARGO_TARGET_DIR=../../target/cargo
 mkdir -p "$CARGO_TARGET_DIR"
 log=$CARGO_TARGET_DIR/test.log

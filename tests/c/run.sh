@@ -4,12 +4,8 @@
 # The last line is 'N passed, 0 failed', counted over both runs; the exit status is not 0 where a check fails or valgrind finds an error.
 set -eu
 cd "$(dirname "$0")/../.."
-for tool in cc valgrind; do
-    if ! command -v "$tool" >/dev/null 2>&1; then
-        echo "run.sh: $tool is missing; the C test needs it" >&2
-        exit 1
-    fi
-done
+. tests/need.sh
+need "the C test needs it" cc valgrind
 if [ -z "${PADCHECK_LIB_DIR:-}" ]; then
     rt staticlib padcheck
     PADCHECK_LIB_DIR=target/staticlib

@@ -2,10 +2,8 @@
 # Builds the oracle into target/oracle with rustc 1.88 or later: library, program, self-check.
 set -eu
 cd "$(dirname "$0")/../.."
-if ! command -v rustc >/dev/null 2>&1; then
-    echo "build.sh: rustc is missing; the oracle is built with it" >&2
-    exit 1
-fi
+. tests/need.sh
+need "the oracle is built with it" rustc
 out=target/oracle
 mkdir -p "$out"
 build() {

@@ -3,6 +3,8 @@
 
 mod check_examples;
 mod check_sample;
+#[path = "../vectors/reader.rs"]
+mod reader;
 
 use oracle::calls::{CALLS, Call, lanes_in_force, measure_densities, measure_densities_unchanged};
 use oracle::entry::{Lengths, Loan, MAX_LEN, enter, read_note, refusal};

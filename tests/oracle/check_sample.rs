@@ -2,6 +2,7 @@
 //! and that the Rust's readers agree with each other on its texts.
 
 use crate::Checks;
+use crate::reader::Reader;
 use oracle::calls::{self, Answer, CALLS};
 use oracle::entry::{Lengths, Loan, enter};
 use oracle::vectors::{MARK, SEED, Sample, answer_slices, file, samples};
@@ -26,26 +27,6 @@ fn stored_bytes(checks: &mut Checks, stored: &[u8], written: &[u8]) {
     checks.same("below 3 MB", stored.len() < 3_000_000, true);
     let other = file(SEED + 1);
     checks.same("another seed gives another sample", other == written, false);
-}
-
-/// Reads the sample's bytes by the layout alone.
-struct Reader<'a>(&'a [u8]);
-
-impl<'a> Reader<'a> {
-    fn bytes(&mut self, count: usize) -> &'a [u8] {
-        let (head, rest) = self.0.split_at(count);
-        self.0 = rest;
-        head
-    }
-
-    fn number(&mut self, bytes: usize) -> u64 {
-        let digits = self.bytes(bytes).iter().rev();
-        digits.fold(0, |number, &byte| number << 8 | u64::from(byte))
-    }
-
-    fn length(&mut self) -> usize {
-        self.number(4) as usize
-    }
 }
 
 fn layout(checks: &mut Checks, written: &[u8], samples: &[Sample]) {

@@ -1,8 +1,12 @@
 //! Every function beside the stored sample of the Rust's answers, `tests/vectors/answers.bin` of the repository.
 //! One set of buffers serves all texts, so that what one chart leaves in them meets the next.
 
+#[path = "../../../tests/vectors/reader.rs"]
+mod reader;
+
 use padcheck::stats::ChartNotesScratch;
 use padcheck::{ArrowStats, Buffers, ChartNoteType, Figures, KeptChart, ParsedChartNote, place};
+use reader::Reader;
 use std::fs;
 use std::path::Path;
 
@@ -46,46 +50,26 @@ const LAST_BEAT: usize = 5;
 const JUDGED: usize = 6;
 const FLAGGED: usize = 7;
 
-/// Reads the sample by the layout that its README describes.
-struct Reader<'a>(&'a [u8]);
-
-impl<'a> Reader<'a> {
-    fn bytes(&mut self, count: usize) -> &'a [u8] {
-        let (head, rest) = self.0.split_at(count);
-        self.0 = rest;
-        head
+fn answer<'a>(reader: &mut Reader<'a>) -> Answer<'a> {
+    let figures = std::array::from_fn(|_| reader.number(8));
+    let [text, measures, beats, notes] = std::array::from_fn(|_| reader.length());
+    Answer {
+        figures,
+        text: reader.bytes(text),
+        measures: reader.bytes(measures),
+        beats: reader.bytes(beats),
+        notes: reader.bytes(notes),
     }
+}
 
-    fn number(&mut self, bytes: usize) -> u64 {
-        let digits = self.bytes(bytes).iter().rev();
-        digits.fold(0, |number, &byte| number << 8 | u64::from(byte))
-    }
-
-    fn length(&mut self) -> usize {
-        self.number(4) as usize
-    }
-
-    fn answer(&mut self) -> Answer<'a> {
-        let figures = std::array::from_fn(|_| self.number(8));
-        let [text, measures, beats, notes] = std::array::from_fn(|_| self.length());
-        Answer {
-            figures,
-            text: self.bytes(text),
-            measures: self.bytes(measures),
-            beats: self.bytes(beats),
-            notes: self.bytes(notes),
-        }
-    }
-
-    fn record(&mut self) -> Record<'a> {
-        self.length();
-        let (text, flags) = (self.length(), self.length());
-        Record {
-            lanes: self.number(8) as usize,
-            text: self.bytes(text),
-            flags: self.bytes(flags),
-            answers: std::array::from_fn(|_| self.answer()),
-        }
+fn record<'a>(reader: &mut Reader<'a>) -> Record<'a> {
+    reader.length();
+    let (text, flags) = (reader.length(), reader.length());
+    Record {
+        lanes: reader.number(8) as usize,
+        text: reader.bytes(text),
+        flags: reader.bytes(flags),
+        answers: std::array::from_fn(|_| answer(reader)),
     }
 }
 
@@ -109,7 +93,7 @@ fn each_record(mut test: impl FnMut(&Record)) {
     let count = reader.number(8);
     assert!(count > 300);
     for _ in 0..count {
-        test(&reader.record());
+        test(&record(&mut reader));
     }
     assert!(reader.0.is_empty());
 }

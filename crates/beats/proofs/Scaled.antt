@@ -1,11 +1,10 @@
 -- Row and row count taken the same number of times give the same last beat: the quotient 4 × r / n is rounded once, and is the same fraction.
-use mathlib.Core.Path.{_≡_, refl, ap, ap₂, sym, _∙_}
+use mathlib.Core.Path.{_≡_, ap, ap₂, sym, _∙_}
 use mathlib.Core.Bool.{false}
 use Prim.Native.Nat.{ℕ, _*_, _^_, _≤_, _<_}
-use native.Mathlib.Nat.{le-trans, le-of-lt, lt-of-le-of-lt, mul-le-mul-left, mul-le-mul-right, one-mul, mul-one, mul-assoc, mul-left-comm, mul-comm, mul-pos, le-of-eq}
+use native.Mathlib.Nat.{le-trans, le-of-lt, mul-le-mul-left, mul-le-mul-right, one-mul, mul-one, mul-assoc, mul-left-comm, mul-pos, le-of-eq}
 use native.Mathlib.Omega.{arith}
 use lib.Dec.{lit<, lit≤}
-use lib.IntN.{pos}
 use lib.Ieee.{binary64, ofInt, round, mul, div, add}
 use lib.Ieee.Scale.{round-same}
 use Rattle.definitions.specs.Beats.{f64, beat, whole, lastRow}

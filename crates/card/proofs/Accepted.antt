@@ -1,5 +1,5 @@
 -- A text of at most 4,095 bytes is accepted with the slices that the card lends.
-use mathlib.Core.Path.{_≡_, refl}
+use mathlib.Core.Path.{_≡_}
 use mathlib.Core.List.{List}
 use Prim.Native.Nat.{ℕ, _+_, _*_, _/_, _≤_}
 use native.Mathlib.Omega.{arith}

@@ -1,10 +1,10 @@
 -- What the main call leaves for the card, once it has accepted.
-use mathlib.Core.Path.{_≡_, refl, ap, sym, _∙_}
-use mathlib.Core.List.{List, _++_}
-use Prim.Native.Nat.{ℕ, _+_, _*_, _-_, _≤_}
+use mathlib.Core.Path.{_≡_, ap, sym, _∙_}
+use mathlib.Core.List.{List}
+use Prim.Native.Nat.{ℕ, _*_, _-_, _≤_}
 use native.Mathlib.Omega.{arith}
 use lib.Ieee.{Float}
-use lib.ListN.{length, take, getD, replicate, length-append, length-replicate}
+use lib.ListN.{length, take, length-append, length-replicate}
 use lib.Seq.{take-at}
 use Rattle.definitions.specs.Lanes.{lanesOf}
 use Rattle.definitions.specs.Lists.{padded}
@@ -14,10 +14,11 @@ use Rattle.definitions.specs.Notes.{notes}
 use Rattle.definitions.specs.Records.{records}
 use Rattle.definitions.specs.Entries.{mainNumber, mainDensities, mainNotes, mainFigures, measuresNumber, spacingsLeft, measureCount}
 use Rattle.records.proofs.ReadBack.{records-length}
-use Rattle.scans.proofs.Raw.{densities-count, spacings-count}
+use Rattle.scans.proofs.Raw.{densities-count}
 use Rattle.sheet.specs.Card.{sheetFigures}
 use Rattle.sheet.specs.declared.SheetFigures.{SheetFigures}
 use Rattle.card.specs.Answered.{sheetAmong}
+use Rattle.card.proofs.Accepted.{main-accepted, spacing-accepted}
 
 -- an answer that was padded to n entries has at most n
 padded-fits : (l : List ℕ) (n : ℕ) → length (padded 0 n l) ≡ n → length l ≤ n
@@ -49,6 +50,24 @@ pub record Answers (text ds ss ns : List ℕ) (f : SheetFigures) : Type 0 where
   pub densities-length : length ds ≡ 2049
   pub spacings-length : length ss ≡ 2049
   pub notes-length : length ns ≡ 32760
+
+-- the main call and the spacing scan accept slices of these lengths, and leave what a sheet is made of
+pub answered : {text ds ss ns figs : List ℕ} {f : SheetFigures} (out₀ ds₀ ss₀ : List ℕ) (bs₀ : List Float) (work₀ ns₀ old : List ℕ)
+    → length text ≤ 4095 → 4096 ≡ length out₀ → 2049 ≡ length ds₀ → 2049 ≡ length ss₀ → 819 ≡ length bs₀ → 819 ≡ length work₀ → 32760 ≡ length ns₀
+    → f ≡ sheetAmong figs → figs ≡ mainFigures 4 text out₀ ds₀ bs₀ work₀ ns₀ old → ds ≡ mainDensities 4 text out₀ ds₀ bs₀ work₀ ns₀
+    → ss ≡ spacingsLeft 4 text ss₀ → ns ≡ mainNotes 4 text out₀ ds₀ bs₀ work₀ ns₀ → length ds ≡ length ds₀ → length ss ≡ length ss₀
+    → length ns ≡ length ns₀ → Answers text ds ss ns f
+answered {text} {ds} {ss} {ns} {figs} {f} out₀ ds₀ ss₀ bs₀ work₀ ns₀ old short o d s b w n f-is figs-is ds-is ss-is ns-is ds-kept ss-kept ns-kept =
+    let accepted = main-accepted text out₀ ds₀ bs₀ work₀ ns₀ short (sym o) (sym d) (sym b) (sym w) (sym n) in
+    record {
+      figures = f-is ∙ ap sheetAmong figs-is ∙ figures-are text out₀ ds₀ bs₀ work₀ ns₀ accepted old;
+      densities-is = ds-is ∙ densities-are text out₀ ds₀ bs₀ work₀ ns₀ accepted ∙ ap (λ (k : ℕ). padded 0 k (densities 4 text)) (sym d);
+      spacings-is = ss-is ∙ spacings-are text ss₀ (spacing-accepted text ss₀ short (sym s)) ∙ ap (λ (k : ℕ). padded 0 k (spacings 4 text)) (sym s);
+      notes-is = ns-is ∙ notes-are text out₀ ds₀ bs₀ work₀ ns₀ accepted ∙ ap (λ (k : ℕ). padded 0 k (records (notes 4 text))) (sym n);
+      densities-length = ds-kept ∙ sym d;
+      spacings-length = ss-kept ∙ sym s;
+      notes-length = ns-kept ∙ sym n;
+    }
 
 module _ {text ds ss ns : List ℕ} {f : SheetFigures} (a : Answers text ds ss ns f) where
   measures-is : f .measures ≡ measureCount 4 text

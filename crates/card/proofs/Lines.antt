@@ -1,7 +1,7 @@
 -- A sheet of what the main call and the spacing scan left is the sheet of the text.
-use mathlib.Core.Path.{_≡_, refl, ap, sym, _∙_}
-use mathlib.Core.List.{List, [], _∷_, _++_, map, append-assoc, append-nil}
-use Prim.Native.Nat.{ℕ, zero, suc, _+_, _*_, _≤_, _<_}
+use mathlib.Core.Path.{_≡_, refl, ap, _∙_}
+use mathlib.Core.List.{List, [], _∷_, _++_, map, append-nil}
+use Prim.Native.Nat.{ℕ, zero, suc, _+_, _≤_, _<_}
 use native.Mathlib.Omega.{arith}
 use lib.ListN.{length, getD, take, List·getD-append}
 use lib.Seq.{take-suc, take-length}
@@ -20,9 +20,9 @@ use Rattle.definitions.specs.declared.ReadNote.the-variants.{Found}
 use Rattle.definitions.proofs.Lists.{All, none, one, all-append, all-map}
 use Rattle.measures.proofs.Blocks.{joined-append}
 use Rattle.records.proofs.Made.{notes-back}
-use Rattle.recount.proofs.OwnRows.{ChartRow, minimised-rows, minimised-rows-few}
+use Rattle.recount.proofs.OwnRows.{minimised-rows, minimised-rows-few}
 use Rattle.scans.proofs.Raw.{densities-count, spacings-count}
-use Rattle.sheet.specs.Sheet.{measureLine, measureLines, noteLine, recordLine, recordLines, headLines, sheetOf}
+use Rattle.sheet.specs.Sheet.{measureLines, noteLine, recordLines, sheetOf}
 use Rattle.sheet.specs.Card.{sheetFigures, noteLines, sheet}
 use Rattle.sheet.specs.declared.SheetFigures.{SheetFigures}
 

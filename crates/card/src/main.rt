@@ -28,19 +28,56 @@ fn sheet_among(figures: [u64; 32]) -> SheetFigures
     }
 }
 
-// The sheet of a text that is short enough. The slices have the lengths that a text of 4,095 bytes asks for, and `out` the room that the
-// lines of as many measures and notes can take.
+// Zeros, as many as a text of 4,095 bytes asks for. The contracts tell the lengths alone, so that no proof goes over the elements.
+fn room_for_densities() -> [u32; 2049]
+    ensures { λ r. ⌜ 2049 ≡ length r ⌝ }
+{
+    [0; 2049]
+}
+
+fn room_for_spacing() -> [u8; 2049]
+    ensures { λ r. ⌜ 2049 ≡ length r ⌝ }
+{
+    [0; 2049]
+}
+
+fn room_for_beats() -> [f32; 819]
+    ensures { λ r. ⌜ 819 ≡ length r ⌝ }
+{
+    [0.0; 819]
+}
+
+fn room_for_work() -> [u16; 819]
+    ensures { λ r. ⌜ 819 ≡ length r ⌝ }
+{
+    [0; 819]
+}
+
+fn room_for_notes() -> [u8; 32760]
+    ensures { λ r. ⌜ 32760 ≡ length r ⌝ }
+{
+    [0; 32760]
+}
+
+// As many as the lines of so many measures and notes can take.
+fn room_for_sheet() -> [u8; 415085]
+    ensures { λ r. ⌜ 415085 ≡ length r ⌝ }
+{
+    [0; 415085]
+}
+
+// The sheet of a text that is short enough.
 fn put_chart(data: &[u8], out: &mut [u8]) -> usize
     requires { ⌜ length (now «data») ≤ 4095 ⌝ }
     requires { ⌜ 415085 ≤ length (now out) ⌝ }
     ensures { λ r. ⌜ Put 0 (sheetLines 4 (now («data» .entry))) (now (out .entry)) r (now (out .exit)) ⌝ }
 {
-    let mut text = [0u8; 4096];
-    let mut densities = [0u32; 2049];
-    let mut spacing = [0u8; 2049];
-    let mut beats = [0f32; 819];
-    let mut work = [0u16; 819];
-    let mut notes = [0u8; 32760];
+    let mut text = io::buffer();
+    let mut densities = room_for_densities();
+    let mut spacing = room_for_spacing();
+    let mut beats = room_for_beats();
+    let mut work = room_for_work();
+    let mut notes = room_for_notes();
     let mut figures = [0u64; 32];
     let mut counts = [0u64; 32];
     padcheck_minimize_chart_count_rows_notes(
@@ -72,7 +109,7 @@ fn put_card(data: &[u8], out: &mut [u8]) -> usize
 fn main() {
     let mut data = io::buffer();
     let n = io::read_full(STDIN_FILENO, &mut data);
-    let mut out = [0u8; 415085];
+    let mut out = room_for_sheet();
     let r = put_card(&data[..n], &mut out);
     io::write_all(STDOUT_FILENO, &out[..r]);
 }

@@ -1,11 +1,9 @@
 -- Rows where no column is open: one without a 2 or 4 leaves the depths, and is an object row where it has a 1, M, L, F or K.
 use mathlib.Core.Path.{_≡_, refl, ap, ap₂, sym, _∙_}
-use mathlib.Core.Bool.{Bool, true, false, _&&_, _||_}
-use mathlib.Core.List.{List, [], _∷_, _++_}
+use mathlib.Core.Bool.{Bool, true, false, _||_}
+use mathlib.Core.List.{[], _∷_, _++_}
 use Prim.Native.Nat.{ℕ, zero, suc, _+_, _<_, _≤_}
-use native.Mathlib.Decide.{decLt}
 use native.Mathlib.Omega.{arith}
-use borrow.Author.Tests.{eqb-true}
 use lib.Dec.{eqb}
 use lib.ListN.{length, getD}
 use Rattle.definitions.specs.Lists.{among, oneIf}
@@ -13,31 +11,16 @@ use Rattle.definitions.specs.Lines.{Row}
 use Rattle.definitions.specs.Cells.{cellOf}
 use Rattle.definitions.specs.Objects.{objectAt, isObject, deeper, objectRow, objectFrom}
 use Rattle.definitions.specs.Objects as objects
-use Rattle.definitions.proofs.Bools.{and-left, and-right}
 use Rattle.lines.specs.Words.{Bytes}
 use Rattle.cells.specs.Rows.{Holds, RowDone}
 use Rattle.cells.specs.declared.Depths.{Depths}
+use Rattle.cells.proofs.Firsts.{allAre, all-at}
 use Rattle.cells.proofs.RowWords.{nothing}
 use Rattle.cells.proofs.Scan.{low-more}
 use Rattle.cells.proofs.Tables.{same-at}
 
--- the first n of some numbers are 0, as `is_closed` tests them
-abbrev zeroTo : ℕ → List ℕ → Bool
-zeroTo zero l = true
-zeroTo (suc n) l = zeroTo n l && eqb (getD l n 0) 0
-
-zero-at : (n : ℕ) (l : List ℕ) → zeroTo n l ≡ true → (c : ℕ) → c < n → getD l c 0 ≡ 0
-zero-at zero l e c h = absurd (omega arith)
-zero-at (suc n) l e c h =
-    elim (decLt c n) [
-      | yes k ↦ zero-at n l (and-left (zeroTo n l) (eqb (getD l n 0) 0) e) c k
-      | no k ↦
-          let q : c ≡ n = omega arith in
-          rw q (eqb-true (getD l n 0) 0 (and-right (zeroTo n l) (eqb (getD l n 0) 0) e))
-    ]
-
-pub closed-all : (s : Depths) → zeroTo 10 (s .depths) ≡ true → Holds (λ c. 0) s
-closed-all s e c h = zero-at 10 (s .depths) e c h
+pub closed-all : (s : Depths) → allAre 0 10 (s .depths) ≡ true → Holds (λ c. 0) s
+closed-all s e c h = all-at 0 10 (s .depths) e c h
 
 -- ---- a byte, by one computed test of all
 

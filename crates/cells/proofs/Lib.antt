@@ -6,3 +6,5 @@ pub mod Scan
 pub mod Masks
 pub mod Tables
 pub mod Closed
+pub mod Firsts
+pub mod Pairing

@@ -52,6 +52,13 @@ mask-lt (b ∷ r) m e =
     let h : s .rest < 2 ^ length r = mask-lt r (s .rest) (s .after) in
     omega (arith, pow-suc 2 (length r))
 
+-- in each column of a row with a mask stands a `0` or a `1`
+pub tapped-byte : (r : Row) (m c : ℕ) → tapMask r ≡ Mask m → c < length r → (f : ℕ) × (f ≤ 1) × (getD r c 0 ≡ 48 + f)
+unfolding tapMask
+tapped-byte [] m c e h = absurd (omega arith)
+tapped-byte (b ∷ r) m zero e h = let s = parts b (tapMask r) m e in (s .first, s .small, s .byte)
+tapped-byte (b ∷ r) m (suc c) e h = let s = parts b (tapMask r) m e in tapped-byte r (s .rest) c (s .after) (omega arith)
+
 -- the row of a mask
 abbrev pub rowOf : ℕ → ℕ → Row
 rowOf zero m = []

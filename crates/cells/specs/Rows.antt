@@ -1,7 +1,9 @@
 -- The depths of the last beat in a struct of ten numbers, and what the object row's test leaves there.
 use mathlib.Core.Path.{_≡_}
+use mathlib.Core.Bool.{Bool, _||_}
 use Prim.Native.Nat.{ℕ, _+_, _<_, _≤_}
 use lib.ListN.{getD}
+use Rattle.definitions.specs.Lists.{among}
 use Rattle.definitions.specs.Lines.{Row}
 use Rattle.definitions.specs.Objects.{objectAt, isObject, deeper, afterRow, objectRow}
 use Rattle.definitions.specs.Objects as objects
@@ -16,6 +18,10 @@ depthAt s c = getD (s .depths) c 0
 -- the struct holds these depths
 abbrev pub Holds : objects.Depths → Depths → Type 0
 Holds D s = (c : ℕ) → c < 10 → depthAt s c ≡ D c
+
+-- the row has a 2, 3 or 4
+unfoldable pub hasHeadOrTail : Row → Bool
+hasHeadOrTail row = (among 50 row || among 51 row) || among 52 row
 
 -- no depth is over k
 abbrev pub Low : ℕ → Depths → Type 0

@@ -1,9 +1,10 @@
 -- Document 01, `TAP_MASK_COUNTS`: the mask of a row of `0` and `1` alone, and the counts that the table has for it.
 use mathlib.Core.Bool.{cond, _||_}
-use mathlib.Core.List.{[], _∷_}
-use Prim.Native.Nat.{ℕ, _+_, _*_, _/_, _%_, _^_}
+use mathlib.Core.Path.{_≡_}
+use mathlib.Core.List.{List, [], _∷_}
+use Prim.Native.Nat.{ℕ, _+_, _*_, _/_, _%_, _^_, _<_}
 use lib.Dec.{eqb}
-use lib.ListN.{length}
+use lib.ListN.{length, getD}
 use Rattle.definitions.specs.Lists.{sumColumns}
 use Rattle.definitions.specs.Lines.{Row}
 use Rattle.definitions.specs.declared.RowSum.{RowSum}
@@ -19,6 +20,11 @@ withBit b Other = Other
 unfoldable pub tapMask : Row → Taps
 tapMask [] = Mask 0
 tapMask (b ∷ r) = withBit b (tapMask r)
+
+-- The row has a mask.
+pub record Tapped (r : Row) : Type 0 where
+  pub mask : ℕ
+  pub is : tapMask r ≡ Mask mask
 
 -- "Only 4 and 8 lanes use it."
 unfoldable pub tapLineMask : Row → Taps
@@ -36,6 +42,10 @@ unfoldable pub maskCounts : ℕ → ℕ
 maskCounts m =
     sumColumns 8 (λ c. bit c m)
     + (2 ^ 4 * towards 0 m + 2 ^ 6 * towards 1 m + 2 ^ 8 * towards 2 m + 2 ^ 10 * towards 3 m)
+
+-- a list that has each mask's counts at its number
+abbrev pub TapCounts : List ℕ → Type 0
+TapCounts l = (m : ℕ) → m < 256 → getD l m 0 ≡ maskCounts m
 
 -- the row's sum that the counts stand for
 unfoldable pub unpack : ℕ → RowSum

@@ -9,7 +9,7 @@ use definitions::NoteEffect;
 use definitions::RowSum;
 use lines::words;
 ghost use mathlib.Core.Path.{_≡_};
-ghost use mathlib.Core.Bool.{true, _||_};
+ghost use mathlib.Core.Bool.{true, false, _||_};
 ghost use mathlib.Core.List.{List};
 ghost use Prim.Native.Nat.{ℕ, _≤_, _<_};
 ghost use lib.ListN.{length, take};
@@ -20,8 +20,8 @@ ghost use Rattle.definitions.specs.Tracker.{holdAt};
 ghost use Rattle.definitions.specs.Objects.{objectAt, objectRow};
 ghost use Rattle.definitions.specs.Notes.{effectAt};
 ghost use Rattle.lines.specs.Words.{wordOf, Bytes};
-ghost use Rattle.cells.specs.Rows.{Holds, Low, NoDepths, CellDone, RowDone};
-ghost use Rattle.cells.specs.Taps.{tapMask, tapLineMask, maskCounts, unpack};
+ghost use Rattle.cells.specs.Rows.{Holds, Low, NoDepths, CellDone, RowDone, hasHeadOrTail};
+ghost use Rattle.cells.specs.Taps.{tapMask, tapLineMask, Tapped, maskCounts, TapCounts, unpack};
 
 // 1 where the test holds, else 0.
 pub fn one_if(test: bool) -> u32
@@ -237,6 +237,26 @@ fn word_opens(word: u64) -> bool
     words::has_byte(word, b'2') | words::has_byte(word, b'4')
 }
 
+// Whether one of the word's bytes is a head or a tail: a 2, 3 or 4.
+fn word_has_head_or_tail(word: u64) -> bool
+    ensures { λ r. ⌜ ((xs : List ℕ) → length xs ≡ 8 → Bytes xs → wordOf xs ≡ word → r ≡ hasHeadOrTail xs) ⌝ }
+{
+    words::has_byte(word, b'2') | words::has_byte(word, b'3') | words::has_byte(word, b'4')
+}
+
+// Whether a row of four or eight cells, looked at by one word, has neither a head nor a tail; of any other width it says no.
+pub fn row_pairs_nothing(row: &[u8]) -> bool
+    ensures { λ r. ⌜ (r ≡ true → hasHeadOrTail (now (row .entry)) ≡ false) ⌝ }
+{
+    if row.len() == 4 {
+        return !word_has_head_or_tail(words::half_at(row, 0));
+    }
+    if row.len() == 8 {
+        return !word_has_head_or_tail(words::halves_at(row, 0));
+    }
+    false
+}
+
 // Whether the word's bytes make an object row where no column is open: by a 1, M, L, F or K.
 fn word_has_object(word: u64) -> bool
     ensures { λ r. ⌜ ((xs : List ℕ) → length xs ≡ 8 → Bytes xs → wordOf xs ≡ word → r ≡ objectRow (λ c. 0) xs) ⌝ }
@@ -326,18 +346,52 @@ pub fn tap_line_mask(row: &[u8]) -> Taps
     Taps::Other
 }
 
+// Whether the first four cells are `0` and `1` alone.
+fn are_taps4(row: &[u8]) -> bool
+    requires { ⌜ 4 ≤ length (now row) ⌝ }
+    ensures { λ r. ⌜ (r ≡ true → Tapped (take 4 (now (row .entry)))) ⌝ }
+{
+    let a = std::num::wrapping_sub_u8(row[0], b'0');
+    let b = std::num::wrapping_sub_u8(row[1], b'0');
+    let c = std::num::wrapping_sub_u8(row[2], b'0');
+    let d = std::num::wrapping_sub_u8(row[3], b'0');
+    (a | b | c | d) <= 1
+}
+
+// Whether a row of four or eight cells has a mask, without the mask; of any other width it says no.
+pub fn row_is_taps(row: &[u8]) -> bool
+    ensures { λ r. ⌜ (r ≡ true → Tapped (now (row .entry))) ⌝ }
+{
+    if row.len() == 4 {
+        return are_taps4(row);
+    }
+    if row.len() == 8 {
+        return are_taps4(row) & are_taps4(&row[4..]);
+    }
+    false
+}
+
+// The table, to be lent: a look into the constant itself would write out all its entries each time.
+pub fn tap_mask_counts() -> [u16; 256]
+    ensures { λ r. ⌜ TapCounts r ⌝ }
+{
+    TAP_MASK_COUNTS
+}
+
 // The table's entry for a mask.
-fn tap_counts(mask: u8) -> u16
+fn tap_counts(mask: u8, counts: &[u16; 256]) -> u16
+    requires { ⌜ TapCounts (now counts) ⌝ }
     ensures { λ r. ⌜ r ≡ maskCounts mask ⌝ }
 {
-    TAP_MASK_COUNTS[mask as usize]
+    counts[mask as usize]
 }
 
 // What a row of taps alone adds up to, by the table.
-pub fn tap_sum(mask: u8) -> RowSum
+pub fn tap_sum(mask: u8, counts: &[u16; 256]) -> RowSum
+    requires { ⌜ TapCounts (now counts) ⌝ }
     ensures { λ r. ⌜ r ≡ unpack (maskCounts mask) ⌝ }
 {
-    let n = tap_counts(mask) as u32;
+    let n = tap_counts(mask, counts) as u32;
     RowSum {
         arrows: n & 15,
         left: (n >> 4) & 3,

@@ -1,7 +1,7 @@
 -- What is counted of minimised rows: `done` are the measures that have ended, `cur` the rows of the open one.
 use mathlib.Core.Path.{_≡_}
 use mathlib.Core.List.{List, [], _++_}
-use Prim.Native.Nat.{ℕ, _*_, _≤_}
+use Prim.Native.Nat.{ℕ, _+_, _*_}
 use lib.ListN.{length}
 use Rattle.definitions.specs.Lists.{joined}
 use Rattle.definitions.specs.Lines.{Row}
@@ -15,13 +15,12 @@ use Rattle.counting.specs.declared.Counting.{Counting}
 pub record Few (c : Counting) : Type 0 where
   pub stats : Below (10 * c .rows) (c .stats)
   pub phantoms : Low (10 * c .rows) (c .phantoms)
-  pub steps : c .steps ≤ c .rows
 
 pub record Counted (L : ℕ) (c : Counting) (done : List (List Row)) (cur : List Row) : Type 0 where
   pub stats : c .stats ≡ tally (joined done ++ cur)
   pub phantoms : Counts L (joined done ++ cur) (c .phantoms)
   pub rows : c .rows ≡ length (joined done ++ cur)
-  pub steps : c .steps ≡ density cur
+  pub steps : c .stats .«total_steps» ≡ c .before + density cur
   pub few : Few c
 
 -- something was counted, and a measure begins

@@ -6,15 +6,17 @@ ghost use mathlib.Core.List.{List, [], _∷_, _++_};
 ghost use Prim.Native.Nat.{ℕ, _+_, _*_, _≤_, _<_};
 ghost use lib.ListN.{length, drop};
 ghost use Rattle.definitions.specs.Lines.{Row};
+ghost use Rattle.definitions.specs.Figures.{density as densityOf};
+ghost use Rattle.cells.specs.Taps.{TapCounts};
 ghost use Rattle.measures.specs.Rows.{rowsAt};
 ghost use Rattle.counting.specs.Counted.{Few, Counted, SomeCounted};
 
-// `rows` counts all minimised rows so far, and `steps` those of the open measure with a 1, 2 or 4.
+// `rows` counts all minimised rows so far, and `before` the steps of the measures that have ended: those of the open one are its density.
 pub struct Counting {
     pub stats: ArrowStats,
     pub phantoms: Phantoms,
     pub rows: u32,
-    pub steps: u32,
+    pub before: u32,
 }
 
 pub fn no_counting() -> Counting
@@ -26,22 +28,32 @@ pub fn no_counting() -> Counting
         stats,
         phantoms,
         rows: 0,
-        steps: 0,
+        before: 0,
     }
 }
 
-// One row more.
-pub fn count_counting(c: Counting, row: &[u8]) -> Counting
-    requires { ⌜ (length (now row) ≤ 10) × (c .rows < 4194304) × Few c ⌝ }
+// One row more. A row that is all zero is counted as a row, and changes nothing else.
+fn count_counting(c: Counting, row: &[u8], counts: &[u16; 256]) -> Counting
+    requires { ⌜ (length (now row) ≤ 10) × (c .rows < 4194304) × Few c × TapCounts (now counts) ⌝ }
     ensures { λ r. ⌜ ((L : ℕ) (done : List (List Row)) (cur : List Row) → length (now (row .entry)) ≤ L → L ≤ 10 → Counted L c done cur → Counted L r done (cur ++ (now (row .entry) ∷ []))) ⌝ }
 {
-    let stats = tallies::count_line(c.stats, row);
+    if measures::is_all_zero(row) {
+        let stats = c.stats;
+        let phantoms = c.phantoms;
+        return Counting {
+            stats,
+            phantoms,
+            rows: c.rows + 1,
+            before: c.before,
+        };
+    }
+    let stats = tallies::count_line(c.stats, row, counts);
     let phantoms = phantoms::phantom_row(c.phantoms, row);
     Counting {
         stats,
         phantoms,
         rows: c.rows + 1,
-        steps: c.steps + cells::one_if(cells::row_has_note(row)),
+        before: c.before,
     }
 }
 
@@ -55,8 +67,16 @@ pub fn count_measure(c: Counting) -> Counting
         stats,
         phantoms,
         rows: c.rows,
-        steps: 0,
+        before: c.stats.total_steps,
     }
+}
+
+// The density of the open measure.
+pub fn density(c: Counting) -> u32
+    requires { ⌜ c .before ≤ c .stats .«total_steps» ⌝ }
+    ensures { λ r. ⌜ ((L : ℕ) (done : List (List Row)) (cur : List Row) → Counted L c done cur → r ≡ densityOf cur) ⌝ }
+{
+    c.stats.total_steps - c.before
 }
 
 // The rows of a measure that stand in a text from `start` on, each with a newline byte after it.
@@ -65,12 +85,13 @@ pub fn count_rows(old: Counting, text: &[u8], start: usize, rows: usize, lanes: 
     requires { ⌜ (old .rows + rows < 4194304) × SomeCounted lanes old ⌝ }
     ensures { λ r. ⌜ ((done : List (List Row)) → Counted lanes old done [] → Counted lanes r done (rowsAt (lanes + 1) lanes rows (drop start (now (text .entry))))) ⌝ }
 {
+    let counts = cells::tap_mask_counts();
     let mut c = old;
     let mut i = 0;
     let mut at = start;
     while i < rows {
         let end = at + lanes;
-        c = count_counting(c, &text[at..end]);
+        c = count_counting(c, &text[at..end], &counts);
         at = end + 1;
         i += 1;
     }

@@ -1,8 +1,8 @@
 -- Minimising drops only rows that are all zero.
-use mathlib.Core.Path.{_≡_, refl}
-use mathlib.Core.Bool.{Bool, true, false, _&&_, _||_}
+use mathlib.Core.Path.{_≡_}
+use mathlib.Core.Bool.{Bool, true, false, _||_}
 use mathlib.Core.List.{List, [], _∷_, _++_, map}
-use Prim.Native.Nat.{ℕ, zero, suc}
+use Prim.Native.Nat.{ℕ, suc}
 use lib.ListN.{length}
 use Rattle.definitions.specs.Lists.{joined, onlyIf}
 use Rattle.definitions.specs.Lines.{Row}

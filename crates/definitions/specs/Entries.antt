@@ -1,8 +1,7 @@
 -- The entries callable from outside: for every input the number that each returns, 0 for accepted, and what it leaves in each lent slice and
 -- in the 32 figures. `lanes` is the caller's lane number; the lists named after slices are what those held before the call.
-use mathlib.Core.Bool.{cond}
 use mathlib.Core.List.{List, [], _∷_, _++_}
-use Prim.Native.Nat.{ℕ, _+_, _*_}
+use Prim.Native.Nat.{ℕ, _+_}
 use lib.Ieee.{Float, binary64, toBits}
 use lib.ListN.{length, replicate}
 use Rattle.definitions.specs.Lists.{oneIf, joined}

@@ -1,13 +1,13 @@
 -- Document 01's examples P1 to P11 as one table with a single claim, `examples-hold`. In a text `|` is byte 10 and `^` is byte 13.
 use mathlib.Core.Path.{_≡_, refl}
 use mathlib.Core.Bool.{cond}
-use mathlib.Core.List.{List, [], _∷_, _++_, map}
+use mathlib.Core.List.{List, [], _∷_, map}
 use Prim.Native.Nat.{ℕ}
 use Prim.Native.Char.{code}
 use Prim.Native.String.{String, [] as end, _∷_ as _then_}
 use lib.Dec.{eqb}
 use lib.ListN.{length}
-use lib.Ieee.{Float, binary32, binary64, toBits, ofInt, round, add, mul, div}
+use lib.Ieee.{binary32, binary64, toBits, ofInt, round, add, mul, div}
 use Rattle.definitions.specs.Lists.{joined}
 use Rattle.definitions.specs.Lines.{Row, isBlank, isRow, kindOf, lineKind}
 use Rattle.definitions.specs.Cells.{cellOf}
@@ -18,7 +18,6 @@ use Rattle.definitions.specs.Beats.{f32, f64, step, fused, rowBeat, meas
 use Rattle.definitions.specs.Objects.{objectAt, lastObject, last48, lastBeat}
 use Rattle.definitions.specs.Tracker.{holdAt, pairs}
 use Rattle.definitions.specs.Notes.{effectAt, notes}
-use Rattle.definitions.specs.Records.{tailNumber, kindNumber}
 use Rattle.definitions.specs.Tally.{rowSumBy, rowSum, addRow, tally}
 use Rattle.definitions.specs.Correction.{corrects, pairedOnly, corrected}
 use Rattle.definitions.specs.ReadBack.{readBack, mainTally, keptTally}

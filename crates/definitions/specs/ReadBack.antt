@@ -1,5 +1,5 @@
 -- Document 01: the rows of a text read by `parse_minimized_rows`, and the tallies of the main and the kept-row pass.
-use mathlib.Core.Bool.{Bool, true, false, cond, _&&_, not}
+use mathlib.Core.Bool.{Bool, false, cond, _&&_, not}
 use mathlib.Core.List.{List, [], _∷_, _++_}
 use Prim.Native.Nat.{ℕ}
 use lib.Dec.{eqb}

@@ -1,5 +1,5 @@
 -- Document 01: the rows of `minimize_timing_rows`.
-use mathlib.Core.Bool.{Bool, true, false, _||_}
+use mathlib.Core.Bool.{Bool, false, _||_}
 use mathlib.Core.List.{List, [], _∷_}
 use Prim.Native.Nat.{ℕ}
 use Rattle.definitions.specs.Lists.{joined}

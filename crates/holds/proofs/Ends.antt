@@ -1,10 +1,9 @@
 -- The pairs that end at a row, one row more at the end, and summed over the columns.
 use mathlib.Core.Path.{_≡_, refl, ap, sym, _∙_}
-use mathlib.Core.Bool.{Bool, false, _&&_, and-false}
+use mathlib.Core.Bool.{Bool, _&&_}
 use mathlib.Core.List.{List, [], _∷_, _++_}
 use Prim.Native.Nat.{ℕ, zero, suc, _+_, _≤_, _<_}
 use native.Mathlib.Decide.{decLt}
-use native.Mathlib.Nat.{zero-add}
 use native.Mathlib.Omega.{arith}
 use borrow.Author.Tests.{ne-eqb}
 use lib.Dec.{eqb}
@@ -39,7 +38,7 @@ sum-beyond k (suc m) f h z =
     ]
 
 -- no pair of these ends at row i
-none-end : (J : ℕ → Bool) (i : ℕ) {ps : List Pair} → All (λ p. p .tail ≡ i → ⊥) ps → endsIn J i ps ≡ 0
+pub none-end : (J : ℕ → Bool) (i : ℕ) {ps : List Pair} → All (λ p. p .tail ≡ i → ⊥) ps → endsIn J i ps ≡ 0
 none-end J i a =
     count-none (λ (p : Pair). eqb (p .tail) i && J (p .head))
     (all-map (λ p (n : p .tail ≡ i → ⊥). ap (λ b. b && J (p .head)) (ne-eqb (p .tail) i n)) a)
@@ -87,13 +86,3 @@ module _ (J : ℕ → Bool) (rows : List Row) (r : Row) where
 pub ends-none : (J : ℕ → Bool) (i : ℕ) → endsAt J [] i ≡ 0
 unfolding endsAt pairs
 ends-none J i = refl
-
--- where no row is judged
-pub ends-unjudged : (rows : List Row) (i : ℕ) → endsAt (λ j. false) rows i ≡ 0
-unfolding endsAt
-ends-unjudged rows i =
-    sum-beyond 0 10 (λ c. endsIn (λ j. false) i (pairs rows c)) (omega arith) (λ c h. unjudged (pairs rows c))
-  where
-    unjudged : (ps : List Pair) → endsIn (λ j. false) i ps ≡ 0
-    unjudged [] = refl
-    unjudged (p ∷ ps) = rw (and-false (eqb (p .tail) i), zero-add) (unjudged ps)

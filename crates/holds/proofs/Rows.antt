@@ -3,7 +3,7 @@ use mathlib.Core.Path.{_≡_, ap, sym, _∙_}
 use mathlib.Core.Bool.{Bool}
 use mathlib.Core.List.{List, [], _∷_, _++_}
 use Prim.Native.Nat.{ℕ, _+_, _*_, _/_, _%_, _≤_, _<_}
-use native.Mathlib.Decide.{ℕ-discrete, decLt}
+use native.Mathlib.Decide.{ℕ-discrete}
 use native.Mathlib.Omega.{arith}
 use lib.Dec.{eqb}
 use lib.ListN.{length, getD, set, length-append}
@@ -13,10 +13,10 @@ use Rattle.definitions.specs.Lines.{Row}
 use Rattle.definitions.specs.Tracker.{pairs, isHeadOf}
 use Rattle.cells.specs.Taps.{bit}
 use Rattle.holds.specs.Stacks.{stackOf}
-use Rattle.holds.specs.Tracks.{stackAfter, endsAt, Column, TracksJudged, Tracks, CellsDone}
+use Rattle.holds.specs.Tracks.{stackAfter, endsAt, Column, TracksJudged, CellsDone}
 use Rattle.holds.specs.declared.Tracker.{Tracker}
 use Rattle.holds.proofs.Bits.{high-bit, entry-bit, entry-ends, entry-judged, high-part}
-use Rattle.holds.proofs.Ends.{ends-old, ends-none, ends-unjudged}
+use Rattle.holds.proofs.Ends.{ends-old, ends-none}
 
 zero-bit : (c : ℕ) → c < 10 → bit c 0 ≡ 0
 zero-bit c h = high-bit c 0 h
@@ -90,12 +90,3 @@ tracks-start J t work h z =
       judged = λ i l. absurd (omega arith);
       later = λ i l. z i;
     }
-
--- Where no row is judged, an entry has its columns' bits alone.
-pub tracks-low : (rows : List Row) (t : Tracker) (work : List ℕ) → Tracks rows t work → (i : ℕ) → getD work i 0 < 1024
-tracks-low rows t work s i =
-    let few : getD work i 0 / 1024 % 16 ≡ 0 = s .ends i ∙ ends-unjudged rows i in
-    elim (decLt i (length rows)) [
-      | yes l ↦ let low : getD work i 0 / 16384 ≡ 0 = s .judged i l in omega arith
-      | no l ↦ let z = s .later i (omega arith) in omega arith
-    ]

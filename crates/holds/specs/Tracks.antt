@@ -9,7 +9,7 @@ use lib.ListN.{length, getD, set}
 use Rattle.definitions.specs.Lists.{oneIf, count, sumColumns}
 use Rattle.definitions.specs.Lines.{Row}
 use Rattle.definitions.specs.Cells.{byteAt}
-use Rattle.definitions.specs.Tracker.{Pair, nextStack, holdAt, pairs, isHeadOf}
+use Rattle.definitions.specs.Tracker.{Pair, nextStack, paired, holdAt, pairs, isHeadOf}
 use Rattle.cells.specs.Taps.{bit}
 use Rattle.holds.specs.Stacks.{stackOf}
 use Rattle.holds.specs.declared.Tracker.{Tracker}
@@ -64,6 +64,11 @@ abbrev pub RowTracked : ℕ → Row → Bool → Tracker → List ℕ → Tracke
 RowTracked row cells judged t work t' work' =
     (J : ℕ → Bool) (rows : List Row) → length rows ≡ row → J row ≡ judged → TracksJudged J rows t work
     → TracksJudged J (rows ++ (cells ∷ [])) t' work'
+
+-- The row leaves the tracker as it is: in no column does its cell, at whatever row, change the open heads or pair with one.
+pub record Leaves (t : Tracker) (cells : Row) : Type 0 where
+  pub stack : (c i : ℕ) → c < 10 → nextStack (holdAt (byteAt c cells)) i (stackOf t c) ≡ stackOf t c
+  pub pairs : (c i : ℕ) → c < 10 → paired (holdAt (byteAt c cells)) i (stackOf t c) ≡ []
 
 -- ---- For the private functions
 

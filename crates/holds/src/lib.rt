@@ -1,15 +1,16 @@
 // The hold tracker, `track_holds_core` row by row: the open heads of each column, and what their pairs leave in the lent work slice.
 use definitions::DepthEffect;
 ghost use mathlib.Core.Path.{_≡_};
+ghost use mathlib.Core.Bool.{true};
 ghost use mathlib.Core.List.{List, [], _∷_, _++_};
 ghost use Prim.Native.Nat.{ℕ, _+_, _*_, _≤_, _<_};
-ghost use lib.ListN.{length};
+ghost use lib.ListN.{length, getD};
 ghost use Rattle.definitions.specs.Lists.{oneIf};
 ghost use Rattle.definitions.specs.Lines.{Row};
 ghost use Rattle.definitions.specs.Tracker.{holdAt};
 ghost use Rattle.definitions.specs.declared.DepthEffect;
 ghost use Rattle.holds.specs.Stacks.{tracker, stackOf, Sized, Ready, Stepped, endedAt};
-ghost use Rattle.holds.specs.Tracks.{marked, judgedHead, Tracks, Reached, CellsTracked, RowTracked};
+ghost use Rattle.holds.specs.Tracks.{marked, judgedHead, Tracks, Reached, CellsTracked, RowTracked, Leaves};
 
 // The open heads of ten columns: column c has the places 8 * c to 8 * c + 7, and `depths` says how many of them are in use.
 pub struct Tracker {
@@ -161,4 +162,43 @@ pub fn track_row(t: Tracker, row: u32, cells: &[u8], work: &mut [u16]) -> Tracke
     ensures { λ r. ⌜ ((rows : List Row) → length rows ≡ row → Tracks rows t (now (work .entry)) → Tracks (rows ++ (now (cells .entry) ∷ [])) r (now (work .exit))) ⌝ }
 {
     track_judged_row(t, row, cells, false, work)
+}
+
+// Whether no head is open in any column.
+fn is_closed(depths: &[u32; 10]) -> bool
+    ensures { λ r. ⌜ (r ≡ true → (c : ℕ) → c < 10 → getD (now (depths .entry)) c 0 ≡ 0) ⌝ }
+{
+    (depths[0] == 0)
+        & (depths[1] == 0)
+        & (depths[2] == 0)
+        & (depths[3] == 0)
+        & (depths[4] == 0)
+        & (depths[5] == 0)
+        & (depths[6] == 0)
+        & (depths[7] == 0)
+        & (depths[8] == 0)
+        & (depths[9] == 0)
+}
+
+// Whether a row is seen to leave a tracker of these depths as it is: it is all zero, or no head is open and it has neither head nor tail.
+// Such a row is passed by `pass_row`, which spares the copies of the tracker.
+pub fn leaves(depths: &[u32; 10], row: &[u8]) -> bool
+    ensures { λ r. ⌜ (r ≡ true → (heads : List ℕ) → Leaves (tracker heads (now (depths .entry))) (now (row .entry))) ⌝ }
+{
+    if measures::is_all_zero(row) {
+        return true;
+    }
+    if cells::row_pairs_nothing(row) {
+        return is_closed(depths);
+    }
+    false
+}
+
+// One row that leaves the tracker as it is: only its own entry is set, and no pair ends there.
+pub fn pass_row(row: u32, judged: bool, work: &mut [u16])
+    requires { ⌜ row < length (now work) ⌝ }
+    ensures { λ _. ⌜ ((t : Tracker) (cells : Row) → Leaves t cells → RowTracked row cells judged t (now (work .entry)) t (now (work .exit))) ⌝ }
+{
+    let at = row as usize;
+    work[at] = row_entry(judged, 0);
 }

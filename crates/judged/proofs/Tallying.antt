@@ -1,9 +1,9 @@
 -- The second loop: the judged tally of the rows read so far, and the holds open before the next one.
-use mathlib.Core.Path.{_≡_, refl, ap, sym, _∙_}
-use mathlib.Core.Bool.{Bool, true, false, cond}
+use mathlib.Core.Path.{_≡_, refl, ap, ap₂, sym, _∙_}
+use mathlib.Core.Bool.{Bool, true, false, cond, and-false}
 use mathlib.Core.List.{List, [], _∷_, _++_}
-use Prim.Native.Nat.{ℕ, _+_, _*_, _-_, _/_, _%_, _^_, _≤_, _<_}
-use native.Mathlib.Nat.{zero-add, le-trans, mul-le-mul-right}
+use Prim.Native.Nat.{ℕ, suc, _+_, _*_, _-_, _/_, _%_, _^_, _≤_, _<_}
+use native.Mathlib.Nat.{zero-add, add-zero, sub-zero, le-trans, mul-le-mul-right}
 use native.Mathlib.Omega.{arith}
 use lib.Dec.{eqb}
 use lib.ListN.{length, getD, take, drop, length-append}
@@ -11,15 +11,19 @@ use lib.Pow.{field, mod-mod-pow}
 use Rattle.definitions.specs.Lists.{oneIf}
 use Rattle.definitions.specs.Lanes.{mostRows}
 use Rattle.definitions.specs.Lines.{Row}
-use Rattle.definitions.specs.Tracker.{pairs}
-use Rattle.definitions.specs.Tally.{noStats, rowSumBy}
+use Rattle.definitions.specs.Tracker.{Pair, pairs}
+use Rattle.definitions.specs.Tally.{noStats, addSum, rowSumBy}
 use Rattle.definitions.specs.Correction.{keepRow}
 use Rattle.definitions.specs.ReadBack.{readBack}
-use Rattle.definitions.specs.Judged.{judgedSum, judgeRow, openBefore, judgeFrom, judgedRows}
+use Rattle.definitions.specs.Judged.{onlyFakes, judgedSum, judgeRow, openBefore, judgeFrom, judgedRows}
+use Rattle.definitions.specs.Reduction.{allZero}
+use Rattle.definitions.specs.declared.ArrowStats.{ArrowStats}
 use Rattle.cells.specs.Taps.{bit}
 use Rattle.holds.specs.Tracks.{pairedHeads}
 use Rattle.holds.proofs.Opens.{opens, opens-start, opens-most}
 use Rattle.holds.proofs.Heads.{kept-heads}
+use Rattle.holds.proofs.ZeroRows.{zero-ends}
+use Rattle.tallies.proofs.Zeros.{zero-kept, zero-judged}
 use Rattle.reader.specs.declared.BackLine.{BackLine}
 use Rattle.reader.specs.BackReading.{BackRead, BackReading}
 use Rattle.reader.proofs.BackReading.{back-start, back-row, back-passed, back-end, back-trimmed}
@@ -64,6 +68,16 @@ low-bit c m h =
 one-is : (b : Bool) → eqb (oneIf b) 1 ≡ b
 one-is true = refl
 one-is false = refl
+
+-- a row that counts nothing leaves the tally, whose `holding` stays 0
+judge-nothing : (t : ArrowStats) (judged : Bool) (held : ℕ) → t .holding ≡ 0 → judgeRow t judged held (onlyFakes 0) ≡ t
+unfolding judgeRow
+judge-nothing t judged held z = ap₂ (addSum t (onlyFakes 0)) (and-false judged) (sym z) ∙ simp add-zero
+
+holding-none : (L : ℕ) (J : ℕ → Bool) (ps : ℕ → List Pair) (t : ArrowStats) (i : ℕ) (rows : List Row) → t .holding ≡ 0 → judgeFrom L J ps t i rows .holding ≡ 0
+unfolding judgeRow
+holding-none L J ps t i [] z = z
+holding-none L J ps t i (r ∷ rows) z = holding-none L J ps (judgeRow t (J i) (openBefore L J ps i) (judgedSum (J i) (keepRow ps i 0 r))) (suc i) rows refl
 
 module _ (J : ℕ → Bool) (L : ℕ) (text : List ℕ) (off row : ℕ) (t : TimingStats) (x : Tallying J L text off row t) where
   -- at most ten holds are opened in a row
@@ -164,3 +178,12 @@ module _ (J : ℕ → Bool) (L : ℕ) (text : List ℕ) (off row : ℕ) (t : Tim
                 (below-judged-line (10 * row) (t .stats) (isJudged entry) (t .active) (keepMask (headsOf entry) 0 cells)
                 (rw keep-length (omega (arith, wide))) (x .below));
           })
+
+      -- an all-zero row leaves the tally and the open holds
+      pub tallying-zero : allZero cells ≡ true → Tallying J L text (r .next) (row + 1) t
+      unfolding timingRow newHolds
+      tallying-zero z =
+          let sum = sum-is ∙ ap (judgedSum (J row)) (zero-kept (pairs all) row 0 cells z) ∙ zero-judged cells z (J row) in
+          let none = w .tracks .ends row ∙ zero-ends J all row (ap allZero here ∙ z) in
+          let held = ap (λ s. s .holding) (x .stats) ∙ holding-none L J (pairs all) noStats 0 (x .rows) refl in
+          tallying-row t (sym (rw (sum, none, judge-nothing (t .stats) (isJudged entry) (t .active) held) (simp (add-zero, sub-zero))))

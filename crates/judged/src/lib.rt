@@ -55,7 +55,11 @@ fn track_timing_rows(data: &[u8], lanes: usize, all: bool, flags: &[u8], work: &
         if line.row {
             let end = off + lanes;
             let judged = is_judged(all, flags, row as usize);
-            t = holds::track_judged_row(t, row, &data[off..end], judged, &mut *work);
+            if holds::leaves(&t.depths, &data[off..end]) {
+                holds::pass_row(row, judged, &mut *work);
+            } else {
+                t = holds::track_judged_row(t, row, &data[off..end], judged, &mut *work);
+            }
             row += 1;
         }
         off = next;
@@ -87,7 +91,7 @@ fn process_timing_row(t: TimingStats, cells: &[u8], entry: u16) -> TimingStats
     }
 }
 
-// The rows again, each with its entry.
+// The rows again, each with its entry. An all-zero row adds nothing, and no hold ends there.
 fn tally_timing_rows(data: &[u8], lanes: usize, work: &[u16]) -> ArrowStats
     requires { ⌜ (length (now «data») ≤ 16777215) × (lanes ≤ 10) × (mostRows lanes (length (now «data»)) ≤ length (now work)) ⌝ }
     requires { ⌜ SomeTimed (readBack lanes (now «data»)) (now work) ⌝ }
@@ -101,7 +105,9 @@ fn tally_timing_rows(data: &[u8], lanes: usize, work: &[u16]) -> ArrowStats
         let next = line.next;
         if line.row {
             let end = off + lanes;
-            t = process_timing_row(t, &data[off..end], work[row]);
+            if !measures::is_all_zero(&data[off..end]) {
+                t = process_timing_row(t, &data[off..end], work[row]);
+            }
             row += 1;
         }
         off = next;

@@ -11,9 +11,9 @@ use Rattle.definitions.specs.Lines.{Row}
 use Rattle.definitions.specs.Reduction.{reduce}
 use Rattle.definitions.specs.Figures.{rowText, density}
 use Rattle.counting.specs.declared.Counting.{Counting}
-use Rattle.counting.specs.Counted.{Counted, SomeCounted}
+use Rattle.counting.specs.Counted.{Counted}
 use Rattle.measures.specs.Rows.{rowsAt, placed, Holds, Reduced}
-use Rattle.measures.proofs.Forms.{Form, in-text, form-rows}
+use Rattle.measures.proofs.Forms.{in-text, form-rows}
 use Rattle.output.specs.Wrote.{Wrote}
 use Rattle.output.proofs.Writing.{wrote-start, wrote-row, wrote-holds, wrote-reduced, wrote-sep}
 use Rattle.measures.proofs.Shorter.{reduce-short}
@@ -78,11 +78,11 @@ module _ (L : ℕ) (p : Pass) (text after : List ℕ) (kept : ℕ) (fits : p .ou
 
 -- the measure's density is stored
 pub ended-rows : (L : ℕ) (e : Pass) (text densities : List ℕ) (done : List (List Row)) (cur : List Row) → Closed L e text done cur → take (e .midx) densities ≡ map density done
-    → e .midx < length densities → Ended L e text (set densities (e .midx) (e .counting .steps)) done cur
-ended-rows L e text densities done cur x stored room =
+    → e .midx < length densities → (d : ℕ) → d ≡ density cur → Ended L e text (set densities (e .midx) d) done cur
+ended-rows L e text densities done cur x stored room d same =
     record {
       closed = x;
-      stored = rw (add-one, take-suc-set densities (e .midx) (e .counting .steps) room, stored, x .counted .steps) (sym (map-append density done (cur ∷ [])));
+      stored = rw (add-one, take-suc-set densities (e .midx) d room, stored, same) (sym (map-append density done (cur ∷ [])));
     }
 
 -- the `,` line is written

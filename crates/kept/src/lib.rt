@@ -3,9 +3,9 @@ use counting::Counting;
 use definitions::ArrowStats;
 use definitions::LineKind;
 ghost use mathlib.Core.Path.{_≡_};
-ghost use mathlib.Core.List.{List, [], _∷_, _++_, map};
+ghost use mathlib.Core.List.{List, [], _∷_, _++_};
 ghost use Prim.Native.Nat.{ℕ, _+_, _*_, _/_, _≤_, _<_};
-ghost use lib.ListN.{length, take};
+ghost use lib.ListN.{length};
 ghost use Rattle.definitions.specs.Lines.{Row};
 ghost use Rattle.definitions.specs.Lists.{padded};
 ghost use Rattle.definitions.specs.Lanes.{mostRows};
@@ -97,7 +97,7 @@ pub fn end_measure(p: Pass, text: &mut [u8], densities: &mut [u32], lanes: usize
 {
     let e = end_rows(p, text, lanes);
     let m = e.midx;
-    densities[m] = e.counting.steps;
+    densities[m] = counting::density(e.counting);
     e
 }
 

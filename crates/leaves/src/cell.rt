@@ -73,7 +73,7 @@ pub extern "C" fn leaves_tap_mask8(row: &[u8]) -> u32 {
 // The sum's fields in their order.
 #[no_mangle]
 pub extern "C" fn leaves_tap_sum(mask: u8, sum: &mut [u32; 11]) {
-    let s = cells::tap_sum(mask);
+    let s = cells::tap_sum(mask, &cells::tap_mask_counts());
     sum[0] = s.arrows;
     sum[1] = s.left;
     sum[2] = s.down;

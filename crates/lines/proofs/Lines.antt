@@ -1,5 +1,5 @@
 -- Laws of `firstLine` and `linesFrom`. A loop over the lines of a text starts by `lines-start`, takes a line by `lines-next` and stops by
--- `lines-end`; `line-within` says that the line taken lies in the text. `read-next` and `read-within` say the same of what `next_line` gave.
+-- `lines-end`; `line-within` says that the line taken lies in the text.
 use mathlib.Core.Path.{_≡_, refl, ap, _∙_}
 use mathlib.Core.Bool.{Bool, true, false, cond}
 use mathlib.Core.List.{List, [], _∷_}
@@ -72,14 +72,6 @@ lines-next text off h =
 pub lines-end : (text : List ℕ) (off : ℕ) → length text < off → linesFrom text off ≡ []
 unfolding linesFrom
 lines-end text off h = simp (lt-leb off (length text) h)
-
--- the same of a line `raw` that was read at `off`, with what `next_line` ensures of it
-module _ (text : List ℕ) (off : ℕ) (raw : List ℕ) (h : off ≤ length text) (e : raw ≡ firstLine (drop off text)) where
-  pub read-next : linesFrom text off ≡ raw ∷ linesFrom text (off + length raw + 1)
-  read-next = rw e (lines-next text off h)
-
-  pub read-within : off + length raw ≤ length text
-  read-within = omega (arith, ap length e, line-within text off h)
 
 -- The line that the search's answer shows: `At r` is its length, counted from k.
 abbrev pub Line-found : ℕ → ℕ → List ℕ → List ℕ → Type 0

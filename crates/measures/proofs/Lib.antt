@@ -12,5 +12,4 @@ pub mod Placed
 pub mod Blocks
 pub mod Compaction
 pub mod Forms
-pub mod Compacted
 pub mod Shorter

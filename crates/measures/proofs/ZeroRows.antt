@@ -10,7 +10,9 @@ use lib.Dec.{eqb}
 use lib.ListN.{length, drop, getD, drop-of-length-le}
 use lib.Seq.{drop-cons}
 use Rattle.definitions.specs.Lines.{Row}
+use Rattle.definitions.specs.Cells.{byteAt}
 use Rattle.definitions.specs.Reduction.{allZero}
+use Rattle.definitions.proofs.Bools.{and-left, and-right}
 use Rattle.lines.specs.Words.{wordOf, Bytes}
 
 pub zero-turn : (r : List ℕ) (i : ℕ) → i < length r → getD r i 0 ≡ 48 → allZero (drop i r) ≡ allZero (drop (i + 1) r)
@@ -21,6 +23,12 @@ zero-stop r i h e = rw (drop-cons r i 0, ne-eqb (getD r i 0) 48 e)
 
 pub zero-end : (r : List ℕ) (i : ℕ) → length r ≤ i → allZero (drop i r) ≡ true
 zero-end r i h = rw (drop-of-length-le)
+
+-- in every column of a row of zeros stands a `0`
+pub zero-byte : (c : ℕ) (r : Row) → allZero r ≡ true → byteAt c r ≡ 48
+zero-byte c [] z = refl
+zero-byte zero (b ∷ r) z = eqb-true b 48 (and-left (eqb b 48) (allZero r) z)
+zero-byte (suc c) (b ∷ r) z = zero-byte c r (and-right (eqb b 48) (allZero r) z)
 
 -- n bytes `0`, and the one word that a row of zeros has
 abbrev pub zeros : ℕ → ℕ

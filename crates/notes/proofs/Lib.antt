@@ -6,3 +6,4 @@ pub mod Rows
 pub mod Closing
 pub mod Retaining
 pub mod Ending
+pub mod Taps

@@ -25,6 +25,10 @@ noTail = 4294967295
 abbrev pub dropped : ℕ
 dropped = 4294967294
 
+-- no column has an open head
+abbrev pub NoHeads : List ℕ → Type 0
+NoHeads hs = (c : ℕ) → c < 10 → getD hs c 0 ≡ noHead
+
 -- ---- the drafts as bytes
 
 abbrev pub endNumber : Option ℕ → ℕ

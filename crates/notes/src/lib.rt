@@ -8,13 +8,19 @@ use records::kind_number;
 use records::move_record;
 use records::put_record;
 use records::put_word;
+ghost use mathlib.Core.Path.{_≡_};
 ghost use mathlib.Core.Bool.{true};
 ghost use mathlib.Core.List.{List, [], _∷_, _++_};
-ghost use Prim.Native.Nat.{ℕ, _*_, _≤_};
+ghost use Prim.Native.Nat.{ℕ, _+_, _*_, _≤_, _<_};
+ghost use lib.Dec.{eqb};
 ghost use lib.ListN.{length};
+ghost use lib.Seq.{sets};
+ghost use Rattle.definitions.specs.Lists.{oneIf};
 ghost use Rattle.definitions.specs.Lines.{Row};
+ghost use Rattle.definitions.specs.Records.{fields};
+ghost use Rattle.cells.specs.Taps.{Tapped};
 ghost use Rattle.notes.specs.Drafts.{stepCell};
-ghost use Rattle.notes.specs.Writer.{HeadThere, HoldEnded, invalidAfter, Ready, NotePushed, noHead, dropped, Stepped, Closed, Compacted, SomeDrafts};
+ghost use Rattle.notes.specs.Writer.{HeadThere, HoldEnded, invalidAfter, Ready, NotePushed, noHead, noTail, NoHeads, dropped, Stepped, Closed, Compacted, SomeDrafts};
 ghost use Rattle.notes.specs.Written.{Written, Room, SomeRows, Finished};
 
 // The tail field of a record that is dropped.
@@ -121,8 +127,54 @@ fn push_cell(
     }
 }
 
-// One row, `finish_row` included. Most bytes of a chart are `0`, which touches no note: it is passed over before its effect is asked for.
-pub fn push_row(s: ChartNotesScratch, row: &[u8], notes: &mut [u8]) -> ChartNotesScratch
+// Whether no column has an open head.
+fn is_closed(heads: [u32; 10]) -> bool
+    ensures { λ r. ⌜ (r ≡ true → NoHeads heads) ⌝ }
+{
+    (heads[0] == NO_HEAD)
+        & (heads[1] == NO_HEAD)
+        & (heads[2] == NO_HEAD)
+        & (heads[3] == NO_HEAD)
+        & (heads[4] == NO_HEAD)
+        & (heads[5] == NO_HEAD)
+        & (heads[6] == NO_HEAD)
+        & (heads[7] == NO_HEAD)
+        & (heads[8] == NO_HEAD)
+        & (heads[9] == NO_HEAD)
+}
+
+// A tap's record at the end of the records, and their number with it; where the cell is a `0` the next record is written over this one.
+fn push_tap(row: u32, count: usize, column: usize, b: u8, notes: &mut [u8]) -> usize
+    requires { ⌜ (count * 10 + 10 ≤ length (now notes)) × (column < 10) × (count < 4294967295) ⌝ }
+    ensures { λ r. ⌜ r ≡ count + oneIf (eqb b 49) ⌝ }
+    ensures { λ _. ⌜ now (notes .exit) ≡ sets (now (notes .entry)) (count * 10) (fields row noTail column 0) ⌝ }
+{
+    put_record(notes, count, row, NO_TAIL_ROW, column as u8, 0);
+    count + cells::one_if(b == b'1') as usize
+}
+
+// A row of taps alone where no column has an open head. No turn of the loop branches on a cell.
+fn push_taps(s: ChartNotesScratch, row: &[u8], notes: &mut [u8]) -> ChartNotesScratch
+    requires { ⌜ Room s (now row) (now notes) × Tapped (now row) × NoHeads (s .«hold_heads») ⌝ }
+    ensures { λ r. ⌜ ((rows : List Row) → Written rows s (now (notes .entry)) → Written (rows ++ (now (row .entry) ∷ [])) r (now (notes .exit))) ⌝ }
+{
+    let hold_heads = s.hold_heads;
+    let mut count = s.count;
+    let mut column = 0;
+    while column < row.len() {
+        count = push_tap(s.row_index, count, column, row[column], notes);
+        column += 1;
+    }
+    ChartNotesScratch {
+        hold_heads,
+        count,
+        row_index: s.row_index + 1,
+        has_invalid: s.has_invalid,
+    }
+}
+
+// A row cell by cell. Most bytes of a chart are `0`, which touches no note: it is passed over before its effect is asked for.
+fn push_cells(s: ChartNotesScratch, row: &[u8], notes: &mut [u8]) -> ChartNotesScratch
     requires { ⌜ Room s (now row) (now notes) ⌝ }
     ensures { λ r. ⌜ ((rows : List Row) → Written rows s (now (notes .entry)) → Written (rows ++ (now (row .entry) ∷ [])) r (now (notes .exit))) ⌝ }
 {
@@ -137,6 +189,20 @@ pub fn push_row(s: ChartNotesScratch, row: &[u8], notes: &mut [u8]) -> ChartNote
     }
     out.row_index = out.row_index + 1;
     out
+}
+
+// One row, `finish_row` included.
+pub fn push_row(s: ChartNotesScratch, row: &[u8], notes: &mut [u8]) -> ChartNotesScratch
+    requires { ⌜ Room s (now row) (now notes) ⌝ }
+    ensures { λ r. ⌜ ((rows : List Row) → Written rows s (now (notes .entry)) → Written (rows ++ (now (row .entry) ∷ [])) r (now (notes .exit))) ⌝ }
+{
+    if cells::row_is_taps(row) {
+        let heads = s.hold_heads;
+        if is_closed(heads) {
+            return push_taps(s, row, notes);
+        }
+    }
+    push_cells(s, row, notes)
 }
 
 // Drops the heads that are still open.

@@ -4,9 +4,9 @@ use mathlib.Core.List.{List, [], _∷_, _++_}
 use Prim.Native.Nat.{ℕ, _+_, _*_, _≤_, _<_}
 use native.Mathlib.Nat.{add-mul, one-mul, le-trans, mul-le-mul-right}
 use native.Mathlib.Omega.{arith}
-use lib.ListN.{length, length-append}
+use lib.ListN.{length}
 use Rattle.definitions.specs.Lines.{Row}
-use Rattle.definitions.proofs.Lists.{All, none, one, all-append}
+use Rattle.definitions.proofs.Lists.{none, one, all-append}
 use Rattle.notes.specs.declared.ChartNotesScratch.{ChartNotesScratch}
 use Rattle.notes.specs.Written.{Written, Room}
 use Rattle.notes.proofs.Rows.{cells-within}

@@ -2,18 +2,18 @@
 use mathlib.Core.Path.{_≡_, refl, ap, sym, _∙_}
 use mathlib.Core.List.{List, [], _∷_, _++_, map, append-assoc, append-nil}
 use Prim.Native.Nat.{ℕ, suc, _+_, _*_, _≤_, _<_}
-use native.Mathlib.Nat.{add-zero, zero-mul, add-mul, one-mul, add-assoc}
+use native.Mathlib.Nat.{add-zero, zero-mul, add-mul, one-mul}
 use native.Mathlib.Numerals.{add-one}
 use native.Mathlib.Omega.{arith}
-use lib.ListN.{length, take, drop, getD, set, length-append, length-take, take-append-drop}
-use lib.Seq.{paste, paste-zero, paste-suc, set-split, take-length, length-take-le, drop-cons, set-at}
+use lib.ListN.{length, take, drop, getD, set, length-append}
+use lib.Seq.{paste, set-split, take-length, length-take-le, drop-cons, set-at}
 use Rattle.definitions.specs.Lists.{joined}
 use Rattle.definitions.specs.Lines.{Row}
 use Rattle.definitions.specs.Figures.{rowText, textOf}
 use Rattle.definitions.specs.Reduction.{reduce}
-use Rattle.definitions.proofs.Lists.{All, none, one, all-append}
+use Rattle.definitions.proofs.Lists.{none, one, all-append}
 use Rattle.measures.specs.Rows.{placed, Holds, Reduced}
-use Rattle.measures.proofs.Placed.{placed-front, placed-past}
+use Rattle.measures.proofs.Placed.{placed-front}
 use Rattle.measures.proofs.Blocks.{joined-append}
 use Rattle.measures.proofs.Multiples.{reduce-all}
 use Rattle.measures.proofs.Forms.{Form, form-length, form-holds, form-after}

@@ -1,4 +1,4 @@
--- The loop of `phantom_row`: the columns before i are counted, and those from i on are as they were.
+-- The loop of `phantom_cells`: the columns before i are counted, and those from i on are as they were.
 use mathlib.Core.Path.{_≡_, refl, ap, sym, _∙_}
 use mathlib.Core.Bool.{Bool, true, false, _||_, or-assoc, or-false}
 use mathlib.Core.List.{List, [], _∷_, _++_}
@@ -7,7 +7,7 @@ use native.Mathlib.Decide.{decLt, ℕ-discrete}
 use native.Mathlib.Numerals.{add-one}
 use native.Mathlib.Nat.{le-of-suc-le-suc, not-suc-le-zero}
 use native.Mathlib.Omega.{arith}
-use lib.ListN.{length, getD, set, drop, length-append, drop-of-length-le, List·getD-eq-default}
+use lib.ListN.{length, getD, set, drop, length-set, length-append, drop-of-length-le, List·getD-eq-default}
 use lib.Seq.{drop-cons, getD-set-same, getD-set-other}
 use Rattle.definitions.specs.Lists.{oneIf, count, someColumn}
 use Rattle.definitions.specs.Lines.{Row}
@@ -18,6 +18,7 @@ use Rattle.definitions.specs.declared.DepthEffect.{DepthEffect}
 use Rattle.definitions.specs.declared.DepthEffect.the-variants.{Nothing, Blocks, Opens, Closes}
 use Rattle.phantoms.specs.Phantoms.{depthAt, Low, Counts, CellCounted}
 use Rattle.phantoms.specs.declared.Phantoms.{Phantoms}
+use Rattle.phantoms.specs.declared.PhantomCell.{PhantomCell}
 use Rattle.phantoms.proofs.Columns.{column-same, column-or, column-past}
 use Rattle.phantoms.proofs.Rows.{after-snoc, met-snoc, heads-snoc, tails-snoc}
 
@@ -27,22 +28,6 @@ low-more j k p h l =
       depths = λ c m. omega (arith, l .depths c m);
       heads = omega (arith, l .heads);
       tails = omega (arith, l .tails);
-    }
-
--- A cell whose effect is known.
-pub cell-known : (p : Phantoms) (c b : ℕ) (e : DepthEffect) (r : Phantoms) → c < length (p .depths) → holdAt b ≡ e
-    → r .depths ≡ set (p .depths) c (phantomStep e (depthAt p c))
-    → r .heads ≡ p .heads + oneIf (isOpening e)
-    → r .tails ≡ p .tails + oneIf (isClosing e)
-    → r .met ≡ (p .met || meetsPhantom e (depthAt p c))
-    → CellCounted p c b r
-cell-known p c b e r h k ds hs ts m =
-    record {
-      depth = rw (k, ds) (getD-set-same (p .depths) c _ 0 h);
-      others = λ d n. rw ds (getD-set-other (p .depths) c d _ 0 n);
-      heads = rw k hs;
-      tails = rw k ts;
-      met = rw k m;
     }
 
 abbrev isHead : ℕ → Bool
@@ -61,6 +46,7 @@ meets row p c = meetsPhantom (holdAt (byteAt c row)) (depthAt p c)
 -- With p before the row: what r holds when the loop is at column i.
 pub record Passed (row : Row) (p r : Phantoms) (i : ℕ) : Type 0 where
   pub within : i ≤ length row
+  pub size : length (r .depths) ≡ 10
   pub done : (c : ℕ) → c < i → depthAt r c ≡ after row p c
   pub left : (c : ℕ) → i ≤ c → depthAt r c ≡ depthAt p c
   pub heads : r .heads + count isHead (drop i row) ≡ p .heads + count isHead row
@@ -68,10 +54,11 @@ pub record Passed (row : Row) (p r : Phantoms) (i : ℕ) : Type 0 where
   pub met : r .met ≡ (p .met || someColumn i (meets row p))
   pub low : (k : ℕ) → Low k p → Low (k + i) r
 
-pub passed-start : (row : Row) (p : Phantoms) → Passed row p p 0
-passed-start row p =
+pub passed-start : (row : Row) (p : Phantoms) → length (p .depths) ≡ 10 → Passed row p p 0
+passed-start row p h =
     record {
       within = omega arith;
+      size = h;
       done = λ c k. absurd (not-suc-le-zero k);
       left = λ c k. refl;
       heads = refl;
@@ -96,9 +83,17 @@ one-le : (b : Bool) → oneIf b ≤ 1
 one-le true = omega arith
 one-le false = omega arith
 
+-- a cell adds at most one head and one tail
+module _ (b d : ℕ) (q : PhantomCell) (cell : CellCounted b d q) where
+  pub one-head : q .heads ≤ 1
+  one-head = omega (arith, cell .heads, one-le (isHead b))
+
+  pub one-tail : q .tails ≤ 1
+  one-tail = omega (arith, cell .tails, one-le (isTail b))
+
 -- one cell more of a count
-count-next : (p : ℕ → Bool) (row : Row) (i n m k : ℕ) → i < length row → m ≡ n + oneIf (p (getD row i 0)) → n + count p (drop i row) ≡ k
-    → m + count p (drop (i + 1) row) ≡ k
+count-next : (p : ℕ → Bool) (row : Row) (i n m k : ℕ) → i < length row → m ≡ oneIf (p (getD row i 0)) → n + count p (drop i row) ≡ k
+    → (n + m) + count p (drop (i + 1) row) ≡ k
 count-next p row i n m k h e f =
     let d : count p (drop i row) ≡ oneIf (p (getD row i 0)) + count p (drop (i + 1) row) = rw (add-one, drop-cons row i 0) in
     omega arith
@@ -107,44 +102,61 @@ count-next p row i n m k h e f =
 count-end : (p : ℕ → Bool) (row : Row) (i n k : ℕ) → length row ≤ i → n + count p (drop i row) ≡ k → n ≡ k
 count-end p row i n k h f = let d : count p (drop i row) ≡ 0 = rw (drop-of-length-le row h) in omega arith
 
-module _ (row : Row) (p r q : Phantoms) (i : ℕ) (s : Passed row p r i) (h : i < length row) (cell : CellCounted r i (getD row i 0) q) where
+-- after a cell in column i
+abbrev next : Phantoms → ℕ → PhantomCell → Phantoms
+next r i q =
+    record {
+      depths = set (r .depths) i (q .depth);
+      heads = r .heads + q .heads;
+      tails = r .tails + q .tails;
+      met = r .met || q .met;
+    }
+
+module _ (row : Row) (p r : Phantoms) (q : PhantomCell) (i : ℕ) (s : Passed row p r i) (h : i < length row) (m : i < 10)
+    (cell : CellCounted (getD row i 0) (depthAt r i) q) where
   -- the cell, as the row has it
   byte : getD row i 0 ≡ byteAt i row
   byte = any-default row i 0 48 h
 
-  next-here : depthAt q i ≡ after row p i
-  next-here = cell .depth ∙ rw (byte, s .left i (omega arith))
+  here : depthAt (next r i q) i ≡ phantomStep (holdAt (getD row i 0)) (depthAt r i)
+  here = getD-set-same (r .depths) i (q .depth) 0 (omega (arith, s .size)) ∙ cell .depth
 
-  next-met : q .met ≡ (p .met || someColumn (i + 1) (meets row p))
-  next-met = cell .met ∙ rw (s .met, byte, s .left i (omega arith), add-one, or-assoc)
+  others : (c : ℕ) → (c ≡ i → ⊥) → depthAt (next r i q) c ≡ depthAt r c
+  others c n = getD-set-other (r .depths) i c (q .depth) 0 n
 
-  next-low : (k : ℕ) → Low k p → Low (k + (i + 1)) q
+  next-here : depthAt (next r i q) i ≡ after row p i
+  next-here = here ∙ rw (byte, s .left i (omega arith))
+
+  next-met : (r .met || q .met) ≡ (p .met || someColumn (i + 1) (meets row p))
+  next-met = rw (cell .met, s .met, byte, s .left i (omega arith), add-one, or-assoc)
+
+  next-low : (k : ℕ) → Low k p → Low (k + (i + 1)) (next r i q)
   next-low k l =
-      let m = s .low k l in
+      let low = s .low k l in
       record {
         depths =
             λ c b.
             elim (ℕ-discrete c i) [
-              | yes e ↦ let d : depthAt q c ≡ depthAt q i = ap (depthAt q) e in
-                  let d' : depthAt r c ≡ depthAt r i = ap (depthAt r) e in
-                  omega (arith, cell .depth, step-le (holdAt (getD row i 0)) (depthAt r i), m .depths c b)
-              | no n ↦ omega (arith, cell .others c n, m .depths c b)
+              | yes e ↦
+                  rw e (omega (arith, here, step-le (holdAt (getD row i 0)) (depthAt r i), low .depths i m))
+              | no n ↦ omega (arith, others c n, low .depths c b)
             ];
-        heads = omega (arith, cell .heads, one-le (isHead (getD row i 0)), m .heads);
-        tails = omega (arith, cell .tails, one-le (isTail (getD row i 0)), m .tails);
+        heads = omega (arith, one-head (getD row i 0) (depthAt r i) q cell, low .heads);
+        tails = omega (arith, one-tail (getD row i 0) (depthAt r i) q cell, low .tails);
       }
 
-  pub passed-next : Passed row p q (i + 1)
+  pub passed-next : Passed row p (next r i q) (i + 1)
   passed-next =
       record {
         within = omega arith;
+        size = length-set (r .depths) i (q .depth) ∙ s .size;
         done =
             λ c k.
             elim (decLt c i) [
-              | yes b ↦ cell .others c (λ e. omega arith) ∙ s .done c b
+              | yes b ↦ others c (λ e. omega arith) ∙ s .done c b
               | no b ↦ let e : c ≡ i = omega arith in rw e next-here
             ];
-        left = λ c k. cell .others c (λ e. omega arith) ∙ s .left c (omega arith);
+        left = λ c k. others c (λ e. omega arith) ∙ s .left c (omega arith);
         heads = count-next isHead row i (r .heads) (q .heads) _ h (cell .heads) (s .heads);
         tails = count-next isTail row i (r .tails) (q .tails) _ h (cell .tails) (s .tails);
         met = next-met;

@@ -1,14 +1,14 @@
 -- The phantom depths, heads and tails in a struct, and the rows that it has counted.
 use mathlib.Core.Path.{_≡_}
-use mathlib.Core.Bool.{_||_}
 use mathlib.Core.List.{List, [], _∷_, _++_}
-use Prim.Native.Nat.{ℕ, _+_, _*_, _<_, _≤_}
+use Prim.Native.Nat.{ℕ, _*_, _<_, _≤_}
 use lib.ListN.{length, getD}
 use Rattle.definitions.specs.Lists.{oneIf, someColumn}
 use Rattle.definitions.specs.Lines.{Row}
 use Rattle.definitions.specs.Tracker.{holdAt}
 use Rattle.definitions.specs.Correction.{phantomStep, phantomAfter, meetsPhantom, phantomMet, isOpening, isClosing, headCount, tailCount}
 use Rattle.phantoms.specs.declared.Phantoms.{Phantoms}
+use Rattle.phantoms.specs.declared.PhantomCell.{PhantomCell}
 
 -- the phantom depth of a column
 abbrev pub depthAt : Phantoms → ℕ → ℕ
@@ -20,6 +20,10 @@ pub record Low (k : ℕ) (p : Phantoms) : Type 0 where
   pub heads : p .heads ≤ k
   pub tails : p .tails ≤ k
 
+-- no column is open
+abbrev pub Closed : Phantoms → Type 0
+Closed p = (c : ℕ) → c < 10 → depthAt p c ≡ 0
+
 -- The struct has counted these rows, of L columns.
 pub record Counts (L : ℕ) (rows : List Row) (p : Phantoms) : Type 0 where
   pub depths : (c : ℕ) → c < L → depthAt p c ≡ phantomAfter c 0 rows
@@ -28,13 +32,12 @@ pub record Counts (L : ℕ) (rows : List Row) (p : Phantoms) : Type 0 where
   pub met : p .met ≡ someColumn L (λ c. phantomMet c 0 rows)
   pub low : Low (10 * length rows) p
 
--- One cell: its own column's depth, and the others as they were.
-pub record CellCounted (p : Phantoms) (c b : ℕ) (r : Phantoms) : Type 0 where
-  pub depth : depthAt r c ≡ phantomStep (holdAt b) (depthAt p c)
-  pub others : (d : ℕ) → (d ≡ c → ⊥) → depthAt r d ≡ depthAt p d
-  pub heads : r .heads ≡ p .heads + oneIf (isOpening (holdAt b))
-  pub tails : r .tails ≡ p .tails + oneIf (isClosing (holdAt b))
-  pub met : r .met ≡ (p .met || meetsPhantom (holdAt b) (depthAt p c))
+-- One cell of a column of depth d.
+pub record CellCounted (b d : ℕ) (r : PhantomCell) : Type 0 where
+  pub depth : r .depth ≡ phantomStep (holdAt b) d
+  pub heads : r .heads ≡ oneIf (isOpening (holdAt b))
+  pub tails : r .tails ≡ oneIf (isClosing (holdAt b))
+  pub met : r .met ≡ meetsPhantom (holdAt b) d
 
 -- A row: whatever rows the struct had counted, it has then counted one more.
 abbrev pub RowCounted : Row → Phantoms → Phantoms → Type 0

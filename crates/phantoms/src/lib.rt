@@ -1,6 +1,7 @@
 // The phantom depths of a chart's rows, its heads and tails, and whether its tally is counted anew.
 use definitions::DepthEffect;
 ghost use mathlib.Core.Path.{_≡_};
+ghost use mathlib.Core.Bool.{true};
 ghost use mathlib.Core.List.{List, []};
 ghost use Prim.Native.Nat.{ℕ, _-_, _≤_, _<_};
 ghost use lib.ListN.{length};
@@ -8,7 +9,7 @@ ghost use Rattle.definitions.specs.Lists.{someColumn};
 ghost use Rattle.definitions.specs.Lines.{Row};
 ghost use Rattle.definitions.specs.Correction.{corrects};
 ghost use lib.Dec.{ltb};
-ghost use Rattle.phantoms.specs.Phantoms.{depthAt, Low, Counts, CellCounted, RowCounted};
+ghost use Rattle.phantoms.specs.Phantoms.{depthAt, Low, Closed, Counts, CellCounted, RowCounted};
 
 // The phantom depth of each column, of up to ten; the heads and tails so far; and whether a 1, M, L or F met a phantom depth.
 pub struct Phantoms {
@@ -37,40 +38,101 @@ fn one_less(n: u32) -> u32
     if 0 < n { n - 1 } else { 0 }
 }
 
-// One cell of a row, in a column.
-fn phantom_cell(p: Phantoms, column: usize, b: u8) -> Phantoms
-    requires { ⌜ (column < 10) × Low 4294967294 p ⌝ }
-    ensures { λ r. ⌜ CellCounted p column b r ⌝ }
-{
-    let depth = p.depths[column];
-    let mut r = p;
-    match cells::hold_effect(b) {
-        DepthEffect::Nothing => {}
-        DepthEffect::Blocks => r.met = r.met | (0 < depth),
-        DepthEffect::Opens => {
-            r.depths[column] = depth + 1;
-            r.heads += 1;
-        }
-        DepthEffect::Closes => {
-            r.depths[column] = one_less(depth);
-            r.tails += 1;
-        }
-    }
-    r
+// What a cell leaves of its column's phantom depth, the heads and tails that it adds, and whether it met a phantom depth.
+pub struct PhantomCell {
+    pub depth: u32,
+    pub heads: u32,
+    pub tails: u32,
+    pub met: bool,
 }
 
-// One row more.
+// One cell of a row, in a column of that depth.
+fn phantom_cell(b: u8, depth: u32) -> PhantomCell
+    requires { ⌜ depth < 4294967295 ⌝ }
+    ensures { λ r. ⌜ CellCounted b depth r ⌝ }
+{
+    match cells::hold_effect(b) {
+        DepthEffect::Nothing => PhantomCell {
+            depth,
+            heads: 0,
+            tails: 0,
+            met: false,
+        },
+        DepthEffect::Blocks => PhantomCell {
+            depth,
+            heads: 0,
+            tails: 0,
+            met: 0 < depth,
+        },
+        DepthEffect::Opens => PhantomCell {
+            depth: depth + 1,
+            heads: 1,
+            tails: 0,
+            met: false,
+        },
+        DepthEffect::Closes => PhantomCell {
+            depth: one_less(depth),
+            heads: 0,
+            tails: 1,
+            met: false,
+        },
+    }
+}
+
+// One row more, cell by cell.
+fn phantom_cells(p: Phantoms, row: &[u8]) -> Phantoms
+    requires { ⌜ (length (now row) ≤ 10) × Low 4294967285 p ⌝ }
+    ensures { λ r. ⌜ RowCounted (now (row .entry)) p r ⌝ }
+{
+    let mut depths = p.depths;
+    let mut heads = p.heads;
+    let mut tails = p.tails;
+    let mut met = p.met;
+    let mut i = 0;
+    while i < row.len() {
+        let cell = phantom_cell(row[i], depths[i]);
+        depths[i] = cell.depth;
+        heads += cell.heads;
+        tails += cell.tails;
+        met = met | cell.met;
+        i += 1;
+    }
+    Phantoms {
+        depths,
+        heads,
+        tails,
+        met,
+    }
+}
+
+// Whether no column is open.
+fn is_closed(p: Phantoms) -> bool
+    ensures { λ r. ⌜ (r ≡ true → Closed p) ⌝ }
+{
+    let d = p.depths;
+    (d[0] == 0)
+        & (d[1] == 0)
+        & (d[2] == 0)
+        & (d[3] == 0)
+        & (d[4] == 0)
+        & (d[5] == 0)
+        & (d[6] == 0)
+        & (d[7] == 0)
+        & (d[8] == 0)
+        & (d[9] == 0)
+}
+
+// One row more. Where no column is open, a row that has neither a head nor a tail leaves everything as it is.
 pub fn phantom_row(p: Phantoms, row: &[u8]) -> Phantoms
     requires { ⌜ (length (now row) ≤ 10) × Low 4294967285 p ⌝ }
     ensures { λ r. ⌜ RowCounted (now (row .entry)) p r ⌝ }
 {
-    let mut r = p;
-    let mut i = 0;
-    while i < row.len() {
-        r = phantom_cell(r, i, row[i]);
-        i += 1;
+    if cells::row_pairs_nothing(row) {
+        if is_closed(p) {
+            return p;
+        }
     }
-    r
+    phantom_cells(p, row)
 }
 
 // Whether a phantom depth of the first columns is left over.

@@ -3,4 +3,5 @@ pub mod Parts
 pub mod Plain
 pub mod Reading
 pub mod BackReading
+pub mod PlainBack
 pub mod Minimising

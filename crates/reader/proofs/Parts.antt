@@ -1,19 +1,18 @@
 -- Where the parts of a line stand in the text: the line at `off`, and what is left of it without its leading blanks.
 use mathlib.Core.Path.{_≡_, refl, ap, sym, _∙_}
 use mathlib.Core.Bool.{Bool, true, false, cond}
-use mathlib.Core.List.{List, [], _∷_, _++_}
+use mathlib.Core.List.{List, [], _∷_}
 use Prim.Native.Nat.{ℕ, suc, _+_, _-_, _≤_}
 use native.Mathlib.Omega.{arith}
 use lib.Dec.{eqb}
-use lib.ListN.{length, take, drop, length-take, length-drop}
+use lib.ListN.{length, take, drop, length-drop}
 use lib.Seq.{take-take, take-add, drop-at, drop-drop, length-take-le}
-use Rattle.definitions.specs.Lines.{isBlank, trim, kindOf, lineKind, lineRow}
+use Rattle.definitions.specs.Lines.{isBlank, trim, kindOf, lineKind}
 use Rattle.definitions.specs.declared.LineKind.{LineKind}
 use Rattle.definitions.specs.declared.LineKind.the-variants as line
 use Rattle.lines.specs.Lines.{firstLine}
 use Rattle.lines.proofs.Lines.{line-within}
 use Rattle.measures.proofs.LineKinds.{row-length}
-use Rattle.reader.specs.declared.ReadLine.{ReadLine}
 use Rattle.reader.specs.Reading.{LineRead}
 
 -- trimming takes bytes off the front

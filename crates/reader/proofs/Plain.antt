@@ -55,6 +55,14 @@ ends-next k s h e f =
     let g : getD s (suc k) 0 ≡ 10 = rw add-one at f in
     rw (drop-cons s k 0 a, drop-cons s (suc k) 0 b, e) (simp (eq-eqb (getD s (suc k) 0) 10 g))
 
+-- none of the first L bytes is a newline and the next one is: they are the line
+pub line-just : (L n : ℕ) (s : List ℕ) → L < length s → L ≤ firstIn 10 (take n s) → getD s L 0 ≡ 10 → firstLine s ≡ take L s
+line-just L n s h near e = line-past L n 0 s near (ends-here L s h e) ∙ ap (λ k. take k s) (add-zero L)
+
+-- byte k of m bytes at `off`
+pub part-byte : (m off k : ℕ) (text : List ℕ) → k < m → getD (take m (drop off text)) k 0 ≡ getD text (off + k) 0
+part-byte m off k text h = getD-take m (drop off text) k 0 h ∙ getD-drop off text k 0
+
 -- a line that begins with a byte past `/` loses nothing at its front
 bare : (l : List ℕ) → 47 < getD l 0 0 → l ≡ trim l
 unfolding isBlank
@@ -76,7 +84,7 @@ plain-line L m text off h w some found low semi =
     let s = drop off text in
     let raw = take m s in
     let n : length raw ≡ m = length-take-le m s (omega (arith, length-drop off text)) in
-    let first : getD raw 0 0 ≡ getD text off 0 = getD-take m s 0 0 some ∙ getD-drop off text 0 0 ∙ ap (λ k. getD text k 0) (add-zero off) in
+    let first : getD raw 0 0 ≡ getD text off 0 = part-byte m off 0 text some ∙ ap (λ k. getD text k 0) (add-zero off) in
     let read = line-read L text off (omega arith) raw raw line.Row (sym found) (bare raw (rw first low)) (bare-row L raw (omega arith) (rw first low) (λ e. semi (sym first ∙ e))) in
     let at : off + m - m ≡ off = omega arith in
     rw (n, at) at read
@@ -101,7 +109,7 @@ plain-row L text off end h near low semi e newline = go (eqb (getD text (off + L
     go false q =
         let at : end ≡ off + L = e ∙ ap (λ t. off + L + oneIf t) q ∙ omega arith in
         let after : getD text (off + L) 0 ≡ 10 = ap (λ k. getD text k 0) (sym at) ∙ newline in
-        let found : firstLine (drop off text) ≡ take L (drop off text) = line-past L 8 0 (drop off text) near (ends-here L (drop off text) (omega (arith, long)) (getD-drop off text L 0 ∙ after)) ∙ ap (λ k. take k (drop off text)) (add-zero L) in
+        let found : firstLine (drop off text) ≡ take L (drop off text) = line-just L 8 (drop off text) (omega (arith, long)) near (getD-drop off text L 0 ∙ after) in
         elim (decLt 0 L) [
           | yes some ↦ rw at (plain-line L L text off (omega (arith, few)) (omega arith) some found low semi)
           | no none ↦

@@ -1,7 +1,7 @@
 -- One line more of a reading, by the kind of the line; its start and its end.
 use mathlib.Core.Path.{_≡_, refl, ap, sym, _∙_}
 use mathlib.Core.List.{List, [], _∷_, _++_, append-assoc, append-nil}
-use Prim.Native.Nat.{ℕ, suc, _+_, _*_, _≤_, _<_}
+use Prim.Native.Nat.{ℕ, _+_, _*_, _≤_, _<_}
 use native.Mathlib.Nat.{mul-zero, mul-add, mul-one, add-zero, le-trans, le-of-eq}
 use native.Mathlib.Omega.{arith}
 use lib.ListN.{length, take, drop, length-append}

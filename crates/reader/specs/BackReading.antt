@@ -30,6 +30,10 @@ pub record BackRead (trim : Bool) (L : ℕ) (text : List ℕ) (off : ℕ) (r : B
   pub row : backRow L (trimmedBy trim (firstLine (drop off text))) ≡ onlyIf (r .row) (take L (drop off text) ∷ [])
   pub room : r .row ≡ true → off + L + 1 ≤ r .next
 
+-- a row that is all of its line
+abbrev pub plainBack : ℕ → ℕ → BackLine
+plainBack off L = record { row = true; next = off + L + 1 }
+
 -- Before the line at `off` these rows were read back.
 pub record BackReading (trim : Bool) (L : ℕ) (text : List ℕ) (off : ℕ) (rows : List Row) : Type 0 where
   pub rows-are : rowsBack trim L text ≡ rows ++ backRowsBy trim L (linesFrom text off)

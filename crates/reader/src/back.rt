@@ -1,11 +1,11 @@
 // Reading minimised text back, as `parse_minimized_rows` does: by lines, with no blanks stripped, no comment known and no end at `;`.
 ghost use mathlib.Core.Path.{_≡_};
-ghost use mathlib.Core.Bool.{_&&_, not};
-ghost use Prim.Native.Nat.{_≤_};
+ghost use mathlib.Core.Bool.{Bool, true, _&&_, not};
+ghost use Prim.Native.Nat.{_+_, _≤_};
 ghost use lib.ListN.{length};
 ghost use Rattle.definitions.specs.Lines.{isRow};
 ghost use Rattle.definitions.specs.ReadBack.{beginsMark};
-ghost use Rattle.reader.specs.BackReading.{BackRead};
+ghost use Rattle.reader.specs.BackReading.{BackRead, plainBack};
 use crate::BackLine;
 
 // Whether a line is long enough and begins with no `,` or `;`.
@@ -22,8 +22,25 @@ fn is_back_row(line: &[u8], lanes: usize) -> bool
     }
 }
 
-// The line at `off`. With `trim` one byte 13 at its end does not count, as in `parse_minimized_rows`; without it the line is taken as it is.
-pub fn back_line(text: &[u8], off: usize, lanes: usize, trim: bool) -> BackLine
+// Whether the line at `off` is a row of just `lanes` bytes: no newline among them and one after them, no `,` or `;` first and no byte 13 last.
+// It may say no of such a row: of one longer than a word always.
+fn is_plain_row(text: &[u8], off: usize, lanes: usize) -> bool
+    requires { ⌜ off + 10 ≤ length (now text) ⌝ }
+    ensures { λ r. ⌜ (r ≡ true → (trim : Bool) → BackRead trim lanes (now (text .entry)) off (plainBack off lanes)) ⌝ }
+{
+    if lines::near_newline(text, off) < lanes {
+        return false;
+    }
+    if lanes == 0 {
+        return false;
+    }
+    let first = text[off];
+    let last = text[off + lanes - 1];
+    (first != b',') & (first != b';') & (last != 13) & (text[off + lanes] == 10)
+}
+
+// Any line.
+fn any_back_line(text: &[u8], off: usize, lanes: usize, trim: bool) -> BackLine
     requires { ⌜ off ≤ length (now text) ⌝ }
     ensures { λ r. ⌜ BackRead trim lanes (now (text .entry)) off r ⌝ }
 {
@@ -39,4 +56,22 @@ pub fn back_line(text: &[u8], off: usize, lanes: usize, trim: bool) -> BackLine
         row: is_back_row(raw, lanes),
         next,
     }
+}
+
+// The line at `off`. With `trim` one byte 13 at its end does not count, as in `parse_minimized_rows`; without it the line is taken as it is.
+// A plain row, as most lines are, is told by one look.
+pub fn back_line(text: &[u8], off: usize, lanes: usize, trim: bool) -> BackLine
+    requires { ⌜ off ≤ length (now text) ⌝ }
+    ensures { λ r. ⌜ BackRead trim lanes (now (text .entry)) off r ⌝ }
+{
+    if text.len() - off < 10 {
+        return any_back_line(text, off, lanes, trim);
+    }
+    if is_plain_row(text, off, lanes) {
+        return BackLine {
+            row: true,
+            next: off + lanes + 1,
+        };
+    }
+    any_back_line(text, off, lanes, trim)
 }

@@ -25,14 +25,18 @@ fn mark_heads(text: &[u8], lanes: usize, trim: bool, work: &mut [u16])
         let next = line.next;
         if line.row {
             let end = off + lanes;
-            t = holds::track_row(t, row, &text[off..end], &mut *work);
+            if holds::leaves(&t.depths, &text[off..end]) {
+                holds::pass_row(row, false, &mut *work);
+            } else {
+                t = holds::track_row(t, row, &text[off..end], &mut *work);
+            }
             row += 1;
         }
         off = next;
     }
 }
 
-// The tally of the rows with only the heads that the work slice marks.
+// The tally of the rows with only the heads that the work slice marks. An all-zero row adds nothing.
 fn count_kept(text: &[u8], lanes: usize, trim: bool, work: &[u16]) -> ArrowStats
     requires { ⌜ Room trim lanes (now text) (now work) × Heads (rowsBack trim lanes (now text)) (now work) ⌝ }
     ensures { λ r. ⌜ r ≡ tally (pairedOnly (rowsBack trim lanes (now (text .entry)))) ⌝ }
@@ -45,7 +49,9 @@ fn count_kept(text: &[u8], lanes: usize, trim: bool, work: &[u16]) -> ArrowStats
         let next = line.next;
         if line.row {
             let end = off + lanes;
-            stats = tallies::count_line_masked(stats, &text[off..end], work[i]);
+            if !measures::is_all_zero(&text[off..end]) {
+                stats = tallies::count_line_masked(stats, &text[off..end], work[i]);
+            }
             i += 1;
         }
         off = next;

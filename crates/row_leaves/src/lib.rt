@@ -89,7 +89,7 @@ pub extern "C" fn row_leaves_count_line(tally: &mut [u32; 14], row: &[u8]) -> u3
     }
     if is_low(&*tally, 4294967285) {
         let before = stats_of(&*tally);
-        let after = tallies::count_line(before, row);
+        let after = tallies::count_line(before, row, &cells::tap_mask_counts());
         *tally = counts_of(after);
         return 0;
     }

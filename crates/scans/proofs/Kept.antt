@@ -3,8 +3,8 @@ use mathlib.Core.Path.{_≡_, refl, ap, ap₂, sym, _∙_, subst}
 use mathlib.Core.Bool.{Bool, true, false, cond}
 use mathlib.Core.List.{List, [], _∷_, _++_, append-assoc, append-nil}
 use mathlib.Core.Option.{Option, none, some}
-use Prim.Native.Nat.{ℕ, zero, suc, _+_, _≤_, _<_}
-use native.Mathlib.Nat.{add-zero, zero-add, add-suc, suc-add, add-assoc}
+use Prim.Native.Nat.{ℕ, suc, _+_, _≤_, _<_}
+use native.Mathlib.Nat.{add-zero, zero-add, add-suc, suc-add}
 use native.Mathlib.Omega.{arith}
 use lib.ListN.{length, length-append}
 use Rattle.definitions.specs.Lists.{joined, onlyIf}
@@ -12,15 +12,12 @@ use Rattle.definitions.specs.Lines.{Row}
 use Rattle.definitions.specs.Reduction.{allZero}
 use Rattle.definitions.specs.Objects.{Depths, afterRow, afterRows, objectRow, Place, objectsIn, objectsFrom, lastOf}
 use Rattle.definitions.proofs.Lists.{joined-snoc}
-use Rattle.beats.specs.Places.{Inside, placeOf, Placed}
-use Rattle.beats.specs.declared.LastObject.{LastObject}
 use Rattle.beats.specs.declared.LastObject.the-variants as last
 use Rattle.beats.proofs.Placed.{placed-nothing, placed-at}
 use Rattle.cells.specs.declared.Depths.{Depths as Held}
 use Rattle.cells.specs.declared.Objects.{Objects}
 use Rattle.cells.specs.Rows.{Holds, Low, NoDepths, RowDone}
 use Rattle.cells.proofs.Scan.{low-more}
-use Rattle.scans.specs.declared.LastRow.{LastRow}
 use Rattle.scans.specs.declared.LastRow.the-variants.{Nothing, At}
 use Rattle.scans.specs.declared.LastScan.{LastScan}
 use Rattle.scans.specs.LastKept.{rowOf, rowLast, depthsAfter, LastKept}

@@ -1,22 +1,22 @@
 -- The last beat of raw rows: a row that is all zero is no object row and changes no depth, and the places of the others are those of the minimised
 -- rows times the stride.
 use mathlib.Core.Path.{_≡_, refl, ap, sym, _∙_, subst}
-use mathlib.Core.Bool.{Bool, true, false, cond, _&&_, _||_}
-use mathlib.Core.List.{List, [], _∷_, _++_, map, append-assoc}
+use mathlib.Core.Bool.{Bool, true, false, _||_}
+use mathlib.Core.List.{List, [], _∷_, _++_, map}
 use mathlib.Core.Option.{Option, none, some}
-use Prim.Native.Nat.{ℕ, zero, suc, _+_, _*_, _/_, _%_, _^_, _≤_, _<_}
+use Prim.Native.Nat.{ℕ, suc, _+_, _*_, _/_, _%_, _≤_, _<_}
 use native.Mathlib.Nat.{mul-zero, mul-suc, mul-mod-right, mul-div-cancel', dvd-of-mod-eq-zero, div-add-mod, le-trans, le-of-eq, lt-of-lt-of-le, le-of-mul-le-mul-left, lt-of-mul-lt-mul-left, add-zero}
 use native.Mathlib.Omega.{arith}
 use borrow.Author.Tests.{eqb-true, eqb-false}
 use lib.Dec.{eqb}
 use lib.Pow.{pow-pos}
-use lib.ListN.{length, length-append}
-use Rattle.definitions.specs.Lists.{onlyIf, joined}
+use lib.ListN.{length}
+use Rattle.definitions.specs.Lists.{onlyIf}
 use Rattle.definitions.specs.Lines.{Row}
 use Rattle.definitions.specs.Cells.{cellOf, byteAt}
 use Rattle.definitions.specs.Measures.{chart}
 use Rattle.definitions.specs.Reduction.{allZero, multiple, offZero, atMultiples, stride, reduce, minimised}
-use Rattle.definitions.specs.Objects.{Depths, objectAt, isObject, afterRow, afterRows, objectFrom, objectRow, Place, objectsIn, objectsFrom, lastOf, lastObject, place48, last48}
+use Rattle.definitions.specs.Objects.{Depths, objectAt, afterRow, afterRows, objectFrom, objectRow, Place, objectsIn, objectsFrom, lastOf, lastObject, place48, last48}
 use Rattle.definitions.specs.Beats.{lastRow}
 use Rattle.definitions.specs.Damage.{Each, end, next}
 use Rattle.definitions.specs.declared.DepthEffect.the-variants as depth
@@ -24,15 +24,14 @@ use Rattle.definitions.proofs.Bools.{and-left, and-right}
 use Rattle.definitions.proofs.Reduction.{stride-is}
 use Rattle.definitions.proofs.Thinned.{Thinned, none as thin-none, keep, leave, reduce-thin}
 use Rattle.beats.proofs.Scaled.{last-scaled}
+use Rattle.measures.proofs.ZeroRows.{zero-byte}
 use Rattle.measures.proofs.Strides.{stride-divides}
 use Rattle.scans.proofs.Strides.{reduce-length}
 
 -- rows that are all zero
 zero-at : (c : ℕ) (r : Row) → allZero r ≡ true → objectAt (byteAt c r) ≡ depth.Nothing
 unfolding objectAt cellOf
-zero-at c [] z = refl
-zero-at zero (b ∷ r) z = rw (eqb-true b 48 (and-left (eqb b 48) (allZero r) z))
-zero-at (suc c) (b ∷ r) z = zero-at c r (and-right (eqb b 48) (allZero r) z)
+zero-at c r z = rw (zero-byte c r z)
 
 pub zero-after : (D : Depths) (r : Row) → allZero r ≡ true → afterRow D r ≡ D
 zero-after D r z = λ i c. same c i

@@ -1,6 +1,6 @@
 -- Densities and spacing of raw rows: minimising drops only rows that are all zero, which are no steps.
 use mathlib.Core.Path.{_≡_, refl, ap, sym, _∙_}
-use mathlib.Core.Bool.{Bool, true, false, _&&_, _||_, false≢true}
+use mathlib.Core.Bool.{Bool, true, false, _&&_, false≢true}
 use mathlib.Core.List.{List, [], _∷_, map}
 use Prim.Native.Nat.{ℕ, suc, _+_, _≤_}
 use native.Mathlib.Nat.{zero-add}
@@ -10,7 +10,7 @@ use lib.Dec.{eqb}
 use lib.ListN.{length, length-map}
 use Rattle.definitions.specs.Lists.{oneIf, count}
 use Rattle.definitions.specs.Lines.{Row}
-use Rattle.definitions.specs.Cells.{cellOf, isArrow}
+use Rattle.definitions.specs.Cells.{cellOf}
 use Rattle.definitions.specs.Measures.{chart}
 use Rattle.definitions.specs.Reduction.{allZero, reduce, minimised}
 use Rattle.definitions.specs.Figures.{isStep, density, spacing, densities, spacings}

@@ -1,12 +1,12 @@
 -- The open measure of the spacing scan, row by row, and its spacing.
 use mathlib.Core.Path.{_≡_, refl, ap, sym, _∙_}
-use mathlib.Core.Bool.{Bool, true, false}
+use mathlib.Core.Bool.{true, false}
 use mathlib.Core.List.{List, [], _∷_, _++_, map}
-use Prim.Native.Nat.{ℕ, suc, _+_, _/_, _^_, _≤_, _<_, min}
+use Prim.Native.Nat.{ℕ, _+_, _/_, _^_, _≤_, _<_, min}
 use native.Mathlib.Omega.{arith}
 use borrow.Author.Tests.{le-leb, eq-eqb, ne-eqb}
-use lib.Dec.{eqb, leb}
-use lib.Count.{trailingZeros, trailing-le}
+use lib.Dec.{leb}
+use lib.Count.{trailingZeros}
 use lib.ListN.{length, length-append}
 use Rattle.definitions.specs.Lists.{oneIf}
 use Rattle.definitions.specs.Lines.{Row}

@@ -1,11 +1,10 @@
 -- The open measure's steps.
-use mathlib.Core.Path.{_≡_, refl, ap, sym, _∙_}
-use mathlib.Core.Bool.{Bool, true, false}
+use mathlib.Core.Path.{_≡_, refl, sym}
 use mathlib.Core.List.{List, [], _∷_, _++_}
 use Prim.Native.Nat.{ℕ, _+_, _≤_}
 use native.Mathlib.Omega.{arith}
 use lib.ListN.{length}
-use Rattle.definitions.specs.Lists.{oneIf, count}
+use Rattle.definitions.specs.Lists.{oneIf}
 use Rattle.definitions.specs.Lines.{Row}
 use Rattle.definitions.specs.Figures.{isStep, density}
 use Rattle.definitions.proofs.Figures.{density-snoc}

@@ -1,15 +1,15 @@
 -- The stride by trailing zeros: the exponents that a row's number or the row count allows are those up to the number of its trailing zeros.
 use mathlib.Core.Path.{_≡_, refl, ap, sym, _∙_}
-use mathlib.Core.Bool.{Bool, true, false, _&&_, _||_, false≢true}
+use mathlib.Core.Bool.{Bool, true, false, _&&_, _||_}
 use mathlib.Core.List.{List, [], _∷_, _++_}
-use Prim.Native.Nat.{ℕ, zero, suc, _+_, _*_, _/_, _%_, _^_, _≤_, _<_, min}
+use Prim.Native.Nat.{ℕ, zero, suc, _+_, _/_, _%_, _^_, _≤_, _<_, min}
 use native.Mathlib.Nat.{pow-succ', mod-one, add-zero, le-antisymm, le-trans, le-of-eq, lt-irrefl, lt-of-le-of-lt, le-of-dvd, dvd-of-mod-eq-zero, pow-le-pow-right}
 use native.Mathlib.Decide.{decLt}
 use lib.Pow.{pow-pos}
 use native.Mathlib.Omega.{arith}
 use borrow.Author.Tests.{leb-true, leb-false, le-leb, lt-leb}
-use lib.Dec.{eqb, leb, leb·zero, leb·suc-suc}
-use lib.Count.{trailingZeros, under, trailing-le}
+use lib.Dec.{leb, leb·zero, leb·suc-suc}
+use lib.Count.{trailingZeros, under}
 use lib.ListN.{length}
 use Rattle.definitions.specs.Lists.{onlyIf}
 use Rattle.definitions.specs.Lines.{Row}

@@ -8,7 +8,7 @@ use native.Mathlib.Numerals.{add-one, sub-one}
 use native.Mathlib.Omega.{arith}
 use borrow.Author.Tests.{lt-ltb, le-ltb}
 use lib.Dec.{ltb}
-use lib.ListN.{length, getD, take, drop, length-append, take-append-drop}
+use lib.ListN.{length, getD, length-append, take-append-drop}
 use Rattle.definitions.specs.Records.{kindNumber, readNote}
 use Rattle.definitions.specs.declared.Note.{Note}
 use Rattle.measures.specs.Rows.{placed}

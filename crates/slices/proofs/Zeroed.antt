@@ -1,11 +1,11 @@
 -- The laws of the filling loops, over the element.
 use mathlib.Core.Path.{_≡_, ap, sym, _∙_}
-use mathlib.Core.List.{List, [], _++_, append-assoc, append-nil}
+use mathlib.Core.List.{List, append-assoc, append-nil}
 use Prim.Native.Nat.{ℕ, suc, _+_, _-_, _≤_, _<_}
 use native.Mathlib.Numerals.{add-one}
 use native.Mathlib.Omega.{arith}
-use lib.ListN.{length, set, take, length-set, length-append, length-take, length-replicate}
-use lib.Seq.{take-all, take-suc-set, take-append-seam, length-take-le}
+use lib.ListN.{length, set, take, length-set}
+use lib.Seq.{take-all, take-suc-set, length-take-le}
 use Rattle.definitions.specs.Lists.{padded}
 use Rattle.slices.specs.Zeroed.{zeroed}
 

@@ -1,21 +1,19 @@
 -- How the counts grow: a row's sum by at most 1 with each cell, and a tally by at most n with a row of n cells.
 use mathlib.Core.Bool.{Bool, true, false, _&&_}
-use mathlib.Core.List.{List, [], _∷_}
-use Prim.Native.Nat.{ℕ, suc, _+_, _*_, _%_, _≤_}
-use native.Mathlib.Nat.{mul-suc}
+use mathlib.Core.List.{[], _∷_}
+use Prim.Native.Nat.{ℕ, suc, _+_, _%_, _≤_}
 use native.Mathlib.Omega.{arith}
 use lib.Dec.{eqb, leb}
 use lib.ListN.{length}
 use Rattle.definitions.specs.Lists.{oneIf, count}
 use Rattle.definitions.specs.Lines.{Row}
 use Rattle.definitions.specs.Cells.{cellOf}
-use Rattle.definitions.specs.Tally.{Counted, countedAs, place, rowSum, rowSumBy, noStats, addRow, tallyFrom, tally}
+use Rattle.definitions.specs.Tally.{Counted, countedAs, place, rowSum, rowSumBy, noStats, addRow}
 use Rattle.definitions.specs.Tally.{nothing, hold, roll, tail, mine, lift, fake}
 use Rattle.definitions.specs.Judged.{isJudgedArrow, isUnjudgedFake, judgedSum, judgeRow}
 use Rattle.definitions.specs.declared.Cell.{Cell}
 use Rattle.definitions.specs.declared.RowSum.{RowSum}
 use Rattle.definitions.specs.declared.ArrowStats.{ArrowStats}
-use Rattle.definitions.proofs.Lists.{All, none, one}
 use Rattle.tallies.specs.Bounds.{Under, Below}
 use Rattle.tallies.specs.Sums.{noSum, addArrow, addCounted, addCell}
 use Rattle.tallies.proofs.Sums.{sumFrom, sum-start, sum-end, sum-next}
@@ -124,15 +122,3 @@ below-judged-line k t judged held r h b =
 
 pub below-none : Below 0 noStats
 below-none = omega arith
-
-below-from : (k n : ℕ) (t : ArrowStats) (rows : List Row) → 1 ≤ n → Below k t → All (λ r. length r ≤ n) rows
-    → Below (k + n * length rows) (tallyFrom t rows)
-below-from k n t [] p b none = below-more k (k + n * 0) t (omega arith) b
-below-from k n t (r ∷ rows) p b (one h a) =
-    below-more (k + n + n * length rows) (k + n * suc (length rows)) _ (omega (arith, mul-suc n (length rows)))
-    (below-from (k + n) n (addRow t (rowSum r)) rows p (below-row k n t (rowSum r) b (under-row n r h) p) a)
-
--- the tally of rows of at most n cells
-pub below-tally : (n : ℕ) (rows : List Row) → 1 ≤ n → All (λ r. length r ≤ n) rows → Below (n * length rows) (tally rows)
-unfolding tally
-below-tally n rows p a = below-more (0 + n * length rows) (n * length rows) _ (omega arith) (below-from 0 n noStats rows p below-none a)

@@ -4,3 +4,4 @@ pub mod Bounds
 pub mod Loops
 pub mod Kept
 pub mod Rows
+pub mod Zeros

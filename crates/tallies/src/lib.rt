@@ -13,6 +13,7 @@ ghost use Rattle.definitions.specs.Tracker.{holdAt};
 ghost use Rattle.definitions.specs.Tally.{noStats, rowSum, rowSumBy, addSum, addRow};
 ghost use Rattle.definitions.specs.Correction.{keepHead, withSteps};
 ghost use Rattle.definitions.specs.Judged.{isJudgedArrow, onlyFakes, judgedSum, judgeRow};
+ghost use Rattle.cells.specs.Taps.{TapCounts};
 ghost use Rattle.tallies.specs.Bounds.{Under, Below};
 ghost use Rattle.tallies.specs.Kept.{hasBit, keptCell, keepMask};
 ghost use Rattle.tallies.specs.Sums.{noSum, addArrow, addCounted, addCell, arrowOf};
@@ -107,12 +108,12 @@ fn row_sum(row: &[u8]) -> RowSum
 }
 
 // The same, by the table where the row is of taps alone.
-fn row_sum_masked(row: &[u8]) -> RowSum
-    requires { ⌜ length (now row) ≤ 10 ⌝ }
+fn row_sum_masked(row: &[u8], counts: &[u16; 256]) -> RowSum
+    requires { ⌜ (length (now row) ≤ 10) × TapCounts (now counts) ⌝ }
     ensures { λ r. ⌜ r ≡ rowSum (now (row .entry)) ⌝ }
 {
     match cells::tap_line_mask(row) {
-        Taps::Mask(mask) => cells::tap_sum(mask),
+        Taps::Mask(mask) => cells::tap_sum(mask, counts),
         Taps::Other => row_sum(row),
     }
 }
@@ -174,14 +175,34 @@ fn held_after(holding: u32, heads: u32, tails: u32) -> u32
     if tails <= held { held - tails } else { 0 }
 }
 
-// The tally with one row more. A hand is a step whose arrows plus the holds before the row make 3 or more.
-pub fn add_row(t: ArrowStats, s: RowSum) -> ArrowStats
+// The tally with one row more, by value. A hand is a step whose arrows plus the holds before the row make 3 or more.
+fn add_row(t: ArrowStats, s: RowSum) -> ArrowStats
     requires { ⌜ Below 4294967285 t × Under 10 s ⌝ }
     ensures { λ r. ⌜ r ≡ addRow t s ⌝ }
 {
     let hand = (1 <= s.arrows) & (3 <= s.arrows + t.holding);
     let holding = held_after(t.holding, s.holds + s.rolls, s.tails);
     add_sum(t, s, hand, holding)
+}
+
+// The running tally is lent by the caller and altered there.
+fn add_row_into(stats: &mut ArrowStats, s: RowSum)
+    requires { ⌜ Below 4294967285 (now stats) × Under 10 s ⌝ }
+    ensures { λ _. ⌜ now (stats .exit) ≡ addRow (now (stats .entry)) s ⌝ }
+{
+    let t = *stats;
+    let r = add_row(t, s);
+    *stats = r;
+}
+
+// The tally with one row more: it is lent to the row count, and handed back.
+fn add_row_lent(t: ArrowStats, s: RowSum) -> ArrowStats
+    requires { ⌜ Below 4294967285 t × Under 10 s ⌝ }
+    ensures { λ r. ⌜ r ≡ addRow t s ⌝ }
+{
+    let mut stats = t;
+    add_row_into(&mut stats, s);
+    stats
 }
 
 // The judged tally with one row more, before which `held` holds are open.
@@ -193,33 +214,13 @@ pub fn add_judged_row(t: ArrowStats, judged: bool, held: u32, s: RowSum) -> Arro
     add_sum(t, s, hand, 0)
 }
 
-// The tally with one row more, by value.
-fn count_row(t: ArrowStats, row: &[u8]) -> ArrowStats
-    requires { ⌜ (length (now row) ≤ 10) × Below 4294967285 t ⌝ }
+// The tally with one row more; a row of taps alone is counted by the table.
+pub fn count_line(t: ArrowStats, row: &[u8], counts: &[u16; 256]) -> ArrowStats
+    requires { ⌜ (length (now row) ≤ 10) × TapCounts (now counts) × Below 4294967285 t ⌝ }
     ensures { λ r. ⌜ r ≡ addRow t (rowSum (now (row .entry))) ⌝ }
 {
-    let s = row_sum_masked(row);
-    add_row(t, s)
-}
-
-// The running tally is lent by the caller and altered there.
-fn count_row_into(stats: &mut ArrowStats, row: &[u8])
-    requires { ⌜ (length (now row) ≤ 10) × Below 4294967285 (now stats) ⌝ }
-    ensures { λ _. ⌜ now (stats .exit) ≡ addRow (now (stats .entry)) (rowSum (now (row .entry))) ⌝ }
-{
-    let t = *stats;
-    let r = count_row(t, row);
-    *stats = r;
-}
-
-// The tally with one row more: it is lent to the row count, and handed back.
-pub fn count_line(t: ArrowStats, row: &[u8]) -> ArrowStats
-    requires { ⌜ (length (now row) ≤ 10) × Below 4294967285 t ⌝ }
-    ensures { λ r. ⌜ r ≡ addRow t (rowSum (now (row .entry))) ⌝ }
-{
-    let mut stats = t;
-    count_row_into(&mut stats, row);
-    stats
+    let s = row_sum_masked(row, counts);
+    add_row_lent(t, s)
 }
 
 // Whether the mask has the bit of a column.

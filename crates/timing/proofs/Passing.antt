@@ -2,19 +2,19 @@
 use mathlib.Core.Path.{_≡_, refl, ap, sym, _∙_, subst}
 use mathlib.Core.Bool.{Bool, _||_, false, or-assoc}
 use mathlib.Core.List.{List, [], _∷_, _++_}
-use Prim.Native.Nat.{ℕ, suc, _+_, _-_, _*_, _≤_, _<_}
-use native.Mathlib.Nat.{add-zero, add-suc, suc-add, zero-add, mul-le-mul-right, add-sub-cancel-left}
+use Prim.Native.Nat.{ℕ, _+_, _-_, _*_, _≤_, _<_}
+use native.Mathlib.Nat.{add-zero, mul-le-mul-right, add-sub-cancel-left}
 use native.Mathlib.Numerals.{add-one}
 use native.Mathlib.Omega.{arith}
 use lib.Ieee.{Float}
 use lib.ListN.{length, take, drop, getD, length-append, take-append-drop}
-use lib.Seq.{take-at, length-take-le, drop-cons}
+use lib.Seq.{drop-cons}
 use Rattle.definitions.specs.Lists.{joined}
 use Rattle.definitions.specs.Lines.{Row}
 use Rattle.definitions.specs.Tracker.{holdAt}
 use Rattle.definitions.specs.Correction.{isOpening}
 use Rattle.definitions.specs.Reduction.{reduce}
-use Rattle.definitions.specs.Beats.{rowBeats, beatsFrom}
+use Rattle.definitions.specs.Beats.{rowBeats}
 use Rattle.definitions.specs.TimingRows.{hasHead}
 use Rattle.definitions.proofs.Lists.{joined-snoc}
 use Rattle.beats.proofs.Beats.{beats-appended}
@@ -27,9 +27,10 @@ use Rattle.measures.proofs.Shorter.{reduce-short}
 use Rattle.timing.specs.declared.Pass.{Pass}
 use Rattle.timing.specs.Pass.{Timed, SomeTimed}
 
--- one byte more is looked at
-pub head-next : (s : List ℕ) (i : ℕ) → i < length s → hasHead (drop i s) ≡ (isOpening (holdAt (getD s i 0)) || hasHead (drop (i + 1) s))
-head-next s i h = rw (add-one, drop-cons s i 0)
+-- one byte more is looked at: n says whether it is a head
+pub head-more : (s : List ℕ) (i : ℕ) (has n : Bool) → i < length s → n ≡ isOpening (holdAt (getD s i 0))
+    → (has || hasHead (drop i s)) ≡ ((has || n) || hasHead (drop (i + 1) s))
+head-more s i has n h e = rw (or-assoc, e, add-one, drop-cons s i 0)
 
 head-append : (s t : List ℕ) → hasHead (s ++ t) ≡ (hasHead s || hasHead t)
 head-append [] t = refl

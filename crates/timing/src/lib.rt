@@ -1,6 +1,5 @@
 // The minimised rows of a chart and their beats: each measure is minimised in the text slice when it ends, its rows back to back, and the
 // beats of those rows are written with it.
-use definitions::DepthEffect;
 use definitions::LineKind;
 ghost use mathlib.Core.Path.{_≡_};
 ghost use mathlib.Core.List.{List, [], _∷_, _++_};
@@ -38,30 +37,24 @@ pub enum TimingAnswer {
     },
 }
 
-// Whether the byte is a 2 or 4.
+// Whether the byte is a 2 or 4. The tests are joined without a branch.
 fn is_head(b: u8) -> bool
     ensures { λ r. ⌜ r ≡ isOpening (holdAt b) ⌝ }
 {
-    match cells::hold_effect(b) {
-        DepthEffect::Nothing => false,
-        DepthEffect::Blocks => false,
-        DepthEffect::Opens => true,
-        DepthEffect::Closes => false,
-    }
+    (b == b'2') | (b == b'4')
 }
 
-// Whether any of the bytes is.
+// Whether any of the bytes is. It looks at every byte, so that no turn of the loop branches on one.
 fn has_head(bytes: &[u8]) -> bool
     ensures { λ r. ⌜ r ≡ hasHead (now (bytes .entry)) ⌝ }
 {
+    let mut has = false;
     let mut i = 0;
     while i < bytes.len() {
-        if is_head(bytes[i]) {
-            return true;
-        }
+        has = has | is_head(bytes[i]);
         i += 1;
     }
-    false
+    has
 }
 
 // Before the first line.

@@ -15,6 +15,9 @@ slice-aggregate-read-full c = search needs
 read-full-requires : tie.Need-read-full-requires
 read-full-requires c κs = search needs
 
+room-for-sheet-requires : tie.Need-room-for-sheet-requires
+room-for-sheet-requires c κs = search needs
+
 array-share-prefix-data : tie.Need-array-share-prefix-data
 array-share-prefix-data c = search needs
 
@@ -50,6 +53,7 @@ main-spec =
     buffer-requires
     slice-aggregate-read-full
     read-full-requires
+    room-for-sheet-requires
     array-share-prefix-data
     slice-aggregate-put-card
     slice-aggregate-put-card-2

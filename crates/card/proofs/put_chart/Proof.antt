@@ -1,75 +1,25 @@
 -- `card::put_chart` meets its contract: both calls accept, and the sheet of what they left is the sheet of the text.
-use mathlib.Core.Path.{_≡_, sym, ap, _∙_}
-use Prim.Native.Nat.{ℕ, _*_, _≤_}
+use mathlib.Core.Path.{sym}
+use Prim.Native.Nat.{_*_}
 use native.Mathlib.Omega.{arith}
 use denote.Ref.{now}
-use mathlib.Core.List.{List}
-use lib.Ieee.{Float, binary32, ofBits}
-use lib.ListN.{length, replicate, length-replicate}
+use lib.ListN.{replicate}
 use lib.Seq.{length-take-le}
-use Rattle.definitions.specs.Lists.{padded}
-use Rattle.definitions.specs.Figures.{densities, spacings}
-use Rattle.definitions.specs.Notes.{notes}
-use Rattle.definitions.specs.Records.{records}
-use Rattle.definitions.specs.Entries.{mainNumber, mainFigures, mainDensities, mainNotes, spacingsLeft}
-use Rattle.sheet.specs.Card.{sheetFigures}
-use Rattle.card.specs.Answered.{sheetAmong}
-use Rattle.card.proofs.Accepted.{main-accepted, spacing-accepted}
-use Rattle.card.proofs.Answering.{figures-are, densities-are, notes-are, spacings-are, Answers, measures-fit, notes-fit, notes-part}
+use Rattle.card.proofs.Answering.{Answers, answered, measures-fit, notes-fit, notes-part}
 use Rattle.card.proofs.Lines.{sheet-is}
 use borrow.Author.Needs.{needs}
 use Rattle.card.proofs.put_chart.Statement.{statement}
 use Rattle.card.proofs.put_chart.Tie as tie
 
--- the slices as they are lent
-abbrev out₀ : List ℕ
-out₀ = replicate 4096 0
-
-abbrev measures₀ : List ℕ
-measures₀ = replicate 2049 0
-
-abbrev beats₀ : List Float
-beats₀ = replicate 819 (ofBits binary32 0)
-
-abbrev work₀ : List ℕ
-work₀ = replicate 819 0
-
-abbrev notes₀ : List ℕ
-notes₀ = replicate 32760 0
-
-module _ (text : List ℕ) (short : length text ≤ 4095) where
-  accepted : mainNumber 4 text out₀ measures₀ beats₀ work₀ notes₀ ≡ 0
-  accepted =
-      main-accepted text out₀ measures₀ beats₀ work₀ notes₀ short
-      (length-replicate {A = ℕ} 4096 0)
-      (length-replicate {A = ℕ} 2049 0)
-      (length-replicate 819 (ofBits binary32 0))
-      (length-replicate {A = ℕ} 819 0)
-      (length-replicate {A = ℕ} 32760 0)
-
-  figures-left : sheetAmong (mainFigures 4 text out₀ measures₀ beats₀ work₀ notes₀ (replicate 32 0)) ≡ sheetFigures 4 text
-  figures-left = figures-are text out₀ measures₀ beats₀ work₀ notes₀ accepted (replicate 32 0)
-
-  densities-left : mainDensities 4 text out₀ measures₀ beats₀ work₀ notes₀ ≡ padded 0 2049 (densities 4 text)
-  densities-left =
-      densities-are text out₀ measures₀ beats₀ work₀ notes₀ accepted
-      ∙ ap (λ (k : ℕ). padded 0 k (densities 4 text)) (length-replicate {A = ℕ} 2049 0)
-
-  notes-left : mainNotes 4 text out₀ measures₀ beats₀ work₀ notes₀ ≡ padded 0 32760 (records (notes 4 text))
-  notes-left =
-      notes-are text out₀ measures₀ beats₀ work₀ notes₀ accepted
-      ∙ ap (λ (k : ℕ). padded 0 k (records (notes 4 text))) (length-replicate {A = ℕ} 32760 0)
-
-  spacings-left : spacingsLeft 4 text measures₀ ≡ padded 0 2049 (spacings 4 text)
-  spacings-left =
-      spacings-are text measures₀ (spacing-accepted text measures₀ short (length-replicate {A = ℕ} 2049 0))
-      ∙ ap (λ (k : ℕ). padded 0 k (spacings 4 text)) (length-replicate {A = ℕ} 2049 0)
-
 abbrev main-at : tie.After-sheet-among → tie.After-padcheck-minimize-chart-count-rows-notes
 main-at c = c .before .before .before .before .before .before .before .before .before .before
 
+-- all the rooms, before they are lent
+abbrev rooms : tie.After-sheet-among → tie.After-room-for-notes
+rooms c = main-at c .before .before .before .before .before .before .before
+
 abbrev start : tie.After-sheet-among → tie.Start
-start c = main-at c .before .before .before .before .before .before .before .before .before
+start c = rooms c .before .before .before .before .before .before .before .before
 
 -- what the two calls left, in the slices and in the figures
 answers : (c : tie.After-sheet-among) → Answers
@@ -79,19 +29,50 @@ answers : (c : tie.After-sheet-among) → Answers
     (main-at c .padcheck-minimize-chart-count-rows-notes .last .1 .1 .1 .1 .1 .1 .0)
     (c .sheet-among .result)
 answers c =
-    let text = now (start c .args .«data») in
-    let short = start c .pre .0 in
+    let l = rooms c in
     let m = main-at c .padcheck-minimize-chart-count-rows-notes in
     let s = c .before .before .padcheck-equally-spaced in
-    record {
-      figures = c .sheet-among .ensures ∙ ap sheetAmong (m .ensures .1 .1 .1 .1 .1 .1) ∙ figures-left text short;
-      densities-is = m .ensures .1 .1 .0 ∙ densities-left text short;
-      spacings-is = s .ensures .1 .0 ∙ spacings-left text short;
-      notes-is = m .ensures .1 .1 .1 .1 .1 .0 ∙ notes-left text short;
-      densities-length = m .kept .1 .1 .1 .0 ∙ length-replicate {A = ℕ} 2049 0;
-      spacings-length = s .kept .1 .1 .0 ∙ length-replicate {A = ℕ} 2049 0;
-      notes-length = m .kept .1 .1 .1 .1 .1 .1 .0 ∙ length-replicate {A = ℕ} 32760 0;
-    }
+    answered
+    (l .before .before .before .before .before .buffer .result)
+    (l .before .before .before .before .room-for-densities .result)
+    (l .before .before .before .room-for-spacing .result)
+    (l .before .before .room-for-beats .result)
+    (l .before .room-for-work .result)
+    (l .room-for-notes .result)
+    (replicate 32 0)
+    (start c .pre .0)
+    (l .before .before .before .before .before .buffer .ensures)
+    (l .before .before .before .before .room-for-densities .ensures)
+    (l .before .before .before .room-for-spacing .ensures)
+    (l .before .before .room-for-beats .ensures)
+    (l .before .room-for-work .ensures)
+    (l .room-for-notes .ensures)
+    (c .sheet-among .ensures)
+    (m .ensures .1 .1 .1 .1 .1 .1)
+    (m .ensures .1 .1 .0)
+    (s .ensures .1 .0)
+    (m .ensures .1 .1 .1 .1 .1 .0)
+    (m .kept .1 .1 .1 .0)
+    (s .kept .1 .1 .0)
+    (m .kept .1 .1 .1 .1 .1 .1 .0)
+
+buffer-requires : tie.Need-buffer-requires
+buffer-requires c κs = search needs
+
+room-for-densities-requires : tie.Need-room-for-densities-requires
+room-for-densities-requires c κs = search needs
+
+room-for-spacing-requires : tie.Need-room-for-spacing-requires
+room-for-spacing-requires c κs = search needs
+
+room-for-beats-requires : tie.Need-room-for-beats-requires
+room-for-beats-requires c κs = search needs
+
+room-for-work-requires : tie.Need-room-for-work-requires
+room-for-work-requires c κs = search needs
+
+room-for-notes-requires : tie.Need-room-for-notes-requires
+room-for-notes-requires c κs = search needs
 
 slice-aggregate-padcheck-minimize-chart-count-rows-notes :
     tie.Need-slice-aggregate-padcheck-minimize-chart-count-rows-notes
@@ -167,6 +148,12 @@ pub put-chart-spec : {M : Type 1} → statement M
 put-chart-spec =
     tie.close
     (tie.spec
+    buffer-requires
+    room-for-densities-requires
+    room-for-spacing-requires
+    room-for-beats-requires
+    room-for-work-requires
+    room-for-notes-requires
     slice-aggregate-padcheck-minimize-chart-count-rows-notes
     slice-aggregate-padcheck-minimize-chart-count-rows-notes-2
     slice-aggregate-padcheck-minimize-chart-count-rows-notes-3

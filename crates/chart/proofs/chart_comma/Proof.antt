@@ -1,5 +1,4 @@
 -- `chart::chart_comma` meets its contract.
-use Prim.Native.Nat.{_+_, _≤_}
 use native.Mathlib.Omega.{arith}
 use Rattle.definitions.specs.Reduction.{reduce}
 use Rattle.chart.proofs.Charting.{charted-next}

@@ -1,7 +1,5 @@
 -- `chart::end_measure` meets its contract.
-use Prim.Native.Nat.{_+_, _*_, _≤_, _<_}
 use native.Mathlib.Omega.{arith}
-use denote.Ref.{now}
 use Rattle.chart.proofs.Charting.{charted-end, some-less, rows-within, room-noted}
 use borrow.Author.Needs.{needs}
 use Rattle.chart.proofs.end_measure.Statement.{statement}

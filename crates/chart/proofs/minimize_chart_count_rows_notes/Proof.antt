@@ -1,13 +1,11 @@
 -- `chart::minimize_chart_count_rows_notes` meets its contract: each return rewrites with the tests that led there.
-use mathlib.Core.Path.{_≡_, ap, _∙_}
-use mathlib.Core.Bool.{Bool, true, false}
-use Prim.Native.Nat.{ℕ}
+use mathlib.Core.Path.{ap, _∙_}
 use native.Mathlib.Omega.{arith}
 use borrow.Author.Tests.{lt-ltb, le-ltb}
 use lib.ListN.{length}
 use denote.Ref.{now}
 use Rattle.definitions.specs.Lists.{padded}
-use Rattle.definitions.specs.Lanes.{lanesOf, mostRows}
+use Rattle.definitions.specs.Lanes.{mostRows}
 use Rattle.definitions.specs.Refusals.{leaves}
 use Rattle.definitions.specs.Figures.{minimisedText, densities}
 use Rattle.definitions.specs.Beats.{f32, beats}

@@ -1,8 +1,8 @@
 -- `counting::count_rows` meets its contract. The loop's invariant: the first `i` rows are counted, and the next one stands at `at`.
 use Prim.Native.Nat.{ℕ, _≤_, _<_, _+_, _-_, _*_}
-use mathlib.Core.Path.{_≡_, refl, ap, sym, _∙_, subst}
+use mathlib.Core.Path.{_≡_, ap, sym, _∙_, subst}
 use mathlib.Core.List.{List, [], _∷_, _++_}
-use native.Mathlib.Nat.{add-sub-cancel-left, zero-mul, add-zero, add-mul, one-mul}
+use native.Mathlib.Nat.{zero-mul, add-mul, one-mul}
 use native.Mathlib.Numerals.{add-one}
 use native.Mathlib.Omega.{arith}
 use borrow.Author.Needs.{needs}
@@ -19,37 +19,40 @@ use Rattle.counting.proofs.count_rows.Statement.{statement}
 use Rattle.counting.proofs.count_rows.Tie as tie
 
 abbrev Inv-loop : tie.InvT-loop
-Inv-loop text start rows lanes c₀ i₀ at₀ c i at =
+Inv-loop text start rows lanes counts c₀ i₀ at₀ c i at =
     (i ≤ rows) × (at ≡ start + i * (lanes + 1))
     × ((done : List (List Row)) → Counted lanes c₀ done [] → Counted lanes c done (take i (rowsAt (lanes + 1) lanes rows (drop start text))))
 
 abbrev μ-loop : tie.MeasureT-loop
-μ-loop text start rows lanes c₀ i₀ at₀ c i at = rows - i
+μ-loop text start rows lanes counts c₀ i₀ at₀ c i at = rows - i
 
 -- the row stands in the text
 room : (c : tie.In-loop Inv-loop μ-loop) →
     let at = c .before in
-    let a = at .before .before .args in
+    let a = at .before .before .before .args in
     at .loop .at + (a .lanes + 1) ≤ length (now (a .text))
 room c =
     let at = c .before in
-    let a = at .before .before .args in
+    let a = at .before .before .before .args in
     omega (arith, at .loop .inv .1, row-end (at .loop .i) (a .rows) (a .lanes + 1) (c .loop-test .taken))
 
 -- and there are few so far
 few : (c : tie.In-loop Inv-loop μ-loop) →
     let at = c .before in
-    let a = at .before .before .args in
+    let a = at .before .before .before .args in
     (at .loop .c .rows ≤ a .old .rows + at .loop .i) × Few (at .loop .c)
 few c =
     let at = c .before in
-    let a = at .before .before .args in
-    let some = at .before .before .pre .1 .1 in
+    let a = at .before .before .before .args in
+    let some = at .before .before .before .pre .1 .1 in
     let x = at .loop .inv .2 (some .done) (some .counted) in
     (counted-grown _ _ _ _ _ (at .loop .i) (some .counted) x (rw length-take (omega arith)), x .few)
 
+tap-mask-counts-requires : tie.Need-tap-mask-counts-requires Inv-loop μ-loop
+tap-mask-counts-requires c κs = search needs
+
 loop-holds : tie.Need-loop-holds Inv-loop μ-loop
-loop-holds c = (omega arith, omega (arith, zero-mul (c .before .args .lanes + 1)), λ done x. x)
+loop-holds c = (omega arith, omega (arith, zero-mul (c .before .before .args .lanes + 1)), λ done x. x)
 
 add-end : tie.Need-add-end Inv-loop μ-loop
 add-end c = omega (arith, room c)
@@ -65,11 +68,11 @@ part-count-counting-end c = omega (arith, room c)
 
 count-counting-requires : tie.Need-count-counting-requires Inv-loop μ-loop
 count-counting-requires c κs =
-    let w = few (c .before) in
-    (rw length-take (omega arith), omega (arith, w .0), w .1)
+    let w = few (c .before .before) in
+    (rw length-take (omega arith), omega (arith, w .0), w .1, c .before .before .before .before .tap-mask-counts .ensures)
 
 add-at : tie.Need-add-at Inv-loop μ-loop
-add-at c = omega (arith, room (c .before .before))
+add-at c = omega (arith, room (c .before .before .before))
 
 add-i : tie.Need-add-i Inv-loop μ-loop
 add-i c = omega arith
@@ -79,9 +82,9 @@ loop-less c = omega arith
 
 loop-again : tie.Need-loop-again Inv-loop μ-loop
 loop-again c =
-    let k = c .before .before in
+    let k = c .before .before .before in
     let at = k .before in
-    let a = at .before .before .args in
+    let a = at .before .before .before .args in
     let w = a .lanes + 1 in
     let n = at .loop .i in
     let ms = rowsAt w (a .lanes) (a .rows) (drop (a .start) (now (a .text))) in
@@ -102,7 +105,7 @@ loop-again c =
 returns : tie.Need-returns Inv-loop μ-loop
 returns c =
     let at = c .before in
-    let a = at .before .before .args in
+    let a = at .before .before .before .args in
     let ms = rowsAt (a .lanes + 1) (a .lanes) (a .rows) (drop (a .start) (now (a .text))) in
     let all : length ms ≤ at .loop .i = rw rows-length (omega arith) in
     λ done x. subst (Counted (a .lanes) (at .loop .c) done) (take-all (at .loop .i) ms all) (at .loop .inv .2 done x)
@@ -113,6 +116,7 @@ count-rows-spec =
     (tie.spec
     Inv-loop
     μ-loop
+    tap-mask-counts-requires
     loop-holds
     add-end
     sub-count-counting

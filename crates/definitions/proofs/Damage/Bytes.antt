@@ -4,14 +4,14 @@ use mathlib.Core.Bool.{Bool, true, false, false≢true}
 use Prim.Native.Nat.{ℕ}
 use native.Mathlib.Omega.{arith}
 use Rattle.definitions.specs.Cells.{cellOf, objectEffect}
-use Rattle.definitions.specs.Notes.{effectOf, effectAt}
+use Rattle.definitions.specs.Notes.{effectAt}
 use Rattle.definitions.specs.Objects.{objectAt}
 use Rattle.definitions.specs.declared.DepthEffect.{DepthEffect}
 use Rattle.definitions.specs.declared.DepthEffect.the-variants as depth
 use Rattle.definitions.specs.declared.NoteEffect.{NoteEffect}
 use Rattle.definitions.specs.declared.NoteEffect.the-variants.{Nothing, Closes, Single, Head}
-use Rattle.definitions.proofs.Lists.{All, none, one}
-use Rattle.definitions.proofs.Cells.{letters, Other, by-letter, other-empty}
+use Rattle.definitions.proofs.Lists.{none, one}
+use Rattle.definitions.proofs.Cells.{by-letter, other-empty}
 use Rattle.definitions.specs.Damage.{stops, isHead, headKind, object}
 
 -- an effect that closes an open head or drops it, and one that heads a note

@@ -1,14 +1,11 @@
 -- Demand 3 at the two texts of specs/DamageExample.antt: all its hypotheses are met there.
 use mathlib.Core.Path.{_≡_, refl}
-use mathlib.Core.Bool.{true}
-use mathlib.Core.List.{[], _∷_}
-use Prim.Native.Nat.{ℕ, zero, suc, _<_}
+use Prim.Native.Nat.{zero, suc}
 use native.Mathlib.Omega.{arith}
-use lib.Dec.{lit<}
 use Rattle.definitions.specs.Lines.{isBlank, isRow, kindOf, lineKind}
 use Rattle.definitions.specs.Measures.{chart}
 use Rattle.definitions.specs.Objects.{lastBeat}
-use Rattle.definitions.specs.Damage.{DamageStays, allLater, byteIn, object, HoldObject, ObjectFirst}
+use Rattle.definitions.specs.Damage.{DamageStays, allLater, object, HoldObject, ObjectFirst}
 use Rattle.definitions.specs.DamageExample.{old-text, new-text, they-differ}
 use Rattle.definitions.proofs.Damage.Stays.{damage-stays}
 

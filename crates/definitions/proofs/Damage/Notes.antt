@@ -7,14 +7,14 @@ use mathlib.Core.Option.{Option, none, some}
 use Prim.Native.Nat.{ℕ, zero, suc, _+_, _≤_, _<_}
 use native.Mathlib.Nat.{add-zero, zero-add, add-suc, suc-add}
 use native.Mathlib.Omega.{arith}
-use borrow.Author.Tests.{lt-ltb, le-ltb, le-leb, lt-leb, eq-eqb, ne-eqb, eqb-true, eqb-false, ltb-true, ltb-false}
+use borrow.Author.Tests.{lt-ltb, le-ltb, le-leb, lt-leb, eq-eqb, ne-eqb, ltb-true, ltb-false}
 use lib.Dec.{eqb, ltb, leb}
 use lib.ListN.{length, drop, getD, length-drop, List·getD-eq-default, List·getD-append}
 use lib.Seq.{drop-append-le}
 use Rattle.definitions.specs.Lists.{those}
 use Rattle.definitions.specs.Lines.{Row}
 use Rattle.definitions.specs.Cells.{byteAt}
-use Rattle.definitions.specs.Notes.{effectAt, meets, tailOf, plainNote, heldNote, cellNotes, rowNotes, notesFrom}
+use Rattle.definitions.specs.Notes.{effectAt, meets, tailOf, heldNote, cellNotes, rowNotes, notesFrom}
 use Rattle.definitions.specs.declared.Kind.{Kind}
 use Rattle.definitions.specs.declared.Tail.the-variants as tail
 use Rattle.definitions.specs.declared.Note.{Note}
@@ -22,7 +22,7 @@ use Rattle.definitions.specs.declared.NoteEffect.{NoteEffect}
 use Rattle.definitions.specs.declared.NoteEffect.the-variants.{Nothing, Closes, Single, Head}
 use Rattle.definitions.proofs.Bools.{and-left, and-right}
 use Rattle.definitions.proofs.Lists.{All, none as all-none, one as all-one, all-append, all-map, those-append, those-all, those-left, those-right}
-use Rattle.definitions.specs.Damage.{Each, end, next, ShiftedTail, without, with-tail, Shifted, stops, isHead, headKind, untouched, byteIn, openIn, MissingOrLate}
+use Rattle.definitions.specs.Damage.{Each, end, next, without, with-tail, Shifted, isHead, headKind, untouched, byteIn, openIn, MissingOrLate}
 use Rattle.definitions.proofs.Damage.Bytes.{stopping, heading, stops-is, head-is, head-kind}
 
 -- what is headed in rows numbered from i, with the rows q after them

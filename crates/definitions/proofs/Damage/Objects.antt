@@ -18,7 +18,7 @@ use Rattle.definitions.specs.declared.DepthEffect.{DepthEffect}
 use Rattle.definitions.specs.declared.DepthEffect.the-variants.{Nothing, Blocks, Opens, Closes}
 use Rattle.definitions.proofs.Bools.{and-left, and-right}
 use Rattle.definitions.proofs.Thinned.{Thinned, none as thin-none, keep, leave, reduced-thin}
-use Rattle.definitions.specs.Damage.{byteIn, object, HoldObject, ObjectFirst}
+use Rattle.definitions.specs.Damage.{byteIn, HoldObject, ObjectFirst}
 use Rattle.definitions.proofs.Damage.Bytes.{object-blocks, closes-three}
 
 -- row i has an object cell in column c

@@ -1,17 +1,20 @@
 -- `judged::tally_timing_rows` meets its contract. The loop's invariant: the tally and the open holds are those of the rows read, whichever rows
 -- are judged.
 use Prim.Native.Nat.{ℕ, _≤_, _<_, _-_, _+_, _*_}
+use mathlib.Core.Path.{sym, _∙_}
 use mathlib.Core.Bool.{Bool}
+use mathlib.Core.Logic.{⊎-elim}
 use native.Mathlib.Nat.{le-trans}
 use native.Mathlib.Omega.{arith}
 use borrow.Author.Needs.{needs}
+use borrow.Author.Tests.{not-false}
 use lib.ListN.{length}
 use denote.Ref.{now}
 use Rattle.definitions.specs.ReadBack.{readBack}
 use Rattle.tallies.proofs.Bounds.{below-more}
 use Rattle.judged.specs.Timing.{Timed}
 use Rattle.judged.proofs.Rows.{row-within, bytes-short}
-use Rattle.judged.proofs.Tallying.{Tallying, tallying-start, tallying-active, tallying-room, tallying-passed, tallying-enough, tallying-row, tallying-end}
+use Rattle.judged.proofs.Tallying.{Tallying, tallying-start, tallying-active, tallying-room, tallying-passed, tallying-enough, tallying-row, tallying-zero, tallying-end}
 use Rattle.judged.proofs.tally_timing_rows.Statement.{statement}
 use Rattle.judged.proofs.tally_timing_rows.Tie as tie
 
@@ -49,6 +52,18 @@ back-line-requires c κs = search needs
 add-end : tie.Need-add-end Inv-loop μ-loop
 add-end c = omega (arith, row-within _ _ _ _ (c .before .back-line .ensures) (c .if1 .taken))
 
+sub-is-all-zero : tie.Need-sub-is-all-zero Inv-loop μ-loop
+sub-is-all-zero c = omega arith
+
+part-is-all-zero-start : tie.Need-part-is-all-zero-start Inv-loop μ-loop
+part-is-all-zero-start c = omega arith
+
+part-is-all-zero-end : tie.Need-part-is-all-zero-end Inv-loop μ-loop
+part-is-all-zero-end c = row-within _ _ _ _ (c .before .back-line .ensures) (c .if1 .taken)
+
+is-all-zero-requires : tie.Need-is-all-zero-requires Inv-loop μ-loop
+is-all-zero-requires c κs = search needs
+
 sub-process-timing-row : tie.Need-sub-process-timing-row Inv-loop μ-loop
 sub-process-timing-row c = omega arith
 
@@ -56,18 +71,20 @@ part-process-timing-row-start : tie.Need-part-process-timing-row-start Inv-loop 
 part-process-timing-row-start c = omega arith
 
 part-process-timing-row-end : tie.Need-part-process-timing-row-end Inv-loop μ-loop
-part-process-timing-row-end c = omega (arith, row-within _ _ _ _ (c .before .back-line .ensures) (c .if1 .taken))
+part-process-timing-row-end c =
+    let row = c .before .before .before in
+    row-within _ _ _ _ (row .before .back-line .ensures) (row .if1 .taken)
 
 mul-process-timing-row : tie.Need-mul-process-timing-row Inv-loop μ-loop
-mul-process-timing-row c = omega (arith, entry-room (c .before))
+mul-process-timing-row c = omega (arith, entry-room (c .before .before .before .before))
 
 shared-slice-read-process-timing-row :
     tie.Need-shared-slice-read-process-timing-row Inv-loop μ-loop
-shared-slice-read-process-timing-row c = entry-room (c .before .before)
+shared-slice-read-process-timing-row c = entry-room (c .before .before .before .before .before)
 
 process-timing-row-requires : tie.Need-process-timing-row-requires Inv-loop μ-loop
 process-timing-row-requires c κs =
-    let row = c .before .before in
+    let row = c .before .before .before .before .before in
     let at = row .before .before .before in
     let start = at .before .before .before .before in
     let x = so-far at in
@@ -87,11 +104,17 @@ loop-again c =
     let row = c .before .before .before in
     let a = row .before in
     let at = a .before .before in
+    let in-text = a .before .loop-test .taken in
     let start = at .before .before .before .before in (
       a .back-line .ensures .within,
       λ J w.
-          tallying-row _ _ _ _ _ _ (at .loop .inv .1 J w) _ (a .before .loop-test .taken) (a .back-line .ensures) (row .if1 .taken) _ (start .pre .0 .1) w _
-          (c .process-timing-row .ensures),
+          ⊎-elim
+          (λ v. rw (v .4)
+          (tallying-row _ _ _ _ _ _ (at .loop .inv .1 J w) _ in-text (a .back-line .ensures) (row .if1 .taken) _ (start .pre .0 .1) w _ (v .3 .ensures)))
+          (λ v. rw (v .1)
+          (tallying-zero _ _ _ _ _ _ (at .loop .inv .1 J w) _ in-text (a .back-line .ensures) (row .if1 .taken) _ (start .pre .0 .1) w
+          (sym (c .before .is-all-zero .ensures) ∙ not-false _ (v .0 .left))))
+          (c .if2 .came),
     )
 
 loop-less-2 : tie.Need-loop-less-2 Inv-loop μ-loop
@@ -115,6 +138,10 @@ tally-timing-rows-spec =
     loop-holds
     back-line-requires
     add-end
+    sub-is-all-zero
+    part-is-all-zero-start
+    part-is-all-zero-end
+    is-all-zero-requires
     sub-process-timing-row
     part-process-timing-row-start
     part-process-timing-row-end

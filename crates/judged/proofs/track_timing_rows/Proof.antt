@@ -1,6 +1,7 @@
 -- `judged::track_timing_rows` meets its contract. The loop's invariant: the tracker and the work slice are those of the rows read.
 use Prim.Native.Nat.{_≤_, _<_, _-_, _+_}
-use mathlib.Core.Path.{_≡_, refl, sym}
+use mathlib.Core.Path.{_≡_, refl, ap, sym, _∙_}
+use mathlib.Core.Logic.{⊎-elim}
 use native.Mathlib.Omega.{arith}
 use borrow.Author.Needs.{needs}
 use lib.ListN.{length}
@@ -28,6 +29,12 @@ row-room c =
     tracking-room _ _ _ _ _ _ _ (at .loop .inv .2) _ (c .before .before .loop-test .taken) (c .before .back-line .ensures) (c .if1 .taken)
     (omega (arith, zeroed .before .before .before .before .before .pre .2, zeroed .zero-u16 .kept .0))
 
+-- its bytes stand in the text
+part-end : (c : tie.Then1 Inv-loop μ-loop) → let at = c .before .before .before in
+    let start = at .before .before .before .before .before .before .before .before .before in
+    at .loop .off + start .args .lanes ≤ length (now (start .args .«data»))
+part-end c = row-within _ _ _ _ (c .before .back-line .ensures) (c .if1 .taken)
+
 zero-u16-requires : tie.Need-zero-u16-requires Inv-loop μ-loop
 zero-u16-requires c κs = search needs
 
@@ -52,6 +59,21 @@ cast-is-judged c = search needs
 is-judged-requires : tie.Need-is-judged-requires Inv-loop μ-loop
 is-judged-requires c κs = search needs
 
+sub-leaves : tie.Need-sub-leaves Inv-loop μ-loop
+sub-leaves c = omega arith
+
+part-leaves-start : tie.Need-part-leaves-start Inv-loop μ-loop
+part-leaves-start c = omega arith
+
+part-leaves-end : tie.Need-part-leaves-end Inv-loop μ-loop
+part-leaves-end c = part-end (c .before .before .before)
+
+leaves-requires : tie.Need-leaves-requires Inv-loop μ-loop
+leaves-requires c κs = search needs
+
+pass-row-requires : tie.Need-pass-row-requires Inv-loop μ-loop
+pass-row-requires c κs = row-room (c .before .before .before .before .before .before .before)
+
 sub-track-judged-row : tie.Need-sub-track-judged-row Inv-loop μ-loop
 sub-track-judged-row c = omega arith
 
@@ -59,13 +81,11 @@ part-track-judged-row-start : tie.Need-part-track-judged-row-start Inv-loop μ-l
 part-track-judged-row-start c = omega arith
 
 part-track-judged-row-end : tie.Need-part-track-judged-row-end Inv-loop μ-loop
-part-track-judged-row-end c =
-    let row = c .before in
-    omega (arith, row-within _ _ _ _ (row .before .back-line .ensures) (row .if1 .taken))
+part-track-judged-row-end c = part-end (c .before .before .before .before .before .before)
 
 track-judged-row-requires : tie.Need-track-judged-row-requires Inv-loop μ-loop
 track-judged-row-requires c κs =
-    let row = c .before .before .before in
+    let row = c .before .before .before .before .before .before .before .before in
     let at = row .before .before .before in
     let start = at .before .before .before .before .before .before .before .before .before in
     (bytes-short _ _ _ (start .pre .1), row-room row, tracking-reached _ _ _ _ _ _ _ (at .loop .inv .2))
@@ -78,14 +98,18 @@ loop-less c = omega (arith, c .before .before .before .before .before .before .b
 
 loop-again : tie.Need-loop-again Inv-loop μ-loop
 loop-again c =
-    let tracked = c .before .before in
-    let row = tracked .before .before .before .before in
+    let leaves = c .before in
+    let judged = leaves .before .before .before .before in
+    let row = judged .before in
     let a = row .before in
-    let at = a .before .before in (
+    let at = a .before .before in
+    let next = tracking-row _ _ _ _ _ _ _ (at .loop .inv .2) _ (a .before .loop-test .taken) (a .back-line .ensures) (row .if1 .taken) _ in (
       a .back-line .ensures .within,
-      omega (arith, tracked .track-judged-row .kept .1 .1 .1 .1 .0),
-      tracking-row _ _ _ _ _ _ _ (at .loop .inv .2) _ (a .before .loop-test .taken) (a .back-line .ensures) (row .if1 .taken) _ _ _
-          (sym (tracked .before .before .before .is-judged .ensures)) (tracked .track-judged-row .ensures),
+      ⊎-elim (λ w. ap length (w .5) ∙ w .2 .kept .1 .1 .0 ∙ at .loop .inv .1) (λ w. ap length (w .6) ∙ w .3 .kept .1 .1 .1 .1 .0 ∙ at .loop .inv .1) (c .if2 .came),
+      ⊎-elim
+          (λ w. rw (w .5, w .6) (next _ _ (sym (judged .is-judged .ensures)) (w .2 .ensures _ _ (leaves .leaves .ensures (w .0 .taken) _))))
+          (λ w. rw (w .6, w .7) (next _ _ (sym (judged .is-judged .ensures)) (w .3 .ensures)))
+          (c .if2 .came),
     )
 
 loop-less-2 : tie.Need-loop-less-2 Inv-loop μ-loop
@@ -119,6 +143,11 @@ track-timing-rows-spec =
     add-end
     cast-is-judged
     is-judged-requires
+    sub-leaves
+    part-leaves-start
+    part-leaves-end
+    leaves-requires
+    pass-row-requires
     sub-track-judged-row
     part-track-judged-row-start
     part-track-judged-row-end

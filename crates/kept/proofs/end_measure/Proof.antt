@@ -1,9 +1,8 @@
 -- `kept::end_measure` meets its contract.
-use Prim.Native.Nat.{_+_, _≤_, _<_}
-use mathlib.Core.Path.{_≡_, ap, _∙_}
+use mathlib.Core.Path.{ap, _∙_}
 use native.Mathlib.Omega.{arith}
 use denote.Ref.{now}
-use lib.ListN.{length, take}
+use lib.ListN.{take}
 use Rattle.definitions.specs.Reduction.{reduce}
 use Rattle.kept.proofs.Passing.{ended-rows}
 use borrow.Author.Needs.{needs}
@@ -12,6 +11,12 @@ use Rattle.kept.proofs.end_measure.Tie as tie
 
 end-rows-requires : tie.Need-end-rows-requires
 end-rows-requires c κs = search needs
+
+density-requires : tie.Need-density-requires
+density-requires c κs =
+    let e = c .before .before in
+    let some = e .before .before .before .before .pre .0 .4 in
+    omega (arith, e .end-rows .ensures .0 (some .done) (some .cur) (some .open-is) .counted .steps)
 
 mul-densities : tie.Need-mul-densities
 mul-densities c = search needs
@@ -27,11 +32,13 @@ same-length-2 c = search needs
 
 returns : tie.Need-returns
 returns c =
-    let e = c .before .before in
+    let e = c .before .before .before in
     let s = e .before .before .before .before in
     let a = s .args in
     let r = e .end-rows .ensures in (
-      (λ done cur x. ended-rows (a .lanes) (e .end-rows .result) _ (now (a .densities)) done (reduce cur) (r .0 done cur (x .open-is)) (ap (λ n. take n (now (a .densities))) (r .1 .1) ∙ x .stored) (omega (arith, r .1 .1, s .pre .1))),
+      (λ done cur x.
+          let closed = r .0 done cur (x .open-is) in
+          ended-rows (a .lanes) (e .end-rows .result) _ (now (a .densities)) done (reduce cur) closed (ap (λ n. take n (now (a .densities))) (r .1 .1) ∙ x .stored) (omega (arith, r .1 .1, s .pre .1)) _ (c .density .ensures _ _ _ (closed .counted))),
       (r .1 .0, r .1 .1),
     )
 
@@ -40,6 +47,7 @@ end-measure-spec =
     tie.close
     (tie.spec
     end-rows-requires
+    density-requires
     mul-densities
     slice-write-densities
     same-length

@@ -2,7 +2,6 @@
 use mathlib.Core.Path.{refl}
 use Prim.Native.Nat.{_+_, _*_, _≤_}
 use native.Mathlib.Omega.{arith}
-use denote.Ref.{now}
 use Rattle.kept.proofs.Passing.{open-size, closed-rows, closed-few}
 use borrow.Author.Needs.{needs}
 use Rattle.kept.proofs.end_rows.Statement.{statement}

@@ -1,12 +1,12 @@
 -- `kept::keep_chart` meets its contract. The loop's invariant: what the pass holds and has written is that of the lines read.
-use Prim.Native.Nat.{ℕ, _≤_, _<_, _-_, _+_, _*_}
-use mathlib.Core.Path.{_≡_, refl, sym, ap, _∙_}
+use Prim.Native.Nat.{_≤_, _-_, _+_}
+use mathlib.Core.Path.{_≡_, refl, ap, _∙_}
 use mathlib.Core.Logic.{⊎-elim}
 use native.Mathlib.Nat.{add-sub-cancel-left}
 use native.Mathlib.Omega.{arith}
 use borrow.Author.Needs.{needs}
 use denote.Ref.{now}
-use lib.ListN.{length, take, drop, length-take, length-drop, length-set}
+use lib.ListN.{length, take, drop, length-take, length-drop}
 use lib.Seq.{length-take-le}
 use Rattle.reader.proofs.Minimising.{Minimising, Over, minimising-start, minimising-few, over-few, minimising-passed, minimising-comma, minimising-row, minimising-semi, minimising-end}
 use Rattle.kept.specs.Pass.{Kept}

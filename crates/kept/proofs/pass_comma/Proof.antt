@@ -1,5 +1,4 @@
 -- `kept::pass_comma` meets its contract.
-use Prim.Native.Nat.{_+_}
 use native.Mathlib.Omega.{arith}
 use Rattle.definitions.specs.Reduction.{reduce}
 use borrow.Author.Needs.{needs}

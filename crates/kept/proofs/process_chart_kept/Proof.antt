@@ -1,5 +1,5 @@
 -- `kept::process_chart_kept` meets its contract: each return rewrites with the tests that led there.
-use mathlib.Core.Path.{_≡_, ap, _∙_}
+use mathlib.Core.Path.{ap, _∙_}
 use native.Mathlib.Omega.{arith}
 use borrow.Author.Tests.{lt-ltb, le-ltb}
 use lib.ListN.{length}

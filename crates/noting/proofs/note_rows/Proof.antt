@@ -5,7 +5,6 @@ use mathlib.Core.List.{List, [], _∷_, _++_, append-assoc, append-nil}
 use native.Mathlib.Nat.{add-sub-cancel-left, zero-mul, add-mul, one-mul}
 use native.Mathlib.Numerals.{add-one}
 use native.Mathlib.Omega.{arith}
-use borrow.Author.Needs.{needs}
 use denote.Ref.{now}
 use lib.ListN.{length, take, drop, getD, length-append, length-drop}
 use lib.Seq.{take-suc, take-all, length-take-le}

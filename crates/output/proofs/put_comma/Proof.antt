@@ -1,6 +1,6 @@
 -- `output::put_comma` meets its contract: two bytes, one after the other.
 use Prim.Native.Nat.{_<_, _+_}
-use mathlib.Core.Path.{_≡_, ap, _∙_}
+use mathlib.Core.Path.{ap, _∙_}
 use mathlib.Core.List.{[], _∷_}
 use native.Mathlib.Omega.{arith}
 use denote.Ref.{now}

@@ -1,5 +1,5 @@
 -- `padcheck::padcheck_chart_last_beat` meets its contract, from the answer of the scan by cases.
-use mathlib.Core.Path.{_≡_, refl, sym, ap, ap₂, _∙_}
+use mathlib.Core.Path.{sym, ap₂, _∙_}
 use Rattle.definitions.specs.Entries.{figures, noTally, lastNumber, lastFigures}
 use Rattle.definitions.specs.Lanes.{lanesOf}
 use Rattle.definitions.specs.Objects.{lastBeat}

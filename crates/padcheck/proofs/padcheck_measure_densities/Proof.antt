@@ -1,5 +1,5 @@
 -- `padcheck::padcheck_measure_densities` meets its contract, from the answer of the scan by cases.
-use mathlib.Core.Path.{_≡_, refl, sym, ap, ap₂, _∙_}
+use mathlib.Core.Path.{sym, ap, _∙_}
 use Rattle.definitions.specs.Entries.{figures, noTally, measuresNumber, measuresFigures}
 use denote.Ref.{now}
 use Rattle.scans.specs.Answers.{measuresAnswer}

@@ -1,5 +1,5 @@
 -- `padcheck::padcheck_minimize_chart_count_rows_notes` meets its contract, from the answer of the call by cases.
-use mathlib.Core.Path.{_≡_, sym, ap, _∙_}
+use mathlib.Core.Path.{sym, ap, _∙_}
 use denote.Ref.{now}
 use Rattle.definitions.specs.Entries.{figures, tallyFigures, mainNumber, mainFigures}
 use Rattle.chart.specs.Answers.{chartFigures, chartAnswer}

@@ -1,5 +1,5 @@
 -- `padcheck::padcheck_process_chart_kept` meets its contract, from the answer of the call by cases.
-use mathlib.Core.Path.{_≡_, sym, ap, _∙_}
+use mathlib.Core.Path.{sym, ap, _∙_}
 use denote.Ref.{now}
 use Rattle.definitions.specs.Entries.{figures, tallyFigures, keptNumber, keptFigures}
 use Rattle.kept.specs.Answers as answered

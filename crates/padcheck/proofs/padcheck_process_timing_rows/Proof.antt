@@ -1,5 +1,5 @@
 -- `padcheck::padcheck_process_timing_rows` meets its contract, from the answer of the tally by cases.
-use mathlib.Core.Path.{_≡_, sym, ap, _∙_}
+use mathlib.Core.Path.{sym, ap, _∙_}
 use Rattle.definitions.specs.Entries.{figures, tallyFigures, judgedNumber, flaggedFigures}
 use Rattle.judged.specs.Answers.{flaggedAnswer}
 use Rattle.padcheck.proofs.Answers.{tally-refused-number, tally-refused-replaces, tally-accepted-number, tally-accepted, accepted-replaces}

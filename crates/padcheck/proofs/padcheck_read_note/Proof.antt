@@ -1,5 +1,5 @@
 -- `padcheck::padcheck_read_note` meets its contract, from the answer by cases.
-use mathlib.Core.Path.{_≡_, sym, ap, _∙_}
+use mathlib.Core.Path.{sym, ap, _∙_}
 use Rattle.definitions.specs.Entries.{readNumber, readFigures, readNumberOf, readLeft}
 use borrow.Author.Needs.{needs}
 use denote.Ref.{now}

@@ -1,5 +1,5 @@
 -- `reader::plain_row_end` meets its contract: its tests are what `plain-row` asks for.
-use mathlib.Core.Path.{_≡_, refl, ap}
+use mathlib.Core.Path.{refl, ap}
 use mathlib.Core.Bool.{not, _&&_}
 use Prim.Native.Nat.{_+_, _≤_}
 use native.Mathlib.Omega.{arith}

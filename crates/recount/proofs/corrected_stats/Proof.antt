@@ -1,5 +1,5 @@
 -- `recount::corrected_stats` meets its contract, by the correction rule.
-use mathlib.Core.Path.{_≡_, ap, sym, _∙_}
+use mathlib.Core.Path.{ap, sym, _∙_}
 use denote.Ref.{now}
 use Rattle.definitions.specs.Correction.{withSteps}
 use Rattle.recount.proofs.Zeros.{zeroed-all}

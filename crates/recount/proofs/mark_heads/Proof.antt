@@ -1,6 +1,8 @@
 -- `recount::mark_heads` meets its contract. The loop's invariant: the tracker and the work slice are what the rows read back have left.
 use Prim.Native.Nat.{_≤_, _<_, _-_, _+_}
 use mathlib.Core.Path.{_≡_, refl, ap, _∙_}
+use mathlib.Core.Bool.{false}
+use mathlib.Core.Logic.{⊎-elim}
 use native.Mathlib.Nat.{add-sub-cancel-left}
 use native.Mathlib.Omega.{arith}
 use borrow.Author.Needs.{needs}
@@ -48,18 +50,35 @@ back-line-requires c κs = search needs
 add-end : tie.Need-add-end Inv-loop μ-loop
 add-end c = omega (arith, row-room c)
 
+sub-leaves : tie.Need-sub-leaves Inv-loop μ-loop
+sub-leaves c = omega arith
+
+part-leaves-start : tie.Need-part-leaves-start Inv-loop μ-loop
+part-leaves-start c = omega (arith, row-room (c .before .before))
+
+part-leaves-end : tie.Need-part-leaves-end Inv-loop μ-loop
+part-leaves-end c = row-room (c .before .before)
+
+leaves-requires : tie.Need-leaves-requires Inv-loop μ-loop
+leaves-requires c κs = search needs
+
+pass-row-requires : tie.Need-pass-row-requires Inv-loop μ-loop
+pass-row-requires c κs =
+    let here = c .before .before .before .before .before .before in
+    omega (arith, here .before .before .before .loop .inv .1, entry-inside here)
+
 sub-track-row : tie.Need-sub-track-row Inv-loop μ-loop
 sub-track-row c = omega arith
 
 part-track-row-start : tie.Need-part-track-row-start Inv-loop μ-loop
-part-track-row-start c = omega (arith, row-room c)
+part-track-row-start c = omega (arith, row-room (c .before .before .before .before .before))
 
 part-track-row-end : tie.Need-part-track-row-end Inv-loop μ-loop
-part-track-row-end c = omega (arith, row-room c)
+part-track-row-end c = row-room (c .before .before .before .before .before)
 
 track-row-requires : tie.Need-track-row-requires Inv-loop μ-loop
 track-row-requires c κs =
-    let here = c .before .before in
+    let here = c .before .before .before .before .before .before .before in
     let start = here .before .before .before .before .before .before .before in
     let at = here .before .before .before .loop in
     (rw length-take (omega (arith, start .pre .0 .most)), omega (arith, at .inv .1, entry-inside here), marking-reached _ _ _ _ _ _ _ (at .inv .2))
@@ -82,12 +101,14 @@ loop-again c =
     let args = here .before .before .before .before .before .before .before .args in
     let at = here .before .before .before .loop in
     let line = here .before .back-line .ensures in
-    let call = c .before .before .track-row in (
+    let bytes = ap (λ n. take n (drop (at .off) (now (args .text)))) (add-sub-cancel-left (at .off) (args .lanes)) in
+    let next = marking-row _ _ _ _ _ _ _ _ (here .before .before .loop-test .taken) line (at .inv .2) (here .if1 .taken) in (
       line .within,
-      call .kept .1 .1 .1 .0 ∙ at .inv .1,
-      marking-row _ _ _ _ _ _ _ _ (here .before .before .loop-test .taken) line (at .inv .2) (here .if1 .taken) _ _ _
-          (ap (λ n. take n (drop (at .off) (now (args .text)))) (add-sub-cancel-left (at .off) (args .lanes)))
-          (call .ensures),
+      ⊎-elim (λ w. ap length (w .5) ∙ w .2 .kept .1 .1 .0 ∙ at .inv .1) (λ w. ap length (w .6) ∙ w .3 .kept .1 .1 .1 .0 ∙ at .inv .1) (c .if2 .came),
+      ⊎-elim
+          (λ w. rw (w .5, w .6) (next _ _ _ bytes (λ rows size. w .2 .ensures _ _ (c .before .leaves .ensures (w .0 .taken) _) (λ i. false) rows size refl)))
+          (λ w. rw (w .6, w .7) (next _ _ _ bytes (w .3 .ensures)))
+          (c .if2 .came),
     )
 
 loop-less-2 : tie.Need-loop-less-2 Inv-loop μ-loop
@@ -115,6 +136,11 @@ mark-heads-spec =
     loop-holds
     back-line-requires
     add-end
+    sub-leaves
+    part-leaves-start
+    part-leaves-end
+    leaves-requires
+    pass-row-requires
     sub-track-row
     part-track-row-start
     part-track-row-end

@@ -13,6 +13,9 @@ abbrev μ-loop : tie.MeasureT-loop
 loop-holds : tie.Need-loop-holds Inv-loop μ-loop
 loop-holds c = tt
 
+next-agrees-requires : tie.Need-next-agrees-requires Inv-loop μ-loop
+next-agrees-requires c κs = tt
+
 go-on-requires : tie.Need-go-on-requires Inv-loop μ-loop
 go-on-requires c κs = tt
 
@@ -38,6 +41,7 @@ replay-all-spec =
     Inv-loop
     μ-loop
     loop-holds
+    next-agrees-requires
     go-on-requires
     add-index
     loop-less

@@ -1,20 +1,20 @@
--- `timing::has_head` meets its contract: no byte before `i` is a head.
-use Prim.Native.Nat.{_≤_, _-_, _+_}
-use mathlib.Core.Bool.{_||_}
-use mathlib.Core.Path.{_≡_, refl, sym, ap, _∙_}
+-- `timing::has_head` meets its contract. The loop's invariant: the bytes have a head where `has` is true or those from `i` on have one.
+use mathlib.Core.Path.{_≡_, refl, sym, _∙_}
+use mathlib.Core.Bool.{_||_, or-false}
+use Prim.Native.Nat.{_≤_, _-_}
 use native.Mathlib.Omega.{arith}
 use borrow.Author.Needs.{needs}
 use lib.ListN.{length, drop, drop-of-length-le}
 use Rattle.definitions.specs.TimingRows.{hasHead}
-use Rattle.timing.proofs.Passing.{head-next}
+use Rattle.timing.proofs.Passing.{head-more}
 use Rattle.timing.proofs.has_head.Statement.{statement}
 use Rattle.timing.proofs.has_head.Tie as tie
 
 abbrev Inv-loop : tie.InvT-loop
-Inv-loop bytes i₀ i = (i ≤ length bytes) × (hasHead bytes ≡ hasHead (drop i bytes))
+Inv-loop bytes has₀ i₀ has i = (i ≤ length bytes) × (hasHead bytes ≡ (has || hasHead (drop i bytes)))
 
 abbrev μ-loop : tie.MeasureT-loop
-μ-loop bytes i₀ i = length bytes - i
+μ-loop bytes has₀ i₀ has i = length bytes - i
 
 loop-holds : tie.Need-loop-holds Inv-loop μ-loop
 loop-holds c = (omega arith, refl)
@@ -25,12 +25,6 @@ shared-slice-read-is-head c = omega arith
 is-head-requires : tie.Need-is-head-requires Inv-loop μ-loop
 is-head-requires c κs = search needs
 
-returns : tie.Need-returns Inv-loop μ-loop
-returns c =
-    let at = c .before .before .before .before .loop in
-    let bytes = c .before .before .before .before .before .before .args .bytes .now in
-    sym (at .inv .1 ∙ head-next bytes (at .i) (c .before .before .before .loop-test .taken) ∙ ap (λ t. t || hasHead (drop (at .i + 1) bytes)) (sym (c .before .is-head .ensures) ∙ c .if1 .taken))
-
 add-i : tie.Need-add-i Inv-loop μ-loop
 add-i c = omega arith
 
@@ -39,16 +33,16 @@ loop-less c = omega arith
 
 loop-again : tie.Need-loop-again Inv-loop μ-loop
 loop-again c =
-    let at = c .before .before .before .before .loop in
-    let bytes = c .before .before .before .before .before .before .args .bytes .now in
-    (omega arith, at .inv .1 ∙ head-next bytes (at .i) (c .before .before .before .loop-test .taken) ∙ ap (λ t. t || hasHead (drop (at .i + 1) bytes)) (sym (c .before .is-head .ensures) ∙ c .if1 .left))
+    let bytes = c .before .before .before .before .before .args .bytes .now in
+    let at = c .before .before .before .loop in
+    (omega arith, at .inv .1 ∙ head-more bytes (at .i) (at .has) _ (omega arith) (c .is-head .ensures))
 
-returns-2 : tie.Need-returns-2 Inv-loop μ-loop
-returns-2 c =
+returns : tie.Need-returns Inv-loop μ-loop
+returns c =
     let bytes = c .before .before .before .args .bytes .now in
     let at = c .before .loop in
     let past : length bytes ≤ at .i = omega arith in
-    sym (at .inv .1 ∙ ap hasHead (drop-of-length-le bytes past))
+    sym (at .inv .1 ∙ rw (drop-of-length-le bytes past, or-false))
 
 pub has-head-spec : {M : Type 1} → statement M
 has-head-spec =
@@ -59,8 +53,7 @@ has-head-spec =
     loop-holds
     shared-slice-read-is-head
     is-head-requires
-    returns
     add-i
     loop-less
     loop-again
-    returns-2)
+    returns)

@@ -1,5 +1,5 @@
 -- `timing::minimize_timing_rows` meets its contract: each return rewrites with the tests that led there.
-use mathlib.Core.Path.{_≡_, _∙_}
+use mathlib.Core.Path.{_∙_}
 use native.Mathlib.Omega.{arith}
 use borrow.Author.Needs.{needs}
 use borrow.Author.Tests.{lt-ltb, le-ltb}

@@ -1,54 +1,51 @@
--- `reader::back::back_line` meets its contract: what it works out is `back-read`.
-use mathlib.Core.Path.{_≡_, ap, sym, _∙_}
+-- `reader::back::back_line` meets its contract: a plain row is read as any line is.
+use native.Mathlib.Omega.{arith}
 use denote.Ref.{now}
-use Rattle.definitions.specs.ReadBack.{trimCr}
-use Rattle.reader.specs.BackReading.{trimmedBy}
-use Rattle.reader.proofs.BackReading.{back-read}
 use borrow.Author.Needs.{needs}
+use Rattle.reader.specs.BackReading.{BackRead, plainBack}
 use Rattle.reader.proofs.back.back_line.Statement.{statement}
 use Rattle.reader.proofs.back.back_line.Tie as tie
 
-next-line-requires : tie.Need-next-line-requires
-next-line-requires c κs = search needs
+plain : (c : tie.Then2) → let a = c .before .before .before .before .args in BackRead (a .trim) (a .lanes) (now (a .text)) (a .off) (plainBack (a .off) (a .lanes))
+plain c = c .before .is-plain-row .ensures (c .if2 .taken) (c .before .before .before .before .args .trim)
 
-add-next : tie.Need-add-next
-add-next c = search needs
+sub-if1 : tie.Need-sub-if1
+sub-if1 c = search needs
 
-add-next-2 : tie.Need-add-next-2
-add-next-2 c = search needs
-
-trim-cr-requires : tie.Need-trim-cr-requires
-trim-cr-requires c κs = search needs
-
-is-back-row-requires : tie.Need-is-back-row-requires
-is-back-row-requires c κs = search needs
+any-back-line-requires : tie.Need-any-back-line-requires
+any-back-line-requires c κs = search needs
 
 returns : tie.Need-returns
-returns c =
-    let n = c .before .before .before in
-    let a = n .before .before .args in
-    let yes : trimmedBy (a .trim) (now (n .next-line .result)) ≡ trimCr (now (n .next-line .result)) = ap (λ t. trimmedBy t (now (n .next-line .result))) (c .before .before .if1 .taken) in
-    back-read _ _ _ _ (n .before .before .pre) _ _ _ (n .next-line .ensures) (c .before .trim-cr .ensures ∙ sym yes) (c .is-back-row .ensures)
+returns c = search needs
 
-is-back-row-requires-2 : tie.Need-is-back-row-requires-2
-is-back-row-requires-2 c κs = search needs
+is-plain-row-requires : tie.Need-is-plain-row-requires
+is-plain-row-requires c κs = search needs
+
+add-t9 : tie.Need-add-t9
+add-t9 c = omega (arith, plain c .within)
+
+add-t10 : tie.Need-add-t10
+add-t10 c = omega (arith, plain c .within)
 
 returns-2 : tie.Need-returns-2
-returns-2 c =
-    let n = c .before .before in
-    let a = n .before .before .args in
-    let no : trimmedBy (a .trim) (now (n .next-line .result)) ≡ now (n .next-line .result) = ap (λ t. trimmedBy t (now (n .next-line .result))) (c .before .if1 .left) in
-    back-read _ _ _ _ (n .before .before .pre) _ _ _ (n .next-line .ensures) (sym no) (c .is-back-row2 .ensures)
+returns-2 c = plain c
+
+any-back-line-requires-2 : tie.Need-any-back-line-requires-2
+any-back-line-requires-2 c κs = search needs
+
+returns-3 : tie.Need-returns-3
+returns-3 c = search needs
 
 pub back-line-spec : {M : Type 1} → statement M
 back-line-spec =
     tie.close
     (tie.spec
-    next-line-requires
-    add-next
-    add-next-2
-    trim-cr-requires
-    is-back-row-requires
+    sub-if1
+    any-back-line-requires
     returns
-    is-back-row-requires-2
-    returns-2)
+    is-plain-row-requires
+    add-t9
+    add-t10
+    returns-2
+    any-back-line-requires-2
+    returns-3)

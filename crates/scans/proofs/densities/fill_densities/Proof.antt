@@ -1,15 +1,13 @@
 -- `scans::fill_densities` meets its contract. The loop's invariant: the densities of the measures that have ended are stored, and `steps` is that of the
 -- open one.
-use Prim.Native.Nat.{ℕ, _≤_, _<_, _-_, _+_, _*_}
+use Prim.Native.Nat.{_≤_, _<_, _-_, _+_, _*_}
 use mathlib.Core.Path.{_≡_, refl, sym, ap, _∙_}
 use mathlib.Core.Logic.{⊎-elim}
-use mathlib.Core.List.{List}
 use native.Mathlib.Nat.{add-sub-cancel-left}
 use native.Mathlib.Omega.{arith}
 use borrow.Author.Needs.{needs}
 use lib.ListN.{length, take, drop, length-set}
 use denote.Ref.{now}
-use Rattle.definitions.specs.Lines.{Row}
 use Rattle.definitions.specs.Lists.{oneIf, padded}
 use Rattle.definitions.specs.Figures.{isStep, density}
 use Rattle.scans.proofs.Raw.{densities-raw}

@@ -1,12 +1,11 @@
 -- `scans::scan_last` meets its contract. The loop's invariant: what is kept is what counts of the lines read.
-use Prim.Native.Nat.{ℕ, _≤_, _<_, _-_, _+_, _*_}
-use mathlib.Core.Path.{_≡_, refl, sym, ap, _∙_}
+use Prim.Native.Nat.{_≤_, _-_, _+_}
+use mathlib.Core.Path.{ap}
 use mathlib.Core.Logic.{⊎-elim}
 use native.Mathlib.Nat.{add-sub-cancel-left}
 use native.Mathlib.Omega.{arith}
 use borrow.Author.Needs.{needs}
 use lib.ListN.{length, take, drop, length-take}
-use lib.Seq.{length-take-le}
 use denote.Ref.{now}
 use Rattle.cells.proofs.Scan.{low-more}
 use Rattle.scans.proofs.Looking.{Looking, Looked, Few, looking-start, looking-few, looked-few, looking-passed, looking-comma, looking-row, looking-semi, looking-end, looked-last}

@@ -1,16 +1,14 @@
 -- `scans::fill_spacing` meets its contract. The loop's invariant: the spacing of the measures that have ended is stored, and `s` holds what counts of
 -- the open one.
-use Prim.Native.Nat.{ℕ, _≤_, _<_, _-_, _+_, _*_}
+use Prim.Native.Nat.{_≤_, _<_, _-_, _+_, _*_}
 use mathlib.Core.Path.{_≡_, refl, sym, ap, _∙_}
 use mathlib.Core.Logic.{⊎-elim}
-use mathlib.Core.List.{List, [], _∷_, _++_}
 use native.Mathlib.Nat.{add-sub-cancel-left}
 use native.Mathlib.Omega.{arith}
 use borrow.Author.Needs.{needs}
 use lib.ListN.{length, take, drop, length-set}
 use denote.Ref.{now}
 use Rattle.definitions.specs.Lists.{padded}
-use Rattle.definitions.specs.Lines.{Row}
 use Rattle.scans.specs.Spaces.{Spaces}
 use Rattle.scans.proofs.Filling.{Filling, Filled, filling-start, filling-few, filling-rows, filling-passed, filling-row, filling-comma, filling-semi, filling-end, filled-count, filled-slice}
 use Rattle.scans.proofs.Spaces.{spacedIn, spacings-raw, spaces-few}

@@ -1,0 +1,118 @@
+// The timing rows, the scans and the judged calls, each asked about a text, and what it left beside the stored answer that begins at `at`.
+use stored::Compared;
+use stored::compare::all_zero;
+use stored::compare::same_bytes;
+use stored::compare::same_figures;
+use stored::compare::same_floats;
+use stored::compare::same_numbers;
+use stored::contents_of;
+use stored::lent;
+use stored::next_answer;
+
+fn timing_rows_agree(data: &[u8], lanes: usize, s: &[u8], at: usize) -> bool {
+    let mut text = lent::text();
+    let mut beats = lent::beats();
+    let mut figures = lent::figures();
+    let number = padcheck::padcheck_minimize_timing_rows(
+        data,
+        lanes,
+        &mut text,
+        &mut beats,
+        &mut figures,
+    );
+    if number != 0 {
+        return false;
+    }
+    let p = contents_of(s, at);
+    same_figures(&figures, s, at)
+        && same_bytes(&text, s, p.text, p.text_len)
+        && same_floats(&beats, s, p.beats, p.beats_len)
+}
+
+fn densities_agree(data: &[u8], lanes: usize, s: &[u8], at: usize) -> bool {
+    let mut densities = lent::densities();
+    let mut figures = lent::figures();
+    let number = padcheck::padcheck_measure_densities(data, lanes, &mut densities, &mut figures);
+    if number != 0 {
+        return false;
+    }
+    let p = contents_of(s, at);
+    same_figures(&figures, s, at) && same_numbers(&densities, s, p.measures, p.measures_len)
+}
+
+fn spacing_agrees(data: &[u8], lanes: usize, s: &[u8], at: usize) -> bool {
+    let mut spacing = lent::spacing();
+    let mut figures = lent::figures();
+    let number = padcheck::padcheck_equally_spaced(data, lanes, &mut spacing, &mut figures);
+    if number != 0 {
+        return false;
+    }
+    let p = contents_of(s, at);
+    same_figures(&figures, s, at) && same_bytes(&spacing, s, p.measures, p.measures_len)
+}
+
+fn last_beat_agrees(data: &[u8], lanes: usize, s: &[u8], at: usize) -> bool {
+    let mut figures = lent::figures();
+    let number = padcheck::padcheck_chart_last_beat(data, lanes, &mut figures);
+    if number != 0 {
+        return false;
+    }
+    same_figures(&figures, s, at)
+}
+
+fn judged_agrees(data: &[u8], lanes: usize, s: &[u8], at: usize) -> bool {
+    let mut work = lent::work();
+    let mut figures = lent::figures();
+    let number = padcheck::padcheck_process_rows_judgable(data, lanes, &mut work, &mut figures);
+    if number != 0 {
+        return false;
+    }
+    same_figures(&figures, s, at) && all_zero(&work)
+}
+
+fn flagged_agrees(data: &[u8], lanes: usize, flags: &[u8], s: &[u8], at: usize) -> bool {
+    let mut work = lent::work();
+    let mut figures = lent::figures();
+    let number = padcheck::padcheck_process_timing_rows(
+        data,
+        lanes,
+        flags,
+        &mut work,
+        &mut figures,
+    );
+    if number != 0 {
+        return false;
+    }
+    same_figures(&figures, s, at) && all_zero(&work)
+}
+
+// All six, with their answers from `at` to the record's end.
+pub fn figures_agree(data: &[u8], lanes: usize, flags: &[u8], s: &[u8], at: usize) -> Compared {
+    let densities = next_answer(s, at);
+    let spacing = next_answer(s, densities);
+    let last_beat = next_answer(s, spacing);
+    let judged = next_answer(s, last_beat);
+    let flagged = next_answer(s, judged);
+    if next_answer(s, flagged) != s.len() {
+        return Compared::Malformed;
+    }
+    if !timing_rows_agree(data, lanes, s, at) {
+        return Compared::Differs(2);
+    }
+    if !densities_agree(data, lanes, s, densities) {
+        return Compared::Differs(3);
+    }
+    if !spacing_agrees(data, lanes, s, spacing) {
+        return Compared::Differs(4);
+    }
+    if !last_beat_agrees(data, lanes, s, last_beat) {
+        return Compared::Differs(5);
+    }
+    if !judged_agrees(data, lanes, s, judged) {
+        return Compared::Differs(6);
+    }
+    if !flagged_agrees(data, lanes, flags, s, flagged) {
+        return Compared::Differs(7);
+    }
+    Compared::Same
+}
