@@ -14,13 +14,9 @@ use Rattle.definitions.specs.Objects as objects
 use Rattle.lines.specs.Words.{Bytes}
 use Rattle.cells.specs.Rows.{Holds, RowDone}
 use Rattle.cells.specs.declared.Depths.{Depths}
-use Rattle.cells.proofs.Firsts.{allAre, all-at}
 use Rattle.cells.proofs.RowWords.{nothing}
 use Rattle.cells.proofs.Scan.{low-more}
 use Rattle.cells.proofs.Tables.{same-at}
-
-pub closed-all : (s : Depths) → allAre 0 10 (s .depths) ≡ true → Holds (λ c. 0) s
-closed-all s e c h = all-at 0 10 (s .depths) e c h
 
 -- ---- a byte, by one computed test of all
 
@@ -58,7 +54,7 @@ same-objects D k [] h z = refl
 same-objects D k (b ∷ r) h z =
     ap₂ (λ d t. isObject (objectAt b) d || t) (sym (z k (omega arith))) (same-objects D (suc k) r (omega arith) z)
 
-or-none : (p q : Bool) → (p || q) ≡ false → (p ≡ false) × (q ≡ false)
+pub or-none : (p q : Bool) → (p || q) ≡ false → (p ≡ false) × (q ≡ false)
 or-none true q e = let z : _≡_ {A = ℕ} 0 1 = cc in absurd (omega arith)
 or-none false q e = (refl, e)
 

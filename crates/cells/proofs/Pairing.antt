@@ -1,6 +1,6 @@
 -- A row that has neither a head nor a tail: none of its cells opens or closes anything.
-use mathlib.Core.Path.{_≡_, refl, sym, _∙_}
-use mathlib.Core.Bool.{Bool, true, false, _||_, true≢false}
+use mathlib.Core.Path.{_≡_, refl, _∙_}
+use mathlib.Core.Bool.{Bool, false, _||_}
 use mathlib.Core.List.{[], _∷_}
 use Prim.Native.Nat.{ℕ, zero, suc}
 use lib.Dec.{eqb}
@@ -13,6 +13,8 @@ use Rattle.definitions.specs.declared.DepthEffect.{DepthEffect}
 use Rattle.definitions.proofs.Cells.{by-letter, other-empty}
 use Rattle.definitions.proofs.Lists.{none, one}
 use Rattle.cells.specs.Rows.{hasHeadOrTail}
+use Rattle.cells.proofs.RowWords.{gathered}
+use Rattle.cells.proofs.Closed.{or-none}
 
 -- the byte is a 2, 3 or 4
 abbrev pub headOrTail : ℕ → Bool
@@ -40,24 +42,11 @@ byte-keeps =
     none)))))))))))
     (λ b h e. rw (other-empty b h))
 
-gathered : (p q r s t u : Bool) → (((p || s) || (q || t)) || (r || u)) ≡ (((p || q) || r) || ((s || t) || u))
-gathered true q r s t u = refl
-gathered false true r true t u = refl
-gathered false true r false t u = refl
-gathered false false true true t u = refl
-gathered false false true false true u = refl
-gathered false false true false false u = refl
-gathered false false false s t u = refl
-
-or-none : (p q : Bool) → (p || q) ≡ false → (p ≡ false) × (q ≡ false)
-or-none true q e = absurd (true≢false e)
-or-none false q e = (refl, e)
-
 pub apart : (b : ℕ) (r : Row) → hasHeadOrTail (b ∷ r) ≡ false → (headOrTail b ≡ false) × (hasHeadOrTail r ≡ false)
 unfolding hasHeadOrTail
 apart b r e =
     or-none (headOrTail b) (hasHeadOrTail r)
-    (sym (gathered (eqb 50 b) (eqb 51 b) (eqb 52 b) (among 50 r) (among 51 r) (among 52 r)) ∙ e)
+    (gathered (eqb 50 b) (eqb 51 b) (eqb 52 b) (among 50 r) (among 51 r) (among 52 r) ∙ e)
 
 pub row-keeps : (r : Row) → hasHeadOrTail r ≡ false → (c : ℕ) → Keeps (holdAt (byteAt c r))
 unfolding holdAt cellOf

@@ -39,7 +39,7 @@ equal-turned a b = go (eqb b a) refl
     go true e = eq-eqb a b (sym (eqb-true b a e))
     go false e = ne-eqb a b (λ q. eqb-false b a e (sym q))
 
-gathered : (p q r s t u : Bool) → (((p || q) || r) || ((s || t) || u)) ≡ (((p || s) || (q || t)) || (r || u))
+pub gathered : (p q r s t u : Bool) → (((p || q) || r) || ((s || t) || u)) ≡ (((p || s) || (q || t)) || (r || u))
 gathered true q r s t u = refl
 gathered false true r true t u = refl
 gathered false true r false t u = refl

@@ -1,6 +1,7 @@
 -- The depths of the last beat in a struct of ten numbers, and what the object row's test leaves there.
 use mathlib.Core.Path.{_≡_}
 use mathlib.Core.Bool.{Bool, _||_}
+use mathlib.Core.List.{List}
 use Prim.Native.Nat.{ℕ, _+_, _<_, _≤_}
 use lib.ListN.{getD}
 use Rattle.definitions.specs.Lists.{among}
@@ -10,6 +11,10 @@ use Rattle.definitions.specs.Objects as objects
 use Rattle.cells.specs.declared.Depths.{Depths}
 use Rattle.cells.specs.declared.Objects.{Objects}
 use Rattle.cells.specs.declared.ObjectCell.{ObjectCell}
+
+-- the first ten numbers of a list are n
+abbrev pub TenAre : ℕ → List ℕ → Type 0
+TenAre n l = (c : ℕ) → c < 10 → getD l c 0 ≡ n
 
 -- the depth of a column
 abbrev pub depthAt : Depths → ℕ → ℕ

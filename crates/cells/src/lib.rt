@@ -20,7 +20,7 @@ ghost use Rattle.definitions.specs.Tracker.{holdAt};
 ghost use Rattle.definitions.specs.Objects.{objectAt, objectRow};
 ghost use Rattle.definitions.specs.Notes.{effectAt};
 ghost use Rattle.lines.specs.Words.{wordOf, Bytes};
-ghost use Rattle.cells.specs.Rows.{Holds, Low, NoDepths, CellDone, RowDone, hasHeadOrTail};
+ghost use Rattle.cells.specs.Rows.{Low, NoDepths, CellDone, RowDone, TenAre, hasHeadOrTail};
 ghost use Rattle.cells.specs.Taps.{tapMask, tapLineMask, Tapped, maskCounts, TapCounts, unpack};
 
 // 1 where the test holds, else 0.
@@ -213,21 +213,20 @@ fn cells_have_object(row: &[u8], old: Depths) -> Objects
     }
 }
 
-// Whether no column is open.
-fn is_closed(old: Depths) -> bool
-    ensures { λ r. ⌜ (r ≡ true → Holds (λ c. 0) old) ⌝ }
+// Whether each of ten numbers is this one: the depths of ten columns that are closed, say.
+pub fn ten_are(numbers: &[u32; 10], n: u32) -> bool
+    ensures { λ r. ⌜ (r ≡ true → TenAre n (now (numbers .entry))) ⌝ }
 {
-    let d = old.depths;
-    (d[0] == 0)
-        & (d[1] == 0)
-        & (d[2] == 0)
-        & (d[3] == 0)
-        & (d[4] == 0)
-        & (d[5] == 0)
-        & (d[6] == 0)
-        & (d[7] == 0)
-        & (d[8] == 0)
-        & (d[9] == 0)
+    (numbers[0] == n)
+        & (numbers[1] == n)
+        & (numbers[2] == n)
+        & (numbers[3] == n)
+        & (numbers[4] == n)
+        & (numbers[5] == n)
+        & (numbers[6] == n)
+        & (numbers[7] == n)
+        & (numbers[8] == n)
+        & (numbers[9] == n)
 }
 
 // Whether one of the word's bytes opens its column: a 2 or 4.
@@ -274,7 +273,8 @@ pub fn row_has_object(row: &[u8], old: Depths) -> Objects
     requires { ⌜ (length (now row) ≤ 10) × Low 4294967294 old ⌝ }
     ensures { λ r. ⌜ RowDone (now (row .entry)) old r ⌝ }
 {
-    if is_closed(old) {
+    let depths = old.depths;
+    if ten_are(&depths, 0) {
         if row.len() == 4 {
             let word = words::half_at(row, 0);
             if !word_opens(word) {

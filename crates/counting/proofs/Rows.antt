@@ -8,11 +8,10 @@ use native.Mathlib.Omega.{arith}
 use lib.ListN.{length, length-append}
 use Rattle.definitions.specs.Lists.{oneIf, joined}
 use Rattle.definitions.specs.Lines.{Row}
-use Rattle.definitions.specs.Cells.{cellOf, byteAt}
+use Rattle.definitions.specs.Cells.{cellOf}
 use Rattle.definitions.specs.Reduction.{allZero}
 use Rattle.definitions.specs.Tracker.{holdAt}
 use Rattle.definitions.specs.Correction.{isOpening, isClosing}
-use Rattle.definitions.specs.declared.DepthEffect.the-variants.{Nothing}
 use Rattle.definitions.specs.Figures.{isStep}
 use Rattle.definitions.specs.Tally.{rowSum, noStats, addRow, tally}
 use Rattle.definitions.specs.declared.ArrowStats.{ArrowStats}
@@ -23,7 +22,7 @@ use Rattle.phantoms.specs.Phantoms.{Counts, RowCounted, Low}
 use Rattle.phantoms.proofs.Columns.{column-same}
 use Rattle.phantoms.proofs.Rows.{after-snoc, met-snoc, heads-snoc, tails-snoc}
 use Rattle.phantoms.proofs.Loop.{low-more}
-use Rattle.measures.proofs.ZeroRows.{zero-byte}
+use Rattle.measures.proofs.ZeroRows.{zero-hold}
 use Rattle.tallies.proofs.Zeros.{zero-count, step-arrows}
 use Rattle.tallies.specs.Bounds.{Below}
 use Rattle.tallies.proofs.Rows.{tally-none, tally-snoc}
@@ -83,18 +82,14 @@ module _ (L : ℕ) (c : Counting) (done : List (List Row)) (cur : List Row) (x :
       }
 
 -- A row that is all zero leaves what is counted of the rows' cells.
-zero-effect : (c : ℕ) (row : Row) → allZero row ≡ true → holdAt (byteAt c row) ≡ Nothing
-unfolding holdAt cellOf
-zero-effect c row z = rw (zero-byte c row z)
-
 pub zero-counted : (row : Row) (p : Phantoms) → allZero row ≡ true → RowCounted row p p
 unfolding holdAt cellOf
 zero-counted row p z L rows w v x =
     record {
-      depths = λ c k. x .depths c k ∙ sym (after-snoc c 0 rows row ∙ rw (zero-effect c row z));
+      depths = λ c k. x .depths c k ∙ sym (after-snoc c 0 rows row ∙ rw (zero-hold c row z));
       heads = x .heads ∙ sym (heads-snoc rows row ∙ rw (zero-count (λ b. isOpening (holdAt b)) refl row z, add-zero));
       tails = x .tails ∙ sym (tails-snoc rows row ∙ rw (zero-count (λ b. isClosing (holdAt b)) refl row z, add-zero));
-      met = x .met ∙ column-same L _ _ (λ c k. sym (met-snoc c 0 rows row ∙ rw (zero-effect c row z, or-false)));
+      met = x .met ∙ column-same L _ _ (λ c k. sym (met-snoc c 0 rows row ∙ rw (zero-hold c row z, or-false)));
       low = low-more (10 * length rows) (10 * length (rows ++ (row ∷ []))) p (omega (arith, length-append rows (row ∷ []))) (x .low);
     }
 

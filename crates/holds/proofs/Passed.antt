@@ -18,13 +18,13 @@ use Rattle.holds.specs.Tracks.{endsIn, endsAt, TracksJudged, CellsDone, 
 use Rattle.holds.specs.declared.Tracker.{Tracker}
 use Rattle.holds.proofs.Pairs.{stack-snoc, pairs-snoc}
 use Rattle.holds.proofs.Ends.{sum-same, ends-late}
-use Rattle.holds.proofs.ZeroRows.{zero-cell}
+use Rattle.measures.proofs.ZeroRows.{zero-hold}
 
 pub zero-leaves : (t : Tracker) (r : Row) → allZero r ≡ true → Leaves t r
 zero-leaves t r z =
     record {
-      stack = λ c i h. ap (λ e. nextStack e i (stackOf t c)) (zero-cell r z c);
-      pairs = λ c i h. ap (λ e. paired e i (stackOf t c)) (zero-cell r z c);
+      stack = λ c i h. ap (λ e. nextStack e i (stackOf t c)) (zero-hold c r z);
+      pairs = λ c i h. ap (λ e. paired e i (stackOf t c)) (zero-hold c r z);
     }
 
 -- a cell that opens nothing leaves a stack empty

@@ -1,4 +1,4 @@
--- All-zero rows: no cell of one does anything, and no pair ends there.
+-- All-zero rows: no pair ends at one.
 use mathlib.Core.Path.{_≡_, ap, sym, _∙_}
 use mathlib.Core.Bool.{Bool, true}
 use mathlib.Core.List.{List, [], _∷_}
@@ -7,20 +7,15 @@ use native.Mathlib.Nat.{zero-add}
 use native.Mathlib.Omega.{arith}
 use lib.ListN.{length, getD}
 use Rattle.definitions.specs.Lines.{Row}
-use Rattle.definitions.specs.Cells.{cellOf, byteAt}
+use Rattle.definitions.specs.Cells.{byteAt}
 use Rattle.definitions.specs.Tracker.{Pair, nextStack, paired, holdAt, pairsFrom, pairs}
 use Rattle.definitions.specs.Reduction.{allZero}
 use Rattle.definitions.specs.declared.DepthEffect.{DepthEffect}
 use Rattle.definitions.specs.declared.DepthEffect.the-variants.{Nothing, Blocks, Opens, Closes}
 use Rattle.definitions.proofs.Lists.{All, none, one, all-append, all-map}
-use Rattle.measures.proofs.ZeroRows.{zero-byte}
+use Rattle.measures.proofs.ZeroRows.{zero-hold}
 use Rattle.holds.specs.Tracks.{endsIn, endsAt}
 use Rattle.holds.proofs.Ends.{sum-same, none-end}
-
--- a cell of an all-zero row does nothing
-pub zero-cell : (r : Row) → allZero r ≡ true → (c : ℕ) → holdAt (byteAt c r) ≡ Nothing
-unfolding holdAt cellOf
-zero-cell r z c = rw (zero-byte c r z)
 
 module _ (c : ℕ) (at : ℕ → Row) where
   -- row t has a tail in column c, where `at` says which row that is
@@ -52,4 +47,4 @@ zero-ends J rows i z =
     (tails-from c (λ k. getD rows k []) 0 [] rows (λ k l. ap (λ n. getD rows n []) (zero-add k)))))
   where
     closes : (c : ℕ) → holdAt (byteAt c (getD rows i [])) ≡ Closes → ⊥
-    closes c e = let n : _≡_ {A = ℕ} 0 1 = cc (zero-cell (getD rows i []) z c) in absurd (omega arith)
+    closes c e = let n : _≡_ {A = ℕ} 0 1 = cc (zero-hold c (getD rows i []) z) in absurd (omega arith)

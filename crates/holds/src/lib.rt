@@ -4,7 +4,7 @@ ghost use mathlib.Core.Path.{_≡_};
 ghost use mathlib.Core.Bool.{true};
 ghost use mathlib.Core.List.{List, [], _∷_, _++_};
 ghost use Prim.Native.Nat.{ℕ, _+_, _*_, _≤_, _<_};
-ghost use lib.ListN.{length, getD};
+ghost use lib.ListN.{length};
 ghost use Rattle.definitions.specs.Lists.{oneIf};
 ghost use Rattle.definitions.specs.Lines.{Row};
 ghost use Rattle.definitions.specs.Tracker.{holdAt};
@@ -164,22 +164,6 @@ pub fn track_row(t: Tracker, row: u32, cells: &[u8], work: &mut [u16]) -> Tracke
     track_judged_row(t, row, cells, false, work)
 }
 
-// Whether no head is open in any column.
-fn is_closed(depths: &[u32; 10]) -> bool
-    ensures { λ r. ⌜ (r ≡ true → (c : ℕ) → c < 10 → getD (now (depths .entry)) c 0 ≡ 0) ⌝ }
-{
-    (depths[0] == 0)
-        & (depths[1] == 0)
-        & (depths[2] == 0)
-        & (depths[3] == 0)
-        & (depths[4] == 0)
-        & (depths[5] == 0)
-        & (depths[6] == 0)
-        & (depths[7] == 0)
-        & (depths[8] == 0)
-        & (depths[9] == 0)
-}
-
 // Whether a row is seen to leave a tracker of these depths as it is: it is all zero, or no head is open and it has neither head nor tail.
 // Such a row is passed by `pass_row`, which spares the copies of the tracker.
 pub fn leaves(depths: &[u32; 10], row: &[u8]) -> bool
@@ -189,7 +173,7 @@ pub fn leaves(depths: &[u32; 10], row: &[u8]) -> bool
         return true;
     }
     if cells::row_pairs_nothing(row) {
-        return is_closed(depths);
+        return cells::ten_are(depths, 0);
     }
     false
 }

@@ -10,7 +10,9 @@ use lib.Dec.{eqb}
 use lib.ListN.{length, drop, getD, drop-of-length-le}
 use lib.Seq.{drop-cons}
 use Rattle.definitions.specs.Lines.{Row}
-use Rattle.definitions.specs.Cells.{byteAt}
+use Rattle.definitions.specs.Cells.{cellOf, byteAt}
+use Rattle.definitions.specs.Tracker.{holdAt}
+use Rattle.definitions.specs.declared.DepthEffect.the-variants.{Nothing}
 use Rattle.definitions.specs.Reduction.{allZero}
 use Rattle.definitions.proofs.Bools.{and-left, and-right}
 use Rattle.lines.specs.Words.{wordOf, Bytes}
@@ -29,6 +31,11 @@ pub zero-byte : (c : ℕ) (r : Row) → allZero r ≡ true → byteAt c r ≡ 48
 zero-byte c [] z = refl
 zero-byte zero (b ∷ r) z = eqb-true b 48 (and-left (eqb b 48) (allZero r) z)
 zero-byte (suc c) (b ∷ r) z = zero-byte c r (and-right (eqb b 48) (allZero r) z)
+
+-- which opens, closes and blocks nothing
+pub zero-hold : (c : ℕ) (r : Row) → allZero r ≡ true → holdAt (byteAt c r) ≡ Nothing
+unfolding holdAt cellOf
+zero-hold c r z = rw (zero-byte c r z)
 
 -- n bytes `0`, and the one word that a row of zeros has
 abbrev pub zeros : ℕ → ℕ

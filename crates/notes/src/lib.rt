@@ -127,22 +127,6 @@ fn push_cell(
     }
 }
 
-// Whether no column has an open head.
-fn is_closed(heads: [u32; 10]) -> bool
-    ensures { λ r. ⌜ (r ≡ true → NoHeads heads) ⌝ }
-{
-    (heads[0] == NO_HEAD)
-        & (heads[1] == NO_HEAD)
-        & (heads[2] == NO_HEAD)
-        & (heads[3] == NO_HEAD)
-        & (heads[4] == NO_HEAD)
-        & (heads[5] == NO_HEAD)
-        & (heads[6] == NO_HEAD)
-        & (heads[7] == NO_HEAD)
-        & (heads[8] == NO_HEAD)
-        & (heads[9] == NO_HEAD)
-}
-
 // A tap's record at the end of the records, and their number with it; where the cell is a `0` the next record is written over this one.
 fn push_tap(row: u32, count: usize, column: usize, b: u8, notes: &mut [u8]) -> usize
     requires { ⌜ (count * 10 + 10 ≤ length (now notes)) × (column < 10) × (count < 4294967295) ⌝ }
@@ -198,7 +182,7 @@ pub fn push_row(s: ChartNotesScratch, row: &[u8], notes: &mut [u8]) -> ChartNote
 {
     if cells::row_is_taps(row) {
         let heads = s.hold_heads;
-        if is_closed(heads) {
+        if cells::ten_are(&heads, NO_HEAD) {
             return push_taps(s, row, notes);
         }
     }

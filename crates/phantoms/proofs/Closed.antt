@@ -1,6 +1,6 @@
 -- Where no column is open, a row that has neither a head nor a tail leaves the depths, the heads and the tails, and meets no phantom depth.
 use mathlib.Core.Path.{_≡_, refl, sym, _∙_}
-use mathlib.Core.Bool.{true, false, or-false, true≢false}
+use mathlib.Core.Bool.{false, or-false, true≢false}
 use mathlib.Core.List.{List, [], _∷_, _++_}
 use Prim.Native.Nat.{ℕ, _*_, _<_, _≤_}
 use native.Mathlib.Nat.{add-zero}
@@ -14,16 +14,12 @@ use Rattle.definitions.specs.Correction.{phantomStep, phantomAfter, meetsPhanto
 use Rattle.definitions.specs.declared.DepthEffect.{DepthEffect}
 use Rattle.definitions.specs.declared.DepthEffect.the-variants.{Nothing, Blocks, Opens, Closes}
 use Rattle.cells.specs.Rows.{hasHeadOrTail}
-use Rattle.cells.proofs.Firsts.{allAre, all-at}
 use Rattle.cells.proofs.Pairing.{Keeps, byte-keeps, apart, row-keeps}
 use Rattle.phantoms.specs.Phantoms.{Closed, Counts, RowCounted}
 use Rattle.phantoms.specs.declared.Phantoms.{Phantoms}
 use Rattle.phantoms.proofs.Columns.{column-same}
 use Rattle.phantoms.proofs.Loop.{low-more}
 use Rattle.phantoms.proofs.Rows.{after-snoc, met-snoc, heads-snoc, tails-snoc}
-
-pub closed-all : (p : Phantoms) → allAre 0 10 (p .depths) ≡ true → Closed p
-closed-all p e c h = all-at 0 10 (p .depths) e c h
 
 -- ---- a byte
 

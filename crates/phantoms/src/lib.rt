@@ -9,7 +9,7 @@ ghost use Rattle.definitions.specs.Lists.{someColumn};
 ghost use Rattle.definitions.specs.Lines.{Row};
 ghost use Rattle.definitions.specs.Correction.{corrects};
 ghost use lib.Dec.{ltb};
-ghost use Rattle.phantoms.specs.Phantoms.{depthAt, Low, Closed, Counts, CellCounted, RowCounted};
+ghost use Rattle.phantoms.specs.Phantoms.{depthAt, Low, Counts, CellCounted, RowCounted};
 
 // The phantom depth of each column, of up to ten; the heads and tails so far; and whether a 1, M, L or F met a phantom depth.
 pub struct Phantoms {
@@ -105,30 +105,14 @@ fn phantom_cells(p: Phantoms, row: &[u8]) -> Phantoms
     }
 }
 
-// Whether no column is open.
-fn is_closed(p: Phantoms) -> bool
-    ensures { λ r. ⌜ (r ≡ true → Closed p) ⌝ }
-{
-    let d = p.depths;
-    (d[0] == 0)
-        & (d[1] == 0)
-        & (d[2] == 0)
-        & (d[3] == 0)
-        & (d[4] == 0)
-        & (d[5] == 0)
-        & (d[6] == 0)
-        & (d[7] == 0)
-        & (d[8] == 0)
-        & (d[9] == 0)
-}
-
 // One row more. Where no column is open, a row that has neither a head nor a tail leaves everything as it is.
 pub fn phantom_row(p: Phantoms, row: &[u8]) -> Phantoms
     requires { ⌜ (length (now row) ≤ 10) × Low 4294967285 p ⌝ }
     ensures { λ r. ⌜ RowCounted (now (row .entry)) p r ⌝ }
 {
     if cells::row_pairs_nothing(row) {
-        if is_closed(p) {
+        let depths = p.depths;
+        if cells::ten_are(&depths, 0) {
             return p;
         }
     }

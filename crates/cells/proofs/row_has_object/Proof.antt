@@ -13,8 +13,8 @@ use Rattle.cells.proofs.Closed.{closed-row, over-among, over-object}
 use Rattle.cells.proofs.row_has_object.Statement.{statement}
 use Rattle.cells.proofs.row_has_object.Tie as tie
 
-is-closed-requires : tie.Need-is-closed-requires
-is-closed-requires c κs = search needs
+ten-are-requires : tie.Need-ten-are-requires
+ten-are-requires c κs = search needs
 
 half-at-requires : tie.Need-half-at-requires
 half-at-requires c κs = search needs
@@ -28,14 +28,14 @@ word-has-object-requires c κs = search needs
 returns : tie.Need-returns
 returns c =
     let half = c .before .before .before in
-    let known = half .before .before .before .before in
+    let known = half .before .before .before .before .before .before in
     let row = now (known .before .args .row) in
     let long : length row ≡ 4 = half .before .if2 .taken in
     let small = bytes-of row (λ k. known .shared-slice-known .given k .fits) in
     let eight-long : length (row ++ nothing) ≡ 8 = rw length-append (omega arith) in
     let word = over-word row ∙ four row long ∙ sym (half .half-at .ensures .0) in
     let opens = c .before .before .word-opens .ensures (row ++ nothing) eight-long (over-bytes row small) word in
-    closed-row row (known .before .args .old) _ (known .before .pre .0) small (half .before .before .before .is-closed .ensures (half .before .before .if1 .taken))
+    closed-row row (known .before .args .old) _ (known .before .pre .0) small (half .before .before .before .ten-are .ensures (half .before .before .if1 .taken))
     (ap₂ _||_ (sym (over-among 50 refl row)) (sym (over-among 52 refl row)) ∙ sym opens ∙ not-true (c .before .before .word-opens .result) (c .before .if3 .taken))
     (c .word-has-object .ensures (row ++ nothing) eight-long (over-bytes row small) word ∙ over-object (λ c. 0) 0 row)
 
@@ -51,12 +51,12 @@ word-has-object-requires-2 c κs = search needs
 returns-2 : tie.Need-returns-2
 returns-2 c =
     let whole = c .before .before .before in
-    let known = whole .before .before .before .before .before in
+    let known = whole .before .before .before .before .before .before .before in
     let row = now (known .before .args .row) in
     let long : length row ≡ 8 = whole .before .if4 .taken in
     let small = bytes-of row (λ k. known .shared-slice-known .given k .fits) in
     let word = eight row long ∙ sym (whole .halves-at .ensures) in
-    closed-row row (known .before .args .old) _ (known .before .pre .0) small (whole .before .before .before .before .is-closed .ensures (whole .before .before .before .if1 .taken))
+    closed-row row (known .before .args .old) _ (known .before .pre .0) small (whole .before .before .before .before .ten-are .ensures (whole .before .before .before .if1 .taken))
     (sym (c .before .before .word-opens2 .ensures row long small word) ∙ not-true (c .before .before .word-opens2 .result) (c .before .if5 .taken))
     (c .word-has-object2 .ensures row long small word)
 
@@ -70,7 +70,7 @@ pub row-has-object-spec : {M : Type 1} → statement M
 row-has-object-spec =
     tie.close
     (tie.spec
-    is-closed-requires
+    ten-are-requires
     half-at-requires
     word-opens-requires
     word-has-object-requires

@@ -15,11 +15,11 @@ returns c e heads = zero-leaves _ _ (sym (c .before .is-all-zero .ensures) ∙ c
 row-pairs-nothing-requires : tie.Need-row-pairs-nothing-requires
 row-pairs-nothing-requires c κs = search needs
 
-is-closed-requires : tie.Need-is-closed-requires
-is-closed-requires c κs = search needs
+ten-are-requires : tie.Need-ten-are-requires
+ten-are-requires c κs = search needs
 
 returns-2 : tie.Need-returns-2
-returns-2 c e heads = closed-leaves heads _ _ (c .is-closed .ensures e) (c .before .before .row-pairs-nothing .ensures (c .before .if2 .taken))
+returns-2 c e heads = closed-leaves heads _ _ (c .ten-are .ensures e) (c .before .before .row-pairs-nothing .ensures (c .before .if2 .taken))
 
 returns-3 : tie.Need-returns-3
 returns-3 c e heads = absurd (false≢true e)
@@ -31,6 +31,6 @@ leaves-spec =
     is-all-zero-requires
     returns
     row-pairs-nothing-requires
-    is-closed-requires
+    ten-are-requires
     returns-2
     returns-3)

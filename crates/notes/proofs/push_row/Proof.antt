@@ -6,14 +6,14 @@ use Rattle.notes.proofs.push_row.Tie as tie
 row-is-taps-requires : tie.Need-row-is-taps-requires
 row-is-taps-requires c κs = search needs
 
-is-closed-requires : tie.Need-is-closed-requires
-is-closed-requires c κs = search needs
+ten-are-requires : tie.Need-ten-are-requires
+ten-are-requires c κs = search needs
 
 push-taps-requires : tie.Need-push-taps-requires
 push-taps-requires c κs =
     let closed = c .before .before in
-    let taps = closed .before .before in
-    (taps .before .before .before .before .pre, taps .before .row-is-taps .ensures (taps .if1 .taken), closed .is-closed .ensures (c .before .if2 .taken))
+    let taps = closed .before .before .before in
+    (taps .before .before .before .before .pre, taps .before .row-is-taps .ensures (taps .if1 .taken), closed .ten-are .ensures (c .before .if2 .taken))
 
 same-length : tie.Need-same-length
 same-length c = search needs
@@ -35,7 +35,7 @@ push-row-spec =
     tie.close
     (tie.spec
     row-is-taps-requires
-    is-closed-requires
+    ten-are-requires
     push-taps-requires
     same-length
     returns

@@ -7,13 +7,13 @@ use Rattle.phantoms.proofs.phantom_row.Tie as tie
 row-pairs-nothing-requires : tie.Need-row-pairs-nothing-requires
 row-pairs-nothing-requires c κs = search needs
 
-is-closed-requires : tie.Need-is-closed-requires
-is-closed-requires c κs = search needs
+ten-are-requires : tie.Need-ten-are-requires
+ten-are-requires c κs = search needs
 
 returns : tie.Need-returns
 returns c =
-    let pairs = c .before .before in
-    closed-row _ _ (pairs .before .row-pairs-nothing .ensures (pairs .if1 .taken)) (c .before .is-closed .ensures (c .if2 .taken))
+    let pairs = c .before .before .before .before in
+    closed-row _ _ (pairs .before .row-pairs-nothing .ensures (pairs .if1 .taken)) (c .before .ten-are .ensures (c .if2 .taken))
 
 phantom-cells-requires : tie.Need-phantom-cells-requires
 phantom-cells-requires c κs = search needs
@@ -26,7 +26,7 @@ phantom-row-spec =
     tie.close
     (tie.spec
     row-pairs-nothing-requires
-    is-closed-requires
+    ten-are-requires
     returns
     phantom-cells-requires
     returns-2)

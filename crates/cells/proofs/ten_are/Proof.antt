@@ -1,9 +1,9 @@
--- `holds::is_closed` meets its contract: the ten depths are 0.
-use Rattle.cells.proofs.Closed.{closed-all}
+-- `cells::ten_are` meets its contract: the ten tests are one of the first ten.
 use denote.Ref.{now}
 use borrow.Author.Needs.{needs}
-use Rattle.holds.proofs.is_closed.Statement.{statement}
-use Rattle.holds.proofs.is_closed.Tie as tie
+use Rattle.cells.proofs.Firsts.{all-at}
+use Rattle.cells.proofs.ten_are.Statement.{statement}
+use Rattle.cells.proofs.ten_are.Tie as tie
 
 element-copy-out-result : tie.Need-element-copy-out-result
 element-copy-out-result c = search needs
@@ -36,10 +36,12 @@ element-copy-out-result-10 : tie.Need-element-copy-out-result-10
 element-copy-out-result-10 c = search needs
 
 returns : tie.Need-returns
-returns c e = closed-all (record { depths = now (c .before .before .before .before .before .before .before .before .before .before .args .depths) }) e
+returns c same =
+    let start = c .before .before .before .before .before .before .before .before .before .before in
+    all-at (start .args .n) 10 (now (start .args .numbers)) same
 
-pub is-closed-spec : {M : Type 1} → statement M
-is-closed-spec =
+pub ten-are-spec : {M : Type 1} → statement M
+ten-are-spec =
     tie.close
     (tie.spec
     element-copy-out-result
