@@ -26,9 +26,9 @@ use Rattle.reader.proofs.BackReading.{back-trimmed}
 use Rattle.slices.specs.Zeroed.{zeroed}
 use Rattle.slices.proofs.Zeroed.{zeroed-answer}
 use Rattle.chart.specs.declared.ChartFigures.{ChartFigures}
-use Rattle.chart.specs.declared.ChartPass.{ChartPass}
+use Rattle.charting.specs.declared.ChartPass.{ChartPass}
 use Rattle.chart.specs.Answers.{chartFigures}
-use Rattle.chart.specs.Pass.{ChartAll}
+use Rattle.charting.specs.Pass.{ChartAll}
 
 module _ (L : ℕ) (data-text : List ℕ) (p : ChartPass) (text densities : List ℕ) (beats : List Float) (slots : List ℕ) (x : ChartAll L data-text p text densities beats slots) where
   pub all-beats : (n : ℕ) → length beats ≡ n → mostRows L (length data-text) ≤ n → zeroed (f32 0) (p .pass .counting .rows) beats ≡ padded (f32 0) n (beatsOf L data-text)

@@ -1,3 +1,2 @@
--- Laws of the main pass.
-pub mod Charting
+-- Laws of the main call.
 pub mod Answering

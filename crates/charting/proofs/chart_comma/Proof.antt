@@ -1,10 +1,10 @@
--- `chart::chart_comma` meets its contract.
+-- `charting::chart_comma` meets its contract.
 use native.Mathlib.Omega.{arith}
 use Rattle.definitions.specs.Reduction.{reduce}
-use Rattle.chart.proofs.Charting.{charted-next}
+use Rattle.charting.proofs.Charting.{charted-next}
 use borrow.Author.Needs.{needs}
-use Rattle.chart.proofs.chart_comma.Statement.{statement}
-use Rattle.chart.proofs.chart_comma.Tie as tie
+use Rattle.charting.proofs.chart_comma.Statement.{statement}
+use Rattle.charting.proofs.chart_comma.Tie as tie
 
 end-measure-requires : tie.Need-end-measure-requires
 end-measure-requires c κs =

@@ -25,8 +25,8 @@ use Rattle.noting.specs.Noted.{Noted, NoteRoom}
 use Rattle.output.proofs.Writing.{wrote-holds}
 use Rattle.reader.specs.Reading.{ReadAll}
 use Rattle.reader.proofs.Minimising.{Few}
-use Rattle.chart.specs.declared.ChartPass.{ChartPass}
-use Rattle.chart.specs.Pass.{Charted, SomeCharted, ChartEnded, ChartAll}
+use Rattle.charting.specs.declared.ChartPass.{ChartPass}
+use Rattle.charting.specs.Pass.{Charted, SomeCharted, ChartEnded, ChartAll}
 
 -- the minimised rows stand where their measure begins
 rows-there : (L : ℕ) (e : Pass) (text : List ℕ) (done : List (List Row)) (cur : List Row) → Closed L e text done cur → rowsAt (L + 1) L (e .rows) (drop (e .start) text) ≡ cur

@@ -1,9 +1,9 @@
--- `chart::end_measure` meets its contract.
+-- `charting::end_measure` meets its contract.
 use native.Mathlib.Omega.{arith}
-use Rattle.chart.proofs.Charting.{charted-end, some-less, rows-within, room-noted}
+use Rattle.charting.proofs.Charting.{charted-end, some-less, rows-within, room-noted}
 use borrow.Author.Needs.{needs}
-use Rattle.chart.proofs.end_measure.Statement.{statement}
-use Rattle.chart.proofs.end_measure.Tie as tie
+use Rattle.charting.proofs.end_measure.Statement.{statement}
+use Rattle.charting.proofs.end_measure.Tie as tie
 
 end-measure-requires : tie.Need-end-measure-requires
 end-measure-requires c κs =

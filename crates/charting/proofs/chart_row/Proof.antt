@@ -1,10 +1,10 @@
--- `chart::chart_row` meets its contract.
+-- `charting::chart_row` meets its contract.
 use mathlib.Core.Path.{ap, _∙_}
 use lib.ListN.{take}
 use Rattle.kept.proofs.Passing.{kept-row}
 use borrow.Author.Needs.{needs}
-use Rattle.chart.proofs.chart_row.Statement.{statement}
-use Rattle.chart.proofs.chart_row.Tie as tie
+use Rattle.charting.proofs.chart_row.Statement.{statement}
+use Rattle.charting.proofs.chart_row.Tie as tie
 
 pass-row-requires : tie.Need-pass-row-requires
 pass-row-requires c κs = search needs

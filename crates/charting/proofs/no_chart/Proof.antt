@@ -1,10 +1,10 @@
--- `chart::no_chart` meets its contract.
+-- `charting::no_chart` meets its contract.
 use mathlib.Core.Path.{ap}
 use lib.ListN.{take}
 use Rattle.definitions.proofs.Lists.{none}
 use borrow.Author.Needs.{needs}
-use Rattle.chart.proofs.no_chart.Statement.{statement}
-use Rattle.chart.proofs.no_chart.Tie as tie
+use Rattle.charting.proofs.no_chart.Statement.{statement}
+use Rattle.charting.proofs.no_chart.Tie as tie
 
 no-pass-requires : tie.Need-no-pass-requires
 no-pass-requires c κs = search needs

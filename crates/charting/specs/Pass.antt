@@ -10,7 +10,7 @@ use Rattle.definitions.specs.Reduction.{minimised}
 use Rattle.definitions.specs.Beats.{beatsFrom, beats as beatsOf}
 use Rattle.kept.specs.Pass.{Kept, Ended, KeptAll}
 use Rattle.noting.specs.Noted.{Noted}
-use Rattle.chart.specs.declared.ChartPass.{ChartPass}
+use Rattle.charting.specs.declared.ChartPass.{ChartPass}
 
 -- the open measure has these rows, as they were read
 pub record Charted (L : ℕ) (p : ChartPass) (text densities : List ℕ) (beats : List Float) (slots : List ℕ) (done : List (List Row)) (cur : List Row) : Type 0 where

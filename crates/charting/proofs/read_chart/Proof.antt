@@ -1,4 +1,4 @@
--- `chart::read_chart` meets its contract. The loop's invariant: what the pass holds and has written is that of the lines read.
+-- `charting::read_chart` meets its contract. The loop's invariant: what the pass holds and has written is that of the lines read.
 use Prim.Native.Nat.{_≤_, _-_, _+_}
 use mathlib.Core.Path.{_≡_, refl, ap, _∙_}
 use mathlib.Core.Logic.{⊎-elim}
@@ -10,10 +10,10 @@ use lib.ListN.{length, take, drop, length-take, length-drop}
 use lib.Seq.{length-take-le}
 use Rattle.kept.proofs.Keeping.{Small, kept-few}
 use Rattle.reader.proofs.Minimising.{Minimising, Over, minimising-start, minimising-few, over-few, minimising-passed, minimising-comma, minimising-row, minimising-semi, minimising-end}
-use Rattle.chart.specs.Pass.{Charted}
-use Rattle.chart.proofs.Charting.{slots-room, chart-all}
-use Rattle.chart.proofs.read_chart.Statement.{statement}
-use Rattle.chart.proofs.read_chart.Tie as tie
+use Rattle.charting.specs.Pass.{Charted}
+use Rattle.charting.proofs.Charting.{slots-room, chart-all}
+use Rattle.charting.proofs.read_chart.Statement.{statement}
+use Rattle.charting.proofs.read_chart.Tie as tie
 
 abbrev Inv-loop : tie.InvT-loop
 Inv-loop «data» lanes text₀ densities₀ beats₀ slots₀ off₀ p₀ text densities beats slots off p =

@@ -1,0 +1,2 @@
+-- Laws of the main call's pass.
+pub mod Charting

@@ -1,0 +1,125 @@
+// The main call's pass over a whole text: rows are written, minimised and counted as in the kept-row pass, and the beats and notes of each
+// measure are written when it ends.
+use definitions::LineKind;
+use kept::Pass;
+use notes::ChartNotesScratch;
+ghost use mathlib.Core.Path.{_≡_};
+ghost use mathlib.Core.List.{List, [], _∷_, _++_};
+ghost use Prim.Native.Nat.{ℕ, _+_, _*_, _/_, _≤_, _<_};
+ghost use lib.Ieee.{Float};
+ghost use lib.ListN.{length};
+ghost use Rattle.definitions.specs.Lanes.{mostRows};
+ghost use Rattle.definitions.specs.Lines.{Row};
+ghost use Rattle.definitions.specs.Reduction.{reduce};
+ghost use Rattle.charting.specs.Pass.{Charted, SomeCharted, ChartEnded, ChartAll};
+
+// What the pass has written and counted, and the notes of the measures that have ended.
+pub struct ChartPass {
+    pub pass: Pass,
+    pub scratch: ChartNotesScratch,
+}
+
+// Before the first line.
+fn no_chart() -> ChartPass
+    ensures { λ r. ⌜ ((L : ℕ) (text densities : List ℕ) (beats : List Float) (slots : List ℕ) → L ≤ 10 → Charted L r text densities beats slots [] []) × (r .pass .out ≡ 0) ⌝ }
+{
+    let pass = kept::no_pass();
+    let scratch = notes::begin();
+    ChartPass { pass, scratch }
+}
+
+// One row more of the open measure.
+fn chart_row(p: ChartPass, text: &mut [u8], row: &[u8]) -> ChartPass
+    requires { ⌜ (p .pass .out + length (now row) + 1 ≤ length (now text)) × (p .pass .rows < 4194304) ⌝ }
+    ensures { λ r. ⌜ ((L : ℕ) (densities : List ℕ) (beats : List Float) (slots : List ℕ) (done : List (List Row)) (cur : List Row) → length (now (row .entry)) ≡ L → Charted L p (now (text .entry)) densities beats slots done cur → Charted L r (now (text .exit)) densities beats slots done (cur ++ (now (row .entry) ∷ []))) ⌝ }
+    ensures { λ r. ⌜ r .pass .out ≡ p .pass .out + length (now (row .entry)) + 1 ⌝ }
+{
+    let scratch = p.scratch;
+    let pass = kept::pass_row(p.pass, text, row);
+    ChartPass { pass, scratch }
+}
+
+// The open measure ends: its rows are minimised and counted, its density is stored, and the beats and notes of its rows are written.
+fn end_measure(
+    p: ChartPass,
+    text: &mut [u8],
+    densities: &mut [u32],
+    beats: &mut [f32],
+    slots: &mut [u8],
+    lanes: usize,
+) -> ChartPass
+    requires { ⌜ (0 < lanes) × (lanes ≤ 10) × (p .pass .out ≤ length (now text)) × SomeCharted lanes p (now text) (now densities) (now beats) (now slots) ⌝ }
+    requires { ⌜ (p .pass .midx < length (now densities)) × (p .pass .midx ≤ 8388608) × (p .pass .counting .rows + p .pass .rows < 4194304) ⌝ }
+    requires { ⌜ (p .pass .counting .rows + p .pass .rows ≤ length (now beats)) × ((p .pass .counting .rows + p .pass .rows) * lanes * 10 ≤ length (now slots)) ⌝ }
+    ensures { λ r. ⌜ ((done : List (List Row)) (cur : List Row) → Charted lanes p (now (text .entry)) (now (densities .entry)) (now (beats .entry)) (now (slots .entry)) done cur → ChartEnded lanes r (now (text .exit)) (now (densities .exit)) (now (beats .exit)) (now (slots .exit)) done (reduce cur)) ⌝ }
+    ensures { λ r. ⌜ (r .pass .out ≤ p .pass .out) × (r .pass .midx ≡ p .pass .midx) ⌝ }
+{
+    let notes = p.scratch;
+    let before = p.pass.counting.rows;
+    let pass = kept::end_measure(p.pass, text, densities, lanes);
+    let start = pass.start;
+    let rows = pass.rows;
+    let midx = pass.midx;
+    beats::append_row_beats(beats, before as usize, midx as u32, rows as u32);
+    let scratch = noting::note_rows(notes, text, start, rows, lanes, slots);
+    ChartPass { pass, scratch }
+}
+
+// The open measure ends with a `,` line.
+fn chart_comma(
+    p: ChartPass,
+    text: &mut [u8],
+    densities: &mut [u32],
+    beats: &mut [f32],
+    slots: &mut [u8],
+    lanes: usize,
+) -> ChartPass
+    requires { ⌜ (0 < lanes) × (lanes ≤ 10) × (p .pass .out + 2 ≤ length (now text)) × SomeCharted lanes p (now text) (now densities) (now beats) (now slots) ⌝ }
+    requires { ⌜ (p .pass .midx < length (now densities)) × (p .pass .midx ≤ 8388608) × (p .pass .counting .rows + p .pass .rows < 4194304) ⌝ }
+    requires { ⌜ (p .pass .counting .rows + p .pass .rows ≤ length (now beats)) × ((p .pass .counting .rows + p .pass .rows) * lanes * 10 ≤ length (now slots)) ⌝ }
+    ensures { λ r. ⌜ ((done : List (List Row)) (cur : List Row) → Charted lanes p (now (text .entry)) (now (densities .entry)) (now (beats .entry)) (now (slots .entry)) done cur → Charted lanes r (now (text .exit)) (now (densities .exit)) (now (beats .exit)) (now (slots .exit)) (done ++ (reduce cur ∷ [])) []) ⌝ }
+    ensures { λ r. ⌜ r .pass .out ≤ p .pass .out + 2 ⌝ }
+{
+    let e = end_measure(p, text, densities, beats, slots, lanes);
+    let scratch = e.scratch;
+    let pass = kept::begin_measure(e.pass, text);
+    ChartPass { pass, scratch }
+}
+
+// The whole text, its last measure too.
+pub fn read_chart(
+    data: &[u8],
+    lanes: usize,
+    text: &mut [u8],
+    densities: &mut [u32],
+    beats: &mut [f32],
+    slots: &mut [u8],
+) -> ChartPass
+    requires { ⌜ (4 ≤ lanes) × (lanes ≤ 10) × (length (now «data») ≤ 16777215) ⌝ }
+    requires { ⌜ (length (now «data») + 1 ≤ length (now text)) × ((length (now «data») + 1) / 2 + 1 ≤ length (now densities)) × (mostRows lanes (length (now «data»)) ≤ length (now beats)) × (10 * lanes * mostRows lanes (length (now «data»)) ≤ length (now slots)) ⌝ }
+    ensures { λ r. ⌜ ChartAll lanes (now («data» .entry)) r (now (text .exit)) (now (densities .exit)) (now (beats .exit)) (now (slots .exit)) ⌝ }
+{
+    let mut off = 0;
+    let mut p = no_chart();
+    while off <= data.len() {
+        let line = reader::read_line(data, off, lanes);
+        let kind = line.kind;
+        let start = line.start;
+        let next = line.next;
+        match kind {
+            LineKind::Passed => {}
+            LineKind::Comma => {
+                p = chart_comma(p, text, densities, beats, slots, lanes);
+            }
+            LineKind::Semi => {
+                break;
+            }
+            LineKind::Row => {
+                let end = start + lanes;
+                p = chart_row(p, text, &data[start..end]);
+            }
+        }
+        off = next;
+    }
+    end_measure(p, text, densities, beats, slots, lanes)
+}
