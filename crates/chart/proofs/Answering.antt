@@ -1,23 +1,26 @@
 -- From the pass over a whole text to what the main call answers.
 use mathlib.Core.Path.{_≡_, refl, ap, sym, _∙_}
 use mathlib.Core.Bool.{Bool, true}
-use mathlib.Core.List.{List}
-use Prim.Native.Nat.{ℕ, _+_, _-_, _*_, _/_, _≤_}
+use mathlib.Core.List.{List, []}
+use Prim.Native.Nat.{ℕ, suc, _+_, _-_, _*_, _/_, _≤_}
 use native.Mathlib.Nat.{le-trans, mul-le-mul-right, div-le-self}
 use native.Mathlib.Omega.{arith}
-use lib.Dec.{ltb}
+use lib.Dec.{ltb, eqb·suc-zero}
 use lib.Ieee.{Float, binary64, toBits}
 use lib.ListN.{length, take}
 use Rattle.definitions.specs.Lists.{joined, padded}
-use Rattle.definitions.specs.Lanes.{mostRows}
+use Rattle.definitions.specs.Lanes.{lanesOf, mostRows}
+use Rattle.definitions.specs.Refusals.{leaves}
 use Rattle.definitions.specs.Lines.{Row}
 use Rattle.definitions.specs.Reduction.{minimised}
+use Rattle.definitions.specs.Figures.{minimisedText, densities as densitiesOf}
 use Rattle.definitions.specs.Beats.{f32, rowToBeat, beats as beatsOf}
 use Rattle.definitions.specs.Objects.{last48, lastBeat}
 use Rattle.definitions.specs.Notes.{notes}
 use Rattle.definitions.specs.Records.{records}
 use Rattle.definitions.specs.Correction.{corrected}
 use Rattle.definitions.specs.ReadBack.{mainTally}
+use Rattle.definitions.specs.Entries.{mainNumber, mainText, mainDensities, mainBeats, mainWork, mainNotes}
 use Rattle.definitions.specs.declared.ArrowStats.{ArrowStats}
 use Rattle.kept.proofs.Answering.{own-part}
 use Rattle.notes.specs.Written.{Written, SomeRows, Finished}
@@ -27,7 +30,9 @@ use Rattle.slices.specs.Zeroed.{zeroed}
 use Rattle.slices.proofs.Zeroed.{zeroed-answer}
 use Rattle.chart.specs.declared.ChartFigures.{ChartFigures}
 use Rattle.charting.specs.declared.ChartPass.{ChartPass}
-use Rattle.chart.specs.Answers.{chartFigures}
+use Rattle.chart.specs.declared.ChartAnswer.{ChartAnswer}
+use Rattle.chart.specs.declared.ChartAnswer.the-variants.{Refused, Chart}
+use Rattle.chart.specs.Answers.{chartFigures, chartAnswer}
 use Rattle.charting.specs.Pass.{ChartAll}
 
 module _ (L : ℕ) (data-text : List ℕ) (p : ChartPass) (text densities : List ℕ) (beats : List Float) (slots : List ℕ) (x : ChartAll L data-text p text densities beats slots) where
@@ -81,3 +86,35 @@ notes-few l len h w =
     let wide : 10 * l ≤ 100 = omega arith in
     let rows : x ≤ len + 1 = div-le-self (len + 1) (l + 1) in
     le-trans (mul-le-mul-right x wide) (omega (arith, rows, w))
+
+-- the main call by its number
+module _ (lanes : ℕ) (text out densities₀ : List ℕ) (beats₀ : List Float) (work slots : List ℕ) where
+  -- what its contract says of its answer and of what it leaves in its slices
+  abbrev Main : ChartAnswer → List ℕ → List ℕ → List Float → List ℕ → List ℕ → Type 0
+  Main a t d b w n =
+      (a ≡ chartAnswer lanes text out densities₀ beats₀ work slots)
+      × ((t ≡ mainText lanes text out densities₀ beats₀ work slots)
+      × ((d ≡ mainDensities lanes text out densities₀ beats₀ work slots)
+      × ((b ≡ mainBeats lanes text out densities₀ beats₀ work slots)
+      × ((w ≡ mainWork lanes text out densities₀ beats₀ work slots)
+      × (n ≡ mainNotes lanes text out densities₀ beats₀ work slots)))))
+
+  -- refused, it answers the number and leaves every slice as it was
+  pub main-refused : (k : ℕ) → mainNumber lanes text out densities₀ beats₀ work slots ≡ suc k → Main (Refused (suc k)) out densities₀ beats₀ work slots
+  unfolding chartAnswer mainText mainDensities mainBeats mainWork mainNotes leaves
+  main-refused k e =
+      let same = eqb·suc-zero k in
+      (rw e, (rw (e, same), (rw (e, same), (rw (e, same), (rw (e, same), rw (e, same))))))
+
+  -- accepted, it answers the figures of the lane count in force, with zeros past each answer
+  pub main-accepted : mainNumber lanes text out densities₀ beats₀ work slots ≡ 0 → {L : ℕ} → L ≡ lanesOf lanes
+      → {f : ChartFigures} {t d : List ℕ} {b : List Float} {w n : List ℕ}
+      → (f ≡ chartFigures L text)
+      × ((t ≡ padded 0 (length out) (minimisedText L text))
+      × ((d ≡ padded 0 (length densities₀) (densitiesOf L text))
+      × ((b ≡ padded (f32 0) (length beats₀) (beatsOf L text))
+      × ((w ≡ padded 0 (length work) []) × (n ≡ padded 0 (length slots) (records (notes L text)))))))
+      → Main (Chart f) t d b w n
+  unfolding chartAnswer mainText mainDensities mainBeats mainWork mainNotes leaves
+  main-accepted e l r =
+      (rw (e, ← l) (ap Chart (r .0)), (rw (e, ← l) (r .1 .0), (rw (e, ← l) (r .1 .1 .0), (rw (e, ← l) (r .1 .1 .1 .0), (rw e (r .1 .1 .1 .1 .0), rw (e, ← l) (r .1 .1 .1 .1 .1))))))

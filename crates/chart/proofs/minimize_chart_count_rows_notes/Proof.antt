@@ -1,21 +1,12 @@
--- `chart::minimize_chart_count_rows_notes` meets its contract: each return rewrites with the tests that led there.
-use mathlib.Core.Path.{ap, _∙_}
+-- `chart::minimize_chart_count_rows_notes` meets its contract: the tests that led to a return give the number, and the number the rest.
 use native.Mathlib.Omega.{arith}
 use borrow.Author.Tests.{lt-ltb, le-ltb}
 use lib.ListN.{length}
 use denote.Ref.{now}
-use Rattle.definitions.specs.Lists.{padded}
 use Rattle.definitions.specs.Lanes.{mostRows}
-use Rattle.definitions.specs.Refusals.{leaves}
-use Rattle.definitions.specs.Figures.{minimisedText, densities}
-use Rattle.definitions.specs.Beats.{f32, beats}
-use Rattle.definitions.specs.Notes.{notes}
-use Rattle.definitions.specs.Records.{records}
-use Rattle.definitions.specs.Entries.{mainNumber, mainText, mainDensities, mainBeats, mainWork, mainNotes}
+use Rattle.definitions.specs.Entries.{mainNumber}
 use Rattle.measures.proofs.Lanes.{lanes-at-least, lanes-at-most, of-lanes}
-use Rattle.chart.specs.Answers.{chartFigures, chartAnswer}
-use Rattle.chart.specs.declared.ChartAnswer.the-variants.{Chart}
-use Rattle.chart.proofs.Answering.{notes-of-lanes, notes-few}
+use Rattle.chart.proofs.Answering.{main-refused, main-accepted, notes-of-lanes, notes-few}
 use borrow.Author.Needs.{needs}
 use Rattle.chart.proofs.minimize_chart_count_rows_notes.Statement.{statement}
 use Rattle.chart.proofs.minimize_chart_count_rows_notes.Tie as tie
@@ -24,20 +15,20 @@ abbrev to-start : tie.After-lanes-of → tie.Start
 to-start l = l .before .before .before .before .before .before .before .before .before .before
 
 returns : tie.Need-returns
-unfolding chartAnswer mainNumber mainText mainDensities mainBeats mainWork mainNotes leaves
+unfolding mainNumber
 returns c =
     let long = lt-ltb _ _ (c .if1 .taken) in
-    (simp long, (simp long, (simp long, (simp long, (simp long, simp long)))))
+    main-refused _ _ _ _ _ _ _ 0 (simp long)
 
 add-if2 : tie.Need-add-if2
 add-if2 c = search needs
 
 returns-2 : tie.Need-returns-2
-unfolding chartAnswer mainNumber mainText mainDensities mainBeats mainWork mainNotes leaves
+unfolding mainNumber
 returns-2 c =
     let long = le-ltb _ _ (c .before .if1 .left) in
     let short = lt-ltb _ _ (c .if2 .taken) in
-    (simp (long, short), (simp (long, short), (simp (long, short), (simp (long, short), (simp (long, short), simp (long, short))))))
+    main-refused _ _ _ _ _ _ _ 1 (simp (long, short))
 
 add-if3 : tie.Need-add-if3
 add-if3 c = search needs
@@ -46,12 +37,12 @@ add-if3-2 : tie.Need-add-if3-2
 add-if3-2 c = search needs
 
 returns-3 : tie.Need-returns-3
-unfolding chartAnswer mainNumber mainText mainDensities mainBeats mainWork mainNotes leaves
+unfolding mainNumber
 returns-3 c =
     let long = le-ltb _ _ (c .before .before .if1 .left) in
     let short = le-ltb _ _ (c .before .if2 .left) in
     let few = lt-ltb _ _ (c .if3 .taken) in
-    (simp (long, short, few), (simp (long, short, few), (simp (long, short, few), (simp (long, short, few), (simp (long, short, few), simp (long, short, few))))))
+    main-refused _ _ _ _ _ _ _ 2 (simp (long, short, few))
 
 lanes-of-requires : tie.Need-lanes-of-requires
 lanes-of-requires c κs = search needs
@@ -66,7 +57,7 @@ div-rows : tie.Need-div-rows
 div-rows c = search needs
 
 returns-4 : tie.Need-returns-4
-unfolding chartAnswer mainNumber mainText mainDensities mainBeats mainWork mainNotes leaves
+unfolding mainNumber
 returns-4 c =
     let l = c .before in
     let a = to-start l .args in
@@ -74,10 +65,10 @@ returns-4 c =
     let short = le-ltb _ _ (l .before .before .if2 .left) in
     let few = le-ltb _ _ (l .before .if3 .left) in
     let beatless = of-lanes (length (now (a .beats))) (length (now (a .«data»))) (l .lanes-of .ensures) (lt-ltb _ _ (c .if4 .taken)) in
-    (simp (long, short, few, beatless), (simp (long, short, few, beatless), (simp (long, short, few, beatless), (simp (long, short, few, beatless), (simp (long, short, few, beatless), simp (long, short, few, beatless))))))
+    main-refused _ _ _ _ _ _ _ 3 (simp (long, short, few, beatless))
 
 returns-5 : tie.Need-returns-5
-unfolding chartAnswer mainNumber mainText mainDensities mainBeats mainWork mainNotes leaves
+unfolding mainNumber
 returns-5 c =
     let l = c .before .before in
     let a = to-start l .args in
@@ -86,7 +77,7 @@ returns-5 c =
     let few = le-ltb _ _ (l .before .if3 .left) in
     let beatless = of-lanes (length (now (a .beats))) (length (now (a .«data»))) (l .lanes-of .ensures) (le-ltb _ _ (c .before .if4 .left)) in
     let none = of-lanes (length (now (a .work))) (length (now (a .«data»))) (l .lanes-of .ensures) (lt-ltb _ _ (c .if5 .taken)) in
-    (simp (long, short, few, beatless, none), (simp (long, short, few, beatless, none), (simp (long, short, few, beatless, none), (simp (long, short, few, beatless, none), (simp (long, short, few, beatless, none), simp (long, short, few, beatless, none))))))
+    main-refused _ _ _ _ _ _ _ 4 (simp (long, short, few, beatless, none))
 
 mul-if6 : tie.Need-mul-if6
 mul-if6 c =
@@ -101,7 +92,7 @@ mul-if6-2 c =
     omega (arith, notes-few (l .lanes-of .result) (length (now (a .«data»))) (omega (arith, l .lanes-of .ensures, most)) (l .before .before .before .if1 .left))
 
 returns-6 : tie.Need-returns-6
-unfolding chartAnswer mainNumber mainText mainDensities mainBeats mainWork mainNotes leaves
+unfolding mainNumber
 returns-6 c =
     let l = c .before .before .before in
     let a = to-start l .args in
@@ -111,7 +102,7 @@ returns-6 c =
     let beatless = of-lanes (length (now (a .beats))) (length (now (a .«data»))) (l .lanes-of .ensures) (le-ltb _ _ (c .before .before .if4 .left)) in
     let none = of-lanes (length (now (a .work))) (length (now (a .«data»))) (l .lanes-of .ensures) (le-ltb _ _ (c .before .if5 .left)) in
     let noteless = notes-of-lanes (length (now (a .slots))) (length (now (a .«data»))) (l .lanes-of .ensures) (lt-ltb _ _ (c .if6 .taken)) in
-    (simp (long, short, few, beatless, none, noteless), (simp (long, short, few, beatless, none, noteless), (simp (long, short, few, beatless, none, noteless), (simp (long, short, few, beatless, none, noteless), (simp (long, short, few, beatless, none, noteless), simp (long, short, few, beatless, none, noteless))))))
+    main-refused _ _ _ _ _ _ _ 5 (simp (long, short, few, beatless, none, noteless))
 
 chart-figures-requires : tie.Need-chart-figures-requires
 unfolding mostRows
@@ -140,7 +131,7 @@ same-length-5 : tie.Need-same-length-5
 same-length-5 c = search needs
 
 returns-7 : tie.Need-returns-7
-unfolding chartAnswer mainNumber mainText mainDensities mainBeats mainWork mainNotes leaves
+unfolding mainNumber
 returns-7 c =
     let k = c .before .before .before .before .before .before .before .before .before .before in
     let e6 = k .before .before .before .before .before .before in
@@ -154,22 +145,7 @@ returns-7 c =
     let beatless = of-lanes (length (now (a .beats))) (length text) e (le-ltb _ _ (e6 .before .before .if4 .left)) in
     let none = of-lanes (length (now (a .work))) (length text) e (le-ltb _ _ (e6 .before .if5 .left)) in
     let noteless = notes-of-lanes (length (now (a .slots))) (length text) e (le-ltb _ _ (e6 .if6 .left)) in
-    let r = k .chart-figures .ensures in (
-      simp (long, short, few, beatless, none, noteless) (ap Chart (r .0 ∙ ap (λ L. chartFigures L text) e)),
-      (
-        simp (long, short, few, beatless, none, noteless) (r .1 .0 ∙ ap (λ L. padded 0 (length (now (a .text))) (minimisedText L text)) e),
-        (
-          simp (long, short, few, beatless, none, noteless) (r .1 .1 .0 ∙ ap (λ L. padded 0 (length (now (a .densities))) (densities L text)) e),
-          (
-            simp (long, short, few, beatless, none, noteless) (r .1 .1 .1 .0 ∙ ap (λ L. padded (f32 0) (length (now (a .beats))) (beats L text)) e),
-            (
-              simp (long, short, few, beatless, none, noteless) (r .1 .1 .1 .1 .0),
-              simp (long, short, few, beatless, none, noteless) (r .1 .1 .1 .1 .1 ∙ ap (λ L. padded 0 (length (now (a .slots))) (records (notes L text))) e),
-            ),
-          ),
-        ),
-      ),
-    )
+    main-accepted _ _ _ _ _ _ _ (simp (long, short, few, beatless, none, noteless)) e (k .chart-figures .ensures)
 
 pub minimize-chart-count-rows-notes-spec : {M : Type 1} → statement M
 minimize-chart-count-rows-notes-spec =
