@@ -22,7 +22,7 @@ use Rattle.definitions.specs.Correction.{corrected}
 use Rattle.definitions.specs.ReadBack.{mainTally}
 use Rattle.definitions.specs.Entries.{mainNumber, mainText, mainDensities, mainBeats, mainWork, mainNotes}
 use Rattle.definitions.specs.declared.ArrowStats.{ArrowStats}
-use Rattle.kept.proofs.Answering.{own-part}
+use Rattle.keeping.proofs.Answering.{own-part}
 use Rattle.notes.specs.Written.{Written, SomeRows, Finished}
 use Rattle.reader.specs.BackReading.{rowsBack}
 use Rattle.reader.proofs.BackReading.{back-trimmed}
@@ -90,8 +90,8 @@ notes-few l len h w =
 -- the main call by its number
 module _ (lanes : ℕ) (text out densities₀ : List ℕ) (beats₀ : List Float) (work slots : List ℕ) where
   -- what its contract says of its answer and of what it leaves in its slices
-  abbrev Main : ChartAnswer → List ℕ → List ℕ → List Float → List ℕ → List ℕ → Type 0
-  Main a t d b w n =
+  abbrev Call : ChartAnswer → List ℕ → List ℕ → List Float → List ℕ → List ℕ → Type 0
+  Call a t d b w n =
       (a ≡ chartAnswer lanes text out densities₀ beats₀ work slots)
       × ((t ≡ mainText lanes text out densities₀ beats₀ work slots)
       × ((d ≡ mainDensities lanes text out densities₀ beats₀ work slots)
@@ -100,7 +100,7 @@ module _ (lanes : ℕ) (text out densities₀ : List ℕ) (beats₀ : List Float
       × (n ≡ mainNotes lanes text out densities₀ beats₀ work slots)))))
 
   -- refused, it answers the number and leaves every slice as it was
-  pub main-refused : (k : ℕ) → mainNumber lanes text out densities₀ beats₀ work slots ≡ suc k → Main (Refused (suc k)) out densities₀ beats₀ work slots
+  pub main-refused : (k : ℕ) → mainNumber lanes text out densities₀ beats₀ work slots ≡ suc k → Call (Refused (suc k)) out densities₀ beats₀ work slots
   unfolding chartAnswer mainText mainDensities mainBeats mainWork mainNotes leaves
   main-refused k e =
       let same = eqb·suc-zero k in
@@ -114,7 +114,7 @@ module _ (lanes : ℕ) (text out densities₀ : List ℕ) (beats₀ : List Float
       × ((d ≡ padded 0 (length densities₀) (densitiesOf L text))
       × ((b ≡ padded (f32 0) (length beats₀) (beatsOf L text))
       × ((w ≡ padded 0 (length work) []) × (n ≡ padded 0 (length slots) (records (notes L text)))))))
-      → Main (Chart f) t d b w n
+      → Call (Chart f) t d b w n
   unfolding chartAnswer mainText mainDensities mainBeats mainWork mainNotes leaves
   main-accepted e l r =
       (rw (e, ← l) (ap Chart (r .0)), (rw (e, ← l) (r .1 .0), (rw (e, ← l) (r .1 .1 .0), (rw (e, ← l) (r .1 .1 .1 .0), (rw e (r .1 .1 .1 .1 .0), rw (e, ← l) (r .1 .1 .1 .1 .1))))))

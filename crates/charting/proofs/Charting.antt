@@ -14,9 +14,9 @@ use Rattle.definitions.specs.Figures.{rowText}
 use Rattle.definitions.specs.Beats.{rowBeats, beatsFrom, measureBeats, beats as beatsOf}
 use Rattle.definitions.proofs.Lists.{joined-snoc}
 use Rattle.beats.proofs.Beats.{beats-appended}
-use Rattle.kept.specs.declared.Pass.{Pass}
-use Rattle.kept.specs.Pass.{Kept, Closed, Ended}
-use Rattle.kept.proofs.Keeping.{kept-all}
+use Rattle.keeping.specs.declared.Pass.{Pass}
+use Rattle.keeping.specs.Pass.{Kept, Closed, Ended}
+use Rattle.keeping.proofs.Keeping.{kept-all}
 use Rattle.measures.specs.Rows.{rowsAt, Holds}
 use Rattle.measures.proofs.Forms.{in-text, form-rows}
 use Rattle.measures.proofs.Shorter.{reduce-short}

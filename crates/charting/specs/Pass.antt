@@ -8,7 +8,7 @@ use Rattle.definitions.specs.Lists.{joined}
 use Rattle.definitions.specs.Lines.{Row}
 use Rattle.definitions.specs.Reduction.{minimised}
 use Rattle.definitions.specs.Beats.{beatsFrom, beats as beatsOf}
-use Rattle.kept.specs.Pass.{Kept, Ended, KeptAll}
+use Rattle.keeping.specs.Pass.{Kept, Ended, KeptAll}
 use Rattle.noting.specs.Noted.{Noted}
 use Rattle.charting.specs.declared.ChartPass.{ChartPass}
 

@@ -1,7 +1,7 @@
 // The main call's pass over a whole text: rows are written, minimised and counted as in the kept-row pass, and the beats and notes of each
 // measure are written when it ends.
 use definitions::LineKind;
-use kept::Pass;
+use keeping::Pass;
 use notes::ChartNotesScratch;
 ghost use mathlib.Core.Path.{_≡_};
 ghost use mathlib.Core.List.{List, [], _∷_, _++_};
@@ -23,7 +23,7 @@ pub struct ChartPass {
 fn no_chart() -> ChartPass
     ensures { λ r. ⌜ ((L : ℕ) (text densities : List ℕ) (beats : List Float) (slots : List ℕ) → L ≤ 10 → Charted L r text densities beats slots [] []) × (r .pass .out ≡ 0) ⌝ }
 {
-    let pass = kept::no_pass();
+    let pass = keeping::no_pass();
     let scratch = notes::begin();
     ChartPass { pass, scratch }
 }
@@ -35,7 +35,7 @@ fn chart_row(p: ChartPass, text: &mut [u8], row: &[u8]) -> ChartPass
     ensures { λ r. ⌜ r .pass .out ≡ p .pass .out + length (now (row .entry)) + 1 ⌝ }
 {
     let scratch = p.scratch;
-    let pass = kept::pass_row(p.pass, text, row);
+    let pass = keeping::pass_row(p.pass, text, row);
     ChartPass { pass, scratch }
 }
 
@@ -56,7 +56,7 @@ fn end_measure(
 {
     let notes = p.scratch;
     let before = p.pass.counting.rows;
-    let pass = kept::end_measure(p.pass, text, densities, lanes);
+    let pass = keeping::end_measure(p.pass, text, densities, lanes);
     let start = pass.start;
     let rows = pass.rows;
     let midx = pass.midx;
@@ -82,7 +82,7 @@ fn chart_comma(
 {
     let e = end_measure(p, text, densities, beats, slots, lanes);
     let scratch = e.scratch;
-    let pass = kept::begin_measure(e.pass, text);
+    let pass = keeping::begin_measure(e.pass, text);
     ChartPass { pass, scratch }
 }
 

@@ -1,53 +1,57 @@
 -- From the pass over a whole text to what the kept-row call answers.
-use mathlib.Core.Path.{_≡_, refl, ap, sym, _∙_, subst}
-use mathlib.Core.Bool.{Bool, false}
-use mathlib.Core.List.{List}
-use Prim.Native.Nat.{ℕ, _+_, _-_, _≤_}
-use native.Mathlib.Omega.{arith}
-use lib.ListN.{length, take, length-take, length-map}
+use mathlib.Core.Path.{_≡_, ap, _∙_}
+use mathlib.Core.Bool.{false}
+use mathlib.Core.List.{List, []}
+use Prim.Native.Nat.{ℕ, suc, _+_, _-_, _≤_}
+use lib.Dec.{eqb·suc-zero}
+use lib.ListN.{length, take}
 use Rattle.definitions.specs.Lists.{joined, padded}
-use Rattle.definitions.specs.Lanes.{mostRows}
+use Rattle.definitions.specs.Lanes.{lanesOf}
+use Rattle.definitions.specs.Refusals.{leaves}
 use Rattle.definitions.specs.Reduction.{minimised}
-use Rattle.definitions.specs.Figures.{density, minimisedText, densities as densitiesOf}
+use Rattle.definitions.specs.Figures.{minimisedText, densities as densitiesOf}
 use Rattle.definitions.specs.Correction.{corrected}
 use Rattle.definitions.specs.ReadBack.{keptTally}
+use Rattle.definitions.specs.Entries.{keptNumber, keptText, keptDensities, keptWork}
 use Rattle.definitions.specs.declared.ArrowStats.{ArrowStats}
+use Rattle.keeping.specs.declared.Pass.{Pass}
+use Rattle.keeping.specs.Pass.{KeptAll}
+use Rattle.keeping.proofs.Answering.{own-part}
 use Rattle.reader.specs.BackReading.{rowsBack}
-use Rattle.recount.specs.Heads.{Room}
-use Rattle.recount.proofs.OwnRows.{own-rows, minimised-room}
-use Rattle.slices.specs.Zeroed.{zeroed}
-use Rattle.slices.proofs.Zeroed.{zeroed-answer}
+use Rattle.recount.proofs.OwnRows.{own-rows}
 use Rattle.kept.specs.declared.KeptFigures.{KeptFigures}
-use Rattle.kept.specs.declared.Pass.{Pass}
-use Rattle.kept.specs.Answers.{keptFigures}
-use Rattle.kept.specs.Pass.{KeptAll}
+use Rattle.kept.specs.declared.KeptAnswer.{KeptAnswer}
+use Rattle.kept.specs.declared.KeptAnswer.the-variants.{Refused, Kept}
+use Rattle.kept.specs.Answers.{keptFigures, keptAnswer}
 
-module _ (L : ℕ) (data-text : List ℕ) (p : Pass) (text densities : List ℕ) (x : KeptAll L data-text p text densities) where
-  -- the densities that were stored stand in the slice
-  pub all-room : p .midx + 1 ≤ length densities
-  unfolding densitiesOf
-  all-room =
-      let size = sym (length-take (p .midx + 1) densities) ∙ ap length (x .densities-are) ∙ length-map (minimised L data-text) density in
-      omega (arith, size, x .midx)
+pub all-figures : (L : ℕ) (data-text : List ℕ) (p : Pass) (text densities : List ℕ) → KeptAll L data-text p text densities → (stats : ArrowStats) → 1 ≤ L → stats ≡ corrected L (joined (minimised L data-text)) (rowsBack false L (take (p .out - 0) text))
+    → record { bytes = p .out; measures = p .midx + 1; rows = p .counting .rows; stats = stats } ≡ keptFigures L data-text
+unfolding keptFigures keptTally
+all-figures L data-text p text densities x stats w e = made (x .out) (x .midx) (x .rows) (e ∙ ap (corrected L (joined (minimised L data-text))) (ap (rowsBack false L) (own-part L data-text p text densities x) ∙ own-rows L data-text w))
+  where
+    made : {a b c d f g : ℕ} {s t : ArrowStats} → a ≡ b → c ≡ d → f ≡ g → s ≡ t
+        → _≡_ {A = KeptFigures} (record { bytes = a; measures = c; rows = f; stats = s }) (record { bytes = b; measures = d; rows = g; stats = t })
+    made p q r s = cc
 
-  pub all-text : (n : ℕ) → length text ≡ n → length data-text + 1 ≤ n → zeroed 0 (p .out) text ≡ padded 0 n (minimisedText L data-text)
-  all-text n size h = zeroed-answer 0 text (p .out) n (λ L. minimisedText L data-text) refl size (omega (arith, x .short)) (x .text-is)
+-- the kept-row call by its number
+module _ (lanes : ℕ) (text out densities₀ work : List ℕ) where
+  -- what its contract says of its answer and of what it leaves in its slices
+  abbrev Call : KeptAnswer → List ℕ → List ℕ → List ℕ → Type 0
+  Call a t d w =
+      (a ≡ keptAnswer lanes text out densities₀ work)
+      × ((t ≡ keptText lanes text out densities₀ work)
+      × ((d ≡ keptDensities lanes text out densities₀ work) × (w ≡ keptWork lanes text out densities₀ work)))
 
-  pub all-densities : (n : ℕ) → length densities ≡ n → zeroed 0 (p .midx + 1) densities ≡ padded 0 n (densitiesOf L data-text)
-  all-densities n size = zeroed-answer 0 densities (p .midx + 1) n (λ L. densitiesOf L data-text) refl size all-room (x .densities-are)
+  -- refused, it answers the number and leaves every slice as it was
+  pub kept-refused : (k : ℕ) → keptNumber lanes text out densities₀ work ≡ suc k → Call (Refused (suc k)) out densities₀ work
+  unfolding keptAnswer keptText keptDensities keptWork leaves
+  kept-refused k e = let same = eqb·suc-zero k in (rw e, (rw (e, same), (rw (e, same), rw (e, same))))
 
-  -- the part of the text slice that is read back
-  pub own-part : take (p .out - 0) text ≡ minimisedText L data-text
-  own-part = let n : p .out - 0 ≡ p .out = omega arith in ap (λ k. take k text) n ∙ x .text-is
-
-  pub all-recount : (trim : Bool) (work : List ℕ) → 4 ≤ L → L ≤ 10 → length data-text ≤ 16777215 → mostRows L (length data-text) ≤ length work → Room trim L (take (p .out - 0) text) work
-  all-recount trim work l m s w = subst (λ t. Room trim L t work) (sym own-part) (minimised-room trim L data-text work l m s w)
-
-  pub all-figures : (stats : ArrowStats) → 1 ≤ L → stats ≡ corrected L (joined (minimised L data-text)) (rowsBack false L (take (p .out - 0) text))
-      → record { bytes = p .out; measures = p .midx + 1; rows = p .counting .rows; stats = stats } ≡ keptFigures L data-text
-  unfolding keptFigures keptTally
-  all-figures stats w e = made (x .out) (x .midx) (x .rows) (e ∙ ap (corrected L (joined (minimised L data-text))) (ap (rowsBack false L) own-part ∙ own-rows L data-text w))
-    where
-      made : {a b c d f g : ℕ} {s t : ArrowStats} → a ≡ b → c ≡ d → f ≡ g → s ≡ t
-          → _≡_ {A = KeptFigures} (record { bytes = a; measures = c; rows = f; stats = s }) (record { bytes = b; measures = d; rows = g; stats = t })
-      made p q r s = cc
+  -- accepted, it answers the figures of the lane count in force, with zeros past each answer
+  pub kept-accepted : keptNumber lanes text out densities₀ work ≡ 0 → {L : ℕ} → L ≡ lanesOf lanes → {f : KeptFigures} {t d w : List ℕ}
+      → (f ≡ keptFigures L text)
+      × ((t ≡ padded 0 (length out) (minimisedText L text))
+      × ((d ≡ padded 0 (length densities₀) (densitiesOf L text)) × (w ≡ padded 0 (length work) [])))
+      → Call (Kept f) t d w
+  unfolding keptAnswer keptText keptDensities keptWork leaves
+  kept-accepted e l r = (rw (e, ← l) (ap Kept (r .0)), (rw (e, ← l) (r .1 .0), (rw (e, ← l) (r .1 .1 .0), rw e (r .1 .1 .1))))

@@ -1,4 +1,2 @@
--- Laws of the pass: a row more, the measure minimised and counted, and its end.
-pub mod Passing
-pub mod Keeping
+-- Laws of the kept-row call.
 pub mod Answering

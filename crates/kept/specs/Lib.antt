@@ -1,3 +1,2 @@
--- What the contracts of the kept-row pass cite, beside the definitions.
-pub mod Pass
+-- What the contracts of the kept-row call cite, beside the definitions.
 pub mod Answers

@@ -8,7 +8,7 @@ use Rattle.definitions.specs.Lists.{padded}
 use Rattle.definitions.specs.Notes.{notes}
 use Rattle.definitions.specs.Records.{records}
 use Rattle.scans.proofs.Looking.{looked-48}
-use Rattle.kept.proofs.Answering.{all-room, all-text, all-densities, all-recount}
+use Rattle.keeping.proofs.Answering.{all-room, all-text, all-densities, all-recount}
 use Rattle.chart.proofs.Answering.{all-beats, rows-small, some-rows, all-notes, note-count, all-figures}
 use borrow.Author.Needs.{needs}
 use Rattle.chart.proofs.chart_figures.Statement.{statement}

@@ -1,7 +1,7 @@
 -- `charting::chart_row` meets its contract.
 use mathlib.Core.Path.{ap, _∙_}
 use lib.ListN.{take}
-use Rattle.kept.proofs.Passing.{kept-row}
+use Rattle.keeping.proofs.Passing.{kept-row}
 use borrow.Author.Needs.{needs}
 use Rattle.charting.proofs.chart_row.Statement.{statement}
 use Rattle.charting.proofs.chart_row.Tie as tie

@@ -8,7 +8,7 @@ use borrow.Author.Needs.{needs}
 use denote.Ref.{now}
 use lib.ListN.{length, take, drop, length-take, length-drop}
 use lib.Seq.{length-take-le}
-use Rattle.kept.proofs.Keeping.{Small, kept-few}
+use Rattle.keeping.proofs.Keeping.{Small, kept-few}
 use Rattle.reader.proofs.Minimising.{Minimising, Over, minimising-start, minimising-few, over-few, minimising-passed, minimising-comma, minimising-row, minimising-semi, minimising-end}
 use Rattle.charting.specs.Pass.{Charted}
 use Rattle.charting.proofs.Charting.{slots-room, chart-all}

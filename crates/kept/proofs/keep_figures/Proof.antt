@@ -4,7 +4,8 @@ use Prim.Native.Nat.{ℕ, _-_}
 use native.Mathlib.Omega.{arith}
 use denote.Ref.{now}
 use lib.ListN.{length, replicate}
-use Rattle.kept.proofs.Answering.{all-room, all-text, all-densities, all-recount, all-figures}
+use Rattle.keeping.proofs.Answering.{all-room, all-text, all-densities, all-recount}
+use Rattle.kept.proofs.Answering.{all-figures}
 use borrow.Author.Needs.{needs}
 use Rattle.kept.proofs.keep_figures.Statement.{statement}
 use Rattle.kept.proofs.keep_figures.Tie as tie

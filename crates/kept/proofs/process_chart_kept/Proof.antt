@@ -1,36 +1,31 @@
--- `kept::process_chart_kept` meets its contract: each return rewrites with the tests that led there.
-use mathlib.Core.Path.{ap, _∙_}
+-- `kept::process_chart_kept` meets its contract: the tests that led to a return give the number, and the number the rest.
 use native.Mathlib.Omega.{arith}
 use borrow.Author.Tests.{lt-ltb, le-ltb}
 use lib.ListN.{length}
 use denote.Ref.{now}
-use Rattle.definitions.specs.Lists.{padded}
 use Rattle.definitions.specs.Lanes.{mostRows}
-use Rattle.definitions.specs.Refusals.{leaves}
-use Rattle.definitions.specs.Figures.{minimisedText, densities}
-use Rattle.definitions.specs.Entries.{keptNumber, keptText, keptDensities, keptWork}
+use Rattle.definitions.specs.Entries.{keptNumber}
 use Rattle.measures.proofs.Lanes.{lanes-at-least, lanes-at-most, of-lanes}
-use Rattle.kept.specs.Answers.{keptFigures, keptAnswer}
-use Rattle.kept.specs.declared.KeptAnswer.the-variants.{Kept}
+use Rattle.kept.proofs.Answering.{kept-refused, kept-accepted}
 use borrow.Author.Needs.{needs}
 use Rattle.kept.proofs.process_chart_kept.Statement.{statement}
 use Rattle.kept.proofs.process_chart_kept.Tie as tie
 
 returns : tie.Need-returns
-unfolding keptAnswer keptNumber keptText keptDensities keptWork leaves
+unfolding keptNumber
 returns c =
     let long = lt-ltb _ _ (c .if1 .taken) in
-    (simp long, (simp long, (simp long, simp long)))
+    kept-refused _ _ _ _ _ 0 (simp long)
 
 add-if2 : tie.Need-add-if2
 add-if2 c = search needs
 
 returns-2 : tie.Need-returns-2
-unfolding keptAnswer keptNumber keptText keptDensities keptWork leaves
+unfolding keptNumber
 returns-2 c =
     let long = le-ltb _ _ (c .before .if1 .left) in
     let short = lt-ltb _ _ (c .if2 .taken) in
-    (simp (long, short), (simp (long, short), (simp (long, short), simp (long, short))))
+    kept-refused _ _ _ _ _ 1 (simp (long, short))
 
 add-if3 : tie.Need-add-if3
 add-if3 c = search needs
@@ -39,12 +34,12 @@ add-if3-2 : tie.Need-add-if3-2
 add-if3-2 c = search needs
 
 returns-3 : tie.Need-returns-3
-unfolding keptAnswer keptNumber keptText keptDensities keptWork leaves
+unfolding keptNumber
 returns-3 c =
     let long = le-ltb _ _ (c .before .before .if1 .left) in
     let short = le-ltb _ _ (c .before .if2 .left) in
     let few = lt-ltb _ _ (c .if3 .taken) in
-    (simp (long, short, few), (simp (long, short, few), (simp (long, short, few), simp (long, short, few))))
+    kept-refused _ _ _ _ _ 2 (simp (long, short, few))
 
 lanes-of-requires : tie.Need-lanes-of-requires
 lanes-of-requires c κs = search needs
@@ -60,7 +55,7 @@ div-rows : tie.Need-div-rows
 div-rows c = search needs
 
 returns-4 : tie.Need-returns-4
-unfolding keptAnswer keptNumber keptText keptDensities keptWork leaves
+unfolding keptNumber
 returns-4 c =
     let l = c .before in
     let a = l .before .before .before .before .before .before .before .before .args in
@@ -68,7 +63,7 @@ returns-4 c =
     let short = le-ltb _ _ (l .before .before .if2 .left) in
     let few = le-ltb _ _ (l .before .if3 .left) in
     let none = of-lanes (length (now (a .work))) (length (now (a .«data»))) (l .lanes-of .ensures) (lt-ltb _ _ (c .if4 .taken)) in
-    (simp (long, short, few, none), (simp (long, short, few, none), (simp (long, short, few, none), simp (long, short, few, none))))
+    kept-refused _ _ _ _ _ 4 (simp (long, short, few, none))
 
 keep-figures-requires : tie.Need-keep-figures-requires
 unfolding mostRows
@@ -91,7 +86,7 @@ same-length-3 : tie.Need-same-length-3
 same-length-3 c = search needs
 
 returns-5 : tie.Need-returns-5
-unfolding keptAnswer keptNumber keptText keptDensities keptWork leaves
+unfolding keptNumber
 returns-5 c =
     let k = c .before .before .before .before .before .before in
     let t = k .before .before .before .before in
@@ -103,16 +98,7 @@ returns-5 c =
     let text = now (a .«data») in
     let e = l .lanes-of .ensures in
     let enough = of-lanes (length (now (a .work))) (length text) e (le-ltb _ _ (t .if4 .left)) in
-    let r = k .keep-figures .ensures in (
-      simp (long, short, few, enough) (ap Kept (r .0 ∙ ap (λ L. keptFigures L text) e)),
-      (
-        simp (long, short, few, enough) (r .1 .0 ∙ ap (λ L. padded 0 (length (now (a .text))) (minimisedText L text)) e),
-        (
-          simp (long, short, few, enough) (r .1 .1 .0 ∙ ap (λ L. padded 0 (length (now (a .densities))) (densities L text)) e),
-          simp (long, short, few, enough) (r .1 .1 .1),
-        ),
-      ),
-    )
+    kept-accepted _ _ _ _ _ (simp (long, short, few, enough)) e (k .keep-figures .ensures)
 
 pub process-chart-kept-spec : {M : Type 1} → statement M
 process-chart-kept-spec =

@@ -1,9 +1,9 @@
--- `kept::pass_comma` meets its contract.
+-- `keeping::pass_comma` meets its contract.
 use native.Mathlib.Omega.{arith}
 use Rattle.definitions.specs.Reduction.{reduce}
 use borrow.Author.Needs.{needs}
-use Rattle.kept.proofs.pass_comma.Statement.{statement}
-use Rattle.kept.proofs.pass_comma.Tie as tie
+use Rattle.keeping.proofs.pass_comma.Statement.{statement}
+use Rattle.keeping.proofs.pass_comma.Tie as tie
 
 end-measure-requires : tie.Need-end-measure-requires
 end-measure-requires c κs =

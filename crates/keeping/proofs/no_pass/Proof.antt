@@ -1,10 +1,10 @@
--- `kept::no_pass` meets its contract.
+-- `keeping::no_pass` meets its contract.
 use mathlib.Core.Path.{refl}
 use native.Mathlib.Omega.{arith}
-use Rattle.kept.proofs.Passing.{open-start}
+use Rattle.keeping.proofs.Passing.{open-start}
 use borrow.Author.Needs.{needs}
-use Rattle.kept.proofs.no_pass.Statement.{statement}
-use Rattle.kept.proofs.no_pass.Tie as tie
+use Rattle.keeping.proofs.no_pass.Statement.{statement}
+use Rattle.keeping.proofs.no_pass.Tie as tie
 
 no-counting-requires : tie.Need-no-counting-requires
 no-counting-requires c κs = search needs

@@ -17,8 +17,8 @@ use Rattle.measures.proofs.Forms.{in-text, form-rows}
 use Rattle.output.specs.Wrote.{Wrote}
 use Rattle.output.proofs.Writing.{wrote-start, wrote-row, wrote-holds, wrote-reduced, wrote-sep}
 use Rattle.measures.proofs.Shorter.{reduce-short}
-use Rattle.kept.specs.declared.Pass.{Pass}
-use Rattle.kept.specs.Pass.{Open, Closed, SomeOpen, Kept, Ended}
+use Rattle.keeping.specs.declared.Pass.{Pass}
+use Rattle.keeping.specs.Pass.{Open, Closed, SomeOpen, Kept, Ended}
 
 abbrev sep : List ℕ
 sep = 44 ∷ 10 ∷ []

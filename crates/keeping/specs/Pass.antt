@@ -13,7 +13,7 @@ use Rattle.definitions.specs.Entries.{measureCount}
 use Rattle.phantoms.specs.Phantoms.{Counts}
 use Rattle.counting.specs.Counted.{Counted}
 use Rattle.output.specs.Wrote.{Wrote}
-use Rattle.kept.specs.declared.Pass.{Pass}
+use Rattle.keeping.specs.declared.Pass.{Pass}
 
 -- the open measure has these rows, as they were read
 pub record Open (L : ℕ) (p : Pass) (text : List ℕ) (done : List (List Row)) (cur : List Row) : Type 0 where

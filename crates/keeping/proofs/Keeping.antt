@@ -18,8 +18,8 @@ use Rattle.output.proofs.Writing.{text-done}
 use Rattle.phantoms.specs.Phantoms.{Counts}
 use Rattle.reader.specs.Reading.{ReadAll}
 use Rattle.reader.proofs.Minimising.{Few}
-use Rattle.kept.specs.declared.Pass.{Pass}
-use Rattle.kept.specs.Pass.{Kept, Ended, KeptAll}
+use Rattle.keeping.specs.declared.Pass.{Pass}
+use Rattle.keeping.specs.Pass.{Kept, Ended, KeptAll}
 
 -- the pass counts rows and measures, which are few
 pub record Small (L : ℕ) (p : Pass) (len : ℕ) : Type 0 where

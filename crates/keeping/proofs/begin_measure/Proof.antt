@@ -1,9 +1,9 @@
--- `kept::begin_measure` meets its contract.
+-- `keeping::begin_measure` meets its contract.
 use mathlib.Core.Path.{refl}
-use Rattle.kept.proofs.Passing.{next-measure}
+use Rattle.keeping.proofs.Passing.{next-measure}
 use borrow.Author.Needs.{needs}
-use Rattle.kept.proofs.begin_measure.Statement.{statement}
-use Rattle.kept.proofs.begin_measure.Tie as tie
+use Rattle.keeping.proofs.begin_measure.Statement.{statement}
+use Rattle.keeping.proofs.begin_measure.Tie as tie
 
 put-comma-requires : tie.Need-put-comma-requires
 put-comma-requires c κs = search needs

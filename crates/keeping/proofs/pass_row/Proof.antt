@@ -1,10 +1,10 @@
--- `kept::pass_row` meets its contract.
+-- `keeping::pass_row` meets its contract.
 use mathlib.Core.Path.{refl}
 use denote.Ref.{now}
-use Rattle.kept.proofs.Passing.{open-row}
+use Rattle.keeping.proofs.Passing.{open-row}
 use borrow.Author.Needs.{needs}
-use Rattle.kept.proofs.pass_row.Statement.{statement}
-use Rattle.kept.proofs.pass_row.Tie as tie
+use Rattle.keeping.proofs.pass_row.Statement.{statement}
+use Rattle.keeping.proofs.pass_row.Tie as tie
 
 put-line-requires : tie.Need-put-line-requires
 put-line-requires c κs = search needs

@@ -1,11 +1,11 @@
--- `kept::end_rows` meets its contract.
+-- `keeping::end_rows` meets its contract.
 use mathlib.Core.Path.{refl}
 use Prim.Native.Nat.{_+_, _*_, _≤_}
 use native.Mathlib.Omega.{arith}
-use Rattle.kept.proofs.Passing.{open-size, closed-rows, closed-few}
+use Rattle.keeping.proofs.Passing.{open-size, closed-rows, closed-few}
 use borrow.Author.Needs.{needs}
-use Rattle.kept.proofs.end_rows.Statement.{statement}
-use Rattle.kept.proofs.end_rows.Tie as tie
+use Rattle.keeping.proofs.end_rows.Statement.{statement}
+use Rattle.keeping.proofs.end_rows.Tie as tie
 
 -- no more rows and bytes than before
 few : (c : tie.After-reduce-output-measure) →

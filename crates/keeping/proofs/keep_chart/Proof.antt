@@ -1,4 +1,4 @@
--- `kept::keep_chart` meets its contract. The loop's invariant: what the pass holds and has written is that of the lines read.
+-- `keeping::keep_chart` meets its contract. The loop's invariant: what the pass holds and has written is that of the lines read.
 use Prim.Native.Nat.{_≤_, _-_, _+_}
 use mathlib.Core.Path.{_≡_, refl, ap, _∙_}
 use mathlib.Core.Logic.{⊎-elim}
@@ -9,11 +9,11 @@ use denote.Ref.{now}
 use lib.ListN.{length, take, drop, length-take, length-drop}
 use lib.Seq.{length-take-le}
 use Rattle.reader.proofs.Minimising.{Minimising, Over, minimising-start, minimising-few, over-few, minimising-passed, minimising-comma, minimising-row, minimising-semi, minimising-end}
-use Rattle.kept.specs.Pass.{Kept}
-use Rattle.kept.proofs.Passing.{kept-row}
-use Rattle.kept.proofs.Keeping.{Small, kept-few, kept-all}
-use Rattle.kept.proofs.keep_chart.Statement.{statement}
-use Rattle.kept.proofs.keep_chart.Tie as tie
+use Rattle.keeping.specs.Pass.{Kept}
+use Rattle.keeping.proofs.Passing.{kept-row}
+use Rattle.keeping.proofs.Keeping.{Small, kept-few, kept-all}
+use Rattle.keeping.proofs.keep_chart.Statement.{statement}
+use Rattle.keeping.proofs.keep_chart.Tie as tie
 
 abbrev Inv-loop : tie.InvT-loop
 Inv-loop «data» lanes text₀ densities₀ off₀ p₀ text densities off p =

@@ -1,13 +1,13 @@
--- `kept::end_measure` meets its contract.
+-- `keeping::end_measure` meets its contract.
 use mathlib.Core.Path.{ap, _∙_}
 use native.Mathlib.Omega.{arith}
 use denote.Ref.{now}
 use lib.ListN.{take}
 use Rattle.definitions.specs.Reduction.{reduce}
-use Rattle.kept.proofs.Passing.{ended-rows}
+use Rattle.keeping.proofs.Passing.{ended-rows}
 use borrow.Author.Needs.{needs}
-use Rattle.kept.proofs.end_measure.Statement.{statement}
-use Rattle.kept.proofs.end_measure.Tie as tie
+use Rattle.keeping.proofs.end_measure.Statement.{statement}
+use Rattle.keeping.proofs.end_measure.Tie as tie
 
 end-rows-requires : tie.Need-end-rows-requires
 end-rows-requires c κs = search needs
