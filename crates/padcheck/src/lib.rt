@@ -1,96 +1,21 @@
 // The entries for callers in Rust and C. Each returns document 01's number, 0 for accepted, and is thin over the proved crates below.
 use chart::ChartAnswer;
-use chart::ChartFigures;
-use definitions::ArrowStats;
-use definitions::Note;
 use definitions::ReadNote;
-use definitions::Tail;
+use figures::chart_figures;
+use figures::kept_figures;
+use figures::last_figures;
+use figures::measure_figures;
+use figures::note_figures;
+use figures::tally_figures;
+use figures::timing_figures;
 use judged::JudgedAnswer;
 use kept::KeptAnswer;
-use kept::KeptFigures;
-use records::NO_TAIL_ROW;
-use records::kind_number;
 use records::read_note;
 use scans::LastBeat;
 use scans::MeasuresAnswer;
 use timing::TimingAnswer;
 ghost use mathlib.Core.Path.{_≡_};
-ghost use Rattle.definitions.specs.Entries.{figures as figuresOf, noTally, measuresNumber, densitiesLeft, spacingsLeft, measuresFigures, lastNumber, lastFigures, tallyFigures, mainNumber, mainText, mainDensities, mainBeats, mainWork, mainNotes, mainFigures, judgedNumber, judgedWork, judgedFigures, flaggedFigures, keptNumber, keptText, keptDensities, keptWork, keptFigures, timingNumber, timingText, timingBeats, timingFigures, noteFigures, readNumber, readFigures};
-ghost use Rattle.definitions.specs.Lists.{oneIf};
-ghost use Rattle.definitions.specs.Records.{tailNumber};
-
-// The figures of a call that answers how many measures there are, and no other.
-fn measure_figures(n: usize) -> [u64; 32]
-    ensures { λ r. ⌜ r ≡ figuresOf 0 n 0 0 0 0 0 noTally ⌝ }
-{
-    let mut f = [0u64; 32];
-    f[1] = n as u64;
-    f
-}
-
-// The figures of a call that answers the last beat, by its bits and in 48ths, and no other.
-fn last_figures(bits: u64, row: u64) -> [u64; 32]
-    ensures { λ r. ⌜ r ≡ figuresOf 0 0 0 0 bits 0 row noTally ⌝ }
-{
-    let mut f = [0u64; 32];
-    f[4] = bits;
-    f[6] = row;
-    f
-}
-
-fn wide(n: u32) -> u64
-    ensures { λ r. ⌜ r ≡ n ⌝ }
-{
-    n as u64
-}
-
-// The figures of the timing rows: their bytes, their number, and whether any has a 2 or 4.
-fn timing_figures(bytes: usize, rows: usize, heads: bool) -> [u64; 32]
-    ensures { λ r. ⌜ r ≡ figuresOf bytes 0 rows 0 0 (oneIf heads) 0 noTally ⌝ }
-{
-    let mut f = [0u64; 32];
-    f[0] = bytes as u64;
-    f[2] = rows as u64;
-    f[5] = wide(cells::one_if(heads));
-    f
-}
-
-// The figures of a call that answers a tally, and nothing else: its fields in their order, from place 8 on.
-fn tally_figures(t: ArrowStats) -> [u64; 32]
-    ensures { λ r. ⌜ r ≡ figuresOf 0 0 0 0 0 0 0 (tallyFigures t) ⌝ }
-{
-    let mut f = [0u64; 32];
-    f[8] = wide(t.total_arrows);
-    f[9] = wide(t.left);
-    f[10] = wide(t.down);
-    f[11] = wide(t.up);
-    f[12] = wide(t.right);
-    f[13] = wide(t.total_steps);
-    f[14] = wide(t.jumps);
-    f[15] = wide(t.hands);
-    f[16] = wide(t.mines);
-    f[17] = wide(t.holds);
-    f[18] = wide(t.rolls);
-    f[19] = wide(t.lifts);
-    f[20] = wide(t.fakes);
-    f[21] = wide(t.holding);
-    f
-}
-
-// The figures of the main call.
-fn chart_figures(k: ChartFigures) -> [u64; 32]
-    ensures { λ r. ⌜ r ≡ figuresOf (k .bytes) (k .measures) (k .rows) (k .notes) (k .«last_bits») 0 (k .«last_row») (tallyFigures (k .stats)) ⌝ }
-{
-    let stats = k.stats;
-    let mut f = tally_figures(stats);
-    f[0] = k.bytes as u64;
-    f[1] = k.measures as u64;
-    f[2] = wide(k.rows);
-    f[3] = k.notes as u64;
-    f[4] = k.last_bits;
-    f[6] = k.last_row;
-    f
-}
+ghost use Rattle.definitions.specs.Entries.{measuresNumber, densitiesLeft, spacingsLeft, measuresFigures, lastNumber, lastFigures, mainNumber, mainText, mainDensities, mainBeats, mainWork, mainNotes, mainFigures, judgedNumber, judgedWork, judgedFigures, flaggedFigures, keptNumber, keptText, keptDensities, keptWork, keptFigures, timingNumber, timingText, timingBeats, timingFigures, readNumber, readFigures};
 
 #[no_mangle]
 pub extern "C" fn padcheck_minimize_chart_count_rows_notes(
@@ -118,18 +43,6 @@ pub extern "C" fn padcheck_minimize_chart_count_rows_notes(
             0
         }
     }
-}
-
-// The figures of the kept-row call.
-fn kept_figures(k: KeptFigures) -> [u64; 32]
-    ensures { λ r. ⌜ r ≡ figuresOf (k .bytes) (k .measures) (k .rows) 0 0 0 0 (tallyFigures (k .stats)) ⌝ }
-{
-    let stats = k.stats;
-    let mut f = tally_figures(stats);
-    f[0] = k.bytes as u64;
-    f[1] = k.measures as u64;
-    f[2] = wide(k.rows);
-    f
 }
 
 #[no_mangle]
@@ -275,30 +188,6 @@ pub extern "C" fn padcheck_process_timing_rows(
             0
         }
     }
-}
-
-// A tail as the number of its row.
-fn tail_number(tail: Tail) -> u32
-    ensures { λ r. ⌜ r ≡ tailNumber tail ⌝ }
-{
-    match tail {
-        Tail::Without => NO_TAIL_ROW,
-        Tail::Row(row) => row,
-    }
-}
-
-// The four places of a note.
-fn note_figures(n: Note) -> [u64; 4]
-    ensures { λ r. ⌜ r ≡ noteFigures n ⌝ }
-{
-    let tail = n.tail;
-    let kind = n.kind;
-    let mut f = [0u64; 4];
-    f[0] = wide(n.row);
-    f[1] = wide(tail_number(tail));
-    f[2] = wide(n.column);
-    f[3] = kind_number(kind) as u64;
-    f
 }
 
 #[no_mangle]

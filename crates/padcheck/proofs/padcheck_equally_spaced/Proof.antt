@@ -1,9 +1,8 @@
 -- `padcheck::padcheck_equally_spaced` meets its contract, from the answer of the scan by cases.
-use mathlib.Core.Path.{sym, ap, _∙_}
-use Rattle.definitions.specs.Entries.{figures, noTally, measuresNumber, measuresFigures}
-use denote.Ref.{now}
+use mathlib.Core.Path.{_∙_}
+use Rattle.definitions.specs.Entries.{measuresFigures}
 use Rattle.scans.specs.Answers.{measuresAnswer}
-use Rattle.padcheck.proofs.Answers.{refused-number, refused-replaces, accepted-number, accepted-measures, accepted-replaces}
+use Rattle.padcheck.proofs.Answers.{refused-told, accepted-told, measures-told}
 use borrow.Author.Needs.{needs}
 use Rattle.padcheck.proofs.padcheck_equally_spaced.Statement.{statement}
 use Rattle.padcheck.proofs.padcheck_equally_spaced.Tie as tie
@@ -26,9 +25,9 @@ same-length c = search needs
 returns : tie.Need-returns
 unfolding measuresAnswer measuresFigures
 returns c =
-    let k = c .before .before .before .before .before in
-    let e = sym (k .equally-spaced-impl .ensures .0) ∙ c .before .number .given .1 in
-    (refused-number _ _ _ e, (k .equally-spaced-impl .ensures .1, refused-replaces _ _ _ e _ _))
+    let r = c .before .before .before .before .before .equally-spaced-impl .ensures in
+    let t = refused-told measures-told _ _ _ (r .0) (c .before .number .given .1) in
+    (t .0, (r .1, t .1 _))
 
 same-length-2 : tie.Need-same-length-2
 same-length-2 c = search needs
@@ -36,12 +35,9 @@ same-length-2 c = search needs
 returns-2 : tie.Need-returns-2
 unfolding measuresAnswer measuresFigures
 returns-2 c =
-    let k = c .before .before .before .before .before .before in
-    let a = k .before .before .before .before .args in
-    let e = sym (k .equally-spaced-impl .ensures .0) ∙ c .before .before .n .given .1 in
-    let zero-is = accepted-number _ _ _ e in
-    let count = accepted-measures (measuresNumber (a .lanes) (now (a .«data»)) (now (a .spacing))) _ _ e in
-    (zero-is, (k .equally-spaced-impl .ensures .1, c .measure-figures .ensures ∙ ap (λ n. figures 0 n 0 0 0 0 0 noTally) count ∙ accepted-replaces _ zero-is _ _))
+    let r = c .before .before .before .before .before .before .equally-spaced-impl .ensures in
+    let t = accepted-told measures-told _ _ _ (r .0) (c .before .before .n .given .1) in
+    (t .0, (r .1, c .measure-figures .ensures ∙ t .1 _))
 
 pub padcheck-equally-spaced-spec : {M : Type 1} → statement M
 padcheck-equally-spaced-spec =

@@ -1,9 +1,8 @@
 -- `padcheck::padcheck_minimize_chart_count_rows_notes` meets its contract, from the answer of the call by cases.
-use mathlib.Core.Path.{sym, ap, _∙_}
-use denote.Ref.{now}
-use Rattle.definitions.specs.Entries.{figures, tallyFigures, mainNumber, mainFigures}
+use mathlib.Core.Path.{_∙_}
+use Rattle.definitions.specs.Entries.{mainFigures}
 use Rattle.chart.specs.Answers.{chartFigures, chartAnswer}
-use Rattle.padcheck.proofs.Answers.{chart-refused-number, chart-refused-replaces, chart-accepted-number, chart-accepted, accepted-replaces}
+use Rattle.padcheck.proofs.Answers.{refused-told, accepted-told, chart-told}
 use borrow.Author.Needs.{needs}
 use Rattle.padcheck.proofs.padcheck_minimize_chart_count_rows_notes.Statement.{statement}
 use Rattle.padcheck.proofs.padcheck_minimize_chart_count_rows_notes.Tie as tie
@@ -36,11 +35,11 @@ same-length-5 : tie.Need-same-length-5
 same-length-5 c = search needs
 
 returns : tie.Need-returns
-unfolding chartAnswer mainFigures
+unfolding chartAnswer chartFigures mainFigures
 returns c =
     let r = c .before .before .before .before .before .before .before .before .before .before .before .before .before .minimize-chart-count-rows-notes .ensures in
-    let e = sym (r .0) ∙ c .before .number .given .1 in
-    (chart-refused-number _ _ _ e, (r .1 .0, (r .1 .1 .0, (r .1 .1 .1 .0, (r .1 .1 .1 .1 .0, (r .1 .1 .1 .1 .1, chart-refused-replaces _ _ _ e _ _))))))
+    let t = refused-told chart-told _ _ _ (r .0) (c .before .number .given .1) in
+    (t .0, (r .1 .0, (r .1 .1 .0, (r .1 .1 .1 .0, (r .1 .1 .1 .1 .0, (r .1 .1 .1 .1 .1, t .1 _))))))
 
 same-length-6 : tie.Need-same-length-6
 same-length-6 c = search needs
@@ -60,14 +59,9 @@ same-length-10 c = search needs
 returns-2 : tie.Need-returns-2
 unfolding chartAnswer chartFigures mainFigures
 returns-2 c =
-    let call = c .before .before .before .before .before .before .before .before .before .before .before .before .before .before in
-    let a = call .before .before .before .before .before .before .before .before .before .before .before .before .args in
-    let r = call .minimize-chart-count-rows-notes .ensures in
-    let e = sym (r .0) ∙ c .before .before .k .given .1 in
-    let zero-is = chart-accepted-number _ _ _ e in
-    let same = chart-accepted (mainNumber (a .lanes) (now (a .«data»)) (now (a .text)) (now (a .densities)) (now (a .beats)) (now (a .work)) (now (a .notes))) _ _ e in
-    let answered = c .chart-figures .ensures ∙ ap (λ f. figures (f .bytes) (f .measures) (f .rows) (f .notes) (f .«last_bits») 0 (f .«last_row») (tallyFigures (f .stats))) same ∙ accepted-replaces _ zero-is _ _ in
-    (zero-is, (r .1 .0, (r .1 .1 .0, (r .1 .1 .1 .0, (r .1 .1 .1 .1 .0, (r .1 .1 .1 .1 .1, answered))))))
+    let r = c .before .before .before .before .before .before .before .before .before .before .before .before .before .before .minimize-chart-count-rows-notes .ensures in
+    let t = accepted-told chart-told _ _ _ (r .0) (c .before .before .k .given .1) in
+    (t .0, (r .1 .0, (r .1 .1 .0, (r .1 .1 .1 .0, (r .1 .1 .1 .1 .0, (r .1 .1 .1 .1 .1, c .chart-figures .ensures ∙ t .1 _))))))
 
 pub padcheck-minimize-chart-count-rows-notes-spec : {M : Type 1} → statement M
 padcheck-minimize-chart-count-rows-notes-spec =

@@ -1,12 +1,8 @@
 -- `padcheck::padcheck_minimize_timing_rows` meets its contract, from the answer of the pass by cases.
-use mathlib.Core.Path.{_≡_, sym, ap, ap₂, _∙_}
-use mathlib.Core.Bool.{Bool}
-use Prim.Native.Nat.{ℕ}
-use denote.Ref.{now}
-use Rattle.definitions.specs.Lists.{oneIf}
-use Rattle.definitions.specs.Entries.{figures, noTally, timingNumber, timingFigures}
+use mathlib.Core.Path.{_∙_}
+use Rattle.definitions.specs.Entries.{timingFigures}
 use Rattle.timing.specs.Answers.{timingAnswer}
-use Rattle.padcheck.proofs.Answers.{timing-refused-number, timing-refused-replaces, timing-accepted-number, timing-accepted, accepted-replaces}
+use Rattle.padcheck.proofs.Answers.{refused-told, accepted-told, timing-told}
 use borrow.Author.Needs.{needs}
 use Rattle.padcheck.proofs.padcheck_minimize_timing_rows.Statement.{statement}
 use Rattle.padcheck.proofs.padcheck_minimize_timing_rows.Tie as tie
@@ -32,9 +28,9 @@ same-length-2 c = search needs
 returns : tie.Need-returns
 unfolding timingAnswer timingFigures
 returns c =
-    let k = c .before .before .before .before .before .before .before in
-    let e = sym (k .minimize-timing-rows .ensures .0) ∙ c .before .number .given .1 in
-    (timing-refused-number _ _ _ _ _ e, (k .minimize-timing-rows .ensures .1 .0, (k .minimize-timing-rows .ensures .1 .1, timing-refused-replaces _ _ _ _ _ e _ _)))
+    let r = c .before .before .before .before .before .before .before .minimize-timing-rows .ensures in
+    let t = refused-told timing-told _ _ _ (r .0) (c .before .number .given .1) in
+    (t .0, (r .1 .0, (r .1 .1, t .1 _)))
 
 same-length-3 : tie.Need-same-length-3
 same-length-3 c = search needs
@@ -45,20 +41,9 @@ same-length-4 c = search needs
 returns-2 : tie.Need-returns-2
 unfolding timingAnswer timingFigures
 returns-2 c =
-    let k = c .before .before .before .before .before .before .before .before in
-    let a = k .before .before .before .before .before .before .args in
-    let e = sym (k .minimize-timing-rows .ensures .0) ∙ c .before .before .bytes .given .1 in
-    let zero-is = timing-accepted-number _ _ _ _ _ _ _ e in
-    let same = timing-accepted (timingNumber (a .lanes) (now (a .«data»)) (now (a .text)) (now (a .beats))) _ _ _ _ _ _ e in (
-      zero-is,
-      (
-        k .minimize-timing-rows .ensures .1 .0,
-        (k .minimize-timing-rows .ensures .1 .1, c .timing-figures .ensures ∙ placed (same .0) (same .1) (same .2) ∙ accepted-replaces _ zero-is _ _),
-      ),
-    )
-  where
-    placed : {b x r y : ℕ} {h z : Bool} → x ≡ b → y ≡ r → z ≡ h → figures x 0 y 0 0 (oneIf z) 0 noTally ≡ figures b 0 r 0 0 (oneIf h) 0 noTally
-    placed {b} {x} {r} {y} {h} {z} p q s = ap₂ (λ u v. figures u 0 v 0 0 (oneIf z) 0 noTally) p q ∙ ap (λ w. figures b 0 r 0 0 (oneIf w) 0 noTally) s
+    let r = c .before .before .before .before .before .before .before .before .minimize-timing-rows .ensures in
+    let t = accepted-told timing-told _ _ _ (r .0) (c .before .before .bytes .given .1) in
+    (t .0, (r .1 .0, (r .1 .1, c .timing-figures .ensures ∙ t .1 _)))
 
 pub padcheck-minimize-timing-rows-spec : {M : Type 1} → statement M
 padcheck-minimize-timing-rows-spec =

@@ -1,10 +1,9 @@
 -- `padcheck::padcheck_process_chart_kept` meets its contract, from the answer of the call by cases.
-use mathlib.Core.Path.{sym, ap, _∙_}
-use denote.Ref.{now}
-use Rattle.definitions.specs.Entries.{figures, tallyFigures, keptNumber, keptFigures}
+use mathlib.Core.Path.{_∙_}
+use Rattle.definitions.specs.Entries.{keptFigures}
 use Rattle.kept.specs.Answers as answered
 use Rattle.kept.specs.Answers.{keptAnswer}
-use Rattle.padcheck.proofs.Answers.{kept-refused-number, kept-refused-replaces, kept-accepted-number, kept-accepted, accepted-replaces}
+use Rattle.padcheck.proofs.Answers.{refused-told, accepted-told, kept-told}
 use borrow.Author.Needs.{needs}
 use Rattle.padcheck.proofs.padcheck_process_chart_kept.Statement.{statement}
 use Rattle.padcheck.proofs.padcheck_process_chart_kept.Tie as tie
@@ -31,11 +30,11 @@ same-length-3 : tie.Need-same-length-3
 same-length-3 c = search needs
 
 returns : tie.Need-returns
-unfolding keptAnswer keptFigures
+unfolding keptAnswer keptFigures answered.keptFigures
 returns c =
     let r = c .before .before .before .before .before .before .before .before .before .process-chart-kept .ensures in
-    let e = sym (r .0) ∙ c .before .number .given .1 in
-    (kept-refused-number _ _ _ e, (r .1 .0, (r .1 .1 .0, (r .1 .1 .1, kept-refused-replaces _ _ _ e _ _))))
+    let t = refused-told kept-told _ _ _ (r .0) (c .before .number .given .1) in
+    (t .0, (r .1 .0, (r .1 .1 .0, (r .1 .1 .1, t .1 _))))
 
 same-length-4 : tie.Need-same-length-4
 same-length-4 c = search needs
@@ -49,14 +48,9 @@ same-length-6 c = search needs
 returns-2 : tie.Need-returns-2
 unfolding keptAnswer keptFigures answered.keptFigures
 returns-2 c =
-    let call = c .before .before .before .before .before .before .before .before .before .before in
-    let a = call .before .before .before .before .before .before .before .before .args in
-    let r = call .process-chart-kept .ensures in
-    let e = sym (r .0) ∙ c .before .before .k .given .1 in
-    let zero-is = kept-accepted-number _ _ _ e in
-    let same = kept-accepted (keptNumber (a .lanes) (now (a .«data»)) (now (a .text)) (now (a .densities)) (now (a .work))) _ _ e in
-    let answered = c .kept-figures .ensures ∙ ap (λ f. figures (f .bytes) (f .measures) (f .rows) 0 0 0 0 (tallyFigures (f .stats))) same ∙ accepted-replaces _ zero-is _ _ in
-    (zero-is, (r .1 .0, (r .1 .1 .0, (r .1 .1 .1, answered))))
+    let r = c .before .before .before .before .before .before .before .before .before .before .process-chart-kept .ensures in
+    let t = accepted-told kept-told _ _ _ (r .0) (c .before .before .k .given .1) in
+    (t .0, (r .1 .0, (r .1 .1 .0, (r .1 .1 .1, c .kept-figures .ensures ∙ t .1 _))))
 
 pub padcheck-process-chart-kept-spec : {M : Type 1} → statement M
 padcheck-process-chart-kept-spec =

@@ -1,7 +1,7 @@
--- `padcheck::timing_figures` meets its contract: each figure in its place.
+-- `figures::timing_figures` meets its contract: each figure in its place.
 use borrow.Author.Needs.{needs}
-use Rattle.padcheck.proofs.timing_figures.Statement.{statement}
-use Rattle.padcheck.proofs.timing_figures.Tie as tie
+use Rattle.figures.proofs.timing_figures.Statement.{statement}
+use Rattle.figures.proofs.timing_figures.Tie as tie
 
 array-write-f : tie.Need-array-write-f
 array-write-f c = search needs

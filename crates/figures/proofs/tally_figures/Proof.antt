@@ -1,7 +1,7 @@
--- `padcheck::tally_figures` meets its contract: each field in its place.
+-- `figures::tally_figures` meets its contract: each field in its place.
 use borrow.Author.Needs.{needs}
-use Rattle.padcheck.proofs.tally_figures.Statement.{statement}
-use Rattle.padcheck.proofs.tally_figures.Tie as tie
+use Rattle.figures.proofs.tally_figures.Statement.{statement}
+use Rattle.figures.proofs.tally_figures.Tie as tie
 
 wide-requires : tie.Need-wide-requires
 wide-requires c κs = search needs
