@@ -41,16 +41,18 @@ impl Checks {
     }
 }
 
+/// The stored sample: each program that replays it reads a copy of its own.
+const COPIES: [&str; 2] = ["tests/vectors/answers.bin", "crates/replay_figures/stdin"];
+
 fn main() -> ExitCode {
-    let args: Vec<String> = env::args().skip(1).collect();
-    let stored = match args.as_slice() {
-        [] => "tests/vectors/answers.bin",
-        [path] if !path.starts_with('-') => path,
-        _ => {
-            eprintln!("check: use `check [ANSWERS]`, ANSWERS being the stored sample");
-            return ExitCode::FAILURE;
-        }
-    };
+    let mut stored: Vec<String> = env::args().skip(1).collect();
+    if stored.iter().any(|path| path.starts_with('-')) {
+        eprintln!("check: use `check [ANSWERS..]`, ANSWERS being copies of the stored sample");
+        return ExitCode::FAILURE;
+    }
+    if stored.is_empty() {
+        stored = COPIES.map(String::from).to_vec();
+    }
     let mut checks = Checks::default();
     checks.group("examples", check_examples::run);
     checks.group("lane numbers", lane_numbers);
@@ -63,7 +65,7 @@ fn main() -> ExitCode {
     checks.group("reduction", reduction);
     checks.group("beats", beats);
     checks.group("object rows", object_rows);
-    checks.group("sample", |checks| check_sample::run(checks, stored));
+    checks.group("sample", |checks| check_sample::run(checks, &stored));
     println!("{} passed, {} failed", checks.passed, checks.failed);
     ExitCode::from(u8::from(checks.failed != 0))
 }

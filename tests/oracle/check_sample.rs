@@ -8,25 +8,31 @@ use oracle::entry::{Lengths, Loan, enter};
 use oracle::vectors::{MARK, SEED, Sample, answer_slices, file, samples};
 use std::fs;
 
-pub fn run(checks: &mut Checks, path: &str) {
-    let stored = fs::read(path).unwrap_or_else(|error| {
-        println!("cannot read `{path}`: {error}");
-        Vec::new()
-    });
+pub fn run(checks: &mut Checks, copies: &[String]) {
     let (written, samples) = (file(SEED), samples(SEED));
-    stored_bytes(checks, &stored, &written);
+    for path in copies {
+        let stored = fs::read(path).unwrap_or_else(|error| {
+            println!("cannot read `{path}`: {error}");
+            Vec::new()
+        });
+        stored_bytes(checks, path, &stored, &written);
+    }
+    let other = file(SEED + 1);
+    checks.same("another seed gives another sample", other == written, false);
     layout(checks, &written, &samples);
     coverage(checks, &samples);
     agreement(checks, &samples);
 }
 
-fn stored_bytes(checks: &mut Checks, stored: &[u8], written: &[u8]) {
+fn stored_bytes(checks: &mut Checks, path: &str, stored: &[u8], written: &[u8]) {
     let differs = stored.iter().zip(written).position(|(a, b)| a != b);
-    checks.same("first place where the stored sample differs", differs, None);
-    checks.same("length of the stored sample", stored.len(), written.len());
-    checks.same("below 3 MB", stored.len() < 3_000_000, true);
-    let other = file(SEED + 1);
-    checks.same("another seed gives another sample", other == written, false);
+    checks.same(&format!("first place where {path} differs"), differs, None);
+    checks.same(&format!("length of {path}"), stored.len(), written.len());
+    checks.same(
+        &format!("{path} below 3 MB"),
+        stored.len() < 3_000_000,
+        true,
+    );
 }
 
 fn layout(checks: &mut Checks, written: &[u8], samples: &[Sample]) {

@@ -23,7 +23,7 @@ fn say_number(words: &[u8], n: u64) {
     say(&digits[at..]);
 }
 
-// What a sample begins with.
+// What a sample begins with: how many texts it has.
 pub struct Head {
     pub is_sample: bool,
     pub texts: u64,
@@ -35,18 +35,17 @@ pub fn read_head(fd: i32) -> Head
 {
     let mut head = [0u8; 24];
     let got = io::read_full(fd, &mut head);
-    let texts = number_at(&head, 16);
     // The first eight bytes are `ANSWERS1`.
     if got != 24 || number_at(&head, 0) != 0x57534E41 || number_at(&head, 4) != 0x31535245 {
         say(b"standard input is no stored sample\n");
         return Head {
             is_sample: false,
-            texts,
+            texts: 0,
         };
     }
     Head {
         is_sample: true,
-        texts,
+        texts: number_at(&head, 16),
     }
 }
 
@@ -96,14 +95,17 @@ pub fn go_on(compared: Compared, index: u64) -> bool {
     }
 }
 
-// Says how many answers agree, once every text's do and the file ends there.
-pub fn say_agreement(fd: i32, answers: u64, texts: u64) {
+// Says how many answers agree, once those of every text do and the file ends there.
+pub fn say_agreement(fd: i32, head: Head, agree: u64, answers: u64) {
+    if !head.is_sample || agree != head.texts {
+        return;
+    }
     let mut rest = [0u8; 1];
     if io::read_full(fd, &mut rest) != 0 {
         say(b"something stands after the last record\n");
         return;
     }
     say_number(b"", answers);
-    say_number(b" answers agree, for ", texts);
+    say_number(b" answers agree, for ", agree);
     say(b" texts\n");
 }

@@ -59,10 +59,28 @@ pub fn lanes(s: &[u8]) -> usize {
     number as usize
 }
 
-pub fn text_end(s: &[u8]) -> usize {
+fn text_end(s: &[u8]) -> usize {
     after(16, number_at(s, 0))
 }
 
 pub fn flags_end(s: &[u8]) -> usize {
     after(text_end(s), number_at(s, 4))
+}
+
+// The bytes from `start` to `end`; none where the record is not as long as its lengths say.
+fn part(s: &[u8], start: usize, end: usize) -> &[u8] {
+    if end <= s.len() {
+        if start <= end {
+            return &s[start..end];
+        }
+    }
+    &s[..0]
+}
+
+pub fn text(s: &[u8]) -> &[u8] {
+    part(s, 16, text_end(s))
+}
+
+pub fn flags(s: &[u8]) -> &[u8] {
+    part(s, text_end(s), flags_end(s))
 }

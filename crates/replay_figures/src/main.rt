@@ -1,4 +1,7 @@
-// The timing rows, the scans and the judged calls, each asked about a text, and what it left beside the stored answer that begins at `at`.
+// Replays the stored sample of the Rust's answers (tests/vectors/README.md), which it reads from standard input, with the timing rows, the scans
+// and the judged calls: asks each about every text, compares all that they left in what they were lent, stops at the first difference, and says
+// how many answers it compared.
+use libc::STDIN_FILENO;
 use stored::Compared;
 use stored::compare::all_zero;
 use stored::compare::same_bytes;
@@ -86,8 +89,8 @@ fn flagged_agrees(data: &[u8], lanes: usize, flags: &[u8], s: &[u8], at: usize) 
     same_figures(&figures, s, at) && all_zero(&work)
 }
 
-// All six, with their answers from `at` to the record's end.
-pub fn figures_agree(data: &[u8], lanes: usize, flags: &[u8], s: &[u8], at: usize) -> Compared {
+// The answers of all six, from the third to the last of the record.
+fn figures_agree(data: &[u8], lanes: usize, flags: &[u8], s: &[u8], at: usize) -> Compared {
     let densities = next_answer(s, at);
     let spacing = next_answer(s, densities);
     let last_beat = next_answer(s, spacing);
@@ -115,4 +118,38 @@ pub fn figures_agree(data: &[u8], lanes: usize, flags: &[u8], s: &[u8], at: usiz
         return Compared::Differs(7);
     }
     Compared::Same
+}
+
+// A record without the four bytes of its length.
+fn record_agrees(s: &[u8]) -> Compared {
+    let main = stored::flags_end(s);
+    let kept = next_answer(s, main);
+    figures_agree(
+        stored::text(s),
+        stored::lanes(s),
+        stored::flags(s),
+        s,
+        next_answer(s, kept),
+    )
+}
+
+fn next_agrees() -> Compared {
+    let mut record = io::large_buffer();
+    let n = sample::read_record(STDIN_FILENO, &mut record);
+    if n > record.len() {
+        return Compared::Malformed;
+    }
+    record_agrees(&record[..n])
+}
+
+const CALLS: u64 = 6;
+
+fn main() {
+    let head = sample::read_head(STDIN_FILENO);
+    let texts = head.texts;
+    let mut index = 0;
+    while index < texts && sample::go_on(next_agrees(), index) {
+        index += 1;
+    }
+    sample::say_agreement(STDIN_FILENO, head, index, texts * CALLS);
 }

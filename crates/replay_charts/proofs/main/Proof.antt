@@ -1,14 +1,17 @@
--- `replay::replay_all` is safe and ends: a text a turn.
+-- `replay_charts::main` is safe and ends: a text a turn.
 use Prim.Native.Nat.{_-_}
 use native.Mathlib.Omega.{arith}
-use Rattle.replay.proofs.replay_all.Statement.{statement}
-use Rattle.replay.proofs.replay_all.Tie as tie
+use Rattle.replay_charts.proofs.main.Statement.{statement}
+use Rattle.replay_charts.proofs.main.Tie as tie
 
 abbrev Inv-loop : tie.InvT-loop
-Inv-loop fd count index₀ index = Unit {0}
+Inv-loop head texts index₀ index = Unit {0}
 
 abbrev μ-loop : tie.MeasureT-loop
-μ-loop fd count index₀ index = count - index
+μ-loop head texts index₀ index = texts - index
+
+read-head-requires : tie.Need-read-head-requires Inv-loop μ-loop
+read-head-requires c κs = tt
 
 loop-holds : tie.Need-loop-holds Inv-loop μ-loop
 loop-holds c = tt
@@ -28,23 +31,28 @@ loop-less c = omega arith
 loop-again : tie.Need-loop-again Inv-loop μ-loop
 loop-again c = tt
 
+mul-say-agreement : tie.Need-mul-say-agreement Inv-loop μ-loop
+mul-say-agreement c = omega arith
+
+say-agreement-requires : tie.Need-say-agreement-requires Inv-loop μ-loop
+say-agreement-requires c κs = tt
+
 returns : tie.Need-returns Inv-loop μ-loop
 returns c = tt
 
-returns-2 : tie.Need-returns-2 Inv-loop μ-loop
-returns-2 c = tt
-
-pub replay-all-spec : {M : Type 1} → statement M
-replay-all-spec =
+pub main-spec : {M : Type 1} → statement M
+main-spec =
     tie.close
     (tie.spec
     Inv-loop
     μ-loop
+    read-head-requires
     loop-holds
     next-agrees-requires
     go-on-requires
     add-index
     loop-less
     loop-again
-    returns
-    returns-2)
+    mul-say-agreement
+    say-agreement-requires
+    returns)

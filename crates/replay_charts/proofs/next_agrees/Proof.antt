@@ -1,10 +1,10 @@
--- `replay::next_agrees` is safe and ends.
+-- `replay_charts::next_agrees` is safe and ends.
 use mathlib.Core.Path.{sym}
 use native.Mathlib.Omega.{arith}
 use lib.Seq.{length-take-le}
 use borrow.Author.Needs.{needs}
-use Rattle.replay.proofs.next_agrees.Statement.{statement}
-use Rattle.replay.proofs.next_agrees.Tie as tie
+use Rattle.replay_charts.proofs.next_agrees.Statement.{statement}
+use Rattle.replay_charts.proofs.next_agrees.Tie as tie
 
 large-buffer-requires : tie.Need-large-buffer-requires
 large-buffer-requires c κs = search needs
