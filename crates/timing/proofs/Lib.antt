@@ -1,3 +1,4 @@
--- Laws of the pass: a row more, and a measure's end.
+-- Laws of the pass: a row more, a measure's end, and what the call answers.
 pub mod Passing
 pub mod Keeping
+pub mod Answering
