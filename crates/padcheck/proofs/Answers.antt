@@ -35,10 +35,10 @@ module _ {A B : Type 0} {answer : ℕ → B → A} {refused : ℕ → A} {accept
   refused-told zero b m e f = let z = t .not-refused b m (sym e ∙ f) in absurd (omega arith)
   refused-told (suc k) b m e f = (t .number k b m (sym e ∙ f), λ old. rw (eqb·suc-zero k))
 
-  -- an accepted call: 0, and its figures
-  pub accepted-told : {x : A} (k : ℕ) (b c : B) → x ≡ answer k b → x ≡ accepted c → (0 ≡ k) × ((old : List ℕ) → left c ≡ replaces k (left b) old)
+  -- an accepted call: 0, and its figures, which `fs` are
+  pub accepted-told : {x : A} (k : ℕ) (b c : B) → x ≡ answer k b → x ≡ accepted c → (0 ≡ k) × ((old fs : List ℕ) → fs ≡ left c → fs ≡ replaces k (left b) old)
   unfolding replaces
-  accepted-told zero b c e f = (refl, λ old. t .same-left b c (sym e ∙ f))
+  accepted-told zero b c e f = (refl, λ old fs g. g ∙ t .same-left b c (sym e ∙ f))
   accepted-told (suc k) b c e f = let z = t .not-accepted k b c (sym e ∙ f) in absurd (omega arith)
 
 pub measures-told : Told refusedOr Refused Measures (λ n. figures 0 n 0 0 0 0 0 noTally)

@@ -1,13 +1,9 @@
 // The entries for callers in Rust and C. Each returns document 01's number, 0 for accepted, and is thin over the proved crates below.
 use chart::ChartAnswer;
 use definitions::ReadNote;
-use figures::chart_figures;
-use figures::kept_figures;
-use figures::last_figures;
-use figures::measure_figures;
+use figures::figures_of;
 use figures::note_figures;
-use figures::tally_figures;
-use figures::timing_figures;
+use figures::without_tally;
 use judged::JudgedAnswer;
 use kept::KeptAnswer;
 use records::read_note;
@@ -39,7 +35,17 @@ pub extern "C" fn padcheck_minimize_chart_count_rows_notes(
     match chart::minimize_chart_count_rows_notes(data, lanes, text, densities, beats, work, notes) {
         ChartAnswer::Refused(number) => number,
         ChartAnswer::Chart(k) => {
-            *figures = chart_figures(k);
+            let stats = k.stats;
+            *figures = figures_of(
+                k.bytes,
+                k.measures,
+                k.rows as usize,
+                k.notes,
+                k.last_bits,
+                false,
+                k.last_row,
+                stats,
+            );
             0
         }
     }
@@ -63,7 +69,8 @@ pub extern "C" fn padcheck_process_chart_kept(
     match kept::process_chart_kept(data, lanes, text, densities, work) {
         KeptAnswer::Refused(number) => number,
         KeptAnswer::Kept(k) => {
-            *figures = kept_figures(k);
+            let stats = k.stats;
+            *figures = figures_of(k.bytes, k.measures, k.rows as usize, 0, 0, false, 0, stats);
             0
         }
     }
@@ -85,7 +92,7 @@ pub extern "C" fn padcheck_minimize_timing_rows(
     match timing::minimize_timing_rows(data, lanes, text, beats) {
         TimingAnswer::Refused(number) => number,
         TimingAnswer::Rows { bytes, rows, heads } => {
-            *figures = timing_figures(bytes, rows, heads);
+            *figures = without_tally(bytes, 0, rows, 0, heads, 0);
             0
         }
     }
@@ -105,7 +112,7 @@ pub extern "C" fn padcheck_measure_densities(
     match scans::densities::measure_densities(data, lanes, densities) {
         MeasuresAnswer::Refused(number) => number,
         MeasuresAnswer::Measures(n) => {
-            *figures = measure_figures(n);
+            *figures = without_tally(0, n, 0, 0, false, 0);
             0
         }
     }
@@ -125,7 +132,7 @@ pub extern "C" fn padcheck_equally_spaced(
     match scans::spacing::equally_spaced_impl(data, lanes, spacing) {
         MeasuresAnswer::Refused(number) => number,
         MeasuresAnswer::Measures(n) => {
-            *figures = measure_figures(n);
+            *figures = without_tally(0, n, 0, 0, false, 0);
             0
         }
     }
@@ -143,7 +150,7 @@ pub extern "C" fn padcheck_chart_last_beat(
     match scans::last::chart_last_beat_impl(data, lanes) {
         LastBeat::Refused(number) => number,
         LastBeat::Beat { beat: _, bits, row } => {
-            *figures = last_figures(bits, row);
+            *figures = without_tally(0, 0, 0, bits, false, row);
             0
         }
     }
@@ -163,7 +170,7 @@ pub extern "C" fn padcheck_process_rows_judgable(
     match judged::process_rows_judgable(data, lanes, work) {
         JudgedAnswer::Refused(number) => number,
         JudgedAnswer::Tally(t) => {
-            *figures = tally_figures(t);
+            *figures = figures_of(0, 0, 0, 0, 0, false, 0, t);
             0
         }
     }
@@ -184,7 +191,7 @@ pub extern "C" fn padcheck_process_timing_rows(
     match judged::process_timing_rows(data, lanes, flags, work) {
         JudgedAnswer::Refused(number) => number,
         JudgedAnswer::Tally(t) => {
-            *figures = tally_figures(t);
+            *figures = figures_of(0, 0, 0, 0, 0, false, 0, t);
             0
         }
     }

@@ -1,5 +1,4 @@
 -- `padcheck::padcheck_chart_last_beat` meets its contract, from the answer of the scan by cases.
-use mathlib.Core.Path.{_∙_}
 use Rattle.definitions.specs.Entries.{lastFigures}
 use Rattle.scans.specs.Answers.{lastAnswer}
 use Rattle.padcheck.proofs.Answers.{refused-told, accepted-told, last-told}
@@ -16,8 +15,8 @@ enum-known-number c = search needs
 enum-known-bits : tie.Need-enum-known-bits
 enum-known-bits c = search needs
 
-last-figures-requires : tie.Need-last-figures-requires
-last-figures-requires c κs = search needs
+without-tally-requires : tie.Need-without-tally-requires
+without-tally-requires c κs = search needs
 
 returns : tie.Need-returns
 unfolding lastAnswer lastFigures
@@ -29,7 +28,7 @@ returns-2 : tie.Need-returns-2
 unfolding lastAnswer lastFigures
 returns-2 c =
     let t = accepted-told last-told _ _ _ (c .before .before .before .before .chart-last-beat-impl .ensures) (c .before .before .bits .given .1) in
-    (t .0, c .last-figures .ensures ∙ t .1 _)
+    (t .0, t .1 _ _ (c .without-tally .ensures))
 
 pub padcheck-chart-last-beat-spec : {M : Type 1} → statement M
 padcheck-chart-last-beat-spec =
@@ -38,6 +37,6 @@ padcheck-chart-last-beat-spec =
     chart-last-beat-impl-requires
     enum-known-number
     enum-known-bits
-    last-figures-requires
+    without-tally-requires
     returns
     returns-2)

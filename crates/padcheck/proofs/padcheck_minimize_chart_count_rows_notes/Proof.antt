@@ -1,5 +1,4 @@
 -- `padcheck::padcheck_minimize_chart_count_rows_notes` meets its contract, from the answer of the call by cases.
-use mathlib.Core.Path.{_∙_}
 use Rattle.definitions.specs.Entries.{mainFigures}
 use Rattle.chart.specs.Answers.{chartFigures, chartAnswer}
 use Rattle.padcheck.proofs.Answers.{refused-told, accepted-told, chart-told}
@@ -16,8 +15,11 @@ enum-known-number c = search needs
 enum-known-k : tie.Need-enum-known-k
 enum-known-k c = search needs
 
-chart-figures-requires : tie.Need-chart-figures-requires
-chart-figures-requires c κs = search needs
+cast-figures-of : tie.Need-cast-figures-of
+cast-figures-of c = search needs
+
+figures-of-requires : tie.Need-figures-of-requires
+figures-of-requires c κs = search needs
 
 same-length : tie.Need-same-length
 same-length c = search needs
@@ -59,9 +61,9 @@ same-length-10 c = search needs
 returns-2 : tie.Need-returns-2
 unfolding chartAnswer chartFigures mainFigures
 returns-2 c =
-    let r = c .before .before .before .before .before .before .before .before .before .before .before .before .before .before .minimize-chart-count-rows-notes .ensures in
-    let t = accepted-told chart-told _ _ _ (r .0) (c .before .before .k .given .1) in
-    (t .0, (r .1 .0, (r .1 .1 .0, (r .1 .1 .1 .0, (r .1 .1 .1 .1 .0, (r .1 .1 .1 .1 .1, c .chart-figures .ensures ∙ t .1 _))))))
+    let r = c .before .before .before .before .before .before .before .before .before .before .before .before .before .before .before .before .minimize-chart-count-rows-notes .ensures in
+    let t = accepted-told chart-told _ _ _ (r .0) (c .before .before .before .before .k .given .1) in
+    (t .0, (r .1 .0, (r .1 .1 .0, (r .1 .1 .1 .0, (r .1 .1 .1 .1 .0, (r .1 .1 .1 .1 .1, t .1 _ _ (c .figures-of .ensures)))))))
 
 pub padcheck-minimize-chart-count-rows-notes-spec : {M : Type 1} → statement M
 padcheck-minimize-chart-count-rows-notes-spec =
@@ -70,7 +72,8 @@ padcheck-minimize-chart-count-rows-notes-spec =
     minimize-chart-count-rows-notes-requires
     enum-known-number
     enum-known-k
-    chart-figures-requires
+    cast-figures-of
+    figures-of-requires
     same-length
     same-length-2
     same-length-3

@@ -1,5 +1,4 @@
 -- `padcheck::padcheck_minimize_timing_rows` meets its contract, from the answer of the pass by cases.
-use mathlib.Core.Path.{_∙_}
 use Rattle.definitions.specs.Entries.{timingFigures}
 use Rattle.timing.specs.Answers.{timingAnswer}
 use Rattle.padcheck.proofs.Answers.{refused-told, accepted-told, timing-told}
@@ -16,8 +15,8 @@ enum-known-number c = search needs
 enum-known-bytes : tie.Need-enum-known-bytes
 enum-known-bytes c = search needs
 
-timing-figures-requires : tie.Need-timing-figures-requires
-timing-figures-requires c κs = search needs
+without-tally-requires : tie.Need-without-tally-requires
+without-tally-requires c κs = search needs
 
 same-length : tie.Need-same-length
 same-length c = search needs
@@ -43,7 +42,7 @@ unfolding timingAnswer timingFigures
 returns-2 c =
     let r = c .before .before .before .before .before .before .before .before .minimize-timing-rows .ensures in
     let t = accepted-told timing-told _ _ _ (r .0) (c .before .before .bytes .given .1) in
-    (t .0, (r .1 .0, (r .1 .1, c .timing-figures .ensures ∙ t .1 _)))
+    (t .0, (r .1 .0, (r .1 .1, t .1 _ _ (c .without-tally .ensures))))
 
 pub padcheck-minimize-timing-rows-spec : {M : Type 1} → statement M
 padcheck-minimize-timing-rows-spec =
@@ -52,7 +51,7 @@ padcheck-minimize-timing-rows-spec =
     minimize-timing-rows-requires
     enum-known-number
     enum-known-bytes
-    timing-figures-requires
+    without-tally-requires
     same-length
     same-length-2
     returns

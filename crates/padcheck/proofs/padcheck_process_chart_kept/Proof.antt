@@ -1,5 +1,4 @@
 -- `padcheck::padcheck_process_chart_kept` meets its contract, from the answer of the call by cases.
-use mathlib.Core.Path.{_∙_}
 use Rattle.definitions.specs.Entries.{keptFigures}
 use Rattle.kept.specs.Answers as answered
 use Rattle.kept.specs.Answers.{keptAnswer}
@@ -17,8 +16,11 @@ enum-known-number c = search needs
 enum-known-k : tie.Need-enum-known-k
 enum-known-k c = search needs
 
-kept-figures-requires : tie.Need-kept-figures-requires
-kept-figures-requires c κs = search needs
+cast-figures-of : tie.Need-cast-figures-of
+cast-figures-of c = search needs
+
+figures-of-requires : tie.Need-figures-of-requires
+figures-of-requires c κs = search needs
 
 same-length : tie.Need-same-length
 same-length c = search needs
@@ -48,9 +50,9 @@ same-length-6 c = search needs
 returns-2 : tie.Need-returns-2
 unfolding keptAnswer keptFigures answered.keptFigures
 returns-2 c =
-    let r = c .before .before .before .before .before .before .before .before .before .before .process-chart-kept .ensures in
-    let t = accepted-told kept-told _ _ _ (r .0) (c .before .before .k .given .1) in
-    (t .0, (r .1 .0, (r .1 .1 .0, (r .1 .1 .1, c .kept-figures .ensures ∙ t .1 _))))
+    let r = c .before .before .before .before .before .before .before .before .before .before .before .before .process-chart-kept .ensures in
+    let t = accepted-told kept-told _ _ _ (r .0) (c .before .before .before .before .k .given .1) in
+    (t .0, (r .1 .0, (r .1 .1 .0, (r .1 .1 .1, t .1 _ _ (c .figures-of .ensures)))))
 
 pub padcheck-process-chart-kept-spec : {M : Type 1} → statement M
 padcheck-process-chart-kept-spec =
@@ -59,7 +61,8 @@ padcheck-process-chart-kept-spec =
     process-chart-kept-requires
     enum-known-number
     enum-known-k
-    kept-figures-requires
+    cast-figures-of
+    figures-of-requires
     same-length
     same-length-2
     same-length-3

@@ -1,5 +1,4 @@
 -- `padcheck::padcheck_process_timing_rows` meets its contract, from the answer of the tally by cases.
-use mathlib.Core.Path.{_∙_}
 use Rattle.definitions.specs.Entries.{flaggedFigures}
 use Rattle.judged.specs.Answers.{flaggedAnswer}
 use Rattle.padcheck.proofs.Answers.{refused-told, accepted-told, tally-told}
@@ -16,8 +15,8 @@ enum-known-number c = search needs
 enum-known-t : tie.Need-enum-known-t
 enum-known-t c = search needs
 
-tally-figures-requires : tie.Need-tally-figures-requires
-tally-figures-requires c κs = search needs
+figures-of-requires : tie.Need-figures-of-requires
+figures-of-requires c κs = search needs
 
 same-length : tie.Need-same-length
 same-length c = search needs
@@ -37,7 +36,7 @@ unfolding flaggedAnswer flaggedFigures
 returns-2 c =
     let r = c .before .before .before .before .before .before .process-timing-rows .ensures in
     let t = accepted-told tally-told _ _ _ (r .0) (c .before .before .t .given .1) in
-    (t .0, (r .1, c .tally-figures .ensures ∙ t .1 _))
+    (t .0, (r .1, t .1 _ _ (c .figures-of .ensures)))
 
 pub padcheck-process-timing-rows-spec : {M : Type 1} → statement M
 padcheck-process-timing-rows-spec =
@@ -46,7 +45,7 @@ padcheck-process-timing-rows-spec =
     process-timing-rows-requires
     enum-known-number
     enum-known-t
-    tally-figures-requires
+    figures-of-requires
     same-length
     returns
     same-length-2
