@@ -53,7 +53,7 @@ wide-requires-15 c κs = search needs
 
 returns : tie.Need-returns
 returns c =
-    rw (
+    simp (
       c .wide15 .ensures,
       c .before .wide14 .ensures,
       c .before .before .wide13 .ensures,
