@@ -1,7 +1,7 @@
 -- From the pass over a whole text to what the main call answers.
-use mathlib.Core.Path.{_≡_, refl, ap, sym, _∙_}
+use mathlib.Core.Path.{_≡_, refl, ap, sym, _∙_, subst}
 use mathlib.Core.Bool.{Bool, true}
-use mathlib.Core.List.{List, []}
+use mathlib.Core.List.{List, [], append-nil}
 use Prim.Native.Nat.{ℕ, suc, _+_, _-_, _*_, _/_, _≤_}
 use native.Mathlib.Nat.{le-trans, mul-le-mul-right, div-le-self}
 use native.Mathlib.Omega.{arith}
@@ -15,13 +15,14 @@ use Rattle.definitions.specs.Lines.{Row}
 use Rattle.definitions.specs.Reduction.{minimised}
 use Rattle.definitions.specs.Figures.{minimisedText, densities as densitiesOf}
 use Rattle.definitions.specs.Beats.{f32, rowToBeat, beats as beatsOf}
-use Rattle.definitions.specs.Objects.{last48, lastBeat}
+use Rattle.definitions.specs.Objects.{place48, lastObject, last48, lastBeat}
 use Rattle.definitions.specs.Notes.{notes}
 use Rattle.definitions.specs.Records.{records}
 use Rattle.definitions.specs.Correction.{corrected}
 use Rattle.definitions.specs.ReadBack.{mainTally}
 use Rattle.definitions.specs.Entries.{mainNumber, mainText, mainDensities, mainBeats, mainWork, mainNotes}
 use Rattle.definitions.specs.declared.ArrowStats.{ArrowStats}
+use Rattle.beats.specs.Places.{placeOf, Placed}
 use Rattle.keeping.proofs.Answering.{own-part}
 use Rattle.notes.specs.Written.{Written, SomeRows, Finished}
 use Rattle.reader.specs.BackReading.{rowsBack}
@@ -44,12 +45,23 @@ module _ (L : ℕ) (data-text : List ℕ) (p : ChartPass) (text densities : List
   unfolding mostRows
   rows-small = le-trans (x .kept .rows-few) (div-le-self (length data-text + 1) (L + 1))
 
-  pub some-rows : SomeRows (p .scratch) slots
-  some-rows = record { rows = joined (minimised L data-text); written = x .noted .written }
+  written : Written (joined (minimised L data-text)) (p .noting .scratch) slots
+  written = subst (λ rs. Written rs (p .noting .scratch) slots) (append-nil (joined (minimised L data-text))) (x .noted .written)
 
-  module _ (n : ℕ) (after : List ℕ) (r : ℕ) (f : (rows : List Row) → Written rows (p .scratch) slots → Finished rows n after r) where
+  pub some-rows : SomeRows (p .noting .scratch) slots
+  some-rows = record { rows = joined (minimised L data-text); written = written }
+
+  -- the last object row is that of the definition
+  pub found-placed : Placed (p .noting .last .found)
+  found-placed = x .noted .last .placed
+
+  pub found-48 : place48 (placeOf (p .noting .last .found)) ≡ last48 L data-text
+  unfolding last48 lastObject
+  found-48 = ap place48 (x .noted .last .found)
+
+  module _ (n : ℕ) (after : List ℕ) (r : ℕ) (f : (rows : List Row) → Written rows (p .noting .scratch) slots → Finished rows n after r) where
     finished : Finished (joined (minimised L data-text)) n after r
-    finished = f (joined (minimised L data-text)) (x .noted .written)
+    finished = f (joined (minimised L data-text)) written
 
     pub all-notes : after ≡ padded 0 n (records (notes L data-text))
     unfolding notes

@@ -57,8 +57,10 @@ fn chart_figures(
     let stats = p.pass.counting.stats;
     let depths = p.pass.counting.phantoms;
     let corrected = recount::corrected_stats(stats, depths, &text[0..out], lanes, true, work);
-    let count = notes::finish(p.scratch, slots);
-    let last = scans::last::scan_last(data, lanes);
+    let noting = p.noting;
+    let scan = noting.last;
+    let last = scan.found;
+    let count = notes::finish(noting.scratch, slots);
     slices::zero_u8(text, out);
     slices::zero_u32(densities, measures);
     slices::zero_f32(beats, rows as usize);

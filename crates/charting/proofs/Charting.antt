@@ -2,7 +2,7 @@
 use mathlib.Core.Path.{_≡_, ap, sym, _∙_, subst}
 use mathlib.Core.List.{List, [], _∷_, _++_, map, map-append, append-nil}
 use Prim.Native.Nat.{ℕ, _+_, _*_, _≤_, _<_}
-use native.Mathlib.Nat.{le-trans, le-of-eq, mul-le-mul-right, mul-comm, mul-assoc}
+use native.Mathlib.Nat.{le-trans, le-of-eq, mul-le-mul-right, mul-comm, mul-assoc, add-zero}
 use native.Mathlib.Omega.{arith}
 use lib.Ieee.{Float}
 use lib.ListN.{length, take, drop, length-append}
@@ -20,8 +20,9 @@ use Rattle.keeping.proofs.Keeping.{kept-all}
 use Rattle.measures.specs.Rows.{rowsAt, Holds}
 use Rattle.measures.proofs.Forms.{in-text, form-rows}
 use Rattle.measures.proofs.Shorter.{reduce-short}
-use Rattle.notes.specs.declared.ChartNotesScratch.{ChartNotesScratch}
+use Rattle.noting.specs.declared.Noting.{Noting}
 use Rattle.noting.specs.Noted.{Noted, NoteRoom}
+use Rattle.noting.proofs.Rows.{row-number}
 use Rattle.output.proofs.Writing.{wrote-holds}
 use Rattle.reader.specs.Reading.{ReadAll}
 use Rattle.reader.proofs.Minimising.{Few}
@@ -51,14 +52,14 @@ module _ (L : ℕ) (p : ChartPass) (text densities : List ℕ) (beats : List Flo
 
     pub charted-end : p .pass .counting .rows ≤ length beats → (beats₁ : List Float)
         → beats₁ ≡ (take (p .pass .counting .rows) beats ++ rowBeats (e .midx) (e .rows) 0 (e .rows)) ++ drop (p .pass .counting .rows + e .rows) beats
-        → (s : ChartNotesScratch) (slots₁ : List ℕ)
-        → ((rows : List Row) → Noted L (p .scratch) slots rows → Noted L s slots₁ (rows ++ rowsAt (L + 1) L (e .rows) (drop (e .start) after)))
-        → ChartEnded L (record { pass = e; scratch = s }) after dens beats₁ slots₁ done (reduce cur)
+        → (s : Noting) (slots₁ : List ℕ)
+        → ((ms : List (List Row)) → Noted L (p .noting) slots ms → Noted L s slots₁ (ms ++ (rowsAt (L + 1) L (e .rows) (drop (e .start) after) ∷ [])))
+        → ChartEnded L (record { pass = e; noting = s }) after dens beats₁ slots₁ done (reduce cur)
     charted-end room beats₁ eb s slots₁ f =
         let k = ends done cur (x .kept) in
         record {
           ended = k;
-          noted = subst (Noted L s slots₁) (ap (λ rs. joined done ++ rs) (rows-there L e after done (reduce cur) (k .closed)) ∙ sym (joined-snoc done (reduce cur))) (f (joined done) (x .noted));
+          noted = subst (Noted L s slots₁) (ap (λ rs. done ++ (rs ∷ [])) (rows-there L e after done (reduce cur) (k .closed))) (f done (x .noted));
           beats-are =
               ap (λ n. take n beats₁) (sym rows-after)
               ∙ ap (take (p .pass .counting .rows + e .rows)) eb
@@ -75,20 +76,24 @@ module _ (L : ℕ) (p : ChartPass) (text densities : List ℕ) (beats : List Flo
         let k = ends (s .done) (s .cur) (s .charted .kept) .closed in
         omega (arith, h, k .wrote .size, ap (λ n. n * (L + 1)) (k .rows))
 
-    pub room-noted : p .pass .counting .rows + p .pass .rows < 4194304 → (p .pass .counting .rows + p .pass .rows) * L * 10 ≤ length slots → NoteRoom L (p .scratch) (e .rows) slots
-    room-noted few room =
-        let here : p .scratch .«row_index» ≡ p .pass .counting .rows = s .charted .noted .written .row ∙ sym (rows-before (s .done) (s .cur) (s .charted)) in
-        let less : p .scratch .«row_index» + e .rows ≤ p .pass .counting .rows + p .pass .rows = omega (arith, here, some-less) in
+    pub room-noted : p .pass .counting .rows + p .pass .rows < 4194304 → (p .pass .counting .rows + p .pass .rows) * L * 10 ≤ length slots → p .pass .midx ≤ 8388608
+        → NoteRoom L (p .noting) (e .rows) slots
+    room-noted few room least =
+        let x = s .charted .noted in
+        let here : p .noting .scratch .«row_index» ≡ p .pass .counting .rows =
+        row-number L (p .noting) slots (s .done) [] x ∙ add-zero (length (joined (s .done))) ∙ sym (rows-before (s .done) (s .cur) (s .charted)) in
+        let less : p .noting .scratch .«row_index» + e .rows ≤ p .pass .counting .rows + p .pass .rows = omega (arith, here, some-less) in
         record {
-          done = joined (s .done);
-          noted = s .charted .noted;
+          done = s .done;
+          noted = x;
           few = omega (arith, less, few);
           room = le-trans (mul-le-mul-right 10 (mul-le-mul-right L less)) room;
+          midx = omega (arith, x .last .midx, s .charted .kept .open-is .midx, least);
         }
 
 -- The next measure begins.
 pub charted-next : (L : ℕ) (e : ChartPass) (text after densities : List ℕ) (beats : List Float) (slots : List ℕ) (done : List (List Row)) (cur : List Row) → ChartEnded L e text densities beats slots done cur
-    → (q : Pass) → Kept L q after densities (done ++ (cur ∷ [])) [] → Charted L (record { pass = q; scratch = e .scratch }) after densities beats slots (done ++ (cur ∷ [])) []
+    → (q : Pass) → Kept L q after densities (done ++ (cur ∷ [])) [] → Charted L (record { pass = q; noting = e .noting }) after densities beats slots (done ++ (cur ∷ [])) []
 charted-next L e text after densities beats slots done cur x q k =
     let same : q .counting .rows ≡ e .pass .counting .rows =
     k .open-is .counted .rows ∙ ap length (append-nil (joined (done ++ (cur ∷ []))) ∙ joined-snoc done cur) ∙ sym (x .ended .closed .counted .rows) in
@@ -108,6 +113,6 @@ chart-all L e data-text text densities beats slots done cur read few x fits shor
     let all : map reduce (chart L data-text) ≡ map reduce done ++ (reduce cur ∷ []) = ap (map reduce) (read .chart-is) ∙ map-append reduce done (cur ∷ []) in
     record {
       kept = kept-all L (e .pass) data-text text densities done cur read few (x .ended) fits short;
-      noted = subst (λ ms. Noted L (e .scratch) slots (joined ms)) (sym all) (x .noted);
+      noted = subst (Noted L (e .noting) slots) (sym all) (x .noted);
       beats-are = x .beats-are ∙ ap (λ ms. joined (beatsFrom 0 ms)) (sym all);
     }

@@ -15,7 +15,7 @@ use Rattle.charting.specs.declared.ChartPass.{ChartPass}
 -- the open measure has these rows, as they were read
 pub record Charted (L : ℕ) (p : ChartPass) (text densities : List ℕ) (beats : List Float) (slots : List ℕ) (done : List (List Row)) (cur : List Row) : Type 0 where
   pub kept : Kept L (p .pass) text densities done cur
-  pub noted : Noted L (p .scratch) slots (joined done)
+  pub noted : Noted L (p .noting) slots done
   pub beats-are : take (p .pass .counting .rows) beats ≡ joined (beatsFrom 0 done)
 
 pub record SomeCharted (L : ℕ) (p : ChartPass) (text densities : List ℕ) (beats : List Float) (slots : List ℕ) : Type 0 where
@@ -26,11 +26,11 @@ pub record SomeCharted (L : ℕ) (p : ChartPass) (text densities : List ℕ) (be
 -- the open measure has ended with these minimised rows
 pub record ChartEnded (L : ℕ) (p : ChartPass) (text densities : List ℕ) (beats : List Float) (slots : List ℕ) (done : List (List Row)) (cur : List Row) : Type 0 where
   pub ended : Ended L (p .pass) text densities done cur
-  pub noted : Noted L (p .scratch) slots (joined (done ++ (cur ∷ [])))
+  pub noted : Noted L (p .noting) slots (done ++ (cur ∷ []))
   pub beats-are : take (p .pass .counting .rows) beats ≡ joined (beatsFrom 0 (done ++ (cur ∷ [])))
 
 -- A whole text was read: what stands in the slices and was counted and noted is that of its minimised measures.
 pub record ChartAll (L : ℕ) (chart-text : List ℕ) (p : ChartPass) (text densities : List ℕ) (beats : List Float) (slots : List ℕ) : Type 0 where
   pub kept : KeptAll L chart-text (p .pass) text densities
-  pub noted : Noted L (p .scratch) slots (joined (minimised L chart-text))
+  pub noted : Noted L (p .noting) slots (minimised L chart-text)
   pub beats-are : take (p .pass .counting .rows) beats ≡ beatsOf L chart-text

@@ -1,8 +1,8 @@
 // The main call's pass over a whole text: rows are written, minimised and counted as in the kept-row pass, and the beats and notes of each
-// measure are written when it ends.
+// measure are written when it ends, and its last object row is kept.
 use definitions::LineKind;
 use keeping::Pass;
-use notes::ChartNotesScratch;
+use noting::Noting;
 ghost use mathlib.Core.Path.{_≡_};
 ghost use mathlib.Core.List.{List, [], _∷_, _++_};
 ghost use Prim.Native.Nat.{ℕ, _+_, _*_, _/_, _≤_, _<_};
@@ -13,10 +13,10 @@ ghost use Rattle.definitions.specs.Lines.{Row};
 ghost use Rattle.definitions.specs.Reduction.{reduce};
 ghost use Rattle.charting.specs.Pass.{Charted, SomeCharted, ChartEnded, ChartAll};
 
-// What the pass has written and counted, and the notes of the measures that have ended.
+// What the pass has written and counted, and the notes and the last object row of the measures that have ended.
 pub struct ChartPass {
     pub pass: Pass,
-    pub scratch: ChartNotesScratch,
+    pub noting: Noting,
 }
 
 // Before the first line.
@@ -24,8 +24,8 @@ fn no_chart() -> ChartPass
     ensures { λ r. ⌜ ((L : ℕ) (text densities : List ℕ) (beats : List Float) (slots : List ℕ) → L ≤ 10 → Charted L r text densities beats slots [] []) × (r .pass .out ≡ 0) ⌝ }
 {
     let pass = keeping::no_pass();
-    let scratch = notes::begin();
-    ChartPass { pass, scratch }
+    let noting = noting::no_noting();
+    ChartPass { pass, noting }
 }
 
 // One row more of the open measure.
@@ -34,9 +34,9 @@ fn chart_row(p: ChartPass, text: &mut [u8], row: &[u8]) -> ChartPass
     ensures { λ r. ⌜ ((L : ℕ) (densities : List ℕ) (beats : List Float) (slots : List ℕ) (done : List (List Row)) (cur : List Row) → length (now (row .entry)) ≡ L → Charted L p (now (text .entry)) densities beats slots done cur → Charted L r (now (text .exit)) densities beats slots done (cur ++ (now (row .entry) ∷ []))) ⌝ }
     ensures { λ r. ⌜ r .pass .out ≡ p .pass .out + length (now (row .entry)) + 1 ⌝ }
 {
-    let scratch = p.scratch;
+    let noting = p.noting;
     let pass = keeping::pass_row(p.pass, text, row);
-    ChartPass { pass, scratch }
+    ChartPass { pass, noting }
 }
 
 // The open measure ends: its rows are minimised and counted, its density is stored, and the beats and notes of its rows are written.
@@ -54,15 +54,15 @@ fn end_measure(
     ensures { λ r. ⌜ ((done : List (List Row)) (cur : List Row) → Charted lanes p (now (text .entry)) (now (densities .entry)) (now (beats .entry)) (now (slots .entry)) done cur → ChartEnded lanes r (now (text .exit)) (now (densities .exit)) (now (beats .exit)) (now (slots .exit)) done (reduce cur)) ⌝ }
     ensures { λ r. ⌜ (r .pass .out ≤ p .pass .out) × (r .pass .midx ≡ p .pass .midx) ⌝ }
 {
-    let notes = p.scratch;
+    let old = p.noting;
     let before = p.pass.counting.rows;
     let pass = keeping::end_measure(p.pass, text, densities, lanes);
     let start = pass.start;
     let rows = pass.rows;
     let midx = pass.midx;
     beats::append_row_beats(beats, before as usize, midx as u32, rows as u32);
-    let scratch = noting::note_rows(notes, text, start, rows, lanes, slots);
-    ChartPass { pass, scratch }
+    let noting = noting::note_rows(old, text, start, rows, lanes, slots);
+    ChartPass { pass, noting }
 }
 
 // The open measure ends with a `,` line.
@@ -81,9 +81,9 @@ fn chart_comma(
     ensures { λ r. ⌜ r .pass .out ≤ p .pass .out + 2 ⌝ }
 {
     let e = end_measure(p, text, densities, beats, slots, lanes);
-    let scratch = e.scratch;
+    let noting = e.noting;
     let pass = keeping::begin_measure(e.pass, text);
-    ChartPass { pass, scratch }
+    ChartPass { pass, noting }
 }
 
 // The whole text, its last measure too.

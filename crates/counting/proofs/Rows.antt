@@ -25,19 +25,21 @@ use Rattle.phantoms.proofs.Loop.{low-more}
 use Rattle.measures.proofs.ZeroRows.{zero-hold}
 use Rattle.tallies.proofs.Zeros.{zero-count, step-arrows}
 use Rattle.tallies.specs.Bounds.{Below}
+use Rattle.taps.specs.Taps.{FreeAre}
 use Rattle.tallies.proofs.Rows.{tally-none, tally-snoc}
 use Rattle.tallies.proofs.Bounds.{below-none, below-line}
 use Rattle.counting.specs.declared.Counting.{Counting}
 use Rattle.counting.specs.Counted.{Counted}
 
-pub counted-start : (L : ℕ) (t : ArrowStats) (p : Phantoms) → t ≡ noStats → Counts L [] p → Counted L (record { stats = t; phantoms = p; rows = 0; before = 0 }) [] []
-counted-start L t p e x =
+pub counted-start : (L : ℕ) (t : ArrowStats) (p : Phantoms) (busy : ℕ) → t ≡ noStats → Counts L [] p → FreeAre busy 0 (p .depths) → Counted L (record { stats = t; phantoms = p; rows = 0; before = 0; busy = busy }) [] []
+counted-start L t p busy e x free =
     record {
       stats = e ∙ sym tally-none;
       phantoms = x;
       rows = refl;
       steps = ap (λ (s : ArrowStats). s .«total_steps») e;
       few = record { stats = rw e below-none; phantoms = x .low };
+      free = free;
     }
 
 -- the steps with one row more
@@ -47,10 +49,10 @@ steps-row t row = ap (λ b. t .«total_steps» + oneIf b) (step-arrows row)
 
 module _ (L : ℕ) (c : Counting) (done : List (List Row)) (cur : List Row) (x : Counted L c done cur) where
   -- one row more
-  pub counted-row : (row : Row) → length row ≤ L → L ≤ 10 → (t : ArrowStats) (p : Phantoms)
-      → t ≡ addRow (c .stats) (rowSum row) → RowCounted row (c .phantoms) p
-      → Counted L (record { stats = t; phantoms = p; rows = c .rows + 1; before = c .before }) done (cur ++ (row ∷ []))
-  counted-row row w v t p et xp =
+  pub counted-row : (row : Row) → length row ≤ L → L ≤ 10 → (t : ArrowStats) (p : Phantoms) (busy : ℕ)
+      → t ≡ addRow (c .stats) (rowSum row) → RowCounted row (c .phantoms) p → FreeAre busy 0 (p .depths)
+      → Counted L (record { stats = t; phantoms = p; rows = c .rows + 1; before = c .before; busy = busy }) done (cur ++ (row ∷ []))
+  counted-row row w v t p busy et xp free =
       let all : joined done ++ (cur ++ (row ∷ [])) ≡ (joined done ++ cur) ++ (row ∷ []) = sym (append-assoc (joined done) cur (row ∷ [])) in
       let counts : Counts L ((joined done ++ cur) ++ (row ∷ [])) p = xp L (joined done ++ cur) w v (x .phantoms) in
       let narrow : length row ≤ 10 = omega arith in
@@ -67,10 +69,11 @@ module _ (L : ℕ) (c : Counting) (done : List (List Row)) (cur : List Row) (x :
               stats = rw et (subst (λ k. Below k (addRow (c .stats) (rowSum row))) ten (below-line (10 * c .rows) (c .stats) row narrow (x .few .stats)));
               phantoms = subst (λ k. Low (10 * k) p) size (counts .low);
             };
+        free = free;
       }
 
   -- the measure ends
-  pub counted-measure : Counted L (record { stats = c .stats; phantoms = c .phantoms; rows = c .rows; before = c .stats .«total_steps» }) (done ++ (cur ∷ [])) []
+  pub counted-measure : Counted L (record { stats = c .stats; phantoms = c .phantoms; rows = c .rows; before = c .stats .«total_steps»; busy = c .busy }) (done ++ (cur ∷ [])) []
   counted-measure =
       let all : joined done ++ cur ≡ joined (done ++ (cur ∷ [])) ++ [] = sym (append-nil (joined (done ++ (cur ∷ []))) ∙ joined-snoc done cur) in
       record {
@@ -79,6 +82,7 @@ module _ (L : ℕ) (c : Counting) (done : List (List Row)) (cur : List Row) (x :
         rows = x .rows ∙ ap length all;
         steps = sym (add-zero (c .stats .«total_steps»));
         few = record { stats = x .few .stats; phantoms = x .few .phantoms };
+        free = x .free;
       }
 
 -- A row that is all zero leaves what is counted of the rows' cells.

@@ -9,6 +9,7 @@ use Rattle.definitions.specs.Figures.{density}
 use Rattle.definitions.specs.Tally.{tally}
 use Rattle.phantoms.specs.Phantoms.{Counts, Low}
 use Rattle.tallies.specs.Bounds.{Below}
+use Rattle.taps.specs.Taps.{FreeAre}
 use Rattle.counting.specs.declared.Counting.{Counting}
 
 -- every count is small for so many rows
@@ -22,6 +23,7 @@ pub record Counted (L : ℕ) (c : Counting) (done : List (List Row)) (cur : List
   pub rows : c .rows ≡ length (joined done ++ cur)
   pub steps : c .stats .«total_steps» ≡ c .before + density cur
   pub few : Few c
+  pub free : FreeAre (c .busy) 0 (c .phantoms .depths)
 
 -- something was counted, and a measure begins
 pub record SomeCounted (L : ℕ) (c : Counting) : Type 0 where

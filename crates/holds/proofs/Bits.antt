@@ -9,7 +9,7 @@ use borrow.Author.Tests.{eq-eqb}
 use lib.Dec.{eqb}
 use lib.Bits.{bitOr, or-step, or-shr, or-zero-r}
 use lib.Pow.{pow-pos, pow-lt, pow-add, field}
-use Rattle.cells.specs.Taps.{bit}
+use Rattle.taps.specs.Taps.{bit}
 
 -- the bit of a column, as the program makes it
 pub one-bit : (c : ℕ) → c < 10 → 1 * 2 ^ c % 65536 ≡ 2 ^ c

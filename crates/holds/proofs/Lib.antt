@@ -8,5 +8,5 @@ pub mod Sweep
 pub mod Rows
 pub mod Opens
 pub mod Heads
-pub mod ZeroRows
+pub mod Tails
 pub mod Passed

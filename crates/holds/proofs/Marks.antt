@@ -15,7 +15,7 @@ use Rattle.definitions.specs.Tracker.{Pair, paired, isHeadOf}
 use Rattle.definitions.specs.declared.DepthEffect.{DepthEffect}
 use Rattle.definitions.specs.declared.DepthEffect.the-variants as effect
 use Rattle.definitions.proofs.Lists.{All, none, one}
-use Rattle.cells.specs.Taps.{bit}
+use Rattle.taps.specs.Taps.{bit}
 use Rattle.holds.specs.Stacks.{endedAt}
 use Rattle.holds.specs.Tracks.{endsIn, marked, judgedHead}
 use Rattle.holds.specs.declared.Ended.{Ended}

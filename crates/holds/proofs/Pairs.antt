@@ -49,7 +49,7 @@ pairs-snoc rows r c =
     ∙ ap (λ n. pairsFrom c 0 [] rows ++ paired (holdAt (byteAt c r)) n (stackFrom c 0 [] rows)) (zero-add (length rows))
 
 -- past the row's last cell a column stays as it is
-beyond : (r : Row) (c : ℕ) → length r ≤ c → holdAt (byteAt c r) ≡ Nothing
+pub beyond : (r : Row) (c : ℕ) → length r ≤ c → holdAt (byteAt c r) ≡ Nothing
 unfolding holdAt cellOf
 beyond r c h = rw (List·getD-eq-default r 48 h)
 

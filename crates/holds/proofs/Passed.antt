@@ -1,55 +1,58 @@
--- Rows that leave the tracker as it is: all zero, or without a head where none is open; and what they leave in the work slice.
+-- Rows that leave the tracker as it is, those of taps in columns without an open head, and what they leave in the work slice.
 use mathlib.Core.Path.{_≡_, refl, ap, sym, _∙_}
-use mathlib.Core.Bool.{Bool, true, false, true≢false}
+use mathlib.Core.Bool.{Bool, false, _||_}
 use mathlib.Core.List.{List, [], _∷_, _++_, append-nil}
 use Prim.Native.Nat.{ℕ, _<_}
 use native.Mathlib.Omega.{arith}
 use lib.ListN.{length, getD}
 use Rattle.definitions.specs.Lines.{Row}
-use Rattle.definitions.specs.Cells.{byteAt}
+use Rattle.definitions.specs.Cells.{cellOf, byteAt}
 use Rattle.definitions.specs.Tracker.{nextStack, paired, holdAt, pairs, isHeadOf}
-use Rattle.definitions.specs.Reduction.{allZero}
+use Rattle.definitions.specs.Correction.{isOpening, isClosing}
 use Rattle.definitions.specs.declared.DepthEffect.{DepthEffect}
-use Rattle.definitions.specs.declared.DepthEffect.the-variants.{Nothing, Blocks, Opens, Closes}
-use Rattle.cells.specs.Rows.{hasHeadOrTail}
-use Rattle.cells.proofs.Pairing.{Keeps, row-keeps}
+use Rattle.taps.specs.Taps.{bit, FreeTaps, FreeAre}
+use Rattle.taps.proofs.Free.{Free, zero-cell, tap-there, free-cell}
 use Rattle.holds.specs.Stacks.{tracker, stackOf}
 use Rattle.holds.specs.Tracks.{endsIn, endsAt, TracksJudged, CellsDone, Leaves}
 use Rattle.holds.specs.declared.Tracker.{Tracker}
 use Rattle.holds.proofs.Pairs.{stack-snoc, pairs-snoc}
 use Rattle.holds.proofs.Ends.{sum-same, ends-late}
-use Rattle.measures.proofs.ZeroRows.{zero-hold}
-
-pub zero-leaves : (t : Tracker) (r : Row) → allZero r ≡ true → Leaves t r
-zero-leaves t r z =
-    record {
-      stack = λ c i h. ap (λ e. nextStack e i (stackOf t c)) (zero-hold c r z);
-      pairs = λ c i h. ap (λ e. paired e i (stackOf t c)) (zero-hold c r z);
-    }
-
--- a cell that opens nothing leaves a stack empty
-still-empty : (e : DepthEffect) (i : ℕ) → Keeps e → nextStack e i [] ≡ []
-still-empty Nothing i k = refl
-still-empty Blocks i k = refl
-still-empty Opens i k = absurd (true≢false k)
-still-empty Closes i k = refl
-
-none-paired : (e : DepthEffect) (i : ℕ) → paired e i [] ≡ []
-none-paired Nothing i = refl
-none-paired Blocks i = refl
-none-paired Opens i = refl
-none-paired Closes i = refl
 
 no-depth : (heads depths : List ℕ) (c : ℕ) → getD depths c 0 ≡ 0 → stackOf (tracker heads depths) c ≡ []
 unfolding stackOf
 no-depth heads depths c z = rw z
 
-pub closed-leaves : (heads depths : List ℕ) (r : Row) → ((c : ℕ) → c < 10 → getD depths c 0 ≡ 0) → hasHeadOrTail r ≡ false → Leaves (tracker heads depths) r
-closed-leaves heads depths r z e =
+-- a cell of such a row: a `0`, or a `1` in a column without an open head
+module _ (busy c i : ℕ) (st : List ℕ) (z : bit c busy ≡ 0 → st ≡ []) where
+  free-stack : {b : ℕ} → Free busy c b → nextStack (holdAt b) i st ≡ st
+  unfolding holdAt cellOf
+  free-stack (zero-cell e) = rw e
+  free-stack (tap-there e f) = rw (e, z f)
+
+  free-pairs : {b : ℕ} → Free busy c b → paired (holdAt b) i st ≡ []
+  unfolding holdAt cellOf
+  free-pairs (zero-cell e) = rw e
+  free-pairs (tap-there e f) = rw e
+
+pub free-leaves : (busy m : ℕ) (heads depths : List ℕ) (r : Row) → FreeTaps busy m r → FreeAre busy 0 depths → Leaves (tracker heads depths) r
+free-leaves busy m heads depths r f a =
     record {
-      stack = λ c i h. rw (no-depth heads depths c (z c h)) (still-empty (holdAt (byteAt c r)) i (row-keeps r e c));
-      pairs = λ c i h. rw (no-depth heads depths c (z c h)) (none-paired (holdAt (byteAt c r)) i);
+      stack = λ c i h. free-stack busy c i _ (λ e. no-depth heads depths c (a c h e)) (free-cell busy m r f c);
+      pairs = λ c i h. free-pairs busy c i _ (λ e. no-depth heads depths c (a c h e)) (free-cell busy m r f c);
     }
+
+-- neither opens nor closes
+abbrev Keeps : DepthEffect → Type 0
+Keeps e = (isOpening e || isClosing e) ≡ false
+
+-- none of its cells is a head or a tail
+pub free-keeps : (busy m : ℕ) (r : Row) → FreeTaps busy m r → (c : ℕ) → Keeps (holdAt (byteAt c r))
+unfolding holdAt cellOf
+free-keeps busy m r f c = go (free-cell busy m r f c)
+  where
+    go : {b : ℕ} → Free busy c b → Keeps (holdAt b)
+    go (zero-cell e) = rw e
+    go (tap-there e z) = rw e
 
 -- The work slice after such a row's columns is as it was before them.
 pub leaves-done : (J : ℕ → Bool) (rows : List Row) (cells : Row) (t : Tracker) (work : List ℕ) → Leaves t cells → TracksJudged J rows t work

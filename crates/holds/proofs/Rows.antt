@@ -11,7 +11,7 @@ use lib.Seq.{getD-set-same, getD-set-other}
 use Rattle.definitions.specs.Lists.{oneIf}
 use Rattle.definitions.specs.Lines.{Row}
 use Rattle.definitions.specs.Tracker.{pairs, isHeadOf}
-use Rattle.cells.specs.Taps.{bit}
+use Rattle.taps.specs.Taps.{bit}
 use Rattle.holds.specs.Stacks.{stackOf}
 use Rattle.holds.specs.Tracks.{stackAfter, endsAt, Column, TracksJudged, CellsDone}
 use Rattle.holds.specs.declared.Tracker.{Tracker}

@@ -10,7 +10,7 @@ use Rattle.definitions.specs.Lists.{oneIf, count, sumColumns}
 use Rattle.definitions.specs.Lines.{Row}
 use Rattle.definitions.specs.Cells.{byteAt}
 use Rattle.definitions.specs.Tracker.{Pair, nextStack, paired, holdAt, pairs, isHeadOf}
-use Rattle.cells.specs.Taps.{bit}
+use Rattle.taps.specs.Taps.{bit}
 use Rattle.holds.specs.Stacks.{stackOf}
 use Rattle.holds.specs.declared.Tracker.{Tracker}
 use Rattle.holds.specs.declared.Ended.{Ended}

@@ -156,26 +156,18 @@ pub fn track_judged_row(
     t
 }
 
-// The same where no row is judged: the work slice has the paired heads alone.
-pub fn track_row(t: Tracker, row: u32, cells: &[u8], work: &mut [u16]) -> Tracker
+// The same where no row is judged: the work slice has the paired heads alone. It is not a call of the other, so that each is written into the
+// one loop that calls it, which spares copies of the tracker.
+pub fn track_row(mut t: Tracker, row: u32, cells: &[u8], work: &mut [u16]) -> Tracker
     requires { ⌜ (length (now cells) ≤ 10) × (row < length (now work)) × Reached row t (now work) ⌝ }
     ensures { λ r. ⌜ ((rows : List Row) → length rows ≡ row → Tracks rows t (now (work .entry)) → Tracks (rows ++ (now (cells .entry) ∷ [])) r (now (work .exit))) ⌝ }
 {
-    track_judged_row(t, row, cells, false, work)
-}
-
-// Whether a row is seen to leave a tracker of these depths as it is: it is all zero, or no head is open and it has neither head nor tail.
-// Such a row is passed by `pass_row`, which spares the copies of the tracker.
-pub fn leaves(depths: &[u32; 10], row: &[u8]) -> bool
-    ensures { λ r. ⌜ (r ≡ true → (heads : List ℕ) → Leaves (tracker heads (now (depths .entry))) (now (row .entry))) ⌝ }
-{
-    if measures::is_all_zero(row) {
-        return true;
-    }
-    if cells::row_pairs_nothing(row) {
-        return cells::ten_are(depths, 0);
-    }
-    false
+    let mut depths = t.depths;
+    let ends = track_cells(&mut t.heads, &mut depths, row, cells, &mut *work);
+    let at = row as usize;
+    work[at] = row_entry(false, ends);
+    t.depths = depths;
+    t
 }
 
 // One row that leaves the tracker as it is: only its own entry is set, and no pair ends there.

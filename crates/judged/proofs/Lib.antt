@@ -1,5 +1,4 @@
--- Laws of the judged tallies: the flags, the rows that are read, and the two loops over them.
+-- Laws of the judged tallies: the flags, and the two loops over the rows.
 pub mod Flags
-pub mod Rows
 pub mod Tracking
 pub mod Tallying

@@ -1,8 +1,8 @@
 -- The second loop: the judged tally of the rows read so far, and the holds open before the next one.
 use mathlib.Core.Path.{_≡_, refl, ap, ap₂, sym, _∙_}
-use mathlib.Core.Bool.{Bool, true, false, cond, and-false}
+use mathlib.Core.Bool.{Bool, true, false, cond, true≢false}
 use mathlib.Core.List.{List, [], _∷_, _++_}
-use Prim.Native.Nat.{ℕ, suc, _+_, _*_, _-_, _/_, _%_, _^_, _≤_, _<_}
+use Prim.Native.Nat.{ℕ, _+_, _*_, _-_, _/_, _%_, _^_, _≤_, _<_}
 use native.Mathlib.Nat.{zero-add, add-zero, sub-zero, le-trans, mul-le-mul-right}
 use native.Mathlib.Omega.{arith}
 use lib.Dec.{eqb}
@@ -11,30 +11,31 @@ use lib.Pow.{field, mod-mod-pow}
 use Rattle.definitions.specs.Lists.{oneIf}
 use Rattle.definitions.specs.Lanes.{mostRows}
 use Rattle.definitions.specs.Lines.{Row}
-use Rattle.definitions.specs.Tracker.{Pair, pairs}
-use Rattle.definitions.specs.Tally.{noStats, addSum, rowSumBy}
+use Rattle.definitions.specs.Cells.{byteAt}
+use Rattle.definitions.specs.Tracker.{pairs, holdAt}
+use Rattle.definitions.specs.Tally.{noStats, rowSumBy}
 use Rattle.definitions.specs.Correction.{keepRow}
 use Rattle.definitions.specs.ReadBack.{readBack}
-use Rattle.definitions.specs.Judged.{onlyFakes, judgedSum, judgeRow, openBefore, judgeFrom, judgedRows}
-use Rattle.definitions.specs.Reduction.{allZero}
-use Rattle.definitions.specs.declared.ArrowStats.{ArrowStats}
-use Rattle.cells.specs.Taps.{bit}
+use Rattle.definitions.specs.Judged.{judgedSum, judgeRow, openBefore, judgeFrom, judgedRows}
+use Rattle.taps.specs.Taps.{bit}
 use Rattle.holds.specs.Tracks.{pairedHeads}
 use Rattle.holds.proofs.Opens.{opens, opens-start, opens-most}
 use Rattle.holds.proofs.Heads.{kept-heads}
-use Rattle.holds.proofs.ZeroRows.{zero-ends}
-use Rattle.tallies.proofs.Zeros.{zero-kept, zero-judged}
+use Rattle.holds.proofs.Tails.{none-ends}
+use Rattle.holds.proofs.Passed.{free-keeps}
+use Rattle.tallies.proofs.Taps.{taps-heads}
+use Rattle.taps.specs.Taps.{FreeTaps}
 use Rattle.reader.specs.declared.BackLine.{BackLine}
 use Rattle.reader.specs.BackReading.{BackRead, BackReading}
 use Rattle.reader.proofs.BackReading.{back-start, back-row, back-passed, back-end, back-trimmed}
 use Rattle.tallies.specs.Bounds.{Below}
 use Rattle.tallies.specs.Kept.{keepMask}
 use Rattle.tallies.proofs.Bounds.{below-more, below-none, below-judged-line}
-use Rattle.tallies.proofs.Kept.{keep-mask, keep-length}
+use Rattle.tallies.proofs.Kept.{keep-mask, keep-length, keep-whole}
 use Rattle.tallies.proofs.Rows.{judge-snoc}
 use Rattle.judged.specs.declared.TimingStats.{TimingStats}
-use Rattle.judged.specs.Timing.{headsOf, endsOf, isJudged, timingSum, newHolds, noTiming, timingRow, Timed}
-use Rattle.judged.proofs.Rows.{rows-short, bytesAt, bytes-are, row-room, row-wide, row-here, row-inside}
+use Rattle.judged.specs.Timing.{headsOf, endsOf, isJudged, timingSum, newHolds, noTiming, timingRow, timingTaps, Timed}
+use Rattle.reader.proofs.BackRows.{rows-short, bytesAt, bytes-are, row-room, row-wide, row-here, row-inside}
 
 -- J says which rows are judged.
 pub record Tallying (J : ℕ → Bool) (L : ℕ) (text : List ℕ) (off row : ℕ) (t : TimingStats) : Type 0 where
@@ -68,16 +69,6 @@ low-bit c m h =
 one-is : (b : Bool) → eqb (oneIf b) 1 ≡ b
 one-is true = refl
 one-is false = refl
-
--- a row that counts nothing leaves the tally, whose `holding` stays 0
-judge-nothing : (t : ArrowStats) (judged : Bool) (held : ℕ) → t .holding ≡ 0 → judgeRow t judged held (onlyFakes 0) ≡ t
-unfolding judgeRow
-judge-nothing t judged held z = ap₂ (addSum t (onlyFakes 0)) (and-false judged) (sym z) ∙ simp add-zero
-
-holding-none : (L : ℕ) (J : ℕ → Bool) (ps : ℕ → List Pair) (t : ArrowStats) (i : ℕ) (rows : List Row) → t .holding ≡ 0 → judgeFrom L J ps t i rows .holding ≡ 0
-unfolding judgeRow
-holding-none L J ps t i [] z = z
-holding-none L J ps t i (r ∷ rows) z = holding-none L J ps (judgeRow t (J i) (openBefore L J ps i) (judgedSum (J i) (keepRow ps i 0 r))) (suc i) rows refl
 
 module _ (J : ℕ → Bool) (L : ℕ) (text : List ℕ) (off row : ℕ) (t : TimingStats) (x : Tallying J L text off row t) where
   -- at most ten holds are opened in a row
@@ -179,11 +170,14 @@ module _ (J : ℕ → Bool) (L : ℕ) (text : List ℕ) (off row : ℕ) (t : Tim
                 (rw keep-length (omega (arith, wide))) (x .below));
           })
 
-      -- an all-zero row leaves the tally and the open holds
-      pub tallying-zero : allZero cells ≡ true → Tallying J L text (r .next) (row + 1) t
+      -- a row of taps alone counts as it is, and opens and ends no hold
+      pub tallying-taps : (m : ℕ) → FreeTaps 0 m cells → (t' : TimingStats) → t' ≡ timingTaps t entry cells → Tallying J L text (r .next) (row + 1) t'
       unfolding timingRow newHolds
-      tallying-zero z =
-          let sum = sum-is ∙ ap (judgedSum (J row)) (zero-kept (pairs all) row 0 cells z) ∙ zero-judged cells z (J row) in
-          let none = w .tracks .ends row ∙ zero-ends J all row (ap allZero here ∙ z) in
-          let held = ap (λ s. s .holding) (x .stats) ∙ holding-none L J (pairs all) noStats 0 (x .rows) refl in
-          tallying-row t (sym (rw (sum, none, judge-nothing (t .stats) (isJudged entry) (t .active) held) (simp (add-zero, sub-zero))))
+      tallying-taps m f t' q =
+          let keeps = free-keeps 0 m cells f in
+          let kept = keep-whole (pairs all) row 0 cells (λ k l o. absurd (true≢false (rw o at (keeps k)))) in
+          let sum = sum-is ∙ ap₂ judgedSum (sym judged-is) kept in
+          let none =
+          w .tracks .ends row
+          ∙ none-ends J all row (λ c o. true≢false (rw (ap (λ (x : Row). holdAt (byteAt c x)) (sym here) ∙ o) at (keeps c))) in
+          tallying-row t' (q ∙ sym (rw (sum, none, taps-heads cells m (f .mask) (isJudged entry)) (simp (add-zero, sub-zero))))

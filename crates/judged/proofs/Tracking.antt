@@ -17,7 +17,7 @@ use Rattle.reader.specs.BackReading.{BackRead, BackReading}
 use Rattle.reader.proofs.BackReading.{back-start, back-row, back-passed, back-end, back-trimmed}
 use Rattle.slices.specs.Zeroed.{zeroed}
 use Rattle.judged.specs.Timing.{Timed}
-use Rattle.judged.proofs.Rows.{bytesAt, bytes-are, row-room}
+use Rattle.reader.proofs.BackRows.{bytesAt, bytes-are, row-room}
 
 -- J says which rows are judged.
 pub record Tracking (J : ℕ → Bool) (L : ℕ) (text : List ℕ) (off row : ℕ) (t : Tracker) (work : List ℕ) : Type 0 where

@@ -45,6 +45,14 @@ timingRow t entry cells =
       active = t .active + newHolds entry cells - endsOf entry;
     }
 
+-- with one row of taps alone more, at which no hold begins or ends
+abbrev pub timingTaps : TimingStats → ℕ → Row → TimingStats
+timingTaps t entry cells =
+    record {
+      stats = judgeRow (t .stats) (isJudged entry) (t .active) (judgedSum (isJudged entry) cells);
+      active = t .active;
+    }
+
 -- The work slice has the entries of these rows, where J says which are judged.
 pub record Timed (J : ℕ → Bool) (rows : List Row) (work : List ℕ) : Type 0 where
   pub tracker : Tracker

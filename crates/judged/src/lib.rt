@@ -1,5 +1,7 @@
 // Judged tallies, over rows read by `parse_minimized_rows`. One definition serves both calls: which rows are judged is a test.
+use clean::CleanTally;
 use definitions::ArrowStats;
+use taps::Taps;
 ghost use mathlib.Core.Path.{_≡_};
 ghost use mathlib.Core.Bool.{Bool};
 ghost use mathlib.Core.List.{[]};
@@ -10,9 +12,12 @@ ghost use Rattle.definitions.specs.Lanes.{mostRows};
 ghost use Rattle.definitions.specs.ReadBack.{readBack};
 ghost use Rattle.definitions.specs.Judged.{judgedRows};
 ghost use Rattle.definitions.specs.Entries.{judgedWork};
+ghost use Rattle.definitions.specs.Lines.{Row};
+ghost use Rattle.taps.specs.Taps.{tapLineMask, TapCounts};
+ghost use Rattle.taps.specs.declared.Taps.the-variants.{Mask};
 ghost use Rattle.tallies.specs.Bounds.{Below};
 ghost use Rattle.judged.specs.Answers.{judgedAnswer, flaggedAnswer, answerBy};
-ghost use Rattle.judged.specs.Timing.{judgedBy, endsOf, newHolds, noTiming, timingRow, Timed, SomeTimed};
+ghost use Rattle.judged.specs.Timing.{judgedBy, endsOf, newHolds, noTiming, timingRow, timingTaps, Timed, SomeTimed};
 
 // The tally, or the refusal's number.
 pub enum JudgedAnswer {
@@ -40,13 +45,14 @@ fn is_judged(all: bool, flags: &[u8], i: usize) -> bool
 }
 
 // The entry of each row in the work slice, as the Rust's `TimingRow`: its paired heads, how many holds of judged heads end there, and whether
-// it is judged.
+// it is judged. `busy` has the columns with an open head: a row of taps in other columns leaves the tracker as it is.
 fn track_timing_rows(data: &[u8], lanes: usize, all: bool, flags: &[u8], work: &mut [u16])
     requires { ⌜ (length (now «data») ≤ 16777215) × (lanes ≤ 10) × (mostRows lanes (length (now «data»)) ≤ length (now work)) ⌝ }
     ensures { λ _. ⌜ Timed (judgedBy all (now (flags .entry))) (readBack lanes (now («data» .entry))) (now (work .exit)) ⌝ }
 {
     slices::zero_u16(&mut *work, 0);
     let mut t = holds::no_tracker();
+    let mut busy: u32 = 0;
     let mut off = 0;
     let mut row: u32 = 0;
     while off <= data.len() {
@@ -55,10 +61,12 @@ fn track_timing_rows(data: &[u8], lanes: usize, all: bool, flags: &[u8], work: &
         if line.row {
             let end = off + lanes;
             let judged = is_judged(all, flags, row as usize);
-            if holds::leaves(&t.depths, &data[off..end]) {
-                holds::pass_row(row, judged, &mut *work);
-            } else {
-                t = holds::track_judged_row(t, row, &data[off..end], judged, &mut *work);
+            match taps::free_taps(&data[off..end], busy) {
+                Taps::Mask(_) => holds::pass_row(row, judged, &mut *work),
+                Taps::Other => {
+                    t = holds::track_judged_row(t, row, &data[off..end], judged, &mut *work);
+                    busy = taps::unlike(&t.depths, 0);
+                }
             }
             row += 1;
         }
@@ -91,12 +99,27 @@ fn process_timing_row(t: TimingStats, cells: &[u8], entry: u16) -> TimingStats
     }
 }
 
-// The rows again, each with its entry. An all-zero row adds nothing, and no hold ends there.
+// One row of taps alone more, by its entry: no hold begins or ends there.
+fn process_timing_taps(t: TimingStats, mask: u8, entry: u16, counts: &[u16; 256]) -> TimingStats
+    requires { ⌜ TapCounts (now counts) × Below 4294967285 (t .stats) × (t .active ≤ 4294967285) ⌝ }
+    ensures { λ r. ⌜ ((row : Row) → tapLineMask row ≡ Mask mask → r ≡ timingTaps t entry row) ⌝ }
+{
+    let judged = entry / 16384 == 1;
+    let old = t.stats;
+    let stats = tallies::judge_taps(old, judged, t.active, mask, counts);
+    TimingStats {
+        stats,
+        active: t.active,
+    }
+}
+
+// The rows again, each with its entry.
 fn tally_timing_rows(data: &[u8], lanes: usize, work: &[u16]) -> ArrowStats
     requires { ⌜ (length (now «data») ≤ 16777215) × (lanes ≤ 10) × (mostRows lanes (length (now «data»)) ≤ length (now work)) ⌝ }
     requires { ⌜ SomeTimed (readBack lanes (now «data»)) (now work) ⌝ }
     ensures { λ r. ⌜ ((J : ℕ → Bool) → Timed J (readBack lanes (now («data» .entry))) (now (work .entry)) → r ≡ judgedRows lanes J (readBack lanes (now («data» .entry)))) ⌝ }
 {
+    let counts = taps::tap_mask_counts();
     let mut t = no_timing();
     let mut off = 0;
     let mut row = 0;
@@ -105,8 +128,10 @@ fn tally_timing_rows(data: &[u8], lanes: usize, work: &[u16]) -> ArrowStats
         let next = line.next;
         if line.row {
             let end = off + lanes;
-            if !measures::is_all_zero(&data[off..end]) {
-                t = process_timing_row(t, &data[off..end], work[row]);
+            let entry = work[row];
+            match taps::free_taps(&data[off..end], 0) {
+                Taps::Mask(mask) => t = process_timing_taps(t, mask, entry, &counts),
+                Taps::Other => t = process_timing_row(t, &data[off..end], entry),
             }
             row += 1;
         }
@@ -115,7 +140,7 @@ fn tally_timing_rows(data: &[u8], lanes: usize, work: &[u16]) -> ArrowStats
     t.stats
 }
 
-// The judged tally of an accepted text. The work slice is left 0 throughout.
+// The judged tally of an accepted text by the two loops, through the work slice, which is left 0 throughout.
 fn judge_rows(data: &[u8], lanes: usize, all: bool, flags: &[u8], work: &mut [u16]) -> ArrowStats
     requires { ⌜ (length (now «data») ≤ 16777215) × (lanes ≤ 10) × (mostRows lanes (length (now «data»)) ≤ length (now work)) ⌝ }
     ensures { λ r. ⌜ r ≡ judgedRows lanes (judgedBy all (now (flags .entry))) (readBack lanes (now («data» .entry))) ⌝ }
@@ -125,6 +150,31 @@ fn judge_rows(data: &[u8], lanes: usize, all: bool, flags: &[u8], work: &mut [u1
     let stats = tally_timing_rows(data, lanes, &*work);
     slices::zero_u16(work, 0);
     stats
+}
+
+// The judged tally of an accepted text: in one pass where every row is judged and the rows are clean, else by the two loops, as the Rust's
+// `recalc_judgable_stats` does.
+fn judge_accepted(
+    data: &[u8],
+    lanes: usize,
+    all: bool,
+    flags: &[u8],
+    work: &mut [u16],
+) -> ArrowStats
+    requires { ⌜ (length (now «data») ≤ 16777215) × (lanes ≤ 10) × (mostRows lanes (length (now «data»)) ≤ length (now work)) ⌝ }
+    ensures { λ r. ⌜ r ≡ judgedRows lanes (judgedBy all (now (flags .entry))) (readBack lanes (now («data» .entry))) ⌝ }
+    ensures { λ _. ⌜ now (work .exit) ≡ padded 0 (length (now (work .entry))) [] ⌝ }
+{
+    if all {
+        match clean::judge_clean(data, lanes) {
+            CleanTally::Tally(stats) => {
+                slices::zero_u16(&mut *work, 0);
+                return stats;
+            }
+            CleanTally::NotClean => {}
+        }
+    }
+    judge_rows(data, lanes, all, flags, work)
 }
 
 // The refusals, in rising order, and the tally of an accepted text.
@@ -140,7 +190,7 @@ fn judge(data: &[u8], lanes: usize, all: bool, flags: &[u8], work: &mut [u16]) -
     if work.len() < rows {
         return JudgedAnswer::Refused(5);
     }
-    let stats = judge_rows(data, columns, all, flags, work);
+    let stats = judge_accepted(data, columns, all, flags, work);
     JudgedAnswer::Tally(stats)
 }
 

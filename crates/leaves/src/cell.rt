@@ -1,7 +1,7 @@
 // Cells and tap masks.
-use cells::Taps;
 use definitions::Cell;
 use definitions::DepthEffect;
+use taps::Taps;
 
 // The number of the variant.
 #[no_mangle]
@@ -59,7 +59,7 @@ pub extern "C" fn leaves_tap_mask4(row: &[u8]) -> u32 {
     if row.len() < 4 {
         return 257;
     }
-    mask_number(cells::tap_mask4(row))
+    mask_number(taps::tap_mask4(row))
 }
 
 #[no_mangle]
@@ -67,13 +67,13 @@ pub extern "C" fn leaves_tap_mask8(row: &[u8]) -> u32 {
     if row.len() < 8 {
         return 257;
     }
-    mask_number(cells::tap_mask8(row))
+    mask_number(taps::tap_mask8(row))
 }
 
 // The sum's fields in their order.
 #[no_mangle]
 pub extern "C" fn leaves_tap_sum(mask: u8, sum: &mut [u32; 11]) {
-    let s = cells::tap_sum(mask, &cells::tap_mask_counts());
+    let s = taps::tap_sum(mask, &taps::tap_mask_counts());
     sum[0] = s.arrows;
     sum[1] = s.left;
     sum[2] = s.down;

@@ -9,9 +9,11 @@ use lib.Dec.{eqb}
 use lib.ListN.{length, getD, set}
 use lib.Seq.{sets}
 use Rattle.definitions.specs.Lists.{joined}
+use Rattle.definitions.specs.Lines.{Row}
 use Rattle.definitions.specs.Records.{fields, bytes4, kindNumber, records}
 use Rattle.definitions.specs.declared.Kind.{Kind}
 use Rattle.definitions.specs.declared.Kind.the-variants.{Tap}
+use Rattle.taps.specs.Taps.{FreeTaps, FreeAre}
 use Rattle.notes.specs.Drafts.{State, plain, waiting, ended, Draft, kept}
 use Rattle.notes.specs.declared.ChartNotesScratch.{ChartNotesScratch}
 
@@ -25,9 +27,12 @@ noTail = 4294967295
 abbrev pub dropped : ℕ
 dropped = 4294967294
 
--- no column has an open head
-abbrev pub NoHeads : List ℕ → Type 0
-NoHeads hs = (c : ℕ) → c < 10 → getD hs c 0 ≡ noHead
+-- the row is of taps alone, in columns without an open head
+pub record FreeHeads (hs : List ℕ) (row : Row) : Type 0 where
+  pub busy : ℕ
+  pub mask : ℕ
+  pub taps : FreeTaps busy mask row
+  pub free : FreeAre busy noHead hs
 
 -- ---- the drafts as bytes
 

@@ -18,16 +18,15 @@ ghost use lib.Seq.{sets};
 ghost use Rattle.definitions.specs.Lists.{oneIf};
 ghost use Rattle.definitions.specs.Lines.{Row};
 ghost use Rattle.definitions.specs.Records.{fields};
-ghost use Rattle.cells.specs.Taps.{Tapped};
 ghost use Rattle.notes.specs.Drafts.{stepCell};
-ghost use Rattle.notes.specs.Writer.{HeadThere, HoldEnded, invalidAfter, Ready, NotePushed, noHead, noTail, NoHeads, dropped, Stepped, Closed, Compacted, SomeDrafts};
+ghost use Rattle.notes.specs.Writer.{HeadThere, HoldEnded, invalidAfter, Ready, NotePushed, noHead, noTail, FreeHeads, dropped, Stepped, Closed, Compacted, SomeDrafts};
 ghost use Rattle.notes.specs.Written.{Written, Room, SomeRows, Finished};
 
 // The tail field of a record that is dropped.
 const INVALID_NOTE_ROW: u32 = 4294967294;
 
 // The open head of a column without one.
-const NO_HEAD: u32 = 4294967295;
+pub const NO_HEAD: u32 = 4294967295;
 
 // The writer's state: of each column the number of its open head's record, the number of records, the number of rows, and whether a
 // record was dropped.
@@ -137,10 +136,11 @@ fn push_tap(row: u32, count: usize, column: usize, b: u8, notes: &mut [u8]) -> u
     count + cells::one_if(b == b'1') as usize
 }
 
-// A row of taps alone where no column has an open head. No turn of the loop branches on a cell.
-fn push_taps(s: ChartNotesScratch, row: &[u8], notes: &mut [u8]) -> ChartNotesScratch
-    requires { ⌜ Room s (now row) (now notes) × Tapped (now row) × NoHeads (s .«hold_heads») ⌝ }
+// A row of taps alone in columns without an open head, `finish_row` included. No turn of the loop branches on a cell.
+pub fn push_taps(s: ChartNotesScratch, row: &[u8], notes: &mut [u8]) -> ChartNotesScratch
+    requires { ⌜ Room s (now row) (now notes) × FreeHeads (s .«hold_heads») (now row) ⌝ }
     ensures { λ r. ⌜ ((rows : List Row) → Written rows s (now (notes .entry)) → Written (rows ++ (now (row .entry) ∷ [])) r (now (notes .exit))) ⌝ }
+    ensures { λ r. ⌜ r .«hold_heads» ≡ s .«hold_heads» ⌝ }
 {
     let hold_heads = s.hold_heads;
     let mut count = s.count;
@@ -157,8 +157,8 @@ fn push_taps(s: ChartNotesScratch, row: &[u8], notes: &mut [u8]) -> ChartNotesSc
     }
 }
 
-// A row cell by cell. Most bytes of a chart are `0`, which touches no note: it is passed over before its effect is asked for.
-fn push_cells(s: ChartNotesScratch, row: &[u8], notes: &mut [u8]) -> ChartNotesScratch
+// One row, `finish_row` included. Most bytes of a chart are `0`, which touches no note: it is passed over before its effect is asked for.
+pub fn push_row(s: ChartNotesScratch, row: &[u8], notes: &mut [u8]) -> ChartNotesScratch
     requires { ⌜ Room s (now row) (now notes) ⌝ }
     ensures { λ r. ⌜ ((rows : List Row) → Written rows s (now (notes .entry)) → Written (rows ++ (now (row .entry) ∷ [])) r (now (notes .exit))) ⌝ }
 {
@@ -173,20 +173,6 @@ fn push_cells(s: ChartNotesScratch, row: &[u8], notes: &mut [u8]) -> ChartNotesS
     }
     out.row_index = out.row_index + 1;
     out
-}
-
-// One row, `finish_row` included.
-pub fn push_row(s: ChartNotesScratch, row: &[u8], notes: &mut [u8]) -> ChartNotesScratch
-    requires { ⌜ Room s (now row) (now notes) ⌝ }
-    ensures { λ r. ⌜ ((rows : List Row) → Written rows s (now (notes .entry)) → Written (rows ++ (now (row .entry) ∷ [])) r (now (notes .exit))) ⌝ }
-{
-    if cells::row_is_taps(row) {
-        let heads = s.hold_heads;
-        if cells::ten_are(&heads, NO_HEAD) {
-            return push_taps(s, row, notes);
-        }
-    }
-    push_cells(s, row, notes)
 }
 
 // Drops the heads that are still open.

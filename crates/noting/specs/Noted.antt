@@ -1,19 +1,38 @@
--- What is noted of minimised rows of at most L bytes; l is the note slice.
-use mathlib.Core.List.{List}
+-- What is noted of minimised rows of at most L bytes: `done` are the measures that have ended, `cur` the rows of the open one, l is the note slice.
+use mathlib.Core.List.{List, [], _++_}
 use Prim.Native.Nat.{ℕ, _+_, _*_, _≤_, _<_}
 use lib.ListN.{length}
+use Rattle.definitions.specs.Lists.{joined}
 use Rattle.definitions.specs.Lines.{Row}
 use Rattle.definitions.proofs.Lists.{All}
-use Rattle.notes.specs.declared.ChartNotesScratch.{ChartNotesScratch}
-use Rattle.notes.specs.Written.{Written}
+use Rattle.taps.specs.Taps.{FreeAre}
+use Rattle.notes.specs.Writer.{noHead}
+use Rattle.notes.specs.Written.{Written, Room}
+use Rattle.objects.specs.Rows.{Low}
+use Rattle.objects.specs.LastKept.{LastKept}
+use Rattle.noting.specs.declared.Noting.{Noting}
 
-pub record Noted (L : ℕ) (s : ChartNotesScratch) (l : List ℕ) (rows : List Row) : Type 0 where
-  pub written : Written rows s l
-  pub wide : All (λ r. length r ≤ L) rows
+pub record NotedRows (L : ℕ) (n : Noting) (l : List ℕ) (done : List (List Row)) (cur : List Row) : Type 0 where
+  pub written : Written (joined done ++ cur) (n .scratch) l
+  pub wide : All (λ r. length r ≤ L) (joined done ++ cur)
+  pub last : LastKept (n .last) done cur
+  pub free : FreeAre (n .busy) noHead (n .scratch .«hold_heads»)
 
--- there is room for the notes of so many rows more
-pub record NoteRoom (L : ℕ) (s : ChartNotesScratch) (more : ℕ) (l : List ℕ) : Type 0 where
-  pub done : List Row
-  pub noted : Noted L s l done
-  pub few : s .«row_index» + more < 4194304
-  pub room : (s .«row_index» + more) * L * 10 ≤ length l
+-- no measure is open
+abbrev pub Noted : ℕ → Noting → List ℕ → List (List Row) → Type 0
+Noted L n l done = NotedRows L n l done []
+
+-- what one row asks
+pub record RowReady (n : Noting) (row l : List ℕ) : Type 0 where
+  pub room : Room (n .scratch) row l
+  pub rows : n .last .rows < 16777216
+  pub low : Low 4294967294 (n .last .depths)
+  pub free : FreeAre (n .busy) noHead (n .scratch .«hold_heads»)
+
+-- there is room for the notes of a measure of so many rows more
+pub record NoteRoom (L : ℕ) (n : Noting) (more : ℕ) (l : List ℕ) : Type 0 where
+  pub done : List (List Row)
+  pub noted : Noted L n l done
+  pub few : n .scratch .«row_index» + more < 4194304
+  pub room : (n .scratch .«row_index» + more) * L * 10 ≤ length l
+  pub midx : n .last .midx ≤ 8388608

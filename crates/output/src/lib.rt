@@ -2,11 +2,26 @@
 ghost use mathlib.Core.Path.{_≡_};
 ghost use mathlib.Core.List.{_++_, _∷_, []};
 ghost use Prim.Native.Nat.{_+_, _≤_};
-ghost use lib.ListN.{length};
+ghost use lib.ListN.{length, take, drop};
 ghost use Rattle.measures.specs.Rows.{placed};
 
-// The row's bytes from `at` on.
-pub fn put_row(text: &mut [u8], at: usize, row: &[u8])
+// Four bytes of the row, all read before one is written, so that they are moved as one.
+fn put_four(text: &mut [u8], at: usize, row: &[u8], from: usize)
+    requires { ⌜ (from + 4 ≤ length (now row)) × (at + 4 ≤ length (now text)) ⌝ }
+    ensures { λ _. ⌜ now (text .exit) ≡ placed at (take 4 (drop from (now (row .entry)))) (now (text .entry)) ⌝ }
+{
+    let a = row[from];
+    let b = row[from + 1];
+    let c = row[from + 2];
+    let d = row[from + 3];
+    text[at] = a;
+    text[at + 1] = b;
+    text[at + 2] = c;
+    text[at + 3] = d;
+}
+
+// The row's bytes from `at` on, one by one.
+fn put_bytes(text: &mut [u8], at: usize, row: &[u8])
     requires { ⌜ at + length (now row) ≤ length (now text) ⌝ }
     ensures { λ _. ⌜ now (text .exit) ≡ placed at (now (row .entry)) (now (text .entry)) ⌝ }
 {
@@ -15,6 +30,23 @@ pub fn put_row(text: &mut [u8], at: usize, row: &[u8])
         text[at + i] = row[i];
         i += 1;
     }
+}
+
+// The row's bytes from `at` on: by fours where it has four or eight.
+pub fn put_row(text: &mut [u8], at: usize, row: &[u8])
+    requires { ⌜ at + length (now row) ≤ length (now text) ⌝ }
+    ensures { λ _. ⌜ now (text .exit) ≡ placed at (now (row .entry)) (now (text .entry)) ⌝ }
+{
+    if row.len() == 4 {
+        put_four(text, at, row, 0);
+        return;
+    }
+    if row.len() == 8 {
+        put_four(text, at, row, 0);
+        put_four(text, at + 4, row, 4);
+        return;
+    }
+    put_bytes(text, at, row);
 }
 
 // The row's bytes and byte 10.

@@ -2,5 +2,5 @@
 pub mod Columns
 pub mod Rows
 pub mod Loop
-pub mod Closed
+pub mod Free
 pub mod Corrected

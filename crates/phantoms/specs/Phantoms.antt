@@ -20,10 +20,6 @@ pub record Low (k : ℕ) (p : Phantoms) : Type 0 where
   pub heads : p .heads ≤ k
   pub tails : p .tails ≤ k
 
--- no column is open
-abbrev pub Closed : Phantoms → Type 0
-Closed p = (c : ℕ) → c < 10 → depthAt p c ≡ 0
-
 -- The struct has counted these rows, of L columns.
 pub record Counts (L : ℕ) (rows : List Row) (p : Phantoms) : Type 0 where
   pub depths : (c : ℕ) → c < L → depthAt p c ≡ phantomAfter c 0 rows

@@ -79,8 +79,8 @@ fn phantom_cell(b: u8, depth: u32) -> PhantomCell
     }
 }
 
-// One row more, cell by cell.
-fn phantom_cells(p: Phantoms, row: &[u8]) -> Phantoms
+// One row more.
+pub fn phantom_row(p: Phantoms, row: &[u8]) -> Phantoms
     requires { ⌜ (length (now row) ≤ 10) × Low 4294967285 p ⌝ }
     ensures { λ r. ⌜ RowCounted (now (row .entry)) p r ⌝ }
 {
@@ -103,20 +103,6 @@ fn phantom_cells(p: Phantoms, row: &[u8]) -> Phantoms
         tails,
         met,
     }
-}
-
-// One row more. Where no column is open, a row that has neither a head nor a tail leaves everything as it is.
-pub fn phantom_row(p: Phantoms, row: &[u8]) -> Phantoms
-    requires { ⌜ (length (now row) ≤ 10) × Low 4294967285 p ⌝ }
-    ensures { λ r. ⌜ RowCounted (now (row .entry)) p r ⌝ }
-{
-    if cells::row_pairs_nothing(row) {
-        let depths = p.depths;
-        if cells::ten_are(&depths, 0) {
-            return p;
-        }
-    }
-    phantom_cells(p, row)
 }
 
 // Whether a phantom depth of the first columns is left over.

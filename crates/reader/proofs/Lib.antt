@@ -5,3 +5,4 @@ pub mod Reading
 pub mod BackReading
 pub mod PlainBack
 pub mod Minimising
+pub mod BackRows

@@ -8,7 +8,6 @@ use native.Mathlib.Omega.{arith}
 use lib.ListN.{length, getD, take, drop, length-append}
 use Rattle.definitions.specs.Lines.{Row}
 use Rattle.definitions.specs.Tracker.{Pair, pairs}
-use Rattle.definitions.specs.Reduction.{allZero}
 use Rattle.definitions.specs.Tally.{noStats, rowSum, addRow, tally}
 use Rattle.definitions.specs.Correction.{keepRow, keepFrom, pairedOnly}
 use Rattle.definitions.specs.declared.ArrowStats.{ArrowStats}
@@ -17,7 +16,6 @@ use Rattle.tallies.specs.Kept.{keepMask}
 use Rattle.tallies.proofs.Bounds.{below-more, below-none, below-line}
 use Rattle.tallies.proofs.Kept.{keep-mask, keep-length}
 use Rattle.tallies.proofs.Rows.{tally-snoc, tally-none, keep-snoc}
-use Rattle.tallies.proofs.Zeros.{zero-kept, zero-adds}
 use Rattle.reader.specs.declared.BackLine.{BackLine}
 use Rattle.reader.specs.BackReading.{rowsBack, BackRead, BackReading}
 use Rattle.reader.proofs.BackReading.{back-start, back-row, back-passed, back-end}
@@ -65,25 +63,6 @@ module _ (trim : Bool) (L : ℕ) (text : List ℕ) (off row : ℕ) (stats : Arro
       kept =
           keep-mask ps row (getD work row 0) cells (λ c l. marks c (omega arith) row)
           ∙ ap₂ (λ i l. keepRow ps i 0 l) (sym (zero-add (length (k .rows)) ∙ k .size)) q
-
-  -- an all-zero row adds nothing
-  pub counting-zero : r .row ≡ true → (cells : Row) → cells ≡ take L (drop off text) → allZero cells ≡ true → Counting trim L text (r .next) (row + 1) stats
-  counting-zero e cells q z =
-      let zero : allZero (take L (drop off text)) ≡ true = ap allZero (sym q) ∙ z in
-      record {
-        rows = k .rows ++ (take L (drop off text) ∷ []);
-        reading = back-row trim L text off r h x (k .rows) (k .reading) e;
-        size = rw length-append (omega (arith, k .size));
-        counted =
-            k .counted
-            ∙ sym (rw (keep-snoc ps 0 (k .rows) (take L (drop off text)), zero-kept ps (0 + length (k .rows)) 0 (take L (drop off text)) zero)
-            (tally-snoc (keepFrom ps 0 (k .rows)) (take L (drop off text))
-            ∙ zero-adds (tally (keepFrom ps 0 (k .rows))) (take L (drop off text)) zero));
-        low = below-more (10 * row) (10 * (row + 1)) stats (omega arith) (k .low);
-      }
-    where
-      ps : ℕ → List Pair
-      ps = pairs (rowsBack trim L text)
 
   pub counting-passed : r .row ≡ false → Counting trim L text (r .next) row stats
   counting-passed e =

@@ -5,3 +5,4 @@ pub mod Marking
 pub mod Counting
 pub mod OwnRows
 pub mod Corrected
+pub mod Taps

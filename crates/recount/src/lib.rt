@@ -1,23 +1,29 @@
 // A tally counted anew with only tracker-paired heads, over rows that are read back out of minimised text.
 use definitions::ArrowStats;
 use phantoms::Phantoms;
+use taps::Taps;
 ghost use mathlib.Core.Path.{_≡_};
-ghost use Prim.Native.Nat.{ℕ};
+ghost use Prim.Native.Nat.{ℕ, _≤_};
 ghost use lib.ListN.{length, getD, replicate};
-ghost use Rattle.definitions.specs.Tally.{tally};
+ghost use Rattle.definitions.specs.Tally.{rowSum, addRow, tally};
 ghost use mathlib.Core.List.{List};
 ghost use Rattle.definitions.specs.Lines.{Row};
 ghost use Rattle.definitions.specs.Correction.{pairedOnly, corrected};
+ghost use Rattle.taps.specs.Taps.{TapCounts};
+ghost use Rattle.tallies.specs.Bounds.{Below};
+ghost use Rattle.tallies.specs.Kept.{keepMask};
 ghost use Rattle.phantoms.specs.Phantoms.{Counts};
 ghost use Rattle.reader.specs.BackReading.{rowsBack};
 ghost use Rattle.recount.specs.Heads.{Room, Heads};
 
-// Marks in each row's entry of the work slice, which is all 0, the heads that the tracker pairs.
+// Marks in each row's entry of the work slice, which is all 0, the heads that the tracker pairs. `busy` has the columns with an open head: a
+// row of taps in other columns leaves the tracker as it is.
 fn mark_heads(text: &[u8], lanes: usize, trim: bool, work: &mut [u16])
     requires { ⌜ Room trim lanes (now text) (now work) × ((i : ℕ) → getD (now work) i 0 ≡ 0) ⌝ }
     ensures { λ _. ⌜ Heads (rowsBack trim lanes (now (text .entry))) (now (work .exit)) ⌝ }
 {
     let mut t = holds::no_tracker();
+    let mut busy: u32 = 0;
     let mut off = 0;
     let mut row: u32 = 0;
     while off <= text.len() {
@@ -25,10 +31,12 @@ fn mark_heads(text: &[u8], lanes: usize, trim: bool, work: &mut [u16])
         let next = line.next;
         if line.row {
             let end = off + lanes;
-            if holds::leaves(&t.depths, &text[off..end]) {
-                holds::pass_row(row, false, &mut *work);
-            } else {
-                t = holds::track_row(t, row, &text[off..end], &mut *work);
+            match taps::free_taps(&text[off..end], busy) {
+                Taps::Mask(_) => holds::pass_row(row, false, &mut *work),
+                Taps::Other => {
+                    t = holds::track_row(t, row, &text[off..end], &mut *work);
+                    busy = taps::unlike(&t.depths, 0);
+                }
             }
             row += 1;
         }
@@ -36,11 +44,29 @@ fn mark_heads(text: &[u8], lanes: usize, trim: bool, work: &mut [u16])
     }
 }
 
-// The tally of the rows with only the heads that the work slice marks. An all-zero row adds nothing.
+// The tally with one row more, of which only the heads of a mask count: a row of taps alone by the table, and an all-zero row adds nothing.
+fn count_row(t: ArrowStats, row: &[u8], heads: u16, counts: &[u16; 256]) -> ArrowStats
+    requires { ⌜ (length (now row) ≤ 10) × TapCounts (now counts) × Below 4294967285 t ⌝ }
+    ensures { λ r. ⌜ r ≡ addRow t (rowSum (keepMask heads 0 (now (row .entry)))) ⌝ }
+{
+    match taps::tap_line_mask(row) {
+        Taps::Mask(mask) => tallies::count_taps(t, mask, counts),
+        Taps::Other => {
+            if measures::is_all_zero(row) {
+                t
+            } else {
+                tallies::count_line_masked(t, row, heads)
+            }
+        }
+    }
+}
+
+// The tally of the rows with only the heads that the work slice marks.
 fn count_kept(text: &[u8], lanes: usize, trim: bool, work: &[u16]) -> ArrowStats
     requires { ⌜ Room trim lanes (now text) (now work) × Heads (rowsBack trim lanes (now text)) (now work) ⌝ }
     ensures { λ r. ⌜ r ≡ tally (pairedOnly (rowsBack trim lanes (now (text .entry)))) ⌝ }
 {
+    let counts = taps::tap_mask_counts();
     let mut stats = tallies::no_stats();
     let mut off = 0;
     let mut i = 0;
@@ -49,9 +75,7 @@ fn count_kept(text: &[u8], lanes: usize, trim: bool, work: &[u16]) -> ArrowStats
         let next = line.next;
         if line.row {
             let end = off + lanes;
-            if !measures::is_all_zero(&text[off..end]) {
-                stats = tallies::count_line_masked(stats, &text[off..end], work[i]);
-            }
+            stats = count_row(stats, &text[off..end], work[i], &counts);
             i += 1;
         }
         off = next;

@@ -1,12 +1,17 @@
 // Leaves that carry something from row to row, exported to Rust for the differential runs: object rows, tallies, phantom depths, the hold
 // tracker and typed notes. As in `leaves`, each is called with anything; what is kept from row to row is lent as plain arrays.
-use cells::Depths;
 use definitions::ArrowStats;
+use notes::ChartNotesScratch;
+use objects::Depths;
 use phantoms::Phantoms;
+use taps::Taps;
 ghost use mathlib.Core.Path.{_≡_};
 ghost use mathlib.Core.Bool.{true};
+ghost use mathlib.Core.List.{List, [], _∷_, _++_};
 ghost use Prim.Native.Nat.{ℕ, _≤_};
-ghost use lib.ListN.{getD};
+ghost use lib.ListN.{length, getD};
+ghost use Rattle.definitions.specs.Lines.{Row};
+ghost use Rattle.notes.specs.Written.{Written, Room};
 ghost use Rattle.tallies.specs.Bounds.{Below};
 
 // Whether none of the counts is over `most`.
@@ -32,7 +37,7 @@ pub extern "C" fn row_leaves_row_has_object(row: &[u8], depths: &mut [u32; 10]) 
     if is_low(&*depths, 4294967294) {
         let before = *depths;
         let old = Depths { depths: before };
-        let objects = cells::row_has_object(row, old);
+        let objects = objects::row_has_object(row, old);
         let new = objects.depths;
         let after = new.depths;
         *depths = after;
@@ -81,6 +86,17 @@ fn counts_of(s: ArrowStats) -> [u32; 14] {
     ]
 }
 
+// The tally with one row more, by the table where the row has a mask.
+fn count_row(t: ArrowStats, row: &[u8]) -> ArrowStats
+    requires { ⌜ (length (now row) ≤ 10) × Below 4294967285 t ⌝ }
+{
+    let counts = taps::tap_mask_counts();
+    match taps::tap_line_mask(row) {
+        Taps::Mask(mask) => tallies::count_taps(t, mask, &counts),
+        Taps::Other => tallies::count_line(t, row),
+    }
+}
+
 // The tally with one row more: 0, or 1 where the row is too long or a count too high.
 #[no_mangle]
 pub extern "C" fn row_leaves_count_line(tally: &mut [u32; 14], row: &[u8]) -> u32 {
@@ -89,7 +105,7 @@ pub extern "C" fn row_leaves_count_line(tally: &mut [u32; 14], row: &[u8]) -> u3
     }
     if is_low(&*tally, 4294967285) {
         let before = stats_of(&*tally);
-        let after = tallies::count_line(before, row, &cells::tap_mask_counts());
+        let after = count_row(before, row);
         *tally = counts_of(after);
         return 0;
     }
@@ -206,6 +222,18 @@ pub extern "C" fn row_leaves_track_rows(rows: &[u8], lanes: usize, work: &mut [u
     i
 }
 
+// One row of notes more, as a row of taps where it is one in columns without an open head.
+fn push_row(s: ChartNotesScratch, row: &[u8], slots: &mut [u8]) -> ChartNotesScratch
+    requires { ⌜ Room s (now row) (now slots) ⌝ }
+    ensures { λ r. ⌜ ((rows : List Row) → Written rows s (now (slots .entry)) → Written (rows ++ (now (row .entry) ∷ [])) r (now (slots .exit))) ⌝ }
+{
+    let heads = s.hold_heads;
+    match taps::free_taps(row, taps::unlike(&heads, notes::NO_HEAD)) {
+        Taps::Mask(_) => notes::push_taps(s, row, slots),
+        Taps::Other => notes::push_row(s, row, slots),
+    }
+}
+
 // The records of the notes of rows back to back; the slice is 0 after them. Returns how many notes there are, or the largest number where
 // the lanes are not 1 to 10, where there are more than 16,777,215 rows, or where the slice has no room for a record of each cell.
 #[no_mangle]
@@ -226,7 +254,7 @@ pub extern "C" fn row_leaves_push_rows(rows: &[u8], lanes: usize, slots: &mut [u
             return 18446744073709551615;
         }
         let end = at + lanes;
-        s = notes::push_row(s, &rows[at..end], slots);
+        s = push_row(s, &rows[at..end], slots);
         at = end;
     }
     notes::finish(s, slots)

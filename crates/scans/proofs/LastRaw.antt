@@ -24,29 +24,9 @@ use Rattle.definitions.proofs.Bools.{and-left, and-right}
 use Rattle.definitions.proofs.Reduction.{stride-is}
 use Rattle.definitions.proofs.Thinned.{Thinned, none as thin-none, keep, leave, reduce-thin}
 use Rattle.beats.proofs.Scaled.{last-scaled}
-use Rattle.measures.proofs.ZeroRows.{zero-byte}
+use Rattle.objects.proofs.Zeros.{zero-after, zero-object}
 use Rattle.measures.proofs.Strides.{stride-divides}
 use Rattle.scans.proofs.Strides.{reduce-length}
-
--- rows that are all zero
-zero-at : (c : ℕ) (r : Row) → allZero r ≡ true → objectAt (byteAt c r) ≡ depth.Nothing
-unfolding objectAt cellOf
-zero-at c r z = rw (zero-byte c r z)
-
-pub zero-after : (D : Depths) (r : Row) → allZero r ≡ true → afterRow D r ≡ D
-zero-after D r z = λ i c. same c i
-  where
-    same : (c : ℕ) → afterRow D r c ≡ D c
-    same c = rw (zero-at c r z)
-
-zero-from : (D : Depths) (c : ℕ) (r : Row) → allZero r ≡ true → objectFrom D c r ≡ false
-unfolding objectAt cellOf
-zero-from D c [] z = refl
-zero-from D c (b ∷ r) z =
-    rw (eqb-true b 48 (and-left (eqb b 48) (allZero r) z), zero-from D (suc c) r (and-right (eqb b 48) (allZero r) z))
-
-pub zero-object : (D : Depths) (r : Row) → allZero r ≡ true → objectRow D r ≡ false
-zero-object D r z = zero-from D 0 r z
 
 thin-depths : (D : Depths) {s t : List Row} → Thinned s t → afterRows D s ≡ afterRows D t
 thin-depths D thin-none = refl

@@ -5,5 +5,4 @@ pub mod Steps
 pub mod Strides
 pub mod Spaces
 pub mod LastRaw
-pub mod Kept
 pub mod Looking

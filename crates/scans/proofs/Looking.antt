@@ -14,13 +14,13 @@ use Rattle.definitions.specs.declared.LineKind.the-variants as line
 use Rattle.beats.specs.declared.LastObject.{LastObject}
 use Rattle.beats.specs.declared.LastObject.the-variants as last
 use Rattle.beats.specs.Places.{placeOf, Placed}
-use Rattle.cells.specs.Rows.{Low}
-use Rattle.cells.proofs.Scan.{low-more}
+use Rattle.objects.specs.Rows.{Low}
+use Rattle.objects.proofs.Scan.{low-more}
 use Rattle.reader.specs.declared.ReadLine.{ReadLine}
 use Rattle.reader.specs.Reading.{LineRead, Reading, ReadAll}
 use Rattle.reader.proofs.Reading.{read-start, read-passed, read-comma, read-row, read-semi, read-end}
-use Rattle.scans.specs.declared.LastScan.{LastScan}
-use Rattle.scans.specs.LastKept.{LastKept}
+use Rattle.objects.specs.declared.LastScan.{LastScan}
+use Rattle.objects.specs.LastKept.{LastKept}
 use Rattle.scans.proofs.LastRaw.{last-raw}
 
 pub record Looking (s : LastScan) (L : ℕ) (text : List ℕ) (off : ℕ) : Type 0 where

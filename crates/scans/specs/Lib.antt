@@ -1,4 +1,3 @@
 -- What the contracts of the scans cite, beside the definitions.
 pub mod Answers
 pub mod Spaces
-pub mod LastKept

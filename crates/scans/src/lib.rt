@@ -4,8 +4,6 @@ pub mod densities;
 pub mod last;
 pub mod spacing;
 
-use beats::LastObject;
-use cells::Depths;
 ghost use mathlib.Core.Path.{_≡_};
 ghost use Prim.Native.Nat.{min};
 
@@ -21,22 +19,6 @@ pub struct MeasureSpacing {
     pub rows: usize,
     pub steps: u32,
     pub shift: u32,
-}
-
-// The last object row of the open measure.
-pub enum LastRow {
-    Nothing,
-    At(u32),
-}
-
-// What the last-beat scan keeps: the depths of the columns, the last object row of the measures that have ended and that of the open one, the
-// rows of the open one, and its number.
-pub struct LastScan {
-    pub depths: Depths,
-    pub found: LastObject,
-    pub row: LastRow,
-    pub rows: u32,
-    pub midx: u32,
 }
 
 // The answer of the last-beat scan: the beat, its bits and the beat in 48ths, or the refusal's number.

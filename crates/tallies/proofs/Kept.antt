@@ -1,6 +1,6 @@
 -- Rows with only some of their heads: the loop over them, and that a mask of paired heads gives the rows that are counted anew.
-use mathlib.Core.Path.{_≡_, refl, ap, ap₂, sym, _∙_}
-use mathlib.Core.Bool.{true, false}
+use mathlib.Core.Path.{_≡_, refl, ap, ap₂, sym}
+use mathlib.Core.Bool.{Bool, true, false}
 use mathlib.Core.List.{List, [], _∷_}
 use Prim.Native.Nat.{ℕ, suc, _+_, _<_, _≤_}
 use native.Mathlib.Numerals.{add-one}
@@ -10,7 +10,7 @@ use lib.ListN.{length, getD, drop}
 use lib.Seq.{drop-cons}
 use Rattle.definitions.specs.Lists.{oneIf, count}
 use Rattle.definitions.specs.Lines.{Row}
-use Rattle.definitions.specs.Cells.{cellOf}
+use Rattle.definitions.specs.Cells.{cellOf, byteAt}
 use Rattle.definitions.specs.Tracker.{Pair, isHeadOf, holdAt}
 use Rattle.definitions.specs.Tally.{countedAs, place, countFrom, counted, rowSumBy}
 use Rattle.definitions.specs.Tally.{mine, fake}
@@ -21,7 +21,6 @@ use Rattle.definitions.specs.declared.DepthEffect.the-variants.{Nothing, Blocks
 use Rattle.definitions.specs.declared.Cell.{Cell}
 use Rattle.definitions.specs.declared.Cell.the-variants.{Empty, Tap, Hold, Tail, Roll, Mine, Lift, Fake, KeySound, LowerMine, LowerLift, LowerFake}
 use Rattle.definitions.specs.declared.RowSum.{RowSum}
-use Rattle.cells.proofs.Tables.{same-at}
 use Rattle.tallies.specs.Kept.{hasBit, keptByte, keepMask}
 
 -- A mask of a row's paired heads leaves the row that is counted anew.
@@ -47,25 +46,21 @@ pub keep-next : (m : ℕ) (row : Row) (i : ℕ) → i < length row
     → keepMask m i (drop i row) ≡ keptByte m i (getD row i 0) ∷ keepMask m (i + 1) (drop (i + 1) row)
 keep-next m row i h = rw (add-one, drop-cons row i 0)
 
--- ---- With the bits of all ten columns every head stays.
-all-bits : (c : ℕ) → c < 10 → hasBit c 1023 ≡ true
-all-bits c h = same-at (λ k. hasBit k 1023) (λ k. true) 10 refl c h
+-- ---- A row whose heads are all kept stays as it is.
+keep-one : (e : DepthEffect) (p : Bool) (b : ℕ) → (e ≡ Opens → p ≡ true) → keepHead e p b ≡ b
+keep-one Nothing p b h = refl
+keep-one Blocks p b h = refl
+keep-one Opens p b h = rw (h refl)
+keep-one Closes p b h = refl
 
-keep-paired : (e : DepthEffect) (b : ℕ) → keepHead e true b ≡ b
-keep-paired Nothing b = refl
-keep-paired Blocks b = refl
-keep-paired Opens b = refl
-keep-paired Closes b = refl
-
-keep-every : (c : ℕ) (row : Row) → c + length row ≤ 10 → keepMask 1023 c row ≡ row
-keep-every c [] h = refl
-keep-every c (b ∷ row) h =
+pub keep-whole : (ps : ℕ → List Pair) (i c : ℕ) (r : Row) → ((k : ℕ) → k < length r → holdAt (byteAt k r) ≡ Opens → isHeadOf i (ps (c + k)) ≡ true)
+    → keepRow ps i c r ≡ r
+keep-whole ps i c [] h = refl
+keep-whole ps i c (b ∷ r) h =
+    let first : c + 0 ≡ c = omega arith in
     ap₂ (λ (x : ℕ) (xs : Row). x ∷ xs)
-    (ap (λ t. keepHead (holdAt b) t b) (all-bits c (omega arith)) ∙ keep-paired (holdAt b) b)
-    (keep-every (suc c) row (omega arith))
-
-pub keep-all : (row : Row) → length row ≤ 10 → keepMask 1023 0 row ≡ row
-keep-all row h = keep-every 0 row (omega arith)
+    (keep-one (holdAt b) (isHeadOf i (ps c)) b (λ o. rw first at (h 0 (omega arith) o)))
+    (keep-whole ps i (suc c) r (λ k l o. let z : c + suc k ≡ suc c + k = omega arith in rw z at (h (suc k) (omega arith) o)))
 
 -- ---- On an unjudged row each arrow, mine and fake of a judged one is one fake.
 abbrev sumFakes : RowSum → ℕ

@@ -5,3 +5,4 @@ pub mod Loops
 pub mod Kept
 pub mod Rows
 pub mod Zeros
+pub mod Taps

@@ -10,6 +10,7 @@ use Rattle.definitions.specs.Cells.{cellOf}
 use Rattle.definitions.specs.Tally.{countFrom, counted, direction, rowSumBy}
 use Rattle.definitions.specs.Tally.{hold, roll, tail, mine, lift, fake}
 use Rattle.definitions.specs.declared.Cell.{Cell}
+use Rattle.definitions.specs.declared.Cell.the-variants.{Empty}
 use Rattle.definitions.specs.declared.RowSum.{RowSum}
 use Rattle.tallies.specs.Sums.{noSum, addArrow, addCounted, addCell}
 
@@ -46,3 +47,8 @@ sum-next arrow s c b r = simp add-assoc
 pub no-arrow : (s : RowSum) (c : ℕ) → addArrow s c false ≡ s
 unfolding addArrow
 no-arrow s c = simp add-zero
+
+-- a `0` adds nothing
+pub empty-adds : (arrow : Cell → Bool) → arrow Empty ≡ false → (s : RowSum) (c b : ℕ) → b ≡ 48 → s ≡ addCell s c (cellOf b) (arrow (cellOf b))
+unfolding cellOf addArrow addCounted
+empty-adds arrow n s c b e = rw (e, n) (simp add-zero)

@@ -1,4 +1,4 @@
--- An all-zero row adds nothing to a tally, plain or judged, whichever heads it keeps; and a row is a step where its sum has an arrow.
+-- An all-zero row adds nothing to a tally, whichever heads it keeps; and a row is a step where its sum has an arrow.
 use mathlib.Core.Path.{_≡_, refl, ap, ap₂}
 use mathlib.Core.Bool.{Bool, true, false, _&&_, _||_}
 use mathlib.Core.List.{List, [], _∷_}
@@ -15,7 +15,7 @@ use Rattle.definitions.specs.Reduction.{allZero}
 use Rattle.definitions.specs.Tracker.{Pair, holdAt}
 use Rattle.definitions.specs.Tally.{place, countedAs, countFrom, direction, rowSumBy, rowSum, addRow}
 use Rattle.definitions.specs.Correction.{keepRow}
-use Rattle.definitions.specs.Judged.{isJudgedArrow, isUnjudgedFake, onlyFakes, judgedSum}
+use Rattle.definitions.specs.Judged.{onlyFakes}
 use Rattle.definitions.specs.declared.ArrowStats.{ArrowStats}
 use Rattle.definitions.specs.declared.Cell.{Cell}
 use Rattle.definitions.specs.declared.Cell.the-variants.{Empty}
@@ -48,11 +48,6 @@ module _ (r : Row) (z : allZero r ≡ true) where
 
       others : (k : ℕ) → eqb 0 k ≡ false → count (λ b. eqb (place (countedAs (cellOf b))) k) r ≡ 0
       others k n = zero-count (λ b. eqb (place (countedAs (cellOf b))) k) n r z
-
-  pub zero-judged : (judged : Bool) → judgedSum judged r ≡ onlyFakes 0
-  unfolding judgedSum cellOf
-  zero-judged true = zero-sum isJudgedArrow refl
-  zero-judged false = ap onlyFakes (zero-count (λ b. isUnjudgedFake (cellOf b)) refl r z)
 
 pub zero-adds : (t : ArrowStats) (r : Row) → allZero r ≡ true → addRow t (rowSum r) ≡ t
 unfolding addRow rowSum

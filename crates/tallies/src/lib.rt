@@ -1,5 +1,4 @@
 // Row sums and tallies: what a row adds up to, the tally with one row more, and the same of rows with only paired heads and of judged rows.
-use cells::Taps;
 use definitions::ArrowStats;
 use definitions::Cell;
 use definitions::DepthEffect;
@@ -13,7 +12,9 @@ ghost use Rattle.definitions.specs.Tracker.{holdAt};
 ghost use Rattle.definitions.specs.Tally.{noStats, rowSum, rowSumBy, addSum, addRow};
 ghost use Rattle.definitions.specs.Correction.{keepHead, withSteps};
 ghost use Rattle.definitions.specs.Judged.{isJudgedArrow, onlyFakes, judgedSum, judgeRow};
-ghost use Rattle.cells.specs.Taps.{TapCounts};
+ghost use Rattle.taps.specs.Taps.{tapLineMask, TapCounts};
+ghost use Rattle.taps.specs.declared.Taps.the-variants.{Mask};
+ghost use Rattle.definitions.specs.Lines.{Row};
 ghost use Rattle.tallies.specs.Bounds.{Under, Below};
 ghost use Rattle.tallies.specs.Kept.{hasBit, keptCell, keepMask};
 ghost use Rattle.tallies.specs.Sums.{noSum, addArrow, addCounted, addCell, arrowOf};
@@ -105,17 +106,6 @@ fn row_sum(row: &[u8]) -> RowSum
         i += 1;
     }
     s
-}
-
-// The same, by the table where the row is of taps alone.
-fn row_sum_masked(row: &[u8], counts: &[u16; 256]) -> RowSum
-    requires { ⌜ (length (now row) ≤ 10) × TapCounts (now counts) ⌝ }
-    ensures { λ r. ⌜ r ≡ rowSum (now (row .entry)) ⌝ }
-{
-    match cells::tap_line_mask(row) {
-        Taps::Mask(mask) => cells::tap_sum(mask, counts),
-        Taps::Other => row_sum(row),
-    }
 }
 
 // The tally of no rows.
@@ -214,12 +204,21 @@ pub fn add_judged_row(t: ArrowStats, judged: bool, held: u32, s: RowSum) -> Arro
     add_sum(t, s, hand, 0)
 }
 
-// The tally with one row more; a row of taps alone is counted by the table.
-pub fn count_line(t: ArrowStats, row: &[u8], counts: &[u16; 256]) -> ArrowStats
-    requires { ⌜ (length (now row) ≤ 10) × TapCounts (now counts) × Below 4294967285 t ⌝ }
+// The tally with one row more.
+pub fn count_line(t: ArrowStats, row: &[u8]) -> ArrowStats
+    requires { ⌜ (length (now row) ≤ 10) × Below 4294967285 t ⌝ }
     ensures { λ r. ⌜ r ≡ addRow t (rowSum (now (row .entry))) ⌝ }
 {
-    let s = row_sum_masked(row, counts);
+    let s = row_sum(row);
+    add_row_lent(t, s)
+}
+
+// The tally with one row of taps alone more, by the table.
+pub fn count_taps(t: ArrowStats, mask: u8, counts: &[u16; 256]) -> ArrowStats
+    requires { ⌜ TapCounts (now counts) × Below 4294967285 t ⌝ }
+    ensures { λ r. ⌜ ((row : Row) → tapLineMask row ≡ Mask mask → r ≡ addRow t (rowSum row)) ⌝ }
+{
+    let s = taps::tap_sum(mask, counts);
     add_row_lent(t, s)
 }
 
@@ -310,12 +309,49 @@ pub fn judged_sum_masked(judged: bool, row: &[u8], heads: u16) -> RowSum
     only_fakes(s.arrows + s.mines + s.fakes)
 }
 
-// What a row adds up to, judged or not: with all its heads.
-pub fn judged_sum(judged: bool, row: &[u8]) -> RowSum
+// What a judged row adds up to, with all its heads. A `0` adds nothing.
+pub fn judged_sum(row: &[u8]) -> RowSum
     requires { ⌜ length (now row) ≤ 10 ⌝ }
-    ensures { λ r. ⌜ r ≡ judgedSum judged (now (row .entry)) ⌝ }
+    ensures { λ r. ⌜ r ≡ judgedSum true (now (row .entry)) ⌝ }
 {
-    judged_sum_masked(judged, row, 1023)
+    let mut s = no_sum();
+    let mut i = 0;
+    while i < row.len() {
+        let b = row[i];
+        if b != b'0' {
+            let arrow = is_judged_arrow(b);
+            s = add_cell(s, i, b, arrow);
+        }
+        i += 1;
+    }
+    s
+}
+
+// What a row of taps alone adds up to, judged or not, by the table. On an unjudged row each tap is one fake.
+fn judged_taps(judged: bool, mask: u8, counts: &[u16; 256]) -> RowSum
+    requires { ⌜ TapCounts (now counts) ⌝ }
+    ensures { λ r. ⌜ Under 10 r × ((row : Row) → tapLineMask row ≡ Mask mask → r ≡ judgedSum judged row) ⌝ }
+{
+    let s = taps::tap_sum(mask, counts);
+    if judged {
+        return s;
+    }
+    only_fakes(s.arrows)
+}
+
+// The judged tally with one row of taps alone more, before which `held` holds are open.
+pub fn judge_taps(
+    t: ArrowStats,
+    judged: bool,
+    held: u32,
+    mask: u8,
+    counts: &[u16; 256],
+) -> ArrowStats
+    requires { ⌜ TapCounts (now counts) × Below 4294967285 t × (held ≤ 4294967285) ⌝ }
+    ensures { λ r. ⌜ ((row : Row) → tapLineMask row ≡ Mask mask → r ≡ judgeRow t judged held (judgedSum judged row)) ⌝ }
+{
+    let s = judged_taps(judged, mask, counts);
+    add_judged_row(t, judged, held, s)
 }
 
 // A tally that keeps the steps of another.

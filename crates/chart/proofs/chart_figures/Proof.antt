@@ -7,9 +7,8 @@ use lib.ListN.{length, replicate}
 use Rattle.definitions.specs.Lists.{padded}
 use Rattle.definitions.specs.Notes.{notes}
 use Rattle.definitions.specs.Records.{records}
-use Rattle.scans.proofs.Looking.{looked-48}
 use Rattle.keeping.proofs.Answering.{all-room, all-text, all-densities, all-recount}
-use Rattle.chart.proofs.Answering.{all-beats, rows-small, some-rows, all-notes, note-count, all-figures}
+use Rattle.chart.proofs.Answering.{all-beats, rows-small, some-rows, found-placed, found-48, all-notes, note-count, all-figures}
 use borrow.Author.Needs.{needs}
 use Rattle.chart.proofs.chart_figures.Statement.{statement}
 use Rattle.chart.proofs.chart_figures.Tie as tie
@@ -25,13 +24,10 @@ abbrev from-recount : tie.After-corrected-stats → tie.After-read-chart
 from-recount c = to-read (c .before .before .before)
 
 abbrev to-recount : tie.After-finish → tie.After-corrected-stats
-to-recount c = c .before .before .before .before
+to-recount c = c .before .before .before .before .before .before
 
-abbrev to-finish : tie.After-scan-last → tie.After-finish
-to-finish c = c .before .before .before
-
-abbrev to-scan : tie.After-zero-u8 → tie.After-scan-last
-to-scan c = c .before .before
+abbrev to-finish : tie.After-zero-u8 → tie.After-finish
+to-finish c = c .before .before .before .before
 
 abbrev to-text : tie.After-zero-u32 → tie.After-zero-u8
 to-text c = c .before .before .before .before
@@ -43,7 +39,7 @@ abbrev to-beats : tie.After-last-beat-bits → tie.After-zero-f32
 to-beats c = c .before .before .before
 
 abbrev all-read : tie.After-zero-f32 → tie.After-read-chart
-all-read c = from-recount (to-recount (to-finish (to-scan (to-text (to-densities c)))))
+all-read c = from-recount (to-recount (to-finish (to-text (to-densities c))))
 
 read-chart-requires : tie.Need-read-chart-requires
 read-chart-requires c κs = search needs
@@ -71,36 +67,31 @@ corrected-stats-requires c κs =
     all-recount _ _ _ _ _ (k .read-chart .ensures .kept) _ (now (s .args .work)) (s .pre .0 .0) (s .pre .0 .1) (s .pre .0 .2) (s .pre .1 .1)
 
 finish-requires : tie.Need-finish-requires
-finish-requires c κs = some-rows _ _ _ _ _ _ _ (from-recount (c .before .before .before) .read-chart .ensures)
-
-scan-last-requires : tie.Need-scan-last-requires
-scan-last-requires c κs =
-    let s = to-start (from-recount (to-recount (c .before .before))) in
-    (s .pre .0 .2, s .pre .0 .0, s .pre .0 .1)
+finish-requires c κs = some-rows _ _ _ _ _ _ _ (from-recount (c .before .before .before .before .before) .read-chart .ensures)
 
 zero-u8-requires : tie.Need-zero-u8-requires
 zero-u8-requires c κs =
-    let k = from-recount (to-recount (to-finish (c .before))) in
+    let k = from-recount (to-recount (c .before .before .before)) in
     omega (arith, k .read-chart .ensures .kept .short, k .read-chart .kept .1 .1 .0, to-start k .pre .1 .0 .0)
 
 zero-u32-requires : tie.Need-zero-u32-requires
-zero-u32-requires c κs = all-room _ _ _ _ _ (from-recount (to-recount (to-finish (to-scan (c .before .before .before)))) .read-chart .ensures .kept)
+zero-u32-requires c κs = all-room _ _ _ _ _ (from-recount (to-recount (to-finish (c .before .before .before))) .read-chart .ensures .kept)
 
 cast-zero-f32 : tie.Need-cast-zero-f32
 cast-zero-f32 c =
-    let k = from-recount (to-recount (to-finish (to-scan (to-text (c .before .before .before))))) in
+    let k = from-recount (to-recount (to-finish (to-text (c .before .before .before)))) in
     omega (arith, rows-small _ _ _ _ _ _ _ (k .read-chart .ensures), to-start k .pre .0 .2)
 
 zero-f32-requires : tie.Need-zero-f32-requires
 zero-f32-requires c κs =
-    let k = from-recount (to-recount (to-finish (to-scan (to-text (c .before .before .before))))) in
+    let k = from-recount (to-recount (to-finish (to-text (c .before .before .before)))) in
     omega (arith, k .read-chart .ensures .kept .rows-few, k .read-chart .kept .1 .1 .1 .1 .0, to-start k .pre .1 .0 .2)
 
 last-beat-bits-requires : tie.Need-last-beat-bits-requires
-last-beat-bits-requires c κs = to-scan (to-text (to-densities (c .before .before))) .scan-last .ensures .0
+last-beat-bits-requires c κs = found-placed _ _ _ _ _ _ _ (all-read (c .before .before) .read-chart .ensures)
 
 last-note-row-requires : tie.Need-last-note-row-requires
-last-note-row-requires c κs = to-scan (to-text (to-densities (to-beats c))) .scan-last .ensures .0
+last-note-row-requires c κs = found-placed _ _ _ _ _ _ _ (all-read (to-beats c) .read-chart .ensures)
 
 same-length : tie.Need-same-length
 same-length c =
@@ -123,7 +114,7 @@ same-length-4 c = search needs
 same-length-5 : tie.Need-same-length-5
 same-length-5 c =
     let z = to-beats (c .before) in
-    omega (arith, all-read z .read-chart .kept .1 .1 .1 .1 .1 .0, to-finish (to-scan (to-text (to-densities z))) .finish .kept .1 .0)
+    omega (arith, all-read z .read-chart .kept .1 .1 .1 .1 .1 .0, to-finish (to-text (to-densities z)) .finish .kept .1 .0)
 
 returns : tie.Need-returns
 returns c =
@@ -134,11 +125,10 @@ returns c =
     let x = k .read-chart .ensures in
     let d = to-densities z in
     let t = to-text d in
-    let l = to-scan t .scan-last in
-    let f = to-finish (to-scan t) in
+    let f = to-finish t in
     let r = to-recount f in (
       all-figures _ _ _ _ _ _ _ x _ _ _ _ _ (r .corrected-stats .ensures .0 _ (x .kept .phantoms) (x .kept .stats)) (note-count _ _ _ _ _ _ _ x _ _ _ (f .finish .ensures))
-          (looked-48 _ _ _ (l .ensures .0) (l .ensures .1)) (c .before .last-beat-bits .ensures) (c .last-note-row .ensures .0),
+          (found-48 _ _ _ _ _ _ _ x) (c .before .last-beat-bits .ensures) (c .last-note-row .ensures .0),
       (
         t .zero-u8 .ensures ∙ all-text _ _ _ _ _ (x .kept) (length (now (a .text))) (k .read-chart .kept .1 .1 .0) (s .pre .1 .0 .0),
         (
@@ -168,7 +158,6 @@ chart-figures-spec =
     part-corrected-stats-end
     corrected-stats-requires
     finish-requires
-    scan-last-requires
     zero-u8-requires
     zero-u32-requires
     cast-zero-f32

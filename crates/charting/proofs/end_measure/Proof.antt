@@ -36,7 +36,7 @@ note-rows-requires c κs =
     let s = e .before .before .before .before .before .before .before .before in
     let x = s .pre .0 .3 in
     let r = e .end-measure .ensures in
-    ((s .pre .0 .0, s .pre .0 .1, rows-within _ _ _ _ _ _ _ _ _ (r .0) x (omega (arith, r .1 .0, s .pre .0 .2, e .end-measure .kept .1 .0))), room-noted _ _ _ _ _ _ _ _ _ (r .0) x (s .pre .1 .0 .2) (s .pre .1 .1 .1))
+    ((s .pre .0 .0, s .pre .0 .1, rows-within _ _ _ _ _ _ _ _ _ (r .0) x (omega (arith, r .1 .0, s .pre .0 .2, e .end-measure .kept .1 .0))), room-noted _ _ _ _ _ _ _ _ _ (r .0) x (s .pre .1 .0 .2) (s .pre .1 .1 .1) (s .pre .1 .0 .1))
 
 same-length : tie.Need-same-length
 same-length c = search needs

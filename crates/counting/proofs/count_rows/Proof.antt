@@ -57,17 +57,17 @@ loop-holds c = (omega arith, omega (arith, zero-mul (c .before .before .args .la
 add-end : tie.Need-add-end Inv-loop μ-loop
 add-end c = omega (arith, room c)
 
-sub-count-counting : tie.Need-sub-count-counting Inv-loop μ-loop
-sub-count-counting c = omega arith
+sub-count-row : tie.Need-sub-count-row Inv-loop μ-loop
+sub-count-row c = omega arith
 
-part-count-counting-start : tie.Need-part-count-counting-start Inv-loop μ-loop
-part-count-counting-start c = omega (arith, room c)
+part-count-row-start : tie.Need-part-count-row-start Inv-loop μ-loop
+part-count-row-start c = omega (arith, room c)
 
-part-count-counting-end : tie.Need-part-count-counting-end Inv-loop μ-loop
-part-count-counting-end c = omega (arith, room c)
+part-count-row-end : tie.Need-part-count-row-end Inv-loop μ-loop
+part-count-row-end c = omega (arith, room c)
 
-count-counting-requires : tie.Need-count-counting-requires Inv-loop μ-loop
-count-counting-requires c κs =
+count-row-requires : tie.Need-count-row-requires Inv-loop μ-loop
+count-row-requires c κs =
     let w = few (c .before .before) in
     (rw length-take (omega arith), omega (arith, w .0), w .1, c .before .before .before .before .tap-mask-counts .ensures)
 
@@ -95,8 +95,8 @@ loop-again c =
     ap (λ p. take p ms) (add-one n) ∙ take-suc ms n [] here ∙ ap (λ r. take n ms ++ (r ∷ [])) row in (
       omega arith,
       next-at (at .loop .at) (a .start) n (a .lanes) (at .loop .inv .1),
-      λ done x. subst (Counted (a .lanes) (c .count-counting .result) done) (sym more)
-          (c .count-counting .ensures (a .lanes) done (take n ms) (rw length-take (omega arith)) (omega arith) (at .loop .inv .2 done x)),
+      λ done x. subst (Counted (a .lanes) (c .count-row .result) done) (sym more)
+          (c .count-row .ensures (a .lanes) done (take n ms) (rw length-take (omega arith)) (omega arith) (at .loop .inv .2 done x)),
     )
   where
     next-at : (at start n lanes : ℕ) → at ≡ start + n * (lanes + 1) → at + lanes + 1 ≡ start + (n + 1) * (lanes + 1)
@@ -119,10 +119,10 @@ count-rows-spec =
     tap-mask-counts-requires
     loop-holds
     add-end
-    sub-count-counting
-    part-count-counting-start
-    part-count-counting-end
-    count-counting-requires
+    sub-count-row
+    part-count-row-start
+    part-count-row-end
+    count-row-requires
     add-at
     add-i
     loop-less

@@ -1,5 +1,6 @@
 -- `counting::no_counting` meets its contract.
 use Rattle.counting.proofs.Rows.{counted-start}
+use native.Mathlib.Omega.{arith}
 use borrow.Author.Needs.{needs}
 use Rattle.counting.proofs.no_counting.Statement.{statement}
 use Rattle.counting.proofs.no_counting.Tie as tie
@@ -11,7 +12,7 @@ no-phantoms-requires : tie.Need-no-phantoms-requires
 no-phantoms-requires c κs = search needs
 
 returns : tie.Need-returns
-returns c = λ L h. counted-start L _ _ (c .before .no-stats .ensures) (c .no-phantoms .ensures L h)
+returns c = λ L h. counted-start L _ _ 0 (c .before .no-stats .ensures) (c .no-phantoms .ensures L h) (λ k inside none. c .no-phantoms .ensures 10 (omega arith) .depths k inside)
 
 pub no-counting-spec : {M : Type 1} → statement M
 no-counting-spec = tie.close (tie.spec no-stats-requires no-phantoms-requires returns)

@@ -35,9 +35,9 @@ returns-2 c =
     let short = lt-ltb _ _ (rw (c .before .lanes-of .ensures) at (c .if2 .taken)) in
     (simp (long, short), simp (long, short))
 
-judge-rows-requires : tie.Need-judge-rows-requires
+judge-accepted-requires : tie.Need-judge-accepted-requires
 unfolding mostRows
-judge-rows-requires c κs =
+judge-accepted-requires c κs =
     let e = c .before .before .lanes-of .ensures in
     (c .before .before .before .if1 .left, rw e (lanes-at-most _), c .before .if2 .left)
 
@@ -51,8 +51,8 @@ returns-3 c =
     let l = rows .before .before .before in
     let long = le-ltb _ _ (l .before .if1 .left) in
     let short = le-ltb _ _ (rw (l .lanes-of .ensures) at (rows .before .before .if2 .left)) in (
-      simp (long, short) (ap Tally (rw (l .lanes-of .ensures) at (rows .judge-rows .ensures .0))),
-      simp (long, short) (rows .judge-rows .ensures .1),
+      simp (long, short) (ap Tally (rw (l .lanes-of .ensures) at (rows .judge-accepted .ensures .0))),
+      simp (long, short) (rows .judge-accepted .ensures .1),
     )
 
 pub judge-spec : {M : Type 1} → statement M
@@ -65,6 +65,6 @@ judge-spec =
     add-rows-2
     div-rows
     returns-2
-    judge-rows-requires
+    judge-accepted-requires
     same-length
     returns-3)

@@ -1,44 +1,54 @@
 -- `judged::tally_timing_rows` meets its contract. The loop's invariant: the tally and the open holds are those of the rows read, whichever rows
 -- are judged.
 use Prim.Native.Nat.{ℕ, _≤_, _<_, _-_, _+_, _*_}
-use mathlib.Core.Path.{sym, _∙_}
 use mathlib.Core.Bool.{Bool}
 use mathlib.Core.Logic.{⊎-elim}
 use native.Mathlib.Nat.{le-trans}
 use native.Mathlib.Omega.{arith}
 use borrow.Author.Needs.{needs}
-use borrow.Author.Tests.{not-false}
 use lib.ListN.{length}
 use denote.Ref.{now}
 use Rattle.definitions.specs.ReadBack.{readBack}
+use Rattle.tallies.specs.Bounds.{Below}
 use Rattle.tallies.proofs.Bounds.{below-more}
 use Rattle.judged.specs.Timing.{Timed}
-use Rattle.judged.proofs.Rows.{row-within, bytes-short}
-use Rattle.judged.proofs.Tallying.{Tallying, tallying-start, tallying-active, tallying-room, tallying-passed, tallying-enough, tallying-row, tallying-zero, tallying-end}
+use Rattle.reader.proofs.BackRows.{row-within, bytes-short}
+use Rattle.judged.proofs.Tallying.{Tallying, tallying-start, tallying-active, tallying-room, tallying-passed, tallying-enough, tallying-row, tallying-taps, tallying-end}
 use Rattle.judged.proofs.tally_timing_rows.Statement.{statement}
 use Rattle.judged.proofs.tally_timing_rows.Tie as tie
 
 abbrev Inv-loop : tie.InvT-loop
-Inv-loop «data» lanes work t₀ off₀ row₀ t off row =
+Inv-loop «data» lanes work counts t₀ off₀ row₀ t off row =
     (off ≤ length «data» + 1) × ((J : ℕ → Bool) → Timed J (readBack lanes «data») work → Tallying J lanes «data» off row t)
 
 abbrev μ-loop : tie.MeasureT-loop
-μ-loop «data» lanes work t₀ off₀ row₀ t off row = length «data» + 1 - off
+μ-loop «data» lanes work counts t₀ off₀ row₀ t off row = length «data» + 1 - off
 
 -- the tally so far, with the rows that some test judges
 so-far : (c : tie.At-loop Inv-loop μ-loop) →
-    let start = c .before .before .before .before in
+    let start = c .before .before .before .before .before in
     Tallying (start .pre .1 .judging) (start .args .lanes) (now (start .args .«data»)) (c .loop .off) (c .loop .row) (c .loop .t)
-so-far c = let some = c .before .before .before .before .pre .1 in c .loop .inv .1 (some .judging) (some .timed)
+so-far c = let some = c .before .before .before .before .before .pre .1 in c .loop .inv .1 (some .judging) (some .timed)
 
 -- the row's entry stands in the work slice
 entry-room : (c : tie.Then1 Inv-loop μ-loop) →
     let at = c .before .before .before in
-    at .loop .row < length (now (at .before .before .before .before .args .work))
+    at .loop .row < length (now (at .before .before .before .before .before .args .work))
 entry-room c =
     let at = c .before .before .before in
     tallying-room _ _ _ _ _ _ (so-far at) _ (c .before .before .loop-test .taken) (c .before .back-line .ensures) (c .if1 .taken) _
-    (at .before .before .before .before .pre .0 .2)
+    (at .before .before .before .before .before .pre .0 .2)
+
+-- the tally so far may have a row more
+so-few : (c : tie.At-loop Inv-loop μ-loop) → Below 4294967285 (c .loop .t .stats) × (c .loop .t .active ≤ 4294967285)
+so-few c =
+    let start = c .before .before .before .before .before in
+    let x = so-far c in
+    let few : 10 * c .loop .row ≤ 4294967285 = omega (arith, x .reading .few, x .size, c .loop .inv .0, start .pre .0 .0) in
+    (below-more (10 * c .loop .row) 4294967285 _ few (x .below), le-trans (tallying-active _ _ _ _ _ _ x (start .pre .0 .1)) few)
+
+tap-mask-counts-requires : tie.Need-tap-mask-counts-requires Inv-loop μ-loop
+tap-mask-counts-requires c κs = search needs
 
 no-timing-requires : tie.Need-no-timing-requires Inv-loop μ-loop
 no-timing-requires c κs = search needs
@@ -52,17 +62,34 @@ back-line-requires c κs = search needs
 add-end : tie.Need-add-end Inv-loop μ-loop
 add-end c = omega (arith, row-within _ _ _ _ (c .before .back-line .ensures) (c .if1 .taken))
 
-sub-is-all-zero : tie.Need-sub-is-all-zero Inv-loop μ-loop
-sub-is-all-zero c = omega arith
+mul-entry : tie.Need-mul-entry Inv-loop μ-loop
+mul-entry c = omega (arith, entry-room c)
 
-part-is-all-zero-start : tie.Need-part-is-all-zero-start Inv-loop μ-loop
-part-is-all-zero-start c = omega arith
+shared-slice-read-entry : tie.Need-shared-slice-read-entry Inv-loop μ-loop
+shared-slice-read-entry c = entry-room (c .before)
 
-part-is-all-zero-end : tie.Need-part-is-all-zero-end Inv-loop μ-loop
-part-is-all-zero-end c = row-within _ _ _ _ (c .before .back-line .ensures) (c .if1 .taken)
+sub-free-taps : tie.Need-sub-free-taps Inv-loop μ-loop
+sub-free-taps c = omega arith
 
-is-all-zero-requires : tie.Need-is-all-zero-requires Inv-loop μ-loop
-is-all-zero-requires c κs = search needs
+part-free-taps-start : tie.Need-part-free-taps-start Inv-loop μ-loop
+part-free-taps-start c = omega arith
+
+part-free-taps-end : tie.Need-part-free-taps-end Inv-loop μ-loop
+part-free-taps-end c = let row = c .before in row-within _ _ _ _ (row .before .back-line .ensures) (row .if1 .taken)
+
+free-taps-requires : tie.Need-free-taps-requires Inv-loop μ-loop
+free-taps-requires c κs = search needs
+
+enum-known-mask : tie.Need-enum-known-mask Inv-loop μ-loop
+enum-known-mask c = search needs
+
+process-timing-taps-requires : tie.Need-process-timing-taps-requires Inv-loop μ-loop
+process-timing-taps-requires c κs =
+    let at = c .before .before .before .before .before .before .before .before .before .before in
+    (at .before .before .tap-mask-counts .ensures, so-few at .0, so-few at .1)
+
+enum-told : tie.Need-enum-told Inv-loop μ-loop
+enum-told c = search needs
 
 sub-process-timing-row : tie.Need-sub-process-timing-row Inv-loop μ-loop
 sub-process-timing-row c = omega arith
@@ -72,49 +99,41 @@ part-process-timing-row-start c = omega arith
 
 part-process-timing-row-end : tie.Need-part-process-timing-row-end Inv-loop μ-loop
 part-process-timing-row-end c =
-    let row = c .before .before .before in
+    let row = c .before .before .before .before .before in
     row-within _ _ _ _ (row .before .back-line .ensures) (row .if1 .taken)
-
-mul-process-timing-row : tie.Need-mul-process-timing-row Inv-loop μ-loop
-mul-process-timing-row c = omega (arith, entry-room (c .before .before .before .before))
-
-shared-slice-read-process-timing-row :
-    tie.Need-shared-slice-read-process-timing-row Inv-loop μ-loop
-shared-slice-read-process-timing-row c = entry-room (c .before .before .before .before .before)
 
 process-timing-row-requires : tie.Need-process-timing-row-requires Inv-loop μ-loop
 process-timing-row-requires c κs =
-    let row = c .before .before .before .before .before in
+    let row = c .before .before .before .before .before .before in
     let at = row .before .before .before in
-    let start = at .before .before .before .before in
-    let x = so-far at in
-    let few : 10 * at .loop .row ≤ 4294967285 = omega (arith, x .reading .few, x .size, at .loop .inv .0, start .pre .0 .0) in (
-      (bytes-short _ _ _ (start .pre .0 .1), below-more (10 * at .loop .row) 4294967285 _ few (x .below), le-trans (tallying-active _ _ _ _ _ _ x (start .pre .0 .1)) few),
-      tallying-enough _ _ _ _ _ _ x _ (row .before .before .loop-test .taken) (row .before .back-line .ensures) (row .if1 .taken) _ (start .pre .0 .1) (start .pre .1 .timed),
+    let start = at .before .before .before .before .before in (
+      (bytes-short _ _ _ (start .pre .0 .1), so-few at .0, so-few at .1),
+      tallying-enough _ _ _ _ _ _ (so-far at) _ (row .before .before .loop-test .taken) (row .before .back-line .ensures) (row .if1 .taken) _ (start .pre .0 .1) (start .pre .1 .timed),
     )
 
 add-row : tie.Need-add-row Inv-loop μ-loop
-add-row c = omega (arith, entry-room (c .before .before .before))
+add-row c = omega (arith, entry-room (c .before .before .before .before))
 
 loop-less : tie.Need-loop-less Inv-loop μ-loop
-loop-less c = omega (arith, c .before .before .before .before .back-line .ensures .next)
+loop-less c = omega (arith, c .before .before .before .before .before .back-line .ensures .next)
 
 loop-again : tie.Need-loop-again Inv-loop μ-loop
 loop-again c =
-    let row = c .before .before .before in
+    let row = c .before .before .before .before in
     let a = row .before in
     let at = a .before .before in
     let in-text = a .before .loop-test .taken in
-    let start = at .before .before .before .before in (
+    let start = at .before .before .before .before .before in (
       a .back-line .ensures .within,
       λ J w.
           ⊎-elim
+          (λ v.
+          let free = c .before .free-taps .ensures _ (v .1 .given .1) in
+          rw (v .5)
+          (tallying-taps _ _ _ _ _ _ (at .loop .inv .1 J w) _ in-text (a .back-line .ensures) (row .if1 .taken) _ (start .pre .0 .1) w _ free _ (v .4 .ensures _ (free .mask))))
           (λ v. rw (v .4)
           (tallying-row _ _ _ _ _ _ (at .loop .inv .1 J w) _ in-text (a .back-line .ensures) (row .if1 .taken) _ (start .pre .0 .1) w _ (v .3 .ensures)))
-          (λ v. rw (v .1)
-          (tallying-zero _ _ _ _ _ _ (at .loop .inv .1 J w) _ in-text (a .back-line .ensures) (row .if1 .taken) _ (start .pre .0 .1) w
-          (sym (c .before .is-all-zero .ensures) ∙ not-false _ (v .0 .left))))
-          (c .if2 .came),
+          (c .match .came),
     )
 
 loop-less-2 : tie.Need-loop-less-2 Inv-loop μ-loop
@@ -134,19 +153,23 @@ tally-timing-rows-spec =
     (tie.spec
     Inv-loop
     μ-loop
+    tap-mask-counts-requires
     no-timing-requires
     loop-holds
     back-line-requires
     add-end
-    sub-is-all-zero
-    part-is-all-zero-start
-    part-is-all-zero-end
-    is-all-zero-requires
+    mul-entry
+    shared-slice-read-entry
+    sub-free-taps
+    part-free-taps-start
+    part-free-taps-end
+    free-taps-requires
+    enum-known-mask
+    process-timing-taps-requires
+    enum-told
     sub-process-timing-row
     part-process-timing-row-start
     part-process-timing-row-end
-    mul-process-timing-row
-    shared-slice-read-process-timing-row
     process-timing-row-requires
     add-row
     loop-less

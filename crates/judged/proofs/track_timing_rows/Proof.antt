@@ -6,20 +6,25 @@ use native.Mathlib.Omega.{arith}
 use borrow.Author.Needs.{needs}
 use lib.ListN.{length}
 use denote.Ref.{now}
+use Rattle.taps.specs.Taps.{FreeAre}
+use Rattle.taps.proofs.Unlikes.{unlike-free}
+use Rattle.holds.proofs.Stacks.{stack-length}
+use Rattle.holds.proofs.Passed.{free-leaves}
 use Rattle.judged.specs.Timing.{judgedBy}
-use Rattle.judged.proofs.Rows.{row-within, bytes-short}
+use Rattle.reader.proofs.BackRows.{row-within, bytes-short}
 use Rattle.judged.proofs.Tracking.{Tracking, tracking-start, tracking-reached, tracking-room, tracking-passed, tracking-row, tracking-end}
 use Rattle.judged.proofs.track_timing_rows.Statement.{statement}
 use Rattle.judged.proofs.track_timing_rows.Tie as tie
 
 abbrev Inv-loop : tie.InvT-loop
-Inv-loop «data» lanes all flags work₀ t₀ off₀ row₀ work t off row =
+Inv-loop «data» lanes all flags work₀ t₀ busy₀ off₀ row₀ work t busy off row =
     (off ≤ length «data» + 1)
     × (length work ≡ length work₀)
     × Tracking (judgedBy all flags) lanes «data» off row t work
+    × FreeAre busy 0 (t .depths)
 
 abbrev μ-loop : tie.MeasureT-loop
-μ-loop «data» lanes all flags work₀ t₀ off₀ row₀ work t off row = length «data» + 1 - off
+μ-loop «data» lanes all flags work₀ t₀ busy₀ off₀ row₀ work t busy off row = length «data» + 1 - off
 
 -- a row's entry stands in the work slice
 row-room : (c : tie.Then1 Inv-loop μ-loop) → let at = c .before .before .before in at .loop .row < length (at .loop .work)
@@ -45,7 +50,8 @@ loop-holds : tie.Need-loop-holds Inv-loop μ-loop
 loop-holds c =
     let zeroed = c .before .before .before in
     let a = zeroed .before .before .before .before .before .args in
-    (omega arith, refl, tracking-start _ _ _ _ (now (a .work)) _ (c .no-tracker .ensures) (zeroed .zero-u16 .ensures))
+    let none = c .no-tracker .ensures in
+    (omega arith, refl, tracking-start _ _ _ _ (now (a .work)) _ none (zeroed .zero-u16 .ensures), λ k h e. sym (stack-length _ k) ∙ ap length (none k h))
 
 back-line-requires : tie.Need-back-line-requires Inv-loop μ-loop
 back-line-requires c κs = search needs
@@ -59,20 +65,26 @@ cast-is-judged c = search needs
 is-judged-requires : tie.Need-is-judged-requires Inv-loop μ-loop
 is-judged-requires c κs = search needs
 
-sub-leaves : tie.Need-sub-leaves Inv-loop μ-loop
-sub-leaves c = omega arith
+sub-free-taps : tie.Need-sub-free-taps Inv-loop μ-loop
+sub-free-taps c = omega arith
 
-part-leaves-start : tie.Need-part-leaves-start Inv-loop μ-loop
-part-leaves-start c = omega arith
+part-free-taps-start : tie.Need-part-free-taps-start Inv-loop μ-loop
+part-free-taps-start c = omega arith
 
-part-leaves-end : tie.Need-part-leaves-end Inv-loop μ-loop
-part-leaves-end c = part-end (c .before .before .before)
+part-free-taps-end : tie.Need-part-free-taps-end Inv-loop μ-loop
+part-free-taps-end c = part-end (c .before)
 
-leaves-requires : tie.Need-leaves-requires Inv-loop μ-loop
-leaves-requires c κs = search needs
+free-taps-requires : tie.Need-free-taps-requires Inv-loop μ-loop
+free-taps-requires c κs = search needs
+
+enum-told : tie.Need-enum-told Inv-loop μ-loop
+enum-told c = search needs
 
 pass-row-requires : tie.Need-pass-row-requires Inv-loop μ-loop
-pass-row-requires c κs = row-room (c .before .before .before .before .before .before .before)
+pass-row-requires c κs = row-room (c .before .before .before .before .before .before)
+
+enum-told-2 : tie.Need-enum-told-2 Inv-loop μ-loop
+enum-told-2 c = search needs
 
 sub-track-judged-row : tie.Need-sub-track-judged-row Inv-loop μ-loop
 sub-track-judged-row c = omega arith
@@ -81,35 +93,41 @@ part-track-judged-row-start : tie.Need-part-track-judged-row-start Inv-loop μ-l
 part-track-judged-row-start c = omega arith
 
 part-track-judged-row-end : tie.Need-part-track-judged-row-end Inv-loop μ-loop
-part-track-judged-row-end c = part-end (c .before .before .before .before .before .before)
+part-track-judged-row-end c = part-end (c .before .before .before .before .before)
 
 track-judged-row-requires : tie.Need-track-judged-row-requires Inv-loop μ-loop
 track-judged-row-requires c κs =
-    let row = c .before .before .before .before .before .before .before .before in
+    let row = c .before .before .before .before .before .before .before in
     let at = row .before .before .before in
     let start = at .before .before .before .before .before .before .before .before .before in
     (bytes-short _ _ _ (start .pre .1), row-room row, tracking-reached _ _ _ _ _ _ _ (at .loop .inv .2))
+
+unlike-requires : tie.Need-unlike-requires Inv-loop μ-loop
+unlike-requires c κs = search needs
 
 add-row : tie.Need-add-row Inv-loop μ-loop
 add-row c = omega arith
 
 loop-less : tie.Need-loop-less Inv-loop μ-loop
-loop-less c = omega (arith, c .before .before .before .before .before .before .before .back-line .ensures .next)
+loop-less c = omega (arith, c .before .before .before .before .before .back-line .ensures .next)
 
 loop-again : tie.Need-loop-again Inv-loop μ-loop
 loop-again c =
-    let leaves = c .before in
-    let judged = leaves .before .before .before .before in
+    let judged = c .before .before .before in
     let row = judged .before in
     let a = row .before in
     let at = a .before .before in
     let next = tracking-row _ _ _ _ _ _ _ (at .loop .inv .2) _ (a .before .loop-test .taken) (a .back-line .ensures) (row .if1 .taken) _ in (
       a .back-line .ensures .within,
-      ⊎-elim (λ w. ap length (w .5) ∙ w .2 .kept .1 .1 .0 ∙ at .loop .inv .1) (λ w. ap length (w .6) ∙ w .3 .kept .1 .1 .1 .1 .0 ∙ at .loop .inv .1) (c .if2 .came),
+      ⊎-elim (λ w. ap length (w .6) ∙ w .3 .kept .1 .1 .0 ∙ at .loop .inv .1) (λ w. ap length (w .10) ∙ w .4 .kept .1 .1 .1 .1 .0 ∙ at .loop .inv .1) (c .match .came),
       ⊎-elim
-          (λ w. rw (w .5, w .6) (next _ _ (sym (judged .is-judged .ensures)) (w .2 .ensures _ _ (leaves .leaves .ensures (w .0 .taken) _))))
-          (λ w. rw (w .6, w .7) (next _ _ (sym (judged .is-judged .ensures)) (w .3 .ensures)))
-          (c .if2 .came),
+          (λ w.
+          let free = c .before .free-taps .ensures _ (w .1 .given .1) in
+          rw (w .6, w .7)
+          (next _ _ (sym (judged .is-judged .ensures)) (w .3 .ensures _ _ (free-leaves _ _ _ _ _ free (at .loop .inv .3)))))
+          (λ w. rw (w .10, w .11) (next _ _ (sym (judged .is-judged .ensures)) (w .4 .ensures)))
+          (c .match .came),
+      ⊎-elim (λ w. rw (w .7, w .8) (at .loop .inv .3)) (λ w. rw (w .11, w .12, w .9 .ensures) (unlike-free 0 _)) (c .match .came),
     )
 
 loop-less-2 : tie.Need-loop-less-2 Inv-loop μ-loop
@@ -122,6 +140,7 @@ loop-again-2 c =
       a .back-line .ensures .within,
       at .loop .inv .1,
       tracking-passed _ _ _ _ _ _ _ (at .loop .inv .2) _ (a .before .loop-test .taken) (a .back-line .ensures) (c .if1 .left),
+      at .loop .inv .3,
     )
 
 same-length : tie.Need-same-length Inv-loop μ-loop
@@ -143,15 +162,18 @@ track-timing-rows-spec =
     add-end
     cast-is-judged
     is-judged-requires
-    sub-leaves
-    part-leaves-start
-    part-leaves-end
-    leaves-requires
+    sub-free-taps
+    part-free-taps-start
+    part-free-taps-end
+    free-taps-requires
+    enum-told
     pass-row-requires
+    enum-told-2
     sub-track-judged-row
     part-track-judged-row-start
     part-track-judged-row-end
     track-judged-row-requires
+    unlike-requires
     add-row
     loop-less
     loop-again

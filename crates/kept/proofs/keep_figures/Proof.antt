@@ -26,7 +26,10 @@ part-corrected-stats-start : tie.Need-part-corrected-stats-start
 part-corrected-stats-start c = search needs
 
 part-corrected-stats-end : tie.Need-part-corrected-stats-end
-part-corrected-stats-end c = search needs
+part-corrected-stats-end c =
+    let k = c .before .before .before .before .before .before .before .before in
+    let st = k .before .before .before .before .before .before .before in
+    omega (arith, k .keep-chart .ensures .short, k .keep-chart .kept .1 .1 .0, st .pre .1 .0)
 
 corrected-stats-requires : tie.Need-corrected-stats-requires
 corrected-stats-requires c κs =

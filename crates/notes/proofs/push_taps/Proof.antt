@@ -3,7 +3,7 @@ use mathlib.Core.Path.{refl}
 use Prim.Native.Nat.{_-_}
 use native.Mathlib.Omega.{arith}
 use lib.ListN.{length}
-use Rattle.cells.proofs.Masks.{tapped-byte}
+use Rattle.taps.proofs.Free.{free-byte}
 use Rattle.notes.proofs.Taps.{counting, tap-step}
 use Rattle.notes.proofs.Rows.{Midrow, mid-start, mid-ready, mid-step, row-written}
 use Rattle.notes.proofs.push_taps.Statement.{statement}
@@ -41,9 +41,10 @@ loop-again c =
     let start = at .before .before .before .before in
     let inside = k .loop-test .taken in
     let ready = mid-ready _ _ _ _ _ _ (at .loop .inv) (start .pre .0) inside in
-    let byte = tapped-byte (start .args .row .now) _ (at .loop .column) (start .pre .1 .is) inside in
+    let heads = start .pre .1 in
+    let cell = free-byte _ _ _ (heads .taps) (at .loop .column) inside in
     mid-step _ _ _ _ _ _ (at .loop .inv) _ _ _ refl inside (pushed .push-tap .kept .1 .1 .1 .1 .0)
-    (tap-step _ _ _ _ ready (start .pre .2) _ _ (pushed .push-tap .ensures .1) (pushed .push-tap .ensures .0) (byte .0) (byte .1) (byte .2))
+    (tap-step _ _ _ _ ready _ _ (pushed .push-tap .ensures .1) (pushed .push-tap .ensures .0) (heads .busy) (heads .free) cell)
 
 add-t13 : tie.Need-add-t13 Inv-loop μ-loop
 add-t13 c =
@@ -54,7 +55,7 @@ same-length : tie.Need-same-length Inv-loop μ-loop
 same-length c = c .before .before .loop .inv .same
 
 returns : tie.Need-returns Inv-loop μ-loop
-returns c = row-written _ _ _ (c .before .before .before .before .before .before .pre .0) _ _ _ _ (c .before .before .loop .inv) (c .before .loop-test .left) refl refl refl refl
+returns c = (row-written _ _ _ (c .before .before .before .before .before .before .pre .0) _ _ _ _ (c .before .before .loop .inv) (c .before .loop-test .left) refl refl refl refl, refl)
 
 pub push-taps-spec : {M : Type 1} → statement M
 push-taps-spec =

@@ -1,71 +1,71 @@
--- `output::put_row` meets its contract: the loop pastes one byte of the row a turn.
-use Prim.Native.Nat.{_≤_, _<_, _+_, _-_}
-use mathlib.Core.Path.{_≡_, refl, ap, sym, _∙_}
-use native.Mathlib.Numerals.{add-one}
+-- `output::put_row` meets its contract.
+use mathlib.Core.Path.{ap, _∙_}
+use Prim.Native.Nat.{_+_}
 use native.Mathlib.Omega.{arith}
 use denote.Ref.{now}
-use lib.ListN.{length, getD, set, length-set}
-use lib.Seq.{paste, paste-zero, paste-suc}
-use Rattle.output.proofs.Writing.{paste-placed}
+use lib.ListN.{take, drop}
+use lib.Seq.{take-all}
+use Rattle.measures.specs.Rows.{placed}
+use Rattle.output.proofs.Writing.{eight-placed}
+use borrow.Author.Needs.{needs}
 use Rattle.output.proofs.put_row.Statement.{statement}
 use Rattle.output.proofs.put_row.Tie as tie
 
-abbrev Inv-loop : tie.InvT-loop
-Inv-loop text₀ at row i₀ text i = (i ≤ length row) × (length text ≡ length text₀) × (text ≡ paste text₀ at row i)
+put-four-requires : tie.Need-put-four-requires
+put-four-requires c κs = search needs
 
-abbrev μ-loop : tie.MeasureT-loop
-μ-loop text₀ at row i₀ text i = length row - i
+same-length : tie.Need-same-length
+same-length c = search needs
 
-loop-holds : tie.Need-loop-holds Inv-loop μ-loop
-loop-holds c = (omega arith, refl, paste-zero (now (c .args .text)) (c .args .at) (now (c .args .row)))
-
-shared-slice-read-text : tie.Need-shared-slice-read-text Inv-loop μ-loop
-shared-slice-read-text c = omega arith
-
-add-text : tie.Need-add-text Inv-loop μ-loop
-add-text c = omega arith
-
-slice-write-text : tie.Need-slice-write-text Inv-loop μ-loop
-slice-write-text c = omega arith
-
-add-i : tie.Need-add-i Inv-loop μ-loop
-add-i c = omega arith
-
-loop-less : tie.Need-loop-less Inv-loop μ-loop
-loop-less c = omega arith
-
-loop-again : tie.Need-loop-again Inv-loop μ-loop
-loop-again c =
-    let at = c .before .before in
-    let a = at .before .args in
-    let room : a .at + at .loop .i < length (now (a .text)) = omega arith in (
-      omega arith,
-      simp length-set (omega arith),
-      ap (λ l. set l (a .at + at .loop .i) (getD (now (a .row)) (at .loop .i) 0)) (at .loop .inv .2) ∙ paste-suc (now (a .text)) (a .at) (now (a .row)) (at .loop .i) 0 room (c .before .loop-test .taken) ∙ ap (paste (now (a .text)) (a .at) (now (a .row))) (sym (add-one (at .loop .i))),
-    )
-
-same-length : tie.Need-same-length Inv-loop μ-loop
-same-length c = omega arith
-
-returns : tie.Need-returns Inv-loop μ-loop
+returns : tie.Need-returns
 returns c =
-    let at = c .before in
-    let a = at .before .args in
-    let all : at .loop .i ≡ length (now (a .row)) = omega arith in
-    at .loop .inv .2 ∙ ap (paste (now (a .text)) (a .at) (now (a .row))) all ∙ paste-placed (now (a .text)) (a .at) (now (a .row))
+    let put = c .before .before in
+    let start = put .before .before .before .before .before in
+    put .put-four .ensures ∙ ap (λ l. placed (start .args .at) l (now (start .args .text))) (take-all 4 (now (start .args .row)) (omega arith))
+
+put-four-requires-2 : tie.Need-put-four-requires-2
+put-four-requires-2 c κs = search needs
+
+add-put-four : tie.Need-add-put-four
+add-put-four c = search needs
+
+put-four-requires-3 : tie.Need-put-four-requires-3
+put-four-requires-3 c κs = search needs
+
+same-length-2 : tie.Need-same-length-2
+same-length-2 c = search needs
+
+returns-2 : tie.Need-returns-2
+returns-2 c =
+    let second = c .before .before in
+    let first = second .before .before .before .before in
+    let start = first .before .before .before .before .before .before in
+    let a = start .args in
+    second .put-four3 .ensures
+    ∙ ap (placed (a .at + 4) (take 4 (drop 4 (now (a .row))))) (first .put-four2 .ensures)
+    ∙ eight-placed (now (a .text)) (a .at) (now (a .row)) (omega arith) (omega arith)
+
+put-bytes-requires : tie.Need-put-bytes-requires
+put-bytes-requires c κs = search needs
+
+same-length-3 : tie.Need-same-length-3
+same-length-3 c = search needs
+
+returns-3 : tie.Need-returns-3
+returns-3 c = search needs
 
 pub put-row-spec : {M : Type 1} → statement M
 put-row-spec =
     tie.close
     (tie.spec
-    Inv-loop
-    μ-loop
-    loop-holds
-    shared-slice-read-text
-    add-text
-    slice-write-text
-    add-i
-    loop-less
-    loop-again
+    put-four-requires
     same-length
-    returns)
+    returns
+    put-four-requires-2
+    add-put-four
+    put-four-requires-3
+    same-length-2
+    returns-2
+    put-bytes-requires
+    same-length-3
+    returns-3)

@@ -13,14 +13,10 @@ is-low-requires c κs = search needs
 stats-of-requires : tie.Need-stats-of-requires
 stats-of-requires c κs = search needs
 
-tap-mask-counts-requires : tie.Need-tap-mask-counts-requires
-tap-mask-counts-requires c κs = search needs
-
-count-line-requires : tie.Need-count-line-requires
-count-line-requires c κs =
-    let s = c .before .before in
-    let k = s .before .before in
-    (omega arith, c .before .tap-mask-counts .ensures, s .stats-of .ensures 4294967285 (k .before .is-low .ensures (k .if2 .taken)))
+count-row-requires : tie.Need-count-row-requires
+count-row-requires c κs =
+    let k = c .before .before in
+    (omega arith, c .stats-of .ensures 4294967285 (k .before .is-low .ensures (k .if2 .taken)))
 
 counts-of-requires : tie.Need-counts-of-requires
 counts-of-requires c κs = search needs
@@ -38,8 +34,7 @@ row-leaves-count-line-spec =
     returns
     is-low-requires
     stats-of-requires
-    tap-mask-counts-requires
-    count-line-requires
+    count-row-requires
     counts-of-requires
     returns-2
     returns-3)

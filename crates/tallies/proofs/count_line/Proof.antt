@@ -5,16 +5,16 @@ use borrow.Author.Needs.{needs}
 use Rattle.tallies.proofs.count_line.Statement.{statement}
 use Rattle.tallies.proofs.count_line.Tie as tie
 
-row-sum-masked-requires : tie.Need-row-sum-masked-requires
-row-sum-masked-requires c κs = search needs
+row-sum-requires : tie.Need-row-sum-requires
+row-sum-requires c κs = search needs
 
 add-row-lent-requires : tie.Need-add-row-lent-requires
 add-row-lent-requires c κs =
     let start = c .before .before in
-    (start .pre .2, rw (c .row-sum-masked .ensures) (under-row 10 _ (start .pre .0)))
+    (start .pre .1, rw (c .row-sum .ensures) (under-row 10 _ (start .pre .0)))
 
 returns : tie.Need-returns
-returns c = c .add-row-lent .ensures ∙ rw (c .before .row-sum-masked .ensures)
+returns c = c .add-row-lent .ensures ∙ rw (c .before .row-sum .ensures)
 
 pub count-line-spec : {M : Type 1} → statement M
-count-line-spec = tie.close (tie.spec row-sum-masked-requires add-row-lent-requires returns)
+count-line-spec = tie.close (tie.spec row-sum-requires add-row-lent-requires returns)

@@ -1,18 +1,79 @@
--- `tallies::judged_sum` meets its contract: a mask of all columns keeps every head.
-use mathlib.Core.Path.{ap, _∙_}
-use Rattle.definitions.specs.Judged.{judgedSum}
-use Rattle.tallies.proofs.Kept.{keep-all}
-use borrow.Author.Needs.{needs}
+-- `tallies::judged_sum` meets its contract. The loop's invariant: the sum so far, with the cells from column `i` on, is the row's.
+use mathlib.Core.Path.{refl, ap, _∙_}
+use Prim.Native.Nat.{_≤_, _-_}
+use mathlib.Core.Logic.{⊎-elim}
+use native.Mathlib.Omega.{arith}
+use lib.ListN.{length, drop, drop-of-length-le}
+use mathlib.Core.Bool.{true}
+use Rattle.definitions.specs.Judged.{isJudgedArrow, judgedSum}
+use Rattle.tallies.specs.Sums.{addCell}
+use Rattle.tallies.proofs.Sums.{empty-adds}
+use Rattle.tallies.proofs.Bounds.{under-more}
+use Rattle.tallies.proofs.Loops.{Summed, summed-start, summed-next, summed-end, drop-next}
 use Rattle.tallies.proofs.judged_sum.Statement.{statement}
 use Rattle.tallies.proofs.judged_sum.Tie as tie
 
-judged-sum-masked-requires : tie.Need-judged-sum-masked-requires
-judged-sum-masked-requires c κs = search needs
+abbrev Inv-loop : tie.InvT-loop
+Inv-loop row s₀ i₀ s i = (i ≤ length row) × Summed isJudgedArrow (drop i row) (judgedSum true row) s i
 
-returns : tie.Need-returns
+abbrev μ-loop : tie.MeasureT-loop
+μ-loop row s₀ i₀ s i = length row - i
+
+no-sum-requires : tie.Need-no-sum-requires Inv-loop μ-loop
+no-sum-requires c κs = tt
+
+loop-holds : tie.Need-loop-holds Inv-loop μ-loop
+unfolding judgedSum
+loop-holds c = (omega arith, summed-start isJudgedArrow _ _ (c .no-sum .ensures))
+
+shared-slice-read-b : tie.Need-shared-slice-read-b Inv-loop μ-loop
+shared-slice-read-b c = omega arith
+
+is-judged-arrow-requires : tie.Need-is-judged-arrow-requires Inv-loop μ-loop
+is-judged-arrow-requires c κs = tt
+
+add-cell-requires : tie.Need-add-cell-requires Inv-loop μ-loop
+add-cell-requires c κs =
+    let at = c .before .before .before .before .loop in
+    under-more (at .i) 10 _ (omega arith) (at .inv .1 .under)
+
+add-i : tie.Need-add-i Inv-loop μ-loop
+add-i c = omega arith
+
+loop-less : tie.Need-loop-less Inv-loop μ-loop
+loop-less c = omega arith
+
+loop-again : tie.Need-loop-again Inv-loop μ-loop
+loop-again c =
+    let at = c .before .before .before .loop in
+    let row = c .before .before .before .before .before .before .args .row .now in
+    let rest = drop-next row (at .i) (c .before .before .loop-test .taken) in (
+      omega arith,
+      ⊎-elim
+          (λ v. rw (v .3)
+          (summed-next isJudgedArrow _ _ _ (at .s) _ (at .i) _ rest (v .2 .ensures ∙ ap (addCell (at .s) (at .i) _) (v .1 .ensures)) (at .inv .1)))
+          (λ v. rw (v .1)
+          (summed-next isJudgedArrow _ _ _ (at .s) _ (at .i) _ rest (empty-adds isJudgedArrow refl (at .s) (at .i) _ (v .0 .left)) (at .inv .1)))
+          (c .if1 .came),
+    )
+
+returns : tie.Need-returns Inv-loop μ-loop
 returns c =
-    let start = c .before .before in
-    c .judged-sum-masked .ensures ∙ ap (judgedSum (start .args .judged)) (keep-all (start .args .row .now) (start .pre))
+    let at = c .before .loop in
+    summed-end isJudgedArrow _ _ _ _ (drop-of-length-le (c .before .before .before .before .args .row .now) (c .loop-test .left)) (at .inv .1)
 
 pub judged-sum-spec : {M : Type 1} → statement M
-judged-sum-spec = tie.close (tie.spec judged-sum-masked-requires returns)
+judged-sum-spec =
+    tie.close
+    (tie.spec
+    Inv-loop
+    μ-loop
+    no-sum-requires
+    loop-holds
+    shared-slice-read-b
+    is-judged-arrow-requires
+    add-cell-requires
+    add-i
+    loop-less
+    loop-again
+    returns)

@@ -5,7 +5,7 @@ use lib.Dec.{eqb}
 use Rattle.definitions.specs.Cells.{cellOf}
 use Rattle.definitions.specs.Tracker.{holdAt}
 use Rattle.definitions.specs.Correction.{isOpening}
-use Rattle.cells.proofs.Tables.{same-at}
+use Rattle.taps.proofs.Tables.{same-at}
 use borrow.Author.Needs.{needs}
 use Rattle.timing.proofs.is_head.Statement.{statement}
 use Rattle.timing.proofs.is_head.Tie as tie

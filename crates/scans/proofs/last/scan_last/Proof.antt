@@ -7,7 +7,7 @@ use native.Mathlib.Omega.{arith}
 use borrow.Author.Needs.{needs}
 use lib.ListN.{length, take, drop, length-take}
 use denote.Ref.{now}
-use Rattle.cells.proofs.Scan.{low-more}
+use Rattle.objects.proofs.Scan.{low-more}
 use Rattle.scans.proofs.Looking.{Looking, Looked, Few, looking-start, looking-few, looked-few, looking-passed, looking-comma, looking-row, looking-semi, looking-end, looked-last}
 use Rattle.scans.proofs.last.scan_last.Statement.{statement}
 use Rattle.scans.proofs.last.scan_last.Tie as tie

@@ -1,0 +1,6 @@
+-- Laws of the masks.
+pub mod Tables
+pub mod Masks
+pub mod Words
+pub mod Free
+pub mod Unlikes

@@ -1,0 +1,20 @@
+-- `taps::gather` meets its contract: the product has the four bits in places 24 to 27, and no two of its parts in one place.
+use borrow.Author.Needs.{needs}
+use mathlib.Core.Path.{ap, _∙_}
+use Prim.Native.Nat.{_*_, _/_, _%_}
+use native.Mathlib.Omega.{arith}
+use Rattle.taps.proofs.Words.{gathered}
+use Rattle.taps.proofs.gather.Statement.{statement}
+use Rattle.taps.proofs.gather.Tie as tie
+
+mul-result : tie.Need-mul-result
+mul-result c = search needs
+
+cast-result : tie.Need-cast-result
+cast-result c = search needs
+
+returns : tie.Need-returns
+returns c = (λ a b x y ha hb hx hy e. ap (λ w. w * 16909320 / 16777216 % 16) e ∙ gathered a b x y ha hb hx hy, omega arith)
+
+pub gather-spec : {M : Type 1} → statement M
+gather-spec = tie.close (tie.spec mul-result cast-result returns)

@@ -1,0 +1,2 @@
+-- What the contracts of the masks cite, beside the definitions.
+pub mod Taps

@@ -1,0 +1,77 @@
+-- Document 01, `TAP_MASK_COUNTS`: the mask of a row of `0` and `1` alone, and the counts that the table has for it.
+use mathlib.Core.Bool.{cond, _||_, not}
+use mathlib.Core.Path.{_≡_}
+use mathlib.Core.List.{List, [], _∷_}
+use Prim.Native.Nat.{ℕ, zero, suc, _+_, _*_, _/_, _%_, _^_, _<_}
+use lib.Dec.{eqb}
+use lib.ListN.{length, getD}
+use Rattle.definitions.specs.Lists.{sumColumns, oneIf}
+use Rattle.definitions.specs.Lines.{Row}
+use Rattle.definitions.specs.declared.RowSum.{RowSum}
+use Rattle.taps.specs.declared.Taps.{Taps}
+use Rattle.taps.specs.declared.Taps.the-variants.{Mask, Other}
+
+-- the mask of a byte and the cells after it
+abbrev pub withBit : ℕ → Taps → Taps
+withBit b (Mask m) = cond (eqb b 48) (Mask (2 * m)) (cond (eqb b 49) (Mask (1 + 2 * m)) Other)
+withBit b Other = Other
+
+-- A row of `0` and `1` alone as a number, its first column in the lowest bit.
+unfoldable pub tapMask : Row → Taps
+tapMask [] = Mask 0
+tapMask (b ∷ r) = withBit b (tapMask r)
+
+-- "Only 4 and 8 lanes use it."
+unfoldable pub tapLineMask : Row → Taps
+tapLineMask r = cond (eqb (length r) 4 || eqb (length r) 8) (tapMask r) Other
+
+abbrev pub bit : ℕ → ℕ → ℕ
+bit c m = m / 2 ^ c % 2
+
+-- A row of four or eight cells has this mask, and no tap of it stands in a column of `busy`.
+pub record FreeTaps (busy m : ℕ) (r : Row) : Type 0 where
+  pub mask : tapLineMask r ≡ Mask m
+  pub free : (c : ℕ) → bit c m ≡ 1 → bit c busy ≡ 0
+
+-- of ten numbers, those whose place has no bit in `busy` are n
+abbrev pub FreeAre : ℕ → ℕ → List ℕ → Type 0
+FreeAre busy n l = (c : ℕ) → c < 10 → bit c busy ≡ 0 → getD l c 0 ≡ n
+
+-- Which of k numbers from place c on are not n, as a mask: the first of them in the lowest bit.
+abbrev pub unlikeFrom : ℕ → List ℕ → ℕ → ℕ → ℕ
+unlikeFrom n l c zero = 0
+unlikeFrom n l c (suc k) = oneIf (not (eqb (getD l c 0) n)) + 2 * unlikeFrom n l (suc c) k
+
+unfoldable pub unlikeMask : ℕ → List ℕ → ℕ
+unlikeMask n l = unlikeFrom n l 0 10
+
+-- the ones of a mask in the two columns of a direction
+abbrev pub towards : ℕ → ℕ → ℕ
+towards d m = bit d m + bit (d + 4) m
+
+-- "ones of the mask in bits 0 to 3, then 2 bits for each direction from bit 4"
+unfoldable pub maskCounts : ℕ → ℕ
+maskCounts m =
+    sumColumns 8 (λ c. bit c m)
+    + (2 ^ 4 * towards 0 m + 2 ^ 6 * towards 1 m + 2 ^ 8 * towards 2 m + 2 ^ 10 * towards 3 m)
+
+-- a list that has each mask's counts at its number
+abbrev pub TapCounts : List ℕ → Type 0
+TapCounts l = (m : ℕ) → m < 256 → getD l m 0 ≡ maskCounts m
+
+-- the row's sum that the counts stand for
+unfoldable pub unpack : ℕ → RowSum
+unpack n =
+    record {
+      arrows = n % 16;
+      left = n / 16 % 4;
+      down = n / 64 % 4;
+      up = n / 256 % 4;
+      right = n / 1024 % 4;
+      holds = 0;
+      rolls = 0;
+      tails = 0;
+      mines = 0;
+      lifts = 0;
+      fakes = 0;
+    }
