@@ -27,6 +27,16 @@ pub beat-is : (m r n s : ℕ) → HasValue (step n) false s (2 ^ 43) → round b
 unfolding rowBeat
 beat-is m r n s v = sym (fused-is r (4 * m) s (2 ^ 43) (step n) (lit< tt) v)
 
+-- where n steps are 4 beats, row r of measure m is m × n + r steps after beat 0
+pub steps-are : (m r n s : ℕ) → s * n ≡ 35184372088832 → round binary32 false ((m * n + r) * s) (2 ^ 43) ≡ round binary32 false (r * s + 4 * m * 2 ^ 43) (2 ^ 43)
+steps-are m r n s e = ap (λ (x : ℕ). round binary32 false x (2 ^ 43)) same
+  where
+    whole : m * n * s ≡ m * 35184372088832
+    whole = mul-assoc m n s ∙ ap (λ (x : ℕ). m * x) (mul-comm n s ∙ e)
+
+    same : (m * n + r) * s ≡ r * s + 4 * m * 2 ^ 43
+    same = add-mul (m * n) r s ∙ omega (arith, whole)
+
 -- r steps stay below 8
 pub product : (r n s : ℕ) → r < n → s * n < 2 ^ 46 → r * s < 2 ^ 46
 product r n s h k = lt-of-le-of-lt (le-trans (mul-le-mul-right s (le-of-lt h)) (le-of-eq (mul-comm n s))) k

@@ -2,3 +2,4 @@
 pub mod Places
 pub mod Upto
 pub mod Vectors
+pub mod Even

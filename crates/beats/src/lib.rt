@@ -12,6 +12,7 @@ ghost use Rattle.definitions.specs.Beats.{step, rowBeat, rowBeats, whole, lastR
 ghost use Rattle.definitions.specs.Objects.{place48};
 ghost use Rattle.beats.specs.Places.{Inside, placeOf, Placed};
 ghost use Rattle.beats.specs.Upto.{Upto};
+ghost use Rattle.beats.specs.Even.{EvenStep};
 
 // 2^-43, of which every step is a whole number.
 const FINE: f32 = 1.1368683772161603e-13;
@@ -65,7 +66,50 @@ pub fn row_beat(m: u32, r: u32, n: u32) -> f32
     mul_add(r, s, m)
 }
 
-// The beats of the rows of measure `midx`, written from place `at` on. The step is worked out once a measure.
+// The step 4 / n.
+fn step_of(n: u32) -> f32
+    requires { ⌜ n < 4194304 ⌝ }
+    ensures { λ b. ⌜ b ≡ step n ⌝ }
+{
+    4.0 / (n as f32)
+}
+
+// k steps: both factors are floats exactly, so that only the product rounds.
+fn steps_beat(k: u32, step: f32) -> f32
+    requires { ⌜ k < 16777216 ⌝ }
+    ensures { λ b. ⌜ ((s : ℕ) → HasValue step false s (2 ^ 43) → b ≡ round binary32 false (k * s) (2 ^ 43)) ⌝ }
+{
+    (k as f32) * step
+}
+
+// The beats of a measure whose rows are an even part of 4 beats: row r stands `midx` × `rows` + r steps after beat 0.
+fn append_steps(beats: &mut [f32], at: usize, midx: u32, rows: u32)
+    requires { ⌜ (at + rows ≤ length (now beats)) × (rows < 4194304) × (midx * rows + rows ≤ 16777216) × EvenStep rows ⌝ }
+    ensures { λ _. ⌜ now (beats .exit) ≡ (take at (now (beats .entry)) ++ rowBeats midx rows 0 rows) ++ drop (at + rows) (now (beats .entry)) ⌝ }
+{
+    let step = step_of(rows);
+    let first = midx * rows;
+    let mut r: u32 = 0;
+    while r < rows {
+        beats[at + (r as usize)] = steps_beat(first + r, step);
+        r += 1;
+    }
+}
+
+// The beats of any measure's rows, by the step in units of 2^-43.
+fn append_rounded(beats: &mut [f32], at: usize, midx: u32, rows: u32, s: u64)
+    requires { ⌜ (at + rows ≤ length (now beats)) × (midx ≤ 8388608) × (HasValue (step rows) false s (2 ^ 43)) × (s * rows < 2 ^ 46) ⌝ }
+    ensures { λ _. ⌜ now (beats .exit) ≡ (take at (now (beats .entry)) ++ rowBeats midx rows 0 rows) ++ drop (at + rows) (now (beats .entry)) ⌝ }
+{
+    let mut r: u32 = 0;
+    while r < rows {
+        beats[at + (r as usize)] = mul_add(r, s, midx);
+        r += 1;
+    }
+}
+
+// The beats of the rows of measure `midx`, written from place `at` on. The step is worked out once a measure. Where its rows, as most do,
+// divide 4 beats evenly and their numbers are floats exactly, each beat is one product.
 pub fn append_row_beats(beats: &mut [f32], at: usize, midx: u32, rows: u32)
     requires { ⌜ (at + rows ≤ length (now beats)) × (rows < 4194304) × (midx ≤ 8388608) ⌝ }
     ensures { λ _. ⌜ now (beats .exit) ≡ (take at (now (beats .entry)) ++ rowBeats midx rows 0 rows) ++ drop (at + rows) (now (beats .entry)) ⌝ }
@@ -74,11 +118,13 @@ pub fn append_row_beats(beats: &mut [f32], at: usize, midx: u32, rows: u32)
         return;
     }
     let s = step_units(rows);
-    let mut r: u32 = 0;
-    while r < rows {
-        beats[at + (r as usize)] = mul_add(r, s, midx);
-        r += 1;
+    if s * (rows as u64) == 35184372088832 {
+        if (midx as u64) * (rows as u64) + (rows as u64) <= 16777216 {
+            append_steps(beats, at, midx, rows);
+            return;
+        }
     }
+    append_rounded(beats, at, midx, rows, s);
 }
 
 // ---- The last beat

@@ -17,7 +17,7 @@ use Rattle.definitions.specs.declared.Note.{Note}
 use Rattle.definitions.specs.declared.Kind.the-variants as kind
 use Rattle.definitions.specs.declared.Tail.the-variants as tail
 use Rattle.definitions.specs.declared.ReadNote.the-variants.{Found}
-use Rattle.definitions.proofs.Lists.{All, none, one, all-append, all-map}
+use Rattle.definitions.proofs.Lists.{All, none, one, all-append, all-map, all-joined}
 use Rattle.measures.proofs.Blocks.{joined-append}
 use Rattle.records.proofs.Made.{notes-back}
 use Rattle.recount.proofs.OwnRows.{minimised-rows, minimised-rows-few}
@@ -49,10 +49,6 @@ record-lines ns zero h back = refl
 record-lines ns (suc k) h back =
     let one-more : take (suc k) ns ≡ take k ns ++ (getD ns k no-note ∷ []) = take-suc ns k no-note (omega arith) in
     rw (record-lines ns k (omega arith) back, back k (omega arith), one-more, map-snoc, joined-append, append-nil)
-
-all-joined : {P : Row → Type 0} {ms : List (List Row)} → All (All P) ms → All P (joined ms)
-all-joined none = none
-all-joined (one p ps) = all-append p (all-joined ps)
 
 -- at 4 lanes every note's record is read back
 rows-short : (text : List ℕ) → All (λ r. length r ≤ 10) (joined (minimised 4 text))

@@ -6,6 +6,7 @@ use Prim.Native.Nat.{ℕ, _+_, _*_}
 use native.Mathlib.Omega.{arith}
 use borrow.Author.Tests.{eqb-true, eqb-false, eq-eqb, ne-eqb}
 use lib.Dec.{eqb}
+use Rattle.definitions.proofs.Bools.{equal-turned}
 use Rattle.definitions.specs.Lists.{among}
 use Rattle.definitions.specs.Lines.{Row}
 use Rattle.definitions.specs.Cells.{cellOf, isArrow}
@@ -30,14 +31,6 @@ pub over-step : (r : Row) → isStep (r ++ nothing) ≡ isStep r
 unfolding isStep cellOf
 over-step [] = refl
 over-step (b ∷ r) = ap (λ t. isArrow (cellOf b) || t) (over-step r)
-
--- a row has an arrow where it has a 1, a 2 or a 4
-equal-turned : (a b : ℕ) → eqb a b ≡ eqb b a
-equal-turned a b = go (eqb b a) refl
-  where
-    go : (t : Bool) → eqb b a ≡ t → eqb a b ≡ t
-    go true e = eq-eqb a b (sym (eqb-true b a e))
-    go false e = ne-eqb a b (λ q. eqb-false b a e (sym q))
 
 pub gathered : (p q r s t u : Bool) → (((p || q) || r) || ((s || t) || u)) ≡ (((p || s) || (q || t)) || (r || u))
 gathered true q r s t u = refl

@@ -10,6 +10,7 @@ use borrow.Author.Tests.{ltb-true, le-ltb, eqb-true, lt-leb, leb-false}
 use lib.Dec.{eqb, ltb}
 use lib.ListN.{length, getD, set, length-set}
 use lib.Seq.{getD-set-same, getD-set-other}
+use Rattle.definitions.proofs.Lists.{any-default}
 use Rattle.definitions.specs.Lines.{Row}
 use Rattle.definitions.specs.Cells.{byteAt}
 use Rattle.definitions.specs.Tracker.{holdAt}
@@ -17,7 +18,7 @@ use Rattle.definitions.specs.Correction.{phantomStep}
 use Rattle.definitions.specs.declared.DepthEffect.{DepthEffect}
 use Rattle.definitions.specs.declared.DepthEffect.the-variants.{Nothing, Blocks, Opens, Closes}
 use Rattle.definitions.proofs.Bools.{and-left, and-right}
-use Rattle.holds.proofs.Pairs.{beyond}
+use Rattle.definitions.proofs.Columns.{past-end}
 use Rattle.clean.specs.Clean.{unpairs}
 use Rattle.clean.specs.Pass.{CellPassed, CellsPassed}
 use Rattle.clean.specs.declared.CleanCell.{CleanCell}
@@ -46,12 +47,6 @@ passing-start row l h =
       left = λ c k. refl;
       whole = λ e c k. absurd (not-suc-le-zero k);
     }
-
--- inside a list its default does not count
-pub any-default : (l : List ℕ) (i d e : ℕ) → i < length l → getD l i d ≡ getD l i e
-any-default [] i d e h = absurd (not-suc-le-zero h)
-any-default (x ∷ l) zero d e h = refl
-any-default (x ∷ l) (suc i) d e h = any-default l i d e (le-of-suc-le-suc h)
 
 module _ (row : Row) (l₀ l : List ℕ) (clean : Bool) (i : ℕ) (s : Passing row l₀ l clean i) where
   -- the depth that the cell at i meets
@@ -98,13 +93,13 @@ module _ (row : Row) (l₀ l : List ℕ) (clean : Bool) (i : ℕ) (s : Passing r
             λ c m.
             elim (decLt c i) [
               | yes b ↦ s .done c b
-              | no b ↦ s .left c (omega arith) ∙ ap (λ e. phantomStep e (getD l₀ c 0)) (sym (beyond row c (omega arith)))
+              | no b ↦ s .left c (omega arith) ∙ ap (λ e. phantomStep e (getD l₀ c 0)) (sym (past-end row c (omega arith)))
             ];
         clean =
             λ e c m.
             elim (decLt c i) [
               | yes b ↦ s .whole e c b
-              | no b ↦ ap (λ e. unpairs e (getD l₀ c 0)) (beyond row c (omega arith))
+              | no b ↦ ap (λ e. unpairs e (getD l₀ c 0)) (past-end row c (omega arith))
             ];
       }
 
@@ -123,12 +118,6 @@ pub none-less : (d : ℕ) → d ≤ 0 → 0 ≡ phantomStep Closes d
 none-less d h = omega arith
 
 -- ---- Depths
-pub depth-most : (e : DepthEffect) (d : ℕ) → phantomStep e d ≤ d + 1
-depth-most Nothing d = omega arith
-depth-most Blocks d = omega arith
-depth-most Opens d = omega arith
-depth-most Closes d = omega arith
-
 -- a cell that leaves no head unpaired leaves its column no deeper than eight
 pub depth-low : (e : DepthEffect) (d : ℕ) → d ≤ 8 → unpairs e d ≡ false → phantomStep e d ≤ 8
 depth-low Nothing d h s = h

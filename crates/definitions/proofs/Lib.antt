@@ -2,6 +2,7 @@
 pub mod Bools
 pub mod Lists
 pub mod Cells
+pub mod Columns
 pub mod Reduction
 pub mod Thinned
 pub mod Damage

@@ -2,9 +2,10 @@
 use mathlib.Core.Path.{_≡_, refl, ap, sym, _∙_}
 use mathlib.Core.Bool.{Bool, true, false}
 use mathlib.Core.List.{List, [], _∷_, _++_, append-assoc, append-nil}
-use Prim.Native.Nat.{ℕ, zero, suc}
-use lib.ListN.{take, drop, getD}
-use Rattle.definitions.specs.Lists.{joined, onlyIf, those}
+use Prim.Native.Nat.{ℕ, zero, suc, _≤_, _<_}
+use native.Mathlib.Omega.{arith}
+use lib.ListN.{length, take, drop, getD}
+use Rattle.definitions.specs.Lists.{oneIf, joined, onlyIf, those}
 
 module _ {A : Type 0} where
   -- P holds of each
@@ -55,3 +56,19 @@ module _ {A : Type 0} where
   parts-suc (suc d) [] = refl
   parts-suc zero (l ∷ ls) = append-nil l
   parts-suc (suc d) (l ∷ ls) = rw append-assoc (ap (λ r. l ++ r) (parts-suc d ls))
+
+-- a test counts for at most one
+pub one-le : (b : Bool) → oneIf b ≤ 1
+one-le true = omega arith
+one-le false = omega arith
+
+-- inside a list its default does not count
+pub any-default : (l : List ℕ) (i d e : ℕ) → i < length l → getD l i d ≡ getD l i e
+any-default [] i d e h = absurd (omega arith)
+any-default (x ∷ l) zero d e h = refl
+any-default (x ∷ l) (suc i) d e h = any-default l i d e (omega arith)
+
+-- what holds of each element of some lists holds of each of their elements in one
+pub all-joined : {A : Type 0} {P : A → Type 0} {ls : List (List A)} → All (All P) ls → All P (joined ls)
+all-joined none = none
+all-joined (one p a) = all-append p (all-joined a)

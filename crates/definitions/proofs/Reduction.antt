@@ -23,7 +23,7 @@ use lib.ListN.{length}
 use Rattle.definitions.specs.Lists.{onlyIf}
 use Rattle.definitions.specs.Lines.{Row}
 use Rattle.definitions.specs.Reduction.{allZero, multiple, offZero, atMultiples, allows, largest, stride, reduce}
-use Rattle.definitions.proofs.Bools.{and-left}
+use Rattle.definitions.proofs.Bools.{and-left, and-false}
 
 -- Stride 1 is allowed, and keeps every row.
 one-multiple : (i : ℕ) → multiple 1 i ≡ true
@@ -77,7 +77,7 @@ largest-greatest (suc k) rs e l h = go (allows rs (2 ^ suc k)) refl (λ l. large
             let same : e ≡ suc k = omega (arith, leb-false e k q) in
             absurd (true≢false (sym h ∙ ap (λ n. allows rs (2 ^ n)) same ∙ p))
 
-below-power : (e : ℕ) → e < 2 ^ e
+pub below-power : (e : ℕ) → e < 2 ^ e
 below-power zero = omega arith
 below-power (suc e) = rw (pow-succ' 2 e) (omega (arith, below-power e))
 
@@ -160,10 +160,6 @@ odd-length k [] l = absurd (omega arith)
 odd-length k (r ∷ []) l = refl
 odd-length zero (r ∷ r' ∷ rs) l = absurd (omega arith)
 odd-length (suc k) (r ∷ r' ∷ rs) l = rw (odd-length k rs (omega arith)) (and-false (allZero r'))
-  where
-    and-false : (x : Bool) → (x && false) ≡ false
-    and-false true = refl
-    and-false false = refl
 
 parity : (n : ℕ) → ((k : ℕ) × (n ≡ 2 * k)) ⊎ ((k : ℕ) × (n ≡ suc (2 * k)))
 parity zero = inl (0, refl)

@@ -1,15 +1,16 @@
 -- The parts of a row's entry: the columns' bits 0 to 9, the count from bit 10 on, and bit 14.
 use mathlib.Core.Path.{_≡_, sym, ap, _∙_}
 use mathlib.Core.Bool.{true}
-use Prim.Native.Nat.{ℕ, _+_, _*_, _-_, _/_, _%_, _^_, _≤_, _<_, max}
+use Prim.Native.Nat.{ℕ, _+_, _*_, _-_, _/_, _%_, _^_, _≤_, _<_}
 use native.Mathlib.Decide.{decLt}
 use native.Mathlib.Nat.{div-self, zero-div, div-eq-of-lt, mul-mod-left, mul-assoc, mul-comm, one-mul, mod-eq-of-lt}
 use native.Mathlib.Omega.{arith}
 use borrow.Author.Tests.{eq-eqb}
 use lib.Dec.{eqb}
-use lib.Bits.{bitOr, or-step, or-shr, or-zero-r}
+use lib.Bits.{bitOr, or-shr, or-zero-r}
 use lib.Pow.{pow-pos, pow-lt, pow-add, field}
 use Rattle.taps.specs.Taps.{bit}
+use Rattle.taps.proofs.Free.{bit-or}
 
 -- the bit of a column, as the program makes it
 pub one-bit : (c : ℕ) → c < 10 → 1 * 2 ^ c % 65536 ≡ 2 ^ c
@@ -36,9 +37,6 @@ power-other c d n =
       | yes h ↦ ap (bit d) (power-split c d h) ∙ no-bit d (2 ^ (c - (1 + d)))
       | no h ↦ let less : c < d = omega (arith, n) in ap (λ n. n % 2) (div-eq-of-lt (pow-lt less))
     ]
-
-bit-or : (a b k : ℕ) → bit k (bitOr a b) ≡ max (bit k a) (bit k b)
-bit-or a b k = ap (λ n. n % 2) (or-shr a b k) ∙ (let e = or-step (a / 2 ^ k) (b / 2 ^ k) in omega arith)
 
 pub or-same : (m c : ℕ) → eqb (bit c (bitOr m (2 ^ c))) 1 ≡ true
 or-same m c =

@@ -10,6 +10,7 @@ use native.Mathlib.Omega.{arith}
 use borrow.Author.Tests.{lt-ltb, le-ltb, le-leb, lt-leb, eq-eqb, ne-eqb, eqb-true}
 use lib.Dec.{eqb, ltb, leb}
 use lib.ListN.{length}
+use Rattle.definitions.proofs.Bools.{equal-turned}
 use Rattle.definitions.specs.Lists.{oneIf, count, sumColumns}
 use Rattle.definitions.specs.Lines.{Row}
 use Rattle.definitions.specs.Cells.{byteAt}
@@ -17,7 +18,7 @@ use Rattle.definitions.specs.Tracker.{Pair, nextStack, paired, holdAt, pairsFro
 use Rattle.definitions.specs.Judged.{openOf, openBefore}
 use Rattle.definitions.specs.declared.DepthEffect.{DepthEffect}
 use Rattle.definitions.specs.declared.DepthEffect.the-variants.{Nothing, Blocks, Opens, Closes}
-use Rattle.definitions.proofs.Lists.{All, none, one}
+use Rattle.definitions.proofs.Lists.{one-le, All, none, one}
 use Rattle.holds.specs.Tracks.{endsIn, endsAt, pairedHeads}
 use Rattle.holds.proofs.Pairs.{count-append, Placed, placed, pairs-narrow}
 use Rattle.holds.proofs.Ends.{sum-beyond}
@@ -132,29 +133,14 @@ once-from c (r ∷ rs) i k st =
     let e = from-here i k in
     omega arith
 
-eqb-flip : (a b : ℕ) → eqb a b ≡ eqb b a
-eqb-flip a b =
-    elim (decLt a b) [
-      | yes p ↦ ne-eqb a b (λ e. omega arith) ∙ sym (ne-eqb b a (λ e. omega arith))
-      | no p ↦
-          elim (decLt b a) [
-            | yes q ↦ ne-eqb a b (λ e. omega arith) ∙ sym (ne-eqb b a (λ e. omega arith))
-            | no q ↦ eq-eqb a b (omega arith) ∙ sym (eq-eqb b a (omega arith))
-          ]
-    ]
-
-one-if : (b : Bool) → oneIf b ≤ 1
-one-if true = omega arith
-one-if false = omega arith
-
 once : (rows : List Row) (c k : ℕ) → headsIn k (pairs rows c) ≤ 1
 unfolding pairs
-once rows c k = let a = once-from c rows 0 k [] in let b = one-if (leb 0 k) in omega arith
+once rows c k = let a = once-from c rows 0 k [] in let b = one-le (leb 0 k) in omega arith
 
 -- so row i is a head as often as it is one
 head-count : (i : ℕ) (ps : List Pair) → headsIn i ps ≤ 1 → headsIn i ps ≡ oneIf (isHeadOf i ps)
 head-count i [] h = refl
-head-count i (p ∷ ps) h = go (eqb-flip (p .head) i) (eqb i (p .head)) refl (head-count i ps (omega arith))
+head-count i (p ∷ ps) h = go (equal-turned (p .head) i) (eqb i (p .head)) refl (head-count i ps (omega arith))
   where
     go : eqb (p .head) i ≡ eqb i (p .head) → (b : Bool) → eqb i (p .head) ≡ b → headsIn i ps ≡ oneIf (isHeadOf i ps)
         → headsIn i (p ∷ ps) ≡ oneIf (b || isHeadOf i ps)
@@ -226,7 +212,7 @@ module _ (L : ℕ) (J : ℕ → Bool) (rows : List Row) where
 -- a row has at most L heads, so at most L more are open after each row
 pub heads-most : (L : ℕ) (ps : ℕ → List Pair) (i : ℕ) → pairedHeads L ps i ≤ L
 heads-most zero ps i = omega arith
-heads-most (suc L) ps i = omega (arith, heads-most L ps i, one-if (isHeadOf i (ps L)))
+heads-most (suc L) ps i = omega (arith, heads-most L ps i, one-le (isHeadOf i (ps L)))
 
 pub opens-most : (L : ℕ) (J : ℕ → Bool) (rows : List Row) → L ≤ 10 → All (λ r. length r ≤ L) rows → (i : ℕ) → openBefore L J (pairs rows) i ≤ L * i
 opens-most L J rows h a zero = omega (arith, opens-start L J rows, mul-zero L)

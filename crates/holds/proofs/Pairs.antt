@@ -8,6 +8,7 @@ use native.Mathlib.Omega.{arith}
 use borrow.Author.Tests.{ltb-true}
 use lib.Dec.{eqb, ltb}
 use lib.ListN.{length, List·getD-eq-default}
+use Rattle.definitions.proofs.Columns.{past-end}
 use Rattle.definitions.specs.Lists.{count}
 use Rattle.definitions.specs.Lines.{Row}
 use Rattle.definitions.specs.Cells.{cellOf, byteAt}
@@ -49,16 +50,12 @@ pairs-snoc rows r c =
     ∙ ap (λ n. pairsFrom c 0 [] rows ++ paired (holdAt (byteAt c r)) n (stackFrom c 0 [] rows)) (zero-add (length rows))
 
 -- past the row's last cell a column stays as it is
-pub beyond : (r : Row) (c : ℕ) → length r ≤ c → holdAt (byteAt c r) ≡ Nothing
-unfolding holdAt cellOf
-beyond r c h = rw (List·getD-eq-default r 48 h)
-
 pub stack-beyond : (rows : List Row) (r : Row) (c : ℕ) → length r ≤ c → stackAfter (rows ++ (r ∷ [])) c ≡ stackAfter rows c
-stack-beyond rows r c h = stack-snoc rows r c ∙ ap (λ e. nextStack e (length rows) (stackAfter rows c)) (beyond r c h)
+stack-beyond rows r c h = stack-snoc rows r c ∙ ap (λ e. nextStack e (length rows) (stackAfter rows c)) (past-end r c h)
 
 pub pairs-beyond : (rows : List Row) (r : Row) (c : ℕ) → length r ≤ c → pairs (rows ++ (r ∷ [])) c ≡ pairs rows c
 pairs-beyond rows r c h =
-    pairs-snoc rows r c ∙ ap (λ e. pairs rows c ++ paired e (length rows) (stackAfter rows c)) (beyond r c h) ∙ append-nil (pairs rows c)
+    pairs-snoc rows r c ∙ ap (λ e. pairs rows c ++ paired e (length rows) (stackAfter rows c)) (past-end r c h) ∙ append-nil (pairs rows c)
 
 -- ---- Heads and counts of two lists of pairs
 pub heads-append : (i : ℕ) (ps qs : List Pair) → isHeadOf i (ps ++ qs) ≡ (isHeadOf i ps || isHeadOf i qs)
@@ -146,7 +143,7 @@ placed rows c = rw zero-add at (placed-from c 0 [] rows no-heads)
 -- ---- Rows of at most L cells have no pairs past column L.
 narrow-from : (L c i : ℕ) {rs : List Row} → L ≤ c → All (λ r. length r ≤ L) rs → pairsFrom c i [] rs ≡ []
 narrow-from L c i h none = refl
-narrow-from L c i h (one {a = r} l a) = rw (beyond r c (omega arith)) (narrow-from L c (suc i) h a)
+narrow-from L c i h (one {a = r} l a) = rw (past-end r c (omega arith)) (narrow-from L c (suc i) h a)
 
 pub pairs-narrow : (L c : ℕ) (rows : List Row) → L ≤ c → All (λ r. length r ≤ L) rows → pairs rows c ≡ []
 unfolding pairs

@@ -6,7 +6,7 @@ use Prim.Native.Nat.{ℕ, _≤_, _<_}
 use lib.Dec.{eqb}
 use lib.ListN.{length, getD, List·getD-eq-default}
 use Rattle.definitions.specs.Judged.{judgedAt}
-use Rattle.clean.proofs.Columns.{any-default}
+use Rattle.definitions.proofs.Lists.{any-default}
 
 pub flag-inside : (flags : List ℕ) (i : ℕ) → i < length flags → not (eqb (getD flags i 0) 0) ≡ judgedAt flags i
 unfolding judgedAt

@@ -5,6 +5,7 @@ use mathlib.Core.List.{List, [], _∷_, _++_}
 use Prim.Native.Nat.{ℕ, zero, suc, _+_, _-_, _≤_, _<_}
 use native.Mathlib.Omega.{arith}
 use lib.ListN.{length, getD, take, drop, replicate, length-append}
+use Rattle.slices.proofs.Zeroed.{zeros-none}
 use Rattle.definitions.specs.Lanes.{mostRows}
 use Rattle.definitions.specs.Lines.{Row}
 use Rattle.definitions.specs.ReadBack.{readBack}
@@ -26,11 +27,6 @@ pub record Tracking (J : ℕ → Bool) (L : ℕ) (text : List ℕ) (off row : �
   pub size : length rows ≡ row
   pub tracks : TracksJudged J rows t work
 
-zeros : (n i : ℕ) → _≡_ {A = ℕ} (getD (replicate n 0) i 0) 0
-zeros zero i = refl
-zeros (suc n) zero = refl
-zeros (suc n) (suc i) = zeros n i
-
 pub tracking-start : (J : ℕ → Bool) (L : ℕ) (text : List ℕ) (t : Tracker) (old work : List ℕ) → ((c : ℕ) → c < 10 → stackOf t c ≡ []) → work ≡ zeroed 0 0 old
     → Tracking J L text 0 0 t work
 tracking-start J L text t old work h z =
@@ -38,7 +34,7 @@ tracking-start J L text t old work h z =
       rows = [];
       reading = back-start true L text;
       size = refl;
-      tracks = tracks-start J t work h (λ i. ap (λ l. getD l i 0) z ∙ zeros (length old - 0) i);
+      tracks = tracks-start J t work h (λ i. ap (λ l. getD l i 0) z ∙ zeros-none (length old - 0) i);
     }
 
 module _ (J : ℕ → Bool) (L : ℕ) (text : List ℕ) (off row : ℕ) (t : Tracker) (work : List ℕ) (x : Tracking J L text off row t work) where

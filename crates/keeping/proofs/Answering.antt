@@ -4,7 +4,7 @@ use mathlib.Core.Bool.{Bool}
 use mathlib.Core.List.{List}
 use Prim.Native.Nat.{ℕ, _+_, _-_, _≤_}
 use native.Mathlib.Omega.{arith}
-use lib.ListN.{length, take, length-take, length-map}
+use lib.ListN.{length, take, replicate, length-take, length-map}
 use Rattle.definitions.specs.Lists.{padded}
 use Rattle.definitions.specs.Lanes.{mostRows}
 use Rattle.definitions.specs.Reduction.{minimised}
@@ -36,3 +36,7 @@ module _ (L : ℕ) (data-text : List ℕ) (p : Pass) (text densities : List ℕ)
 
   pub all-recount : (trim : Bool) (work : List ℕ) → 4 ≤ L → L ≤ 10 → length data-text ≤ 16777215 → mostRows L (length data-text) ≤ length work → Room trim L (take (p .out - 0) text) work
   all-recount trim work l m s w = subst (λ t. Room trim L t work) (sym own-part) (minimised-room trim L data-text work l m s w)
+
+-- a slice of zeros from its first entry on
+pub none-off : (n : ℕ) → replicate {A = ℕ} n 0 ≡ replicate (n - 0) 0
+none-off n = let e : n ≡ n - 0 = omega arith in ap (λ k. replicate k 0) e

@@ -9,6 +9,7 @@ use lib.Dec.{eqb}
 use lib.ListN.{length, getD, drop, drop-of-length-le}
 use lib.Seq.{drop-cons}
 use borrow.Author.Tests.{eq-eqb, ne-eqb}
+use Rattle.definitions.proofs.Lists.{one-le}
 use Rattle.definitions.specs.Lists.{oneIf}
 use Rattle.lines.specs.Search.{findFrom, countOf}
 use Rattle.lines.specs.declared.Found.the-variants.{At, Nothing}
@@ -47,10 +48,6 @@ count-append b [] t = omega arith
 count-append b (x ∷ s) t = let ih = count-append b s t in rw ih (omega arith)
 
 -- a byte stands in a list no more often than the list is long
-one-le : (t : Bool) → oneIf t ≤ 1
-one-le true = omega arith
-one-le false = omega arith
-
 pub count-le : (b : ℕ) (s : List ℕ) → countOf b s ≤ length s
 unfolding countOf
 count-le b [] = omega arith

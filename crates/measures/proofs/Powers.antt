@@ -6,6 +6,8 @@ use native.Mathlib.Nat.{
   pow-succ',
   mul-comm,
   suc-mul,
+  add-mul,
+  one-mul,
   mul-le-mul-right,
   mul-le-mul-left,
   dvd-trans,
@@ -17,11 +19,8 @@ use native.Mathlib.Nat.{
 use native.Mathlib.Omega.{arith}
 use lib.Pow.{pow-add}
 use borrow.Author.Tests.{ne-eqb}
+use Rattle.definitions.proofs.Reduction.{below-power}
 use Rattle.definitions.specs.Reduction.{multiple}
-
-pub below-power : (e : ℕ) → e < 2 ^ e
-below-power zero = omega arith
-below-power (suc e) = rw (pow-succ' 2 e) (omega (arith, below-power e))
 
 pub power-pos : (e : ℕ) → 0 < 2 ^ e
 power-pos e = omega (arith, below-power e)
@@ -43,3 +42,7 @@ row-end row rows width h = rw (suc-mul) at (mul-le-mul-right {m = suc row} {n = 
 -- twice a number that divides another an even number of times is not greater
 pub twice-fits : (n step left : ℕ) → n ≡ step * left → 0 < left → left % 2 ≡ 0 → 2 * step ≤ n
 twice-fits n step left e p h = rw e (rw (mul-comm 2 step) (mul-le-mul-left step (omega arith)))
+
+-- where the row after row k begins
+pub next-at : (at start k lanes : ℕ) → at ≡ start + k * (lanes + 1) → at + lanes + 1 ≡ start + (k + 1) * (lanes + 1)
+next-at at start k lanes e = rw (add-mul, one-mul) (omega arith)

@@ -9,6 +9,7 @@ use borrow.Author.Tests.{eqb-true, eqb-false, eq-eqb, ne-eqb}
 use lib.Dec.{eqb}
 use lib.ListN.{length, drop, getD, drop-of-length-le}
 use lib.Seq.{drop-cons}
+use Rattle.definitions.proofs.Columns.{zero-byte}
 use Rattle.definitions.specs.Lines.{Row}
 use Rattle.definitions.specs.Cells.{cellOf, byteAt}
 use Rattle.definitions.specs.Tracker.{holdAt}
@@ -26,13 +27,7 @@ zero-stop r i h e = rw (drop-cons r i 0, ne-eqb (getD r i 0) 48 e)
 pub zero-end : (r : List ℕ) (i : ℕ) → length r ≤ i → allZero (drop i r) ≡ true
 zero-end r i h = rw (drop-of-length-le)
 
--- in every column of a row of zeros stands a `0`
-pub zero-byte : (c : ℕ) (r : Row) → allZero r ≡ true → byteAt c r ≡ 48
-zero-byte c [] z = refl
-zero-byte zero (b ∷ r) z = eqb-true b 48 (and-left (eqb b 48) (allZero r) z)
-zero-byte (suc c) (b ∷ r) z = zero-byte c r (and-right (eqb b 48) (allZero r) z)
-
--- which opens, closes and blocks nothing
+-- a row of zeros opens, closes and blocks nothing
 pub zero-hold : (c : ℕ) (r : Row) → allZero r ≡ true → holdAt (byteAt c r) ≡ Nothing
 unfolding holdAt cellOf
 zero-hold c r z = rw (zero-byte c r z)

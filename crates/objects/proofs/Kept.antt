@@ -43,12 +43,12 @@ abbrev orElse : Option Place → Option Place → Option Place
 orElse none p = p
 orElse (some q) p = some q
 
+none-else : (o : Option Place) → o ≡ orElse o none
+none-else none = refl
+none-else (some p) = refl
+
 last-append : (s t : List Place) → lastOf (s ++ t) ≡ orElse (lastOf t) (lastOf s)
-last-append [] t = go (lastOf t)
-  where
-    go : (o : Option Place) → o ≡ orElse o none
-    go none = refl
-    go (some p) = refl
+last-append [] t = none-else (lastOf t)
 last-append (p ∷ []) [] = refl
 last-append (p ∷ []) (q ∷ t) = go q t
   where
@@ -102,10 +102,6 @@ measure-last done cur =
     (ap (λ m. lastOf (objectsIn (depthsAfter done) m 0 (length cur) cur)) (zero-add (length done))
     ∙ none-else (lastOf (objectsIn (depthsAfter done) (length done) 0 (length cur) cur))
     ∙ in-last (depthsAfter done) (length done) 0 (length cur) none cur)
-  where
-    none-else : (o : Option Place) → o ≡ orElse o none
-    none-else none = refl
-    none-else (some p) = refl
 
 pub kept-start : (d : Held) → NoDepths d → LastKept (record { depths = d; busy = 0; found = last.Nothing; row = Nothing; rows = 0; midx = 0 }) [] []
 kept-start d n =

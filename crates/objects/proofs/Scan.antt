@@ -13,7 +13,7 @@ use Rattle.definitions.specs.Lines.{Row}
 use Rattle.definitions.specs.Cells.{cellOf, byteAt}
 use Rattle.definitions.specs.Objects.{objectAt, isObject, deeper, objectRow, objectFrom}
 use Rattle.definitions.specs.Objects as objects
-use Rattle.taps.proofs.Free.{any-default}
+use Rattle.definitions.proofs.Lists.{any-default}
 use Rattle.objects.specs.Rows.{depthAt, Holds, Low, RowDone}
 use Rattle.objects.specs.declared.Depths.{Depths}
 use Rattle.definitions.specs.declared.DepthEffect.{DepthEffect}

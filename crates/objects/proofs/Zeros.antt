@@ -11,7 +11,7 @@ use Rattle.definitions.specs.Reduction.{allZero}
 use Rattle.definitions.specs.Objects.{Depths, objectAt, afterRow, objectFrom, objectRow}
 use Rattle.definitions.specs.declared.DepthEffect.the-variants as depth
 use Rattle.definitions.proofs.Bools.{and-left, and-right}
-use Rattle.measures.proofs.ZeroRows.{zero-byte}
+use Rattle.definitions.proofs.Columns.{zero-byte}
 
 zero-at : (c : ℕ) (r : Row) → allZero r ≡ true → objectAt (byteAt c r) ≡ depth.Nothing
 unfolding objectAt cellOf

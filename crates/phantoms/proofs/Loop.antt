@@ -9,6 +9,8 @@ use native.Mathlib.Nat.{le-of-suc-le-suc, not-suc-le-zero}
 use native.Mathlib.Omega.{arith}
 use lib.ListN.{length, getD, set, drop, length-set, length-append, drop-of-length-le, List·getD-eq-default}
 use lib.Seq.{drop-cons, getD-set-same, getD-set-other}
+use Rattle.definitions.proofs.Columns.{past-end, step-most}
+use Rattle.definitions.proofs.Lists.{any-default, one-le}
 use Rattle.definitions.specs.Lists.{oneIf, count, someColumn}
 use Rattle.definitions.specs.Lines.{Row}
 use Rattle.definitions.specs.Cells.{cellOf, byteAt}
@@ -67,22 +69,6 @@ passed-start row p h =
       low = λ k l. low-more k (k + 0) p (omega arith) l;
     }
 
--- inside a list its default does not count
-any-default : (l : List ℕ) (i d e : ℕ) → i < length l → getD l i d ≡ getD l i e
-any-default [] i d e h = absurd (not-suc-le-zero h)
-any-default (x ∷ l) zero d e h = refl
-any-default (x ∷ l) (suc i) d e h = any-default l i d e (le-of-suc-le-suc h)
-
-step-le : (e : DepthEffect) (d : ℕ) → phantomStep e d ≤ d + 1
-step-le Nothing d = omega arith
-step-le Blocks d = omega arith
-step-le Opens d = omega arith
-step-le Closes d = omega arith
-
-one-le : (b : Bool) → oneIf b ≤ 1
-one-le true = omega arith
-one-le false = omega arith
-
 -- a cell adds at most one head and one tail
 module _ (b d : ℕ) (q : PhantomCell) (cell : CellCounted b d q) where
   pub one-head : q .heads ≤ 1
@@ -138,7 +124,7 @@ module _ (row : Row) (p r : Phantoms) (q : PhantomCell) (i : ℕ) (s : Passed ro
             λ c b.
             elim (ℕ-discrete c i) [
               | yes e ↦
-                  rw e (omega (arith, here, step-le (holdAt (getD row i 0)) (depthAt r i), low .depths i m))
+                  rw e (omega (arith, here, step-most (holdAt (getD row i 0)) (depthAt r i), low .depths i m))
               | no n ↦ omega (arith, others c n, low .depths c b)
             ];
         heads = omega (arith, one-head (getD row i 0) (depthAt r i) q cell, low .heads);
@@ -162,11 +148,6 @@ module _ (row : Row) (p r : Phantoms) (q : PhantomCell) (i : ℕ) (s : Passed ro
         met = next-met;
         low = next-low;
       }
-
--- past the row's end a byte is a `0`, which does nothing
-past-end : (row : Row) (c : ℕ) → length row ≤ c → holdAt (byteAt c row) ≡ Nothing
-unfolding holdAt cellOf
-past-end row c h = rw (List·getD-eq-default row 48 h)
 
 module _ (row : Row) (p r : Phantoms) (i : ℕ) (s : Passed row p r i) (h : length row ≤ i) where
   all-done : (c : ℕ) → depthAt r c ≡ after row p c

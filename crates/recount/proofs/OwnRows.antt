@@ -18,7 +18,7 @@ use Rattle.definitions.specs.Figures.{rowText, textOf, minimisedText}
 use Rattle.definitions.specs.ReadBack.{beginsMark, backRow}
 use Rattle.definitions.specs.declared.LineKind.{LineKind}
 use Rattle.definitions.specs.declared.LineKind.the-variants as line
-use Rattle.definitions.proofs.Lists.{All, none, one, all-append}
+use Rattle.definitions.proofs.Lists.{All, none, one, all-append, all-joined}
 use Rattle.definitions.proofs.Thinned.{Thinned, none, keep, leave, reduce-thin}
 use Rattle.measures.proofs.LineKinds.{row-length}
 use Rattle.measures.proofs.Multiples.{reduce-all}
@@ -106,11 +106,6 @@ reduced-rows (one p a) = one (reduce-all p) (reduced-rows a)
 pub minimised-rows : (L : ℕ) (text : List ℕ) → 1 ≤ L → All (All (ChartRow L)) (minimised L text)
 unfolding minimised
 minimised-rows L text w = reduced-rows (chart-rows L text w)
-
--- the same of all rows in one list
-pub rows-joined : {P : Row → Type 0} {ms : List (List Row)} → All (All P) ms → All P (joined ms)
-rows-joined none = none
-rows-joined (one p a) = all-append p (rows-joined a)
 
 -- ---- The lines of minimised text are its rows, the `,` lines and an empty last one.
 cut-row : (r : Row) (s : List ℕ) → Clean r → cut (r ++ (10 ∷ s)) ≡ r ∷ cut s

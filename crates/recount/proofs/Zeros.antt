@@ -4,15 +4,11 @@ use mathlib.Core.List.{List}
 use Prim.Native.Nat.{ℕ, zero, suc}
 use native.Mathlib.Nat.{sub-zero}
 use lib.ListN.{length, getD, replicate}
+use Rattle.slices.proofs.Zeroed.{zeros-none}
 use Rattle.slices.specs.Zeroed.{zeroed}
 
 pub zeroed-all : (l : List ℕ) → zeroed 0 0 l ≡ replicate (length l) 0
 zeroed-all l = rw sub-zero
-
-zeros-none : (n i : ℕ) → _≡_ {A = ℕ} (getD (replicate n 0) i 0) 0
-zeros-none zero i = refl
-zeros-none (suc n) zero = refl
-zeros-none (suc n) (suc i) = zeros-none n i
 
 pub zeroed-none : (l : List ℕ) (i : ℕ) → getD (zeroed 0 0 l) i 0 ≡ 0
 zeroed-none l i = ap (λ s. getD s i 0) (zeroed-all l) ∙ zeros-none (length l) i

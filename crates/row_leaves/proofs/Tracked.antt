@@ -6,6 +6,7 @@ use Prim.Native.Nat.{ℕ, _+_, _-_, _<_, _≤_}
 use native.Mathlib.Decide.{decLt}
 use native.Mathlib.Omega.{arith}
 use lib.ListN.{length, getD, take, replicate, length-take, length-append, length-replicate, getD-replicate, List·getD-eq-default}
+use Rattle.slices.proofs.Zeroed.{zeros-none}
 use Rattle.definitions.specs.Lines.{Row}
 use Rattle.slices.specs.Zeroed.{zeroed}
 use Rattle.holds.specs.Stacks.{stackOf}
@@ -21,14 +22,7 @@ pub record Tracked (row : ℕ) (t : Tracker) (work : List ℕ) : Type 0 where
 
 pub tracked-start : (t : Tracker) (work₀ work : List ℕ) → ((c : ℕ) → c < 10 → stackOf t c ≡ []) → work ≡ zeroed 0 0 work₀ → Tracked 0 t work
 tracked-start t work₀ work h e =
-    record { rows = []; size = refl; tracks = tracks-start (λ i. false) t work h (λ i. ap (λ l. getD l i 0) e ∙ zeros (length work₀ - 0) i) }
-  where
-    zeros : (n i : ℕ) → _≡_ {A = ℕ} (getD (replicate n 0) i 0) 0
-    zeros n i =
-        elim (decLt i n) [
-          | yes l ↦ getD-replicate n i 0 0 l
-          | no l ↦ List·getD-eq-default (replicate n 0) 0 {n = i} (let r : length (replicate {A = ℕ} n 0) ≡ n = length-replicate n 0 in omega arith)
-        ]
+    record { rows = []; size = refl; tracks = tracks-start (λ i. false) t work h (λ i. ap (λ l. getD l i 0) e ∙ zeros-none (length work₀ - 0) i) }
 
 pub tracked-reached : (row : ℕ) (t : Tracker) (work : List ℕ) → Tracked row t work → Reached row t work
 tracked-reached row t work s = record { judging = λ i. false; rows = s .rows; size = s .size; tracks = s .tracks }

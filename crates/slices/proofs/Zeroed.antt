@@ -1,10 +1,10 @@
 -- The laws of the filling loops, over the element.
-use mathlib.Core.Path.{_≡_, ap, sym, _∙_}
+use mathlib.Core.Path.{_≡_, refl, ap, sym, _∙_}
 use mathlib.Core.List.{List, append-assoc, append-nil}
-use Prim.Native.Nat.{ℕ, suc, _+_, _-_, _≤_, _<_}
+use Prim.Native.Nat.{ℕ, zero, suc, _+_, _-_, _≤_, _<_}
 use native.Mathlib.Numerals.{add-one}
 use native.Mathlib.Omega.{arith}
-use lib.ListN.{length, set, take, length-set}
+use lib.ListN.{length, getD, set, take, replicate, length-set}
 use lib.Seq.{take-all, take-suc-set, length-take-le}
 use Rattle.definitions.specs.Lists.{padded}
 use Rattle.slices.specs.Zeroed.{zeroed}
@@ -34,3 +34,9 @@ zeroed-answer z l k n f {L} same size h e =
     ∙ zeroed-padded z (f L) l (ap (λ m. take m l) (sym long) ∙ e)
     ∙ ap (λ m. padded z m (f L)) size
     ∙ ap (λ L. padded z n (f L)) same
+
+-- a list of zeros has 0 at every place
+pub zeros-none : (n i : ℕ) → _≡_ {A = ℕ} (getD (replicate n 0) i 0) 0
+zeros-none zero i = refl
+zeros-none (suc n) zero = refl
+zeros-none (suc n) (suc i) = zeros-none n i

@@ -5,6 +5,7 @@ use Prim.Native.Nat.{ℕ, suc, _+_, _%_, _≤_}
 use native.Mathlib.Omega.{arith}
 use lib.Dec.{eqb, leb}
 use lib.ListN.{length}
+use Rattle.definitions.proofs.Lists.{one-le}
 use Rattle.definitions.specs.Lists.{oneIf, count}
 use Rattle.definitions.specs.Lines.{Row}
 use Rattle.definitions.specs.Cells.{cellOf}
@@ -23,10 +24,6 @@ under-more j k s h u = omega arith
 
 pub below-more : (j k : ℕ) (t : ArrowStats) → j ≤ k → Below j t → Below k t
 below-more j k t h b = omega arith
-
-one-le : (b : Bool) → oneIf b ≤ 1
-one-le true = omega arith
-one-le false = omega arith
 
 -- a cell is counted in one way at most
 heads-le : (k : Counted) → oneIf (eqb (place k) 1) + oneIf (eqb (place k) 2) ≤ 1

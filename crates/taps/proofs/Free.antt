@@ -10,6 +10,7 @@ use lib.Bits.{bitAnd, bitOr, and-shr, and-step, or-shr, or-step}
 use lib.Dec.{eqb}
 use lib.ListN.{length, getD}
 use lib.Pow.{shr-shr}
+use Rattle.definitions.proofs.Lists.{any-default}
 use Rattle.definitions.specs.Lists.{count}
 use Rattle.definitions.specs.Lines.{Row}
 use Rattle.definitions.specs.Cells.{byteAt}
@@ -93,12 +94,6 @@ free-cell busy m r x c = go (bit c m) refl (mod-lt (m / 2 ^ c) (omega arith))
     go zero e h = zero-cell (tap-cell r m c (line-taps r m (x .mask)) ∙ ap (λ n. 48 + n) e)
     go (suc zero) e h = tap-there (tap-cell r m c (line-taps r m (x .mask)) ∙ ap (λ n. 48 + n) e) (x .free c e)
     go (suc (suc f)) e h = absurd (omega arith)
-
--- inside a list its default does not count
-pub any-default : (l : List ℕ) (i d e : ℕ) → i < length l → getD l i d ≡ getD l i e
-any-default [] i d e h = absurd (not-suc-le-zero h)
-any-default (x ∷ l) zero d e h = refl
-any-default (x ∷ l) (suc i) d e h = any-default l i d e (le-of-suc-le-suc h)
 
 -- the same of a column within the row
 pub free-byte : (busy m : ℕ) (r : Row) → FreeTaps busy m r → (c : ℕ) → c < length r → Free busy c (getD r c 0)

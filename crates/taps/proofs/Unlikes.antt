@@ -9,20 +9,17 @@ use borrow.Author.Tests.{eqb-true}
 use lib.Bits.{bitOr}
 use lib.Dec.{eqb}
 use lib.ListN.{getD}
+use Rattle.definitions.proofs.Lists.{one-le}
 use Rattle.definitions.specs.Lists.{oneIf}
 use Rattle.taps.specs.Taps.{bit, FreeAre, unlikeFrom, unlikeMask}
 use Rattle.taps.proofs.Free.{bit-first, bit-next, or-none}
-
-small : (t : Bool) → oneIf t ≤ 1
-small true = omega arith
-small false = omega arith
 
 from-none : (n : ℕ) (l : List ℕ) (c k i : ℕ) → i < k → bit i (unlikeFrom n l c k) ≡ 0 → getD l (c + i) 0 ≡ n
 from-none n l c zero i h e = absurd (omega arith)
 from-none n l c (suc k) zero h e =
     let here : c + 0 ≡ c = omega arith in
     ap (λ p. getD l p 0) here
-    ∙ go (eqb (getD l c 0) n) (λ q. eqb-true (getD l c 0) n q) (sym (bit-first (oneIf (not (eqb (getD l c 0) n))) (unlikeFrom n l (suc c) k) (small (not (eqb (getD l c 0) n)))) ∙ e)
+    ∙ go (eqb (getD l c 0) n) (λ q. eqb-true (getD l c 0) n q) (sym (bit-first (oneIf (not (eqb (getD l c 0) n))) (unlikeFrom n l (suc c) k) (one-le (not (eqb (getD l c 0) n)))) ∙ e)
   where
     go : (t : Bool) → (t ≡ true → getD l c 0 ≡ n) → oneIf (not t) ≡ 0 → getD l c 0 ≡ n
     go true q z = q refl
@@ -30,7 +27,7 @@ from-none n l c (suc k) zero h e =
 from-none n l c (suc k) (suc i) h e =
     let next : c + suc i ≡ suc c + i = omega arith in
     ap (λ p. getD l p 0) next
-    ∙ from-none n l (suc c) k i (omega arith) (sym (bit-next (oneIf (not (eqb (getD l c 0) n))) (unlikeFrom n l (suc c) k) i (small (not (eqb (getD l c 0) n)))) ∙ e)
+    ∙ from-none n l (suc c) k i (omega arith) (sym (bit-next (oneIf (not (eqb (getD l c 0) n))) (unlikeFrom n l (suc c) k) i (one-le (not (eqb (getD l c 0) n)))) ∙ e)
 
 pub unlike-free : (n : ℕ) (l : List ℕ) → FreeAre (unlikeMask n l) n l
 unfolding unlikeMask
@@ -38,7 +35,7 @@ unlike-free n l c h e = let here : 0 + c ≡ c = omega arith in ap (λ p. getD l
 
 pub from-lt : (n : ℕ) (l : List ℕ) (c k : ℕ) → unlikeFrom n l c k < 2 ^ k
 from-lt n l c zero = omega arith
-from-lt n l c (suc k) = omega (arith, small (not (eqb (getD l c 0) n)), from-lt n l (suc c) k, pow-succ' 2 k)
+from-lt n l c (suc k) = omega (arith, one-le (not (eqb (getD l c 0) n)), from-lt n l (suc c) k, pow-succ' 2 k)
 
 -- one number more in front of those from c on
 pub from-before : (n : ℕ) (l : List ℕ) (c : ℕ) → 0 < c → c ≤ 10

@@ -7,7 +7,7 @@ use lib.ListN.{length, replicate}
 use Rattle.definitions.specs.Lists.{padded}
 use Rattle.definitions.specs.Notes.{notes}
 use Rattle.definitions.specs.Records.{records}
-use Rattle.keeping.proofs.Answering.{all-room, all-text, all-densities, all-recount}
+use Rattle.keeping.proofs.Answering.{all-room, all-text, all-densities, all-recount, none-off}
 use Rattle.chart.proofs.Answering.{all-beats, rows-small, some-rows, found-placed, found-48, all-notes, note-count, all-figures}
 use borrow.Author.Needs.{needs}
 use Rattle.chart.proofs.chart_figures.Statement.{statement}
@@ -143,9 +143,6 @@ returns c =
         ),
       ),
     )
-  where
-    none-off : (n : ℕ) → replicate {A = ℕ} n 0 ≡ replicate (n - 0) 0
-    none-off n = let e : n ≡ n - 0 = omega arith in ap (λ k. replicate k 0) e
 
 pub chart-figures-spec : {M : Type 1} → statement M
 chart-figures-spec =

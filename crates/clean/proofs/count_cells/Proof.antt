@@ -10,7 +10,7 @@ use Rattle.definitions.specs.Tracker.{holdAt}
 use Rattle.definitions.specs.Judged.{judgeRow}
 use Rattle.taps.proofs.Unlikes.{unlike-free}
 use Rattle.tallies.proofs.Bounds.{under-judged}
-use Rattle.clean.proofs.Columns.{depth-most}
+use Rattle.definitions.proofs.Columns.{step-most}
 use Rattle.clean.proofs.Rows.{active-few, cells-ready}
 use borrow.Author.Needs.{needs}
 use Rattle.clean.proofs.count_cells.Statement.{statement}
@@ -34,7 +34,7 @@ open-heads-requires : tie.Need-open-heads-requires
 open-heads-requires c κs =
     let cells = c .before .before .before .before in
     let start = cells .before .before .before .before in
-    λ k h. omega (arith, cells .clean-cells .ensures .depths k h, depth-most (holdAt (byteAt k (now (start .args .row)))) (getD (start .args .t .depths) k 0), start .pre .1 .low k h)
+    λ k h. omega (arith, cells .clean-cells .ensures .depths k h, step-most (holdAt (byteAt k (now (start .args .row)))) (getD (start .args .t .depths) k 0), start .pre .1 .low k h)
 
 unlike-requires : tie.Need-unlike-requires
 unlike-requires c κs = search needs

@@ -12,7 +12,7 @@ use lib.Seq.{take-suc, take-all}
 use Rattle.definitions.specs.Lines.{Row}
 use Rattle.measures.specs.Rows.{rowsAt}
 use Rattle.measures.proofs.RowsAt.{rows-length, row-part}
-use Rattle.measures.proofs.Powers.{row-end}
+use Rattle.measures.proofs.Powers.{row-end, next-at}
 use Rattle.counting.specs.Counted.{Few, Counted}
 use Rattle.counting.proofs.Rows.{counted-grown}
 use Rattle.counting.proofs.count_rows.Statement.{statement}
@@ -98,9 +98,6 @@ loop-again c =
       λ done x. subst (Counted (a .lanes) (c .count-row .result) done) (sym more)
           (c .count-row .ensures (a .lanes) done (take n ms) (rw length-take (omega arith)) (omega arith) (at .loop .inv .2 done x)),
     )
-  where
-    next-at : (at start n lanes : ℕ) → at ≡ start + n * (lanes + 1) → at + lanes + 1 ≡ start + (n + 1) * (lanes + 1)
-    next-at at start n lanes e = rw (add-mul, one-mul) (omega arith)
 
 returns : tie.Need-returns Inv-loop μ-loop
 returns c =

@@ -20,7 +20,7 @@ use Rattle.definitions.specs.declared.Tail.the-variants as tail
 use Rattle.definitions.specs.declared.Note.{Note}
 use Rattle.definitions.specs.declared.NoteEffect.{NoteEffect}
 use Rattle.definitions.specs.declared.NoteEffect.the-variants.{Nothing, Closes, Single, Head}
-use Rattle.definitions.proofs.Bools.{and-left, and-right}
+use Rattle.definitions.proofs.Bools.{and-left, and-right, and-false}
 use Rattle.definitions.proofs.Lists.{All, none as all-none, one as all-one, all-append, all-map, those-append, those-all, those-left, those-right}
 use Rattle.definitions.specs.Damage.{Each, end, next, without, with-tail, Shifted, isHead, headKind, untouched, byteIn, openIn, MissingOrLate}
 use Rattle.definitions.proofs.Damage.Bytes.{stopping, heading, stops-is, head-is, head-kind}
@@ -189,10 +189,6 @@ module _ (i c : ℕ) where
 
   off-row : (x : Note) → (x .row ≡ i → ⊥) → here x ≡ false
   off-row x h = rw (ne-eqb (x .row) i h)
-
-  and-false : (x : Bool) → (x && false) ≡ false
-  and-false true = refl
-  and-false false = refl
 
   off-column : (x : Note) → (x .column ≡ c → ⊥) → here x ≡ false
   off-column x h = rw (ne-eqb (x .column) c h) (and-false (eqb (x .row) i))

@@ -9,6 +9,7 @@ use native.Mathlib.Omega.{arith}
 use borrow.Author.Tests.{eqb-true}
 use lib.Dec.{eqb}
 use lib.ListN.{length, take, drop, getD}
+use Rattle.definitions.proofs.Columns.{zero-byte}
 use Rattle.definitions.specs.Lists.{joined, onlyIf}
 use Rattle.definitions.specs.Lines.{Row}
 use Rattle.definitions.specs.Cells.{byteAt, cellOf}
@@ -170,11 +171,6 @@ last-later n ms ms' e h f =
     ∙ sym (last-is n ms' (drop n ms) (sym e) h)
 
 -- Minimising drops only rows that are all zero, so what is asked of the cells of measures may be asked of all their rows.
-zero-byte : (c : ℕ) (r : Row) → allZero r ≡ true → byteAt c r ≡ 48
-zero-byte c [] z = refl
-zero-byte zero (b ∷ r) z = eqb-true b 48 (and-left (eqb b 48) (allZero r) z)
-zero-byte (suc c) (b ∷ r) z = zero-byte c r (and-right (eqb b 48) (allZero r) z)
-
 zero-no-object : (c : ℕ) (r : Row) → allZero r ≡ true → objectAt (byteAt c r) ≡ Blocks → ⊥
 unfolding objectAt cellOf
 zero-no-object c r z o =

@@ -4,7 +4,7 @@ use Prim.Native.Nat.{ℕ, _-_}
 use native.Mathlib.Omega.{arith}
 use denote.Ref.{now}
 use lib.ListN.{length, replicate}
-use Rattle.keeping.proofs.Answering.{all-room, all-text, all-densities, all-recount}
+use Rattle.keeping.proofs.Answering.{all-room, all-text, all-densities, all-recount, none-off}
 use Rattle.kept.proofs.Answering.{all-figures}
 use borrow.Author.Needs.{needs}
 use Rattle.kept.proofs.keep_figures.Statement.{statement}
@@ -73,9 +73,6 @@ returns c =
         ),
       ),
     )
-  where
-    none-off : (n : ℕ) → replicate {A = ℕ} n 0 ≡ replicate (n - 0) 0
-    none-off n = let e : n ≡ n - 0 = omega arith in ap (λ k. replicate k 0) e
 
 pub keep-figures-spec : {M : Type 1} → statement M
 keep-figures-spec =

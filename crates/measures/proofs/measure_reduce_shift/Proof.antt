@@ -8,12 +8,13 @@ use borrow.Author.Needs.{needs}
 use borrow.Author.Tests.{not-true, not-false}
 use lib.ListN.{length, drop, getD}
 use mathlib.Core.List.{[]}
+use Rattle.definitions.proofs.Reduction.{below-power}
 use Rattle.definitions.specs.Reduction.{allZero}
 use Rattle.measures.proofs.Strides.{shift-is, stride-small}
 use denote.Ref.{now}
 use Rattle.measures.specs.Rows.{rowsAt}
 use Rattle.measures.proofs.RowsAt.{rows-length, row-part}
-use Rattle.measures.proofs.Powers.{row-end, twice-fits, below-power, power-pos}
+use Rattle.measures.proofs.Powers.{row-end, twice-fits, power-pos}
 use Rattle.measures.proofs.Search.{Found, Looked, found-start, found-step, found-odd, found-stop, looked-start, looked-step}
 use Rattle.measures.proofs.measure_reduce_shift.Statement.{statement}
 use Rattle.measures.proofs.measure_reduce_shift.Tie as tie

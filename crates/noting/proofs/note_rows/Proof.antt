@@ -11,7 +11,7 @@ use lib.Seq.{take-suc, take-all, length-take-le}
 use Rattle.definitions.specs.Lines.{Row}
 use Rattle.measures.specs.Rows.{rowsAt}
 use Rattle.measures.proofs.RowsAt.{rows-length, row-part}
-use Rattle.measures.proofs.Powers.{row-end}
+use Rattle.measures.proofs.Powers.{row-end, next-at}
 use Rattle.noting.specs.Noted.{Noted, NotedRows}
 use Rattle.noting.proofs.Rows.{row-number, row-ready, one-room}
 use Rattle.noting.proofs.note_rows.Statement.{statement}
@@ -117,9 +117,6 @@ loop-again c =
       omega (arith, r .kept .1 .1 .0, at .loop .inv .2),
       λ done x. subst (NotedRows (a .lanes) _ _ done) (sym more) (r .ensures (a .lanes) done (take k ms) (omega (arith, wide l)) (at .loop .inv .3 done x)),
     )
-  where
-    next-at : (at start n lanes : ℕ) → at ≡ start + n * (lanes + 1) → at + lanes + 1 ≡ start + (n + 1) * (lanes + 1)
-    next-at at start n lanes e = rw (add-mul, one-mul) (omega arith)
 
 note-measure-requires : tie.Need-note-measure-requires Inv-loop μ-loop
 note-measure-requires c κs =
