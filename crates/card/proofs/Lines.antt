@@ -6,7 +6,6 @@ use native.Mathlib.Omega.{arith}
 use lib.ListN.{length, getD, take, List·getD-append}
 use lib.Seq.{take-suc, take-length}
 use Rattle.definitions.specs.Lists.{joined}
-use Rattle.definitions.specs.Lines.{Row}
 use Rattle.definitions.specs.Lanes.{mostRows}
 use Rattle.definitions.specs.Reduction.{minimised}
 use Rattle.definitions.specs.Figures.{densities, spacings}
@@ -17,7 +16,7 @@ use Rattle.definitions.specs.declared.Note.{Note}
 use Rattle.definitions.specs.declared.Kind.the-variants as kind
 use Rattle.definitions.specs.declared.Tail.the-variants as tail
 use Rattle.definitions.specs.declared.ReadNote.the-variants.{Found}
-use Rattle.definitions.proofs.Lists.{All, none, one, all-append, all-map, all-joined}
+use Rattle.definitions.proofs.Lists.{All, none, all-map, all-joined}
 use Rattle.measures.proofs.Blocks.{joined-append}
 use Rattle.records.proofs.Made.{notes-back}
 use Rattle.recount.proofs.OwnRows.{minimised-rows, minimised-rows-few}

@@ -7,11 +7,11 @@ use native.Mathlib.Nat.{zero-add}
 use native.Mathlib.Omega.{arith}
 use borrow.Author.Tests.{ltb-true}
 use lib.Dec.{eqb, ltb}
-use lib.ListN.{length, List·getD-eq-default}
+use lib.ListN.{length}
 use Rattle.definitions.proofs.Columns.{past-end}
 use Rattle.definitions.specs.Lists.{count}
 use Rattle.definitions.specs.Lines.{Row}
-use Rattle.definitions.specs.Cells.{cellOf, byteAt}
+use Rattle.definitions.specs.Cells.{byteAt}
 use Rattle.definitions.specs.Tracker.{Pair, nextStack, paired, holdAt, pairsFrom, pairs, isHeadOf}
 use Rattle.definitions.specs.declared.DepthEffect.{DepthEffect}
 use Rattle.definitions.specs.declared.DepthEffect.the-variants.{Nothing, Blocks, Opens, Closes}

@@ -2,9 +2,9 @@
 use mathlib.Core.Path.{_≡_, refl, ap, sym, _∙_}
 use mathlib.Core.Bool.{Bool, true, false}
 use mathlib.Core.List.{List, [], _∷_, _++_}
-use Prim.Native.Nat.{ℕ, zero, suc, _+_, _-_, _≤_, _<_}
+use Prim.Native.Nat.{ℕ, _+_, _-_, _≤_, _<_}
 use native.Mathlib.Omega.{arith}
-use lib.ListN.{length, getD, take, drop, replicate, length-append}
+use lib.ListN.{length, getD, take, drop, length-append}
 use Rattle.slices.proofs.Zeroed.{zeros-none}
 use Rattle.definitions.specs.Lanes.{mostRows}
 use Rattle.definitions.specs.Lines.{Row}

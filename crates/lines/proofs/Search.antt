@@ -1,6 +1,5 @@
 -- Laws of `findFrom` and `countOf`: one turn of the loop over a slice's last bytes, and lists put together.
 use mathlib.Core.Path.{_≡_}
-use mathlib.Core.Bool.{Bool, true, false}
 use mathlib.Core.List.{List, [], _∷_, _++_}
 use Prim.Native.Nat.{ℕ, _+_, _≤_, _<_}
 use native.Mathlib.Numerals.{add-one}
@@ -10,7 +9,6 @@ use lib.ListN.{length, getD, drop, drop-of-length-le}
 use lib.Seq.{drop-cons}
 use borrow.Author.Tests.{eq-eqb, ne-eqb}
 use Rattle.definitions.proofs.Lists.{one-le}
-use Rattle.definitions.specs.Lists.{oneIf}
 use Rattle.lines.specs.Search.{findFrom, countOf}
 use Rattle.lines.specs.declared.Found.the-variants.{At, Nothing}
 

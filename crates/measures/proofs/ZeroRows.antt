@@ -15,7 +15,6 @@ use Rattle.definitions.specs.Cells.{cellOf, byteAt}
 use Rattle.definitions.specs.Tracker.{holdAt}
 use Rattle.definitions.specs.declared.DepthEffect.the-variants.{Nothing}
 use Rattle.definitions.specs.Reduction.{allZero}
-use Rattle.definitions.proofs.Bools.{and-left, and-right}
 use Rattle.lines.specs.Words.{wordOf, Bytes}
 
 pub zero-turn : (r : List ℕ) (i : ℕ) → i < length r → getD r i 0 ≡ 48 → allZero (drop i r) ≡ allZero (drop (i + 1) r)

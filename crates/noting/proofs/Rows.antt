@@ -14,7 +14,7 @@ use Rattle.definitions.proofs.Lists.{All, none, one, all-append, joined-snoc}
 use Rattle.taps.specs.Taps.{FreeAre}
 use Rattle.notes.specs.declared.ChartNotesScratch.{ChartNotesScratch}
 use Rattle.notes.specs.Writer.{noHead}
-use Rattle.notes.specs.Written.{Written, Room}
+use Rattle.notes.specs.Written.{Written}
 use Rattle.notes.proofs.Rows.{cells-within}
 use Rattle.objects.specs.declared.LastScan.{LastScan}
 use Rattle.objects.specs.LastKept.{LastKept}

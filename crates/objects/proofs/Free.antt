@@ -1,20 +1,20 @@
 -- A row of taps alone in columns of depth 0: an object row where it has one, and it leaves the depths.
 use mathlib.Core.Path.{_≡_, refl, ap, sym, _∙_}
-use mathlib.Core.Bool.{Bool, true, false, not, _||_}
+use mathlib.Core.Bool.{not, _||_}
 use mathlib.Core.List.{[], _∷_}
 use Prim.Native.Nat.{ℕ, zero, suc, _+_, _*_, _<_, _≤_}
 use native.Mathlib.Omega.{arith}
-use borrow.Author.Tests.{eqb-true, eq-eqb, ne-eqb}
+use borrow.Author.Tests.{ne-eqb}
 use lib.Dec.{eqb}
 use Rattle.definitions.specs.Lines.{Row}
 use Rattle.definitions.specs.Cells.{cellOf, byteAt}
-use Rattle.definitions.specs.Objects.{objectAt, isObject, deeper, afterRow, objectFrom, objectRow}
+use Rattle.definitions.specs.Objects.{objectAt, isObject, deeper, objectFrom}
 use Rattle.definitions.specs.Objects as objects
 use Rattle.taps.specs.Taps.{tapMask, FreeTaps, FreeAre}
 use Rattle.taps.specs.declared.Taps.the-variants.{Mask}
 use Rattle.taps.proofs.Masks.{parts}
 use Rattle.taps.proofs.Free.{Free, zero-cell, tap-there, free-cell, line-taps}
-use Rattle.objects.specs.Rows.{depthAt, Holds, RowDone}
+use Rattle.objects.specs.Rows.{Holds, RowDone}
 use Rattle.objects.specs.declared.Depths.{Depths}
 use Rattle.objects.proofs.Scan.{low-more}
 

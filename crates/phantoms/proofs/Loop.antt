@@ -1,23 +1,21 @@
 -- The loop of `phantom_cells`: the columns before i are counted, and those from i on are as they were.
 use mathlib.Core.Path.{_≡_, refl, ap, sym, _∙_}
-use mathlib.Core.Bool.{Bool, true, false, _||_, or-assoc, or-false}
+use mathlib.Core.Bool.{Bool, _||_, or-assoc, or-false}
 use mathlib.Core.List.{List, [], _∷_, _++_}
-use Prim.Native.Nat.{ℕ, zero, suc, _+_, _*_, _-_, _<_, _≤_}
+use Prim.Native.Nat.{ℕ, _+_, _*_, _-_, _<_, _≤_}
 use native.Mathlib.Decide.{decLt, ℕ-discrete}
 use native.Mathlib.Numerals.{add-one}
-use native.Mathlib.Nat.{le-of-suc-le-suc, not-suc-le-zero}
+use native.Mathlib.Nat.{not-suc-le-zero}
 use native.Mathlib.Omega.{arith}
-use lib.ListN.{length, getD, set, drop, length-set, length-append, drop-of-length-le, List·getD-eq-default}
+use lib.ListN.{length, getD, set, drop, length-set, length-append, drop-of-length-le}
 use lib.Seq.{drop-cons, getD-set-same, getD-set-other}
 use Rattle.definitions.proofs.Columns.{past-end, step-most}
 use Rattle.definitions.proofs.Lists.{any-default, one-le}
 use Rattle.definitions.specs.Lists.{oneIf, count, someColumn}
 use Rattle.definitions.specs.Lines.{Row}
-use Rattle.definitions.specs.Cells.{cellOf, byteAt}
+use Rattle.definitions.specs.Cells.{byteAt}
 use Rattle.definitions.specs.Tracker.{holdAt}
 use Rattle.definitions.specs.Correction.{phantomStep, meetsPhantom, phantomMet, isOpening, isClosing}
-use Rattle.definitions.specs.declared.DepthEffect.{DepthEffect}
-use Rattle.definitions.specs.declared.DepthEffect.the-variants.{Nothing, Blocks, Opens, Closes}
 use Rattle.phantoms.specs.Phantoms.{depthAt, Low, Counts, CellCounted}
 use Rattle.phantoms.specs.declared.Phantoms.{Phantoms}
 use Rattle.phantoms.specs.declared.PhantomCell.{PhantomCell}

@@ -18,7 +18,7 @@ use Rattle.definitions.specs.Figures.{rowText, textOf, minimisedText}
 use Rattle.definitions.specs.ReadBack.{beginsMark, backRow}
 use Rattle.definitions.specs.declared.LineKind.{LineKind}
 use Rattle.definitions.specs.declared.LineKind.the-variants as line
-use Rattle.definitions.proofs.Lists.{All, none, one, all-append, all-joined}
+use Rattle.definitions.proofs.Lists.{All, none, one}
 use Rattle.definitions.proofs.Thinned.{Thinned, none, keep, leave, reduce-thin}
 use Rattle.measures.proofs.LineKinds.{row-length}
 use Rattle.measures.proofs.Multiples.{reduce-all}

@@ -1,7 +1,7 @@
 -- A work slice that is all 0.
-use mathlib.Core.Path.{_≡_, refl, ap, _∙_}
+use mathlib.Core.Path.{_≡_, ap, _∙_}
 use mathlib.Core.List.{List}
-use Prim.Native.Nat.{ℕ, zero, suc}
+use Prim.Native.Nat.{ℕ}
 use native.Mathlib.Nat.{sub-zero}
 use lib.ListN.{length, getD, replicate}
 use Rattle.slices.proofs.Zeroed.{zeros-none}

@@ -3,9 +3,8 @@ use mathlib.Core.Path.{_≡_, refl, ap, _∙_}
 use mathlib.Core.Bool.{false}
 use mathlib.Core.List.{List, [], _∷_, _++_}
 use Prim.Native.Nat.{ℕ, _+_, _-_, _<_, _≤_}
-use native.Mathlib.Decide.{decLt}
 use native.Mathlib.Omega.{arith}
-use lib.ListN.{length, getD, take, replicate, length-take, length-append, length-replicate, getD-replicate, List·getD-eq-default}
+use lib.ListN.{length, getD, take, length-take, length-append}
 use Rattle.slices.proofs.Zeroed.{zeros-none}
 use Rattle.definitions.specs.Lines.{Row}
 use Rattle.slices.specs.Zeroed.{zeroed}

@@ -8,15 +8,13 @@ use Prim.Native.Nat.{ℕ, suc, _+_, _*_, _/_, _%_, _≤_, _<_}
 use native.Mathlib.Nat.{mul-zero, mul-suc, mul-mod-right, mul-div-cancel', dvd-of-mod-eq-zero, div-add-mod, le-trans, le-of-eq, lt-of-lt-of-le, le-of-mul-le-mul-left, lt-of-mul-lt-mul-left, add-zero}
 use native.Mathlib.Omega.{arith}
 use borrow.Author.Tests.{eqb-true, eqb-false}
-use lib.Dec.{eqb}
 use lib.Pow.{pow-pos}
 use lib.ListN.{length}
 use Rattle.definitions.specs.Lists.{onlyIf}
 use Rattle.definitions.specs.Lines.{Row}
-use Rattle.definitions.specs.Cells.{cellOf, byteAt}
 use Rattle.definitions.specs.Measures.{chart}
 use Rattle.definitions.specs.Reduction.{allZero, multiple, offZero, atMultiples, stride, reduce, minimised}
-use Rattle.definitions.specs.Objects.{Depths, objectAt, afterRow, afterRows, objectFrom, objectRow, Place, objectsIn, objectsFrom, lastOf, lastObject, place48, last48}
+use Rattle.definitions.specs.Objects.{Depths, afterRow, afterRows, objectRow, Place, objectsIn, objectsFrom, lastOf, lastObject, place48, last48}
 use Rattle.definitions.specs.Beats.{lastRow}
 use Rattle.definitions.specs.Damage.{Each, end, next}
 use Rattle.definitions.specs.declared.DepthEffect.the-variants as depth

@@ -1,11 +1,10 @@
 -- A row whose taps stand in no column of `busy`: in each column is a `0`, or a `1` where `busy` has no bit.
 use mathlib.Core.Path.{_≡_, refl, ap, sym, _∙_, subst}
 use mathlib.Core.Bool.{Bool, true, false, cond, _||_}
-use mathlib.Core.List.{List, [], _∷_}
+use mathlib.Core.List.{[], _∷_}
 use Prim.Native.Nat.{ℕ, zero, suc, _+_, _*_, _/_, _%_, _^_, _<_, _≤_, min, max}
-use native.Mathlib.Nat.{zero-div, mod-lt, le-of-suc-le-suc, not-suc-le-zero}
+use native.Mathlib.Nat.{zero-div, mod-lt}
 use native.Mathlib.Omega.{arith}
-use borrow.Author.Tests.{eqb-true}
 use lib.Bits.{bitAnd, bitOr, and-shr, and-step, or-shr, or-step}
 use lib.Dec.{eqb}
 use lib.ListN.{length, getD}

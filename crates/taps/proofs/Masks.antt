@@ -1,15 +1,15 @@
 -- The masks of rows of taps alone, and that a mask's counts are its row's sum.
 use mathlib.Core.Path.{_≡_, refl, ap, ap₂, sym, _∙_}
-use mathlib.Core.Bool.{Bool, true, false, cond, _&&_, _||_}
+use mathlib.Core.Bool.{Bool, true, false, cond, _||_}
 use mathlib.Core.List.{List, [], _∷_, _++_}
 use Prim.Native.Nat.{ℕ, zero, suc, _+_, _*_, _-_, _/_, _%_, _^_, _<_, _≤_}
 use native.Mathlib.Nat.{pow-suc, pow-succ', mul-assoc}
 use native.Mathlib.Omega.{arith}
-use lib.Bits.{bitAnd, bitOr, and-mask, and-le-l, and-le-r, or-lt, or-add-and}
-use lib.Dec.{eqb, leb}
-use lib.ListN.{length, getD, take, drop, length-drop}
+use lib.Bits.{bitAnd, and-mask}
+use lib.Dec.{eqb}
+use lib.ListN.{length, take, drop, length-drop}
 use lib.Seq.{take-all, take-add, length-take-le}
-use borrow.Author.Tests.{eqb-true, ne-eqb, leb-true, leb-false, le-leb, lt-leb}
+use borrow.Author.Tests.{eqb-true}
 use Rattle.definitions.specs.Lines.{Row}
 use Rattle.definitions.specs.Cells.{cellOf}
 use Rattle.definitions.specs.Tally.{rowSum, rowSumBy}

@@ -1,7 +1,7 @@
 -- `beats::append_rounded` meets its contract. The loop's invariant: the slice is as it was, with the first r beats pasted in at `at`.
 use borrow.Author.Needs.{needs, scaled-fits}
-use mathlib.Core.Path.{_≡_, refl, sym, ap, _∙_}
-use Prim.Native.Nat.{ℕ, _+_, _-_, _*_, _≤_, _<_}
+use mathlib.Core.Path.{_≡_, refl, ap, _∙_}
+use Prim.Native.Nat.{ℕ, _+_, _-_, _≤_, _<_}
 use native.Mathlib.Nat.{le-antisymm}
 use native.Mathlib.Omega.{arith}
 use lib.ListN.{length, length-set}

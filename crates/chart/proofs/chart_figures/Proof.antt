@@ -1,9 +1,9 @@
 -- `chart::chart_figures` meets its contract, by what the pass leaves.
-use mathlib.Core.Path.{_≡_, ap, _∙_}
-use Prim.Native.Nat.{ℕ, _-_}
+use mathlib.Core.Path.{ap, _∙_}
+use Prim.Native.Nat.{_-_}
 use native.Mathlib.Omega.{arith}
 use denote.Ref.{now}
-use lib.ListN.{length, replicate}
+use lib.ListN.{length}
 use Rattle.definitions.specs.Lists.{padded}
 use Rattle.definitions.specs.Notes.{notes}
 use Rattle.definitions.specs.Records.{records}

@@ -6,8 +6,6 @@ use mathlib.Core.List.{List, [], _∷_, _++_, append-assoc, map}
 use Prim.Native.Nat.{ℕ, zero, suc, _+_, _<_}
 use native.Mathlib.Nat.{not-suc-le-zero, add-zero, zero-add, add-suc, suc-add}
 use native.Mathlib.Omega.{arith}
-use borrow.Author.Tests.{eqb-true}
-use lib.Dec.{eqb}
 use lib.ListN.{length, take, drop, getD}
 use Rattle.definitions.proofs.Columns.{zero-byte}
 use Rattle.definitions.specs.Lists.{joined, onlyIf}
@@ -17,7 +15,6 @@ use Rattle.definitions.specs.Reduction.{allZero, reduce}
 use Rattle.definitions.specs.Objects.{objectAt, deeper, isObject, Depths, afterRow, afterRows, objectFrom, objectRow, Place, objectsIn, objectsFrom, lastOf}
 use Rattle.definitions.specs.declared.DepthEffect.{DepthEffect}
 use Rattle.definitions.specs.declared.DepthEffect.the-variants.{Nothing, Blocks, Opens, Closes}
-use Rattle.definitions.proofs.Bools.{and-left, and-right}
 use Rattle.definitions.proofs.Thinned.{Thinned, none as thin-none, keep, leave, reduced-thin}
 use Rattle.definitions.specs.Damage.{byteIn, HoldObject, ObjectFirst}
 use Rattle.definitions.proofs.Damage.Bytes.{object-blocks, closes-three}

@@ -1,9 +1,9 @@
 -- `kept::keep_figures` meets its contract, by what the pass leaves.
-use mathlib.Core.Path.{_≡_, ap, _∙_}
-use Prim.Native.Nat.{ℕ, _-_}
+use mathlib.Core.Path.{_∙_}
+use Prim.Native.Nat.{_-_}
 use native.Mathlib.Omega.{arith}
 use denote.Ref.{now}
-use lib.ListN.{length, replicate}
+use lib.ListN.{length}
 use Rattle.keeping.proofs.Answering.{all-room, all-text, all-densities, all-recount, none-off}
 use Rattle.kept.proofs.Answering.{all-figures}
 use borrow.Author.Needs.{needs}

@@ -1,12 +1,12 @@
 -- `noting::note_rows` meets its contract. The loop's invariant: the first `i` rows are noted, and the next one stands at `at`.
-use Prim.Native.Nat.{ℕ, _≤_, _<_, _+_, _-_, _*_}
+use Prim.Native.Nat.{_≤_, _<_, _+_, _-_, _*_}
 use mathlib.Core.Path.{_≡_, refl, ap, sym, _∙_, subst}
 use mathlib.Core.List.{List, [], _∷_, _++_}
-use native.Mathlib.Nat.{add-sub-cancel-left, zero-mul, add-mul, one-mul}
+use native.Mathlib.Nat.{add-sub-cancel-left, zero-mul}
 use native.Mathlib.Numerals.{add-one}
 use native.Mathlib.Omega.{arith}
 use denote.Ref.{now}
-use lib.ListN.{length, take, drop, getD, length-append, length-drop}
+use lib.ListN.{length, take, drop, getD, length-drop}
 use lib.Seq.{take-suc, take-all, length-take-le}
 use Rattle.definitions.specs.Lines.{Row}
 use Rattle.measures.specs.Rows.{rowsAt}

@@ -1,8 +1,7 @@
 -- `taps::free_taps` meets its contract: a mask and `busy` without a common bit.
 use borrow.Author.Needs.{needs}
 use mathlib.Core.Path.{_≡_, sym, ap, _∙_}
-use Prim.Native.Nat.{ℕ}
-use Rattle.taps.specs.declared.Taps.the-variants.{Mask, Other}
+use Rattle.taps.specs.declared.Taps.the-variants.{Mask}
 use Rattle.taps.proofs.Masks.{not-other}
 use Rattle.taps.proofs.Free.{apart}
 use Rattle.taps.proofs.free_taps.Statement.{statement}
