@@ -19,14 +19,17 @@ with 4 and 8 lanes, 2,000 charts of 20,000 bytes one after the other, and a long
 nothing closes, where the tally is counted anew. The best of N runs each, in turns (N is 7). Prints a
 table: MB/s of both (1 MB is 1,000,000 bytes) and the ratio, ours to the Rust's; beside the main call,
 the time that memset takes for the bytes that it is lent. Both answers are compared first. With
---growth it prints instead what a byte costs in texts of 1, 4 and 16 MB, as many as make 16 MB. Run it
-on a machine that does nothing else; on a busy one take more runs. With --crlf lines end with the bytes 13 and 10.";
+--growth it prints instead what a byte costs in texts of 1, 4 and 16 MB, as many as make 16 MB, each
+with slices of its own. Run it on a machine that does nothing else; on a busy one take more runs. With
+--crlf lines end with the bytes 13 and 10.";
 
 /// Texts that are timed together, and what the table calls them.
 struct Load {
     name: &'static str,
     lanes: usize,
     texts: Vec<Vec<u8>>,
+    /// How many sets of slices the texts are given in turn.
+    loans: usize,
 }
 
 impl Load {
@@ -99,7 +102,12 @@ fn refused(message: &str) -> ExitCode {
 fn table(options: &Options) -> Result<(), &'static str> {
     let newline = options.newline;
     let long = |lanes| vec![chart::text(lanes, MAX_LEN, newline, 0, false)];
-    let load = |name, lanes, texts| Load { name, lanes, texts };
+    let load = |name, lanes, texts| Load {
+        name,
+        lanes,
+        texts,
+        loans: 1,
+    };
     println!("| entry | text | lanes | ours, MB/s | the Rust, MB/s | ratio |");
     println!("|---|---|---|---|---|---|");
     let loads: [&dyn Fn() -> Load; 4] = [
@@ -147,13 +155,14 @@ fn growth(options: &Options) -> Result<(), &'static str> {
         for entry in options.entries() {
             let mut costs = [0.0; 3];
             for (cost, len) in costs.iter_mut().zip([1_000_000, 4_000_000, 16_000_000]) {
-                // As many texts as make 16 MB, so that no length is favoured by the processor's cache.
-                let texts = (0..16_000_000 / len as u64)
+                // As many texts as make 16 MB, each with slices of its own, so that no length is favoured by the processor's cache.
+                let texts: Vec<Vec<u8>> = (0..16_000_000 / len as u64)
                     .map(|seed| chart::text(lanes, len, options.newline, seed, false))
                     .collect();
                 let load = Load {
                     name: "long",
                     lanes,
+                    loans: texts.len(),
                     texts,
                 };
                 let (ours, _) = timed(entry, &load, options.runs)?;
@@ -183,13 +192,13 @@ fn timed(entry: &Entry, load: &Load, runs: usize) -> Result<(Duration, Duration)
             return Err(call.name());
         }
     }
-    let mut loan = lent(call, len, lanes);
+    let mut loans: Vec<Loan> = (0..load.loans).map(|_| lent(call, len, lanes)).collect();
     let mut buffers = Buffers::default();
     let (mut ours, mut rust) = (Duration::MAX, Duration::MAX);
     for _ in 0..runs {
         let start = Instant::now();
-        for text in &load.texts {
-            (entry.enter)(text, lanes, &flags, &mut loan);
+        for (place, text) in load.texts.iter().enumerate() {
+            (entry.enter)(text, lanes, &flags, &mut loans[place % load.loans]);
         }
         ours = ours.min(start.elapsed());
         let start = Instant::now();
