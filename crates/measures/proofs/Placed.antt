@@ -1,5 +1,5 @@
 -- Laws of a text with other bytes from a place on.
-use mathlib.Core.Path.{_≡_, refl, ap, sym, _∙_}
+use mathlib.Core.Path.{_≡_, ap, sym, _∙_}
 use mathlib.Core.List.{List, _++_, append-assoc}
 use Prim.Native.Nat.{ℕ, _+_, _-_, _≤_}
 use native.Mathlib.Nat.{add-assoc}
@@ -15,11 +15,7 @@ placed-front start bytes text h =
     rw (← append-assoc (take start text) bytes (drop (start + length bytes) text))
     (take-at (take start text ++ bytes) _ (start + length bytes) (simp (length-append, length-take-le start text h)))
 
--- before them
-pub placed-before : (start : ℕ) (bytes text : List ℕ) → start ≤ length text → take start (placed start bytes text) ≡ take start text
-placed-before start bytes text h = take-at (take start text) _ start (length-take-le start text h)
-
--- past them
+-- past the new bytes
 pub placed-past : (start : ℕ) (bytes text : List ℕ) (k : ℕ) → start ≤ length text → start + length bytes ≤ k
     → drop k (placed start bytes text) ≡ drop k text
 placed-past start bytes text k h l =
@@ -36,12 +32,6 @@ placed-past start bytes text k h l =
     end =
         rw (← append-assoc (take start text) bytes (drop (start + length bytes) text))
         (drop-at (take start text ++ bytes) _ (start + length bytes) (simp (length-append, length-take-le start text h)))
-
--- the bytes themselves
-pub placed-bytes : (start : ℕ) (bytes text : List ℕ) → start ≤ length text
-    → take (length bytes) (drop start (placed start bytes text)) ≡ bytes
-placed-bytes start bytes text h =
-    ap (take (length bytes)) (drop-at (take start text) _ start (length-take-le start text h)) ∙ take-at bytes _ (length bytes) refl
 
 pub placed-length : (start : ℕ) (bytes text : List ℕ) → start + length bytes ≤ length text → length (placed start bytes text) ≡ length text
 placed-length start bytes text h =

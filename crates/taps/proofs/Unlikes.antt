@@ -6,13 +6,12 @@ use Prim.Native.Nat.{ℕ, zero, suc, _+_, _*_, _-_, _^_, _<_, _≤_}
 use native.Mathlib.Nat.{pow-succ'}
 use native.Mathlib.Omega.{arith}
 use borrow.Author.Tests.{eqb-true}
-use lib.Bits.{bitOr}
 use lib.Dec.{eqb}
 use lib.ListN.{getD}
 use Rattle.definitions.proofs.Lists.{one-le}
 use Rattle.definitions.specs.Lists.{oneIf}
 use Rattle.taps.specs.Taps.{bit, FreeAre, unlikeFrom, unlikeMask}
-use Rattle.taps.proofs.Free.{bit-first, bit-next, or-none}
+use Rattle.taps.proofs.Free.{bit-first, bit-next}
 
 from-none : (n : ℕ) (l : List ℕ) (c k i : ℕ) → i < k → bit i (unlikeFrom n l c k) ≡ 0 → getD l (c + i) 0 ≡ n
 from-none n l c zero i h e = absurd (omega arith)
@@ -44,10 +43,3 @@ from-before n l c h k =
     let one-more : 10 - (c - 1) ≡ suc (10 - c) = omega arith in
     let next : suc (c - 1) ≡ c = omega arith in
     ap (unlikeFrom n l (c - 1)) one-more ∙ ap (λ p. oneIf (not (eqb (getD l (c - 1) 0) n)) + 2 * unlikeFrom n l p (10 - c)) next
-
--- the same with the bits of another mask beside these
-pub free-left : (a b n : ℕ) (l : List ℕ) → FreeAre a n l → FreeAre (bitOr a b) n l
-free-left a b n l f c h e = f c h (or-none a b c e .0)
-
-pub free-right : (a b n : ℕ) (l : List ℕ) → FreeAre b n l → FreeAre (bitOr a b) n l
-free-right a b n l f c h e = f c h (or-none a b c e .1)
