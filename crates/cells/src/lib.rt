@@ -70,17 +70,20 @@ fn word_has_note(word: u64) -> bool
     words::has_byte(word, b'1') | words::has_byte(word, b'2') | words::has_byte(word, b'4')
 }
 
-// Whether the row has an arrow: by one word where it has four or eight cells.
+// Whether the row has an arrow: by words of its first four cells and others where it has four to twelve.
 pub fn row_has_note(row: &[u8]) -> bool
     ensures { λ r. ⌜ r ≡ isStep (now (row .entry)) ⌝ }
 {
-    if row.len() == 4 {
-        return word_has_note(words::half_at(row, 0));
+    let n = row.len();
+    if (n < 4) | (12 < n) {
+        return cells_have_note(row);
     }
-    if row.len() == 8 {
-        return word_has_note(words::halves_at(row, 0));
+    let mid = words::second_half(n);
+    let has = word_has_note(words::half_at(row, 0) + words::half_at(row, mid) * 0x1_0000_0000);
+    if n <= 8 {
+        return has;
     }
-    cells_have_note(row)
+    has | word_has_note(words::half_at(row, n - 4))
 }
 
 // What the byte does to the tracker's stack and to the phantom depth of its column.

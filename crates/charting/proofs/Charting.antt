@@ -20,6 +20,8 @@ use Rattle.keeping.proofs.Keeping.{kept-all}
 use Rattle.measures.specs.Rows.{rowsAt, Holds}
 use Rattle.measures.proofs.Forms.{in-text, form-rows}
 use Rattle.measures.proofs.Shorter.{reduce-short}
+use Rattle.walking.specs.Walked.{Walking}
+use Rattle.measures.proofs.RowsAt.{rows-length}
 use Rattle.noting.specs.declared.Noting.{Noting}
 use Rattle.noting.specs.Noted.{Noted, NoteRoom}
 use Rattle.noting.proofs.Rows.{row-number}
@@ -90,6 +92,24 @@ module _ (L : ℕ) (p : ChartPass) (text densities : List ℕ) (beats : List Flo
           room = le-trans (mul-le-mul-right 10 (mul-le-mul-right L less)) room;
           midx = omega (arith, x .last .midx, s .charted .kept .open-is .midx, least);
         }
+
+-- there is room for the walk over the minimised rows
+pub walk-room : (L : ℕ) (p : ChartPass) (text densities : List ℕ) (beats : List Float) (slots : List ℕ) → SomeCharted L p text densities beats slots → (kept : ℕ) (after : List ℕ) → kept ≤ p .pass .rows
+    → p .pass .counting .rows + p .pass .rows < 4194304 → (p .pass .counting .rows + p .pass .rows) * L * 10 ≤ length slots → p .pass .midx ≤ 8388608
+    → Walking L (p .pass .counting) (p .noting) slots (rowsAt (L + 1) L kept (drop (p .pass .start) after)) 0
+walk-room L p text densities beats slots s kept after less few room least =
+    let x = s .charted in
+    let before : p .pass .counting .rows ≡ length (joined (s .done)) = x .kept .open-is .counted .rows ∙ ap length (append-nil (joined (s .done))) in
+    let many : length (rowsAt (L + 1) L kept (drop (p .pass .start) after)) ≡ kept = rw rows-length in
+    let most : length (joined (s .done)) + length (rowsAt (L + 1) L kept (drop (p .pass .start) after)) ≤ p .pass .counting .rows + p .pass .rows = omega (arith, before, many, less) in
+    record {
+      done = s .done;
+      counted = x .kept .open-is .counted;
+      noted = x .noted;
+      few = omega (arith, most, few);
+      room = le-trans (mul-le-mul-right 10 (mul-le-mul-right L most)) room;
+      midx = omega (arith, x .kept .open-is .midx, least);
+    }
 
 -- The next measure begins.
 pub charted-next : (L : ℕ) (e : ChartPass) (text after densities : List ℕ) (beats : List Float) (slots : List ℕ) (done : List (List Row)) (cur : List Row) → ChartEnded L e text densities beats slots done cur

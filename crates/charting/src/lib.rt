@@ -55,13 +55,24 @@ fn end_measure(
     ensures { λ r. ⌜ (r .pass .out ≤ p .pass .out) × (r .pass .midx ≡ p .pass .midx) ⌝ }
 {
     let old = p.noting;
+    let counting = p.pass.counting;
     let before = p.pass.counting.rows;
-    let pass = keeping::end_measure(p.pass, text, densities, lanes);
-    let start = pass.start;
-    let rows = pass.rows;
-    let midx = pass.midx;
-    beats::append_row_beats(beats, before as usize, midx as u32, rows as u32);
-    let noting = noting::note_rows(old, text, start, rows, lanes, slots);
+    let start = p.pass.start;
+    let rows = p.pass.rows;
+    let midx = p.pass.midx;
+    let kept = measures::reduce_output_measure(text, start, rows, lanes);
+    beats::append_row_beats(beats, before as usize, midx as u32, kept as u32);
+    let w = walking::walk_rows(counting, old, text, start, kept, lanes, slots);
+    let counted = w.counting;
+    let noting = w.noting;
+    densities[midx] = counting::density(counted);
+    let pass = Pass {
+        counting: counted,
+        start,
+        out: start + kept * (lanes + 1),
+        rows: kept,
+        midx,
+    };
     ChartPass { pass, noting }
 }
 

@@ -37,7 +37,7 @@ pub fn no_counting() -> Counting
 }
 
 // One row of taps more, all in columns of the phantom depth 0: it leaves the depths, and no turn of a loop branches on its cells.
-fn count_taps(c: Counting, mask: u8, counts: &[u16; 256]) -> Counting
+pub fn count_taps(c: Counting, mask: u8, counts: &[u16; 256]) -> Counting
     requires { ⌜ (c .rows < 4194304) × Few c × TapCounts (now counts) ⌝ }
     ensures { λ r. ⌜ ((row : Row) → FreeTaps (c .busy) mask row → (L : ℕ) (done : List (List Row)) (cur : List Row) → length row ≤ L → L ≤ 10 → Counted L c done cur → Counted L r done (cur ++ (row ∷ []))) ⌝ }
 {

@@ -53,6 +53,14 @@ pub fn halves_at(s: &[u8], i: usize) -> u64
     half_at(s, i) + half_at(s, i + 4) * 0x1_0000_0000
 }
 
+// Where four bytes of n begin that with the first four are all of up to eight, and of more the first eight.
+pub fn second_half(n: usize) -> usize
+    requires { ⌜ 4 ≤ n ⌝ }
+    ensures { λ r. ⌜ (r ≤ 4) × (r + 4 ≤ n) × (n ≤ 8 → r + 4 ≡ n) × (8 ≤ n → r ≡ 4) ⌝ }
+{
+    if n < 8 { n - 4 } else { 4 }
+}
+
 // Bits for bytes of the word that equal `byte`: the lowest set bit stands in the first of them, higher ones mean nothing.
 pub fn byte_hits(word: u64, byte: u8) -> u64
     ensures { λ r. ⌜ ((xs : List ℕ) → length xs ≡ 8 → Bytes xs → wordOf xs ≡ word → trailingZeros 64 r / 8 ≡ firstIn byte xs) ⌝ }

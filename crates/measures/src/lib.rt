@@ -67,7 +67,8 @@ fn are_all_zero(row: &[u8]) -> bool
     true
 }
 
-// Whether every byte of a row is `0`: by one word where it has four or eight.
+// Whether every byte of a row is `0`: by one word where it has four or eight, and by its first four bytes, its last four and four between where
+// it has up to twelve.
 pub fn is_all_zero(row: &[u8]) -> bool
     ensures { λ r. ⌜ r ≡ allZero (now (row .entry)) ⌝ }
 {
@@ -77,7 +78,14 @@ pub fn is_all_zero(row: &[u8]) -> bool
     if row.len() == 8 {
         return words::halves_at(row, 0) == 0x3030_3030_3030_3030;
     }
-    are_all_zero(row)
+    let n = row.len();
+    if (n < 4) | (12 < n) {
+        return are_all_zero(row);
+    }
+    let mid = words::second_half(n);
+    (words::half_at(row, 0) == 0x3030_3030)
+        & (words::half_at(row, mid) == 0x3030_3030)
+        & (words::half_at(row, n - 4) == 0x3030_3030)
 }
 
 // The exponent of the stride. `step` is the stride found so far, 2 to the power `shift`, and `left` the number of its multiples. Looked at

@@ -7,3 +7,4 @@ pub mod Closing
 pub mod Retaining
 pub mod Ending
 pub mod Taps
+pub mod Masks

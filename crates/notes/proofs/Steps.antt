@@ -1,13 +1,13 @@
 -- What one cell does to the drafts that lie in the record slice, by its effect.
-use mathlib.Core.Path.{_≡_, refl}
+use mathlib.Core.Path.{_≡_, refl, ap, _∙_}
 use mathlib.Core.Bool.{Bool, true, false, cond, _||_, not}
 use mathlib.Core.List.{List, map, append-nil}
 use mathlib.Core.Option.{some, none}
 use Prim.Native.Nat.{ℕ, _+_, _*_, _≤_, _<_}
 use native.Mathlib.Omega.{arith}
 use lib.Dec.{eqb}
-use lib.ListN.{length, getD, set}
-use lib.Seq.{sets, length-sets, getD-set-same, set-set}
+use lib.ListN.{length, getD, set, length-set}
+use lib.Seq.{sets, length-sets, getD-set-same, getD-set-other, set-set}
 use borrow.Author.Tests.{eqb-true}
 use Rattle.definitions.specs.Cells.{cellOf}
 use Rattle.definitions.specs.Notes.{effectAt}
@@ -16,7 +16,7 @@ use Rattle.definitions.specs.declared.Kind.{Kind}
 use Rattle.definitions.specs.declared.NoteEffect.{NoteEffect}
 use Rattle.definitions.specs.declared.NoteEffect.the-variants.{Nothing, Closes, Single, Head}
 use Rattle.notes.specs.Drafts.{State, plain, waiting, Draft, settle, stepCell}
-use Rattle.notes.specs.Writer.{noHead, dropped, draftBytes, FineState, Fine, Holds, Stored, Ready, HeadThere, HoldEnded, NotePushed, endHead, invalidAfter, Stepped}
+use Rattle.notes.specs.Writer.{noHead, dropped, draftBytes, FineState, Fine, Holds, Stored, Ready, HeadThere, HoldEnded, NotePushed, endHead, invalidAfter, Stepped, OtherHeads}
 use Rattle.notes.specs.declared.ChartNotesScratch.{ChartNotesScratch}
 use Rattle.notes.proofs.Stored.{stored-settle, stored-plain, stored-head}
 
@@ -51,6 +51,9 @@ step-nothing l s i c x e = record {
   bound = omega arith;
   row = refl;
 }
+
+pub others-set : (hs ks : List ℕ) (c x : ℕ) → ks ≡ set hs c x → OtherHeads hs c ks
+others-set hs ks c x e = record { size = ap length e ∙ length-set hs c x; others = λ k ne. ap (λ l. getD l k 0) e ∙ getD-set-other hs c k x 0 ne }
 
 -- a `0` touches no note
 pub zero-nothing : (b : ℕ) → b ≡ 48 → effectAt b ≡ Nothing

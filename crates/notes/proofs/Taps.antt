@@ -25,7 +25,7 @@ use Rattle.notes.proofs.Stored.{ten-bytes}
 use Rattle.notes.proofs.Steps.{step-single, zero-nothing}
 
 -- a record behind the others is none of them
-stored-past : (l hs : List ℕ) (n : ℕ) (invalid : Bool) (ds : List Draft) (vs : List ℕ) → Stored l hs n invalid ds → Stored (sets l (n * 10) vs) hs n invalid ds
+pub stored-past : (l hs : List ℕ) (n : ℕ) (invalid : Bool) (ds : List Draft) (vs : List ℕ) → Stored l hs n invalid ds → Stored (sets l (n * 10) vs) hs n invalid ds
 stored-past l hs n invalid ds vs S = record {
   count = S .count;
   few = S .few;

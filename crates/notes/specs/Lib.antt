@@ -2,3 +2,4 @@
 pub mod Drafts
 pub mod Writer
 pub mod Written
+pub mod Masks

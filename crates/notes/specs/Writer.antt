@@ -130,6 +130,11 @@ pub record Stepped (l : List ℕ) (s : ChartNotesScratch) (l′ : List ℕ) (r :
   pub bound : r .count ≤ s .count + m
   pub row : r .«row_index» ≡ s .«row_index»
 
+-- the open heads of other columns stay
+pub record OtherHeads (hs : List ℕ) (column : ℕ) (ks : List ℕ) : Type 0 where
+  pub size : length ks ≡ length hs
+  pub others : (c : ℕ) → (c ≡ column → ⊥) → getD ks c 0 ≡ getD hs c 0
+
 -- ---- the end
 
 -- some drafts are there

@@ -19,7 +19,10 @@ ghost use Rattle.definitions.specs.Lists.{oneIf};
 ghost use Rattle.definitions.specs.Lines.{Row};
 ghost use Rattle.definitions.specs.Records.{fields};
 ghost use Rattle.notes.specs.Drafts.{stepCell};
-ghost use Rattle.notes.specs.Writer.{HeadThere, HoldEnded, invalidAfter, Ready, NotePushed, noHead, noTail, FreeHeads, dropped, Stepped, Closed, Compacted, SomeDrafts};
+ghost use Rattle.notes.specs.Writer.{HeadThere, HoldEnded, invalidAfter, Ready, NotePushed, noHead, noTail, FreeHeads, dropped, Stepped, OtherHeads, Closed, Compacted, SomeDrafts};
+ghost use Rattle.taps.specs.Taps.{tapLineMask};
+ghost use Rattle.taps.specs.declared.Taps.the-variants.{Mask};
+ghost use Rattle.notes.specs.Masks.{LowOf};
 ghost use Rattle.notes.specs.Written.{Written, Room, SomeRows, Finished};
 
 // The tail field of a record that is dropped.
@@ -106,7 +109,7 @@ fn push_head(s: ChartNotesScratch, column: usize, kind: Kind, notes: &mut [u8]) 
 }
 
 // One cell of the row that is being read.
-fn push_cell(
+pub fn push_cell(
     s: ChartNotesScratch,
     column: usize,
     cell: NoteEffect,
@@ -114,6 +117,7 @@ fn push_cell(
 ) -> ChartNotesScratch
     requires { ⌜ Ready (now notes) s column ⌝ }
     ensures { λ r. ⌜ Stepped (now (notes .entry)) s (now (notes .exit)) r 1 (stepCell (s .«row_index») column cell) ⌝ }
+    ensures { λ r. ⌜ OtherHeads (s .«hold_heads») column (r .«hold_heads») ⌝ }
 {
     match cell {
         NoteEffect::Nothing => s,
@@ -148,6 +152,58 @@ pub fn push_taps(s: ChartNotesScratch, row: &[u8], notes: &mut [u8]) -> ChartNot
     while column < row.len() {
         count = push_tap(s.row_index, count, column, row[column], notes);
         column += 1;
+    }
+    ChartNotesScratch {
+        hold_heads,
+        count,
+        row_index: s.row_index + 1,
+        has_invalid: s.has_invalid,
+    }
+}
+
+// The lowest column of a mask, a `1`, and the rest of the mask; of an empty mask a `0` in some column.
+struct LowBit {
+    column: usize,
+    byte: u8,
+    rest: u32,
+}
+
+fn low_bit(mask: u32) -> LowBit
+    requires { ⌜ mask < 256 ⌝ }
+    ensures { λ r. ⌜ LowOf mask (r .column) (r .byte) (r .rest) ⌝ }
+{
+    let column = u32::trailing_zeros(mask | 128) as usize;
+    if mask == 0 {
+        return LowBit {
+            column,
+            byte: b'0',
+            rest: 0,
+        };
+    }
+    LowBit {
+        column,
+        byte: b'1',
+        rest: mask & (mask - 1),
+    }
+}
+
+// A row of taps alone in columns without an open head, by its mask, `finish_row` included. Two records are written whatever the mask is, and
+// more only where it has more taps, so that few rows branch on theirs.
+pub fn push_mask(s: ChartNotesScratch, row: &[u8], mask: u8, notes: &mut [u8]) -> ChartNotesScratch
+    requires { ⌜ Room s (now row) (now notes) × FreeHeads (s .«hold_heads») (now row) × (tapLineMask (now row) ≡ Mask mask) ⌝ }
+    ensures { λ r. ⌜ ((rows : List Row) → Written rows s (now (notes .entry)) → Written (rows ++ (now (row .entry) ∷ [])) r (now (notes .exit))) ⌝ }
+    ensures { λ r. ⌜ r .«hold_heads» ≡ s .«hold_heads» ⌝ }
+{
+    let hold_heads = s.hold_heads;
+    let one = low_bit(mask as u32);
+    let first = push_tap(s.row_index, s.count, one.column, one.byte, notes);
+    let two = low_bit(one.rest);
+    let mut count = push_tap(s.row_index, first, two.column, two.byte, notes);
+    let mut left = two.rest;
+    while left != 0 {
+        let next = low_bit(left);
+        count = push_tap(s.row_index, count, next.column, next.byte, notes);
+        left = next.rest;
     }
     ChartNotesScratch {
         hold_heads,

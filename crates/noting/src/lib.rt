@@ -32,11 +32,11 @@ pub fn no_noting() -> Noting
 }
 
 // One row of taps more, in columns that are free in both.
-fn note_taps(n: Noting, row: &[u8], mask: u8, slots: &mut [u8]) -> Noting
+pub fn note_taps(n: Noting, row: &[u8], mask: u8, slots: &mut [u8]) -> Noting
     requires { ⌜ RowReady n (now row) (now slots) × FreeTaps (bitOr (n .busy) (n .last .busy)) mask (now row) ⌝ }
     ensures { λ r. ⌜ ((L : ℕ) (done : List (List Row)) (cur : List Row) → length (now (row .entry)) ≤ L → NotedRows L n (now (slots .entry)) done cur → NotedRows L r (now (slots .exit)) done (cur ++ (now (row .entry) ∷ []))) ⌝ }
 {
-    let scratch = notes::push_taps(n.scratch, row, slots);
+    let scratch = notes::push_mask(n.scratch, row, mask, slots);
     let last = objects::last_taps(n.last, mask);
     Noting {
         scratch,
@@ -74,7 +74,7 @@ fn note_row(n: Noting, row: &[u8], slots: &mut [u8]) -> Noting
 }
 
 // The open measure ends.
-fn note_measure(n: Noting) -> Noting
+pub fn note_measure(n: Noting) -> Noting
     requires { ⌜ (n .last .rows < 4194304) × (n .last .midx ≤ 8388608) ⌝ }
     ensures { λ r. ⌜ ((L : ℕ) (l : List ℕ) (done : List (List Row)) (cur : List Row) → NotedRows L n l done cur → Noted L r l (done ++ (cur ∷ []))) ⌝ }
 {

@@ -37,7 +37,7 @@ pub struct ObjectCell {
 }
 
 // One cell of an object row's test, in a column of that depth.
-fn object_cell(b: u8, depth: u32) -> ObjectCell
+pub fn object_cell(b: u8, depth: u32) -> ObjectCell
     requires { ⌜ depth < 4294967295 ⌝ }
     ensures { λ r. ⌜ CellDone b depth r ⌝ }
 {

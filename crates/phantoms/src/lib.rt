@@ -47,7 +47,7 @@ pub struct PhantomCell {
 }
 
 // One cell of a row, in a column of that depth.
-fn phantom_cell(b: u8, depth: u32) -> PhantomCell
+pub fn phantom_cell(b: u8, depth: u32) -> PhantomCell
     requires { ⌜ depth < 4294967295 ⌝ }
     ensures { λ r. ⌜ CellCounted b depth r ⌝ }
 {

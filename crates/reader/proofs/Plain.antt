@@ -1,21 +1,21 @@
 -- A plain row: its line begins with no blank, `,`, `;` or `/`, and has the newline right after its L bytes or after one byte 13 more.
-use mathlib.Core.Path.{_≡_, refl, ap, sym, _∙_}
-use mathlib.Core.Bool.{Bool, true, false, cond}
+use mathlib.Core.Path.{_≡_, refl, ap, sym, _∙_, subst}
+use mathlib.Core.Bool.{Bool, true, false, cond, _||_}
 use mathlib.Core.List.{List, [], _∷_}
-use Prim.Native.Nat.{ℕ, zero, suc, _+_, _-_, _≤_, _<_}
+use Prim.Native.Nat.{ℕ, zero, suc, _+_, _-_, _*_, _/_, _≤_, _<_}
 use native.Mathlib.Decide.{decLt}
 use native.Mathlib.Nat.{add-zero, zero-add, suc-add}
 use native.Mathlib.Numerals.{add-one}
 use native.Mathlib.Omega.{arith}
-use borrow.Author.Tests.{eqb-true, eq-eqb, ne-eqb, le-leb}
+use borrow.Author.Tests.{eqb-true, eqb-false, eq-eqb, ne-eqb, le-leb}
 use lib.Dec.{eqb}
 use lib.ListN.{length, getD, take, drop, length-drop}
 use lib.Seq.{drop-cons, getD-take, getD-drop, length-take-le}
-use Rattle.definitions.specs.Lists.{oneIf}
+use Rattle.definitions.specs.Lists.{oneIf, among}
 use Rattle.definitions.specs.Lines.{isBlank, trim, isRow, kindOf}
 use Rattle.definitions.specs.declared.LineKind.the-variants as line
 use Rattle.lines.specs.Lines.{firstLine}
-use Rattle.lines.specs.Words.{firstIn}
+use Rattle.lines.specs.Words.{firstIn, halfAt, wordOf, Bytes}
 use Rattle.reader.specs.Reading.{LineRead, plainRow}
 use Rattle.reader.proofs.Parts.{line-read}
 
@@ -116,3 +116,83 @@ plain-row L text off end h near low semi e newline = go (eqb (getD text (off + L
               let first : getD text off 0 ≡ 10 = ap (λ k. getD text k 0) (omega arith) ∙ after in
               absurd (omega arith)
         ]
+
+-- ---- a row that is told by its first four bytes, its last four and the two in its middle
+
+-- none of the first n bytes is a newline
+first-other : (n : ℕ) (xs : List ℕ) → n ≤ length xs → ((k : ℕ) → k < n → getD xs k 0 ≡ 10 → ⊥) → n ≤ firstIn 10 xs
+unfolding firstIn
+first-other zero xs h f = omega arith
+first-other (suc n) [] h f = absurd (omega arith)
+first-other (suc n) (x ∷ xs) h f =
+    rw (ne-eqb x 10 (f 0 (omega arith))) (omega (arith, first-other n xs (omega arith) (λ k b. f (suc k) (omega arith))))
+
+pub just-row : (L : ℕ) (text : List ℕ) (off : ℕ) → off + L < length text → 0 < L → ((k : ℕ) → k < L → getD text (off + k) 0 ≡ 10 → ⊥)
+    → 47 < getD text off 0 → (getD text off 0 ≡ 59 → ⊥) → getD text (off + L) 0 ≡ 10 → LineRead L text off (plainRow off (off + L))
+just-row L text off h some other low semi newline =
+    let s = drop off text in
+    let size : length (take L s) ≡ L = length-take-le L s (rw length-drop (omega arith)) in
+    let near : L ≤ firstIn 10 (take L s) = first-other L (take L s) (omega arith) (λ k b. rw (part-byte L off k text b) (other k b)) in
+    let found : firstLine s ≡ take L s = line-just L L s (rw length-drop (omega arith)) near (getD-drop off text L 0 ∙ newline) in
+    plain-line L L text off h (omega arith) some found low semi
+
+-- four bytes at i and four at j
+abbrev pub ends : List ℕ → ℕ → ℕ → List ℕ
+ends s i j =
+    getD s i 0 ∷ getD s (i + 1) 0 ∷ getD s (i + 2) 0 ∷ getD s (i + 3) 0 ∷ getD s j 0 ∷ getD s (j + 1) 0 ∷ getD s (j + 2) 0 ∷ getD s (j + 3) 0 ∷ []
+
+pub ends-word : (s : List ℕ) (i j : ℕ) → wordOf (ends s i j) ≡ halfAt s i + halfAt s j * 4294967296
+unfolding wordOf
+ends-word s i j = omega arith
+
+pub ends-bytes : (s : List ℕ) (i j : ℕ) → ((k : ℕ) → getD s k 0 < 256) → Bytes (ends s i j)
+ends-bytes s i j h = (h i, (h (i + 1), (h (i + 2), (h (i + 3), (h j, (h (j + 1), (h (j + 2), (h (j + 3), tt))))))))
+
+neither : (x y : Bool) → (x || y) ≡ false → (x ≡ false) × (y ≡ false)
+neither true y e = let z : _≡_ {A = ℕ} 0 1 = cc in absurd (omega arith)
+neither false y e = (refl, e)
+
+other-byte : (x : ℕ) → eqb 10 x ≡ false → x ≡ 10 → ⊥
+other-byte x e q = eqb-false 10 x e (sym q)
+
+four-other : (s : List ℕ) (i : ℕ) → (getD s i 0 ≡ 10 → ⊥) → (getD s (i + 1) 0 ≡ 10 → ⊥) → (getD s (i + 2) 0 ≡ 10 → ⊥) → (getD s (i + 3) 0 ≡ 10 → ⊥)
+    → (k : ℕ) → k < 4 → getD s (i + k) 0 ≡ 10 → ⊥
+four-other s i a b c d zero h = rw add-zero a
+four-other s i a b c d (suc zero) h = b
+four-other s i a b c d (suc (suc zero)) h = c
+four-other s i a b c d (suc (suc (suc zero))) h = d
+four-other s i a b c d (suc (suc (suc (suc k)))) h = absurd (omega arith)
+
+pub ends-other : (s : List ℕ) (i j : ℕ) → among 10 (ends s i j) ≡ false → ((k : ℕ) → k < 4 → getD s (i + k) 0 ≡ 10 → ⊥) × ((k : ℕ) → k < 4 → getD s (j + k) 0 ≡ 10 → ⊥)
+ends-other s i j e =
+    let a = neither (eqb 10 (getD s i 0)) _ e in
+    let b = neither (eqb 10 (getD s (i + 1) 0)) _ (a .1) in
+    let c = neither (eqb 10 (getD s (i + 2) 0)) _ (b .1) in
+    let d = neither (eqb 10 (getD s (i + 3) 0)) _ (c .1) in
+    let f = neither (eqb 10 (getD s j 0)) _ (d .1) in
+    let g = neither (eqb 10 (getD s (j + 1) 0)) _ (f .1) in
+    let h = neither (eqb 10 (getD s (j + 2) 0)) _ (g .1) in
+    let k = neither (eqb 10 (getD s (j + 3) 0)) _ (h .1) in (
+      four-other s i (other-byte _ (a .0)) (other-byte _ (b .0)) (other-byte _ (c .0)) (other-byte _ (d .0)),
+      four-other s j (other-byte _ (f .0)) (other-byte _ (g .0)) (other-byte _ (h .0)) (other-byte _ (k .0)),
+    )
+
+-- all bytes of a row of up to ten
+pub all-other : (s : List ℕ) (off L mid : ℕ) → 4 ≤ L → L ≤ 10 → mid ≡ off + L / 2 → among 10 (ends s off (off + L - 4)) ≡ false
+    → (getD s (mid - 1) 0 ≡ 10 → ⊥) → (getD s mid 0 ≡ 10 → ⊥) → (k : ℕ) → k < L → getD s (off + k) 0 ≡ 10 → ⊥
+all-other s off L mid low high m e left right k h =
+    let f = ends-other s off (off + L - 4) e in
+    elim (decLt k 4) [
+      | yes b ↦ f .0 k b
+      | no n ↦
+          elim (decLt k (L - 4)) [
+            | no w ↦
+                let place : off + L - 4 + (k - (L - 4)) ≡ off + k = omega arith in
+                subst (λ p. getD s p 0 ≡ 10 → ⊥) place (f .1 (k - (L - 4)) (omega arith))
+            | yes w ↦
+                elim (decLt k (L / 2)) [
+                  | yes u ↦ let place : mid - 1 ≡ off + k = omega arith in subst (λ p. getD s p 0 ≡ 10 → ⊥) place left
+                  | no u ↦ let place : mid ≡ off + k = omega arith in subst (λ p. getD s p 0 ≡ 10 → ⊥) place right
+                ]
+          ]
+    ]

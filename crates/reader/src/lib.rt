@@ -2,7 +2,9 @@
 pub mod back;
 
 use definitions::LineKind;
+use lines::words;
 ghost use mathlib.Core.Path.{_≡_};
+ghost use mathlib.Core.Bool.{true};
 ghost use Prim.Native.Nat.{_+_, _≤_};
 ghost use lib.ListN.{length};
 ghost use Rattle.definitions.specs.Lists.{oneIf};
@@ -61,16 +63,23 @@ fn read_any_line(data: &[u8], off: usize, lanes: usize) -> ReadLine
     }
 }
 
-// The line at `off`, which is within the text or just past its last newline. A plain row, as most lines are, is told by one look, which the
-// compiler writes into the caller's loop.
-pub fn read_line(data: &[u8], off: usize, lanes: usize) -> ReadLine
+// The same, and 0 near the text's end.
+fn near_row_end(data: &[u8], off: usize, lanes: usize) -> usize
+    requires { ⌜ off ≤ length (now «data») ⌝ }
+    ensures { λ r. ⌜ ((r ≡ 0 → ⊥) → LineRead lanes (now («data» .entry)) off (plainRow off r)) ⌝ }
+{
+    if data.len() - off < 10 {
+        return 0;
+    }
+    plain_row_end(data, off, lanes)
+}
+
+// Any line that no quicker look has told: a plain row of up to eight bytes by its first word, else byte by byte.
+fn read_other_line(data: &[u8], off: usize, lanes: usize) -> ReadLine
     requires { ⌜ off ≤ length (now «data») ⌝ }
     ensures { λ r. ⌜ LineRead lanes (now («data» .entry)) off r ⌝ }
 {
-    if data.len() - off < 10 {
-        return read_any_line(data, off, lanes);
-    }
-    let end = plain_row_end(data, off, lanes);
+    let end = near_row_end(data, off, lanes);
     if end == 0 {
         return read_any_line(data, off, lanes);
     }
@@ -79,4 +88,40 @@ pub fn read_line(data: &[u8], off: usize, lanes: usize) -> ReadLine
         start: off,
         next: end + 1,
     }
+}
+
+// Whether the line at `off` is a row with nothing before it and byte 10 right after it. No newline is among its first four bytes, its last
+// four and the two in its middle, which are all of up to ten. The tests are joined without a branch.
+fn is_just_row(data: &[u8], off: usize, lanes: usize) -> bool
+    requires { ⌜ (off + 12 ≤ length (now «data»)) × (4 ≤ lanes) × (lanes ≤ 10) ⌝ }
+    ensures { λ r. ⌜ (r ≡ true → LineRead lanes (now («data» .entry)) off (plainRow off (off + lanes))) ⌝ }
+{
+    let word = words::half_at(data, off) + words::half_at(data, off + lanes - 4) * 0x1_0000_0000;
+    let first = data[off];
+    let mid = off + lanes / 2;
+    !words::has_byte(word, 10)
+        & (data[mid - 1] != 10)
+        & (data[mid] != 10)
+        & (b'/' < first)
+        & (first != b';')
+        & (data[off + lanes] == 10)
+}
+
+// The line at `off`, which is within the text or just past its last newline. A row as most lines are is told by one look, which the compiler
+// writes into the caller's loop, and the next place does not depend on what was read.
+pub fn read_line(data: &[u8], off: usize, lanes: usize) -> ReadLine
+    requires { ⌜ (off ≤ length (now «data»)) × (4 ≤ lanes) × (lanes ≤ 10) ⌝ }
+    ensures { λ r. ⌜ LineRead lanes (now («data» .entry)) off r ⌝ }
+{
+    if data.len() - off < 12 {
+        return read_other_line(data, off, lanes);
+    }
+    if is_just_row(data, off, lanes) {
+        return ReadLine {
+            kind: LineKind::Row,
+            start: off,
+            next: off + lanes + 1,
+        };
+    }
+    read_other_line(data, off, lanes)
 }

@@ -13,6 +13,7 @@ ghost use Rattle.scans.specs.Answers.{measuresAnswer};
 fn fill_densities(data: &[u8], lanes: usize, densities: &mut [u32]) -> usize
     requires { ⌜ length (now «data») ≤ 16777215 ⌝ }
     requires { ⌜ (length (now «data») + 1) / 2 + 1 ≤ length (now densities) ⌝ }
+    requires { ⌜ (4 ≤ lanes) × (lanes ≤ 10) ⌝ }
     ensures { λ r. ⌜ r ≡ length (densitiesOf lanes (now («data» .entry))) ⌝ }
     ensures { λ _. ⌜ now (densities .exit) ≡ padded 0 (length (now (densities .entry))) (densitiesOf lanes (now («data» .entry))) ⌝ }
 {

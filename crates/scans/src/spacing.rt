@@ -66,6 +66,7 @@ fn is_spaced(s: MeasureSpacing) -> u8
 fn fill_spacing(data: &[u8], lanes: usize, spacing: &mut [u8]) -> usize
     requires { ⌜ length (now «data») ≤ 16777215 ⌝ }
     requires { ⌜ (length (now «data») + 1) / 2 + 1 ≤ length (now spacing) ⌝ }
+    requires { ⌜ (4 ≤ lanes) × (lanes ≤ 10) ⌝ }
     ensures { λ r. ⌜ r ≡ length (spacings lanes (now («data» .entry))) ⌝ }
     ensures { λ _. ⌜ now (spacing .exit) ≡ padded 0 (length (now (spacing .entry))) (spacings lanes (now («data» .entry))) ⌝ }
 {

@@ -20,7 +20,7 @@ ghost use Rattle.tallies.specs.Kept.{hasBit, keptCell, keepMask};
 ghost use Rattle.tallies.specs.Sums.{noSum, addArrow, addCounted, addCell, arrowOf};
 
 // The sum of no cells.
-fn no_sum() -> RowSum
+pub fn no_sum() -> RowSum
     ensures { λ r. ⌜ r ≡ noSum ⌝ }
 {
     RowSum {
@@ -86,7 +86,7 @@ fn add_cell(s: RowSum, column: usize, b: u8, arrow: bool) -> RowSum
 }
 
 // One cell of a plain row.
-fn sum_cell(s: RowSum, column: usize, b: u8) -> RowSum
+pub fn sum_cell(s: RowSum, column: usize, b: u8) -> RowSum
     requires { ⌜ Under 10 s ⌝ }
     ensures { λ r. ⌜ r ≡ addCell s column (cellOf b) (isArrow (cellOf b)) ⌝ }
 {
@@ -186,7 +186,7 @@ fn add_row_into(stats: &mut ArrowStats, s: RowSum)
 }
 
 // The tally with one row more: it is lent to the row count, and handed back.
-fn add_row_lent(t: ArrowStats, s: RowSum) -> ArrowStats
+pub fn add_row_lent(t: ArrowStats, s: RowSum) -> ArrowStats
     requires { ⌜ Below 4294967285 t × Under 10 s ⌝ }
     ensures { λ r. ⌜ r ≡ addRow t s ⌝ }
 {

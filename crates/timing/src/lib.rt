@@ -116,7 +116,7 @@ fn finish_timing_rows(p: Pass, text: &mut [u8], beats: &mut [f32], lanes: usize)
 
 // The whole text, its last measure too.
 fn pass_chart(data: &[u8], lanes: usize, text: &mut [u8], beats: &mut [f32]) -> Pass
-    requires { ⌜ (4 ≤ lanes) × (length (now «data») ≤ 16777215) ⌝ }
+    requires { ⌜ (4 ≤ lanes) × (length (now «data») ≤ 16777215) × (lanes ≤ 10) ⌝ }
     requires { ⌜ (length (now «data») + 1 ≤ length (now text)) × (mostRows lanes (length (now «data»)) ≤ length (now beats)) ⌝ }
     ensures { λ r. ⌜ TimedAll lanes (now («data» .entry)) r (now (text .exit)) (now (beats .exit)) ⌝ }
 {

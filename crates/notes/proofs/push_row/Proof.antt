@@ -39,7 +39,7 @@ loop-again c =
     let at = c .before .before .before .loop .inv in
     let inside = c .before .before .loop-test .taken in
     ⊎-elim
-    (λ a. rw (a .6, a .7) (mid-step _ _ _ _ _ _ at _ _ _ (a .1 .ensures) inside (a .3 .kept .1 .1 .1 .0) (a .3 .ensures)))
+    (λ a. rw (a .6, a .7) (mid-step _ _ _ _ _ _ at _ _ _ (a .1 .ensures) inside (a .3 .kept .1 .1 .1 .0) (a .3 .ensures .0)))
     (λ a. rw (a .1, a .2) (mid-step _ _ _ _ _ _ at _ _ _ refl inside refl (step-nothing _ _ _ _ _ (zero-nothing _ (a .0 .left)))))
     (c .if1 .came)
 

@@ -57,7 +57,7 @@ pass-chart-requires c κs =
     let t = c .before .before in
     let l = t .before in
     let a = l .before .before .before .before .before .before .args in
-    ((omega (arith, l .lanes-of .ensures, lanes-at-least (a .lanes)), l .before .before .if1 .left), (l .before .if2 .left, t .if3 .left))
+    ((omega (arith, l .lanes-of .ensures, lanes-at-least (a .lanes)), l .before .before .if1 .left, omega (arith, l .lanes-of .ensures, lanes-at-most (a .lanes))), (l .before .if2 .left, t .if3 .left))
 
 zero-u8-requires : tie.Need-zero-u8-requires
 zero-u8-requires c κs = search needs

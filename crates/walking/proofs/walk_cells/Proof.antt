@@ -1,0 +1,245 @@
+-- `walking::walk_cells` meets its contract. The loop's invariant: the cells before column `i` are done.
+use mathlib.Core.Path.{_≡_, refl, ap, sym, _∙_}
+use mathlib.Core.Logic.{⊎-elim}
+use Prim.Native.Nat.{_-_, _<_, _*_, _≤_}
+use native.Mathlib.Omega.{arith}
+use borrow.Author.Needs.{needs}
+use lib.ListN.{length, drop-of-length-le}
+use lib.Pow.{pow-lt}
+use lib.Bits.{bitOr}
+use Rattle.definitions.specs.Tally.{addRow}
+use Rattle.definitions.specs.Cells.{isArrow}
+use Rattle.phantoms.proofs.Loop.{low-more, passed-end, one-head, one-tail}
+use Rattle.objects.proofs.Scan.{scan-depth, scan-end}
+use Rattle.tallies.proofs.Bounds.{under-more, below-more}
+use Rattle.tallies.proofs.Loops.{summed-end}
+use Rattle.notes.proofs.Rows.{mid-ready, row-written}
+use Rattle.counting.proofs.Rows.{counted-row}
+use Rattle.notes.specs.Writer.{noHead}
+use Rattle.noting.proofs.Rows.{noted-row}
+use Rattle.walking.proofs.Cells.{Cells, cells-start, cells-zero, cells-next, cells-moved, unused}
+use Rattle.walking.proofs.Marks.{free-left, free-right}
+use Rattle.walking.proofs.walk_cells.Statement.{statement}
+use Rattle.walking.proofs.walk_cells.Tie as tie
+
+abbrev Inv-loop : tie.InvT-loop
+Inv-loop c n row slots₀ depths₀ heads₀ tails₀ met₀ low₀ object₀ scratch₀ sum₀ busy₀ bit₀ i₀ slots depths heads tails met low object scratch sum busy bit i =
+    Cells row slots₀ (c .phantoms) (n .last .depths .depths) scratch₀ busy₀
+    slots (record { depths = depths; heads = heads; tails = tails; met = met }) low object scratch sum busy bit i
+
+abbrev μ-loop : tie.MeasureT-loop
+μ-loop c n row slots₀ depths₀ heads₀ tails₀ met₀ low₀ object₀ scratch₀ sum₀ busy₀ bit₀ i₀ slots depths heads tails met low object scratch sum busy bit i =
+    length row - i
+
+-- `i` is one of the ten columns
+inside : (c : tie.In-loop Inv-loop μ-loop) → c .before .loop .i < 10
+inside c = omega (arith, c .before .before .before .before .before .before .before .before .before .before .before .pre .0)
+
+small-bit : (c : tie.In-loop Inv-loop μ-loop) → c .before .loop .bit < 1024
+small-bit c = omega (arith, c .before .loop .inv .power, pow-lt {j = 10} (inside c))
+
+phantom-depths-requires : tie.Need-phantom-depths-requires Inv-loop μ-loop
+phantom-depths-requires c κs =
+    search needs
+
+object-depths-requires : tie.Need-object-depths-requires Inv-loop μ-loop
+object-depths-requires c κs =
+    search needs
+
+no-sum-requires : tie.Need-no-sum-requires Inv-loop μ-loop
+no-sum-requires c κs =
+    tt
+
+loop-holds : tie.Need-loop-holds Inv-loop μ-loop
+loop-holds c =
+    let p = c .before .before .before .before .before .before .phantom-depths .ensures in
+    let o = c .before .before .before .before .before .object-depths .ensures in
+    cells-moved refl (p .0) refl refl refl (o .0) refl refl refl refl
+    (cells-start _ _ (c .before .before .before .before .before .before .before .before .before .args .c .phantoms) (c .before .before .before .before .before .before .before .before .before .args .n .last .depths .depths) _ _ _ (p .1) (o .1) (c .before .before .before .no-sum .ensures))
+
+shared-slice-read-b : tie.Need-shared-slice-read-b Inv-loop μ-loop
+shared-slice-read-b c =
+    omega arith
+
+sum-cell-requires : tie.Need-sum-cell-requires Inv-loop μ-loop
+sum-cell-requires c κs =
+    under-more (c .before .before .before .loop .i) 10 _ (omega (arith, inside (c .before .before))) (c .before .before .before .loop .inv .summed .under)
+
+mul-phantom-cell : tie.Need-mul-phantom-cell Inv-loop μ-loop
+mul-phantom-cell c =
+    omega (arith, inside (c .before .before .before))
+
+array-read-phantom-cell : tie.Need-array-read-phantom-cell Inv-loop μ-loop
+array-read-phantom-cell c =
+    omega (arith, inside (c .before .before .before))
+
+phantom-cell-requires : tie.Need-phantom-cell-requires Inv-loop μ-loop
+phantom-cell-requires c κs =
+    let l = c .before .before .before .before .loop .inv .passed .low 4294967285 (low-more (10 * c .before .before .before .before .before .before .before .before .before .before .before .before .before .before .args .c .rows) 4294967285 (c .before .before .before .before .before .before .before .before .before .before .before .before .before .before .args .c .phantoms) (omega (arith, c .before .before .before .before .before .before .before .before .before .before .before .before .before .before .pre .1)) (c .before .before .before .before .before .before .before .before .before .before .before .before .before .before .pre .2 .phantoms)) in
+    omega (arith, l .depths (c .before .before .before .before .loop .i) (inside (c .before .before .before)), inside (c .before .before .before))
+
+mul-depths : tie.Need-mul-depths Inv-loop μ-loop
+mul-depths c =
+    omega (arith, inside (c .before .before .before .before))
+
+array-write-depths : tie.Need-array-write-depths Inv-loop μ-loop
+array-write-depths c =
+    omega (arith, inside (c .before .before .before .before))
+
+add-heads : tie.Need-add-heads Inv-loop μ-loop
+add-heads c =
+    let l = c .before .before .before .before .before .before .loop .inv .passed .low 4294967285 (low-more (10 * c .before .before .before .before .before .before .before .before .before .before .before .before .before .before .before .before .args .c .rows) 4294967285 (c .before .before .before .before .before .before .before .before .before .before .before .before .before .before .before .before .args .c .phantoms) (omega (arith, c .before .before .before .before .before .before .before .before .before .before .before .before .before .before .before .before .pre .1)) (c .before .before .before .before .before .before .before .before .before .before .before .before .before .before .before .before .pre .2 .phantoms)) in
+    omega (arith, inside (c .before .before .before .before .before), l .heads, one-head _ _ _ (c .before .phantom-cell .ensures))
+
+add-tails : tie.Need-add-tails Inv-loop μ-loop
+add-tails c =
+    let l = c .before .before .before .before .before .before .before .loop .inv .passed .low 4294967285 (low-more (10 * c .before .before .before .before .before .before .before .before .before .before .before .before .before .before .before .before .before .args .c .rows) 4294967285 (c .before .before .before .before .before .before .before .before .before .before .before .before .before .before .before .before .before .args .c .phantoms) (omega (arith, c .before .before .before .before .before .before .before .before .before .before .before .before .before .before .before .before .before .pre .1)) (c .before .before .before .before .before .before .before .before .before .before .before .before .before .before .before .before .before .pre .2 .phantoms)) in
+    omega (arith, inside (c .before .before .before .before .before .before), l .tails, one-tail _ _ _ (c .before .before .phantom-cell .ensures))
+
+mul-object-cell : tie.Need-mul-object-cell Inv-loop μ-loop
+mul-object-cell c =
+    omega (arith, inside (c .before .before .before .before .before .before .before))
+
+array-read-object-cell : tie.Need-array-read-object-cell Inv-loop μ-loop
+array-read-object-cell c =
+    omega (arith, inside (c .before .before .before .before .before .before .before))
+
+object-cell-requires : tie.Need-object-cell-requires Inv-loop μ-loop
+object-cell-requires c κs =
+    omega (arith, scan-depth _ _ _ _ _ (c .before .before .before .before .before .before .before .before .loop .inv .scanned), c .before .before .before .before .before .before .before .before .before .before .before .before .before .before .before .before .before .before .pre .3 .low (c .before .before .before .before .before .before .before .before .loop .i) (inside (c .before .before .before .before .before .before .before)))
+
+mul-low : tie.Need-mul-low Inv-loop μ-loop
+mul-low c =
+    omega (arith, inside (c .before .before .before .before .before .before .before .before))
+
+array-write-low : tie.Need-array-write-low Inv-loop μ-loop
+array-write-low c =
+    omega (arith, inside (c .before .before .before .before .before .before .before .before))
+
+note-effect-requires : tie.Need-note-effect-requires Inv-loop μ-loop
+note-effect-requires c κs =
+    search needs
+
+push-cell-requires : tie.Need-push-cell-requires Inv-loop μ-loop
+push-cell-requires c κs =
+    mid-ready _ _ _ _ _ _ (c .before .before .before .before .before .before .before .before .before .before .before .before .loop .inv .mid) (c .before .before .before .before .before .before .before .before .before .before .before .before .before .before .before .before .before .before .before .before .before .before .pre .3 .room) (c .before .before .before .before .before .before .before .before .before .before .before .loop-test .taken)
+
+mul-head : tie.Need-mul-head Inv-loop μ-loop
+mul-head c =
+    omega (arith, inside (c .before .before .before .before .before .before .before .before .before .before .before .before .before .before))
+
+element-copy-out-head : tie.Need-element-copy-out-head Inv-loop μ-loop
+element-copy-out-head c =
+    omega (arith, inside (c .before .before .before .before .before .before .before .before .before .before .before .before .before .before))
+
+mark-requires : tie.Need-mark-requires Inv-loop μ-loop
+mark-requires c κs =
+    omega (arith, small-bit (c .before .before .before .before .before .before .before .before .before .before .before .before .before .before .before .before .before))
+
+mul-bit : tie.Need-mul-bit Inv-loop μ-loop
+mul-bit c =
+    omega (arith, small-bit (c .before .before))
+
+add-i : tie.Need-add-i Inv-loop μ-loop
+add-i c =
+    omega (arith, inside (c .before .before))
+
+loop-less : tie.Need-loop-less Inv-loop μ-loop
+loop-less c =
+    omega arith
+
+loop-again : tie.Need-loop-again Inv-loop μ-loop
+loop-again c =
+    let at = c .before .before .before .loop .inv in
+    let h = c .before .before .loop-test .taken in
+    let m = inside (c .before .before) in
+    ⊎-elim
+    (λ a. cells-moved (a .17) (a .18) (a .19) (a .20) (a .21) (a .22) (a .23) (a .24) (a .25) (a .26)
+    (cells-next _ _ _ _ _ _ _ _ _ _ _ _ _ _ _ at h m _ (a .1 .ensures) _ (a .2 .ensures) _ (a .6 .ensures) _ _ _ (a .8 .ensures) (a .10 .kept .1 .1 .1 .0)
+    (a .10 .ensures .0) (a .10 .ensures .1) _ _ (a .16 .ensures _ m (at .power)) (unused _ _ _ _)))
+    (λ a. cells-moved (a .1) (a .2) (a .3) (a .4) (a .5) (a .6) (a .7) (a .8) (a .9) (a .10) (cells-zero _ _ _ _ _ _ _ _ _ _ _ _ _ _ _ at h m (a .0 .left)))
+    (c .if1 .came)
+
+add-scratch : tie.Need-add-scratch Inv-loop μ-loop
+add-scratch c =
+    let room = c .before .before .before .before .before .before .before .before .before .before .before .pre .3 .room in
+    omega (arith, c .before .loop .inv .mid .index, room .written .row, room .few)
+
+add-row-lent-requires : tie.Need-add-row-lent-requires Inv-loop μ-loop
+add-row-lent-requires c κs =
+    let s = c .before .before .before .before .before .before .before .before .before .before .before in
+    let at = c .before .loop in
+    (below-more (10 * s .args .c .rows) 4294967285 _ (omega (arith, s .pre .1)) (s .pre .2 .stats), under-more (at .i) 10 _ (omega (arith, at .inv .passed .within, s .pre .0)) (at .inv .summed .under))
+
+add-t55 : tie.Need-add-t55 Inv-loop μ-loop
+add-t55 c =
+    omega (arith, c .before .before .before .before .before .before .before .before .before .before .before .before .before .pre .1)
+
+last-seen-requires : tie.Need-last-seen-requires Inv-loop μ-loop
+last-seen-requires c κs =
+    c .before .before .before .before .before .before .before .before .before .before .before .before .before .pre .3 .rows
+
+same-length : tie.Need-same-length Inv-loop μ-loop
+same-length c =
+    c .before .before .before .before .loop .inv .mid .same
+
+returns : tie.Need-returns Inv-loop μ-loop
+returns c =
+    let s = c .before .before .before .before .before .before .before .before .before .before .before .before .before .before in
+    let at = c .before .before .before .before .loop .inv in
+    let left = c .before .before .before .loop-test .left in
+    let row = s .args .row .now in
+    let k = s .args .c .busy in
+    let n = s .args .n in (
+      (λ L done cur w v x.
+          counted-row L _ done cur x _ w v _ _ _
+          (c .before .before .add-row-lent .ensures ∙ ap (addRow (s .args .c .stats)) (summed-end isArrow _ _ _ _ (drop-of-length-le row left) (at .summed)))
+          (λ L rows wide narrow counts. passed-end _ _ _ _ (at .passed) left L rows wide narrow counts)
+          (at .depths (free-left (bitOr k (n .busy)) (n .last .busy) 0 (s .args .c .phantoms .depths) (free-left k (n .busy) 0 (s .args .c .phantoms .depths) (x .free))))),
+      (λ L done cur w x.
+          noted-row L _ _ _ _ done cur w x _ _ _
+          (row-written _ _ _ (s .pre .3 .room) _ _ _ _ (at .mid) left refl refl refl refl)
+          (c .last-seen .ensures _ (scan-end row (n .last .depths) _ _ _ (at .scanned) left)
+          (at .lows (free-right (bitOr k (n .busy)) (n .last .busy) 0 (n .last .depths .depths) (x .last .free))) done cur (x .last))
+          (at .heads (free-left (bitOr k (n .busy)) (n .last .busy) noHead (n .scratch .«hold_heads») (free-right k (n .busy) noHead (n .scratch .«hold_heads») (x .free))))),
+    )
+
+pub walk-cells-spec : {M : Type 1} → statement M
+walk-cells-spec =
+    tie.close
+    (tie.spec
+    Inv-loop
+    μ-loop
+    phantom-depths-requires
+    object-depths-requires
+    no-sum-requires
+    loop-holds
+    shared-slice-read-b
+    sum-cell-requires
+    mul-phantom-cell
+    array-read-phantom-cell
+    phantom-cell-requires
+    mul-depths
+    array-write-depths
+    add-heads
+    add-tails
+    mul-object-cell
+    array-read-object-cell
+    object-cell-requires
+    mul-low
+    array-write-low
+    note-effect-requires
+    push-cell-requires
+    mul-head
+    element-copy-out-head
+    mark-requires
+    mul-bit
+    add-i
+    loop-less
+    loop-again
+    add-scratch
+    add-row-lent-requires
+    add-t55
+    last-seen-requires
+    same-length
+    returns)
