@@ -1,4 +1,4 @@
-//! Reads the stored sample's bytes by its layout alone, which README.md beside this file describes. Two tests share it.
+//! Reads the stored sample's bytes by its layout alone, which README.md beside this file describes. Several tests share it.
 
 pub struct Reader<'a>(pub &'a [u8]);
 

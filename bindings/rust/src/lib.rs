@@ -1,9 +1,10 @@
 //! The chart figures of StepMania charts, proved: safe Rust over libpadcheck.a.
 //!
-//! Every answer is proved equal to definitions written from a specification, document 01; nothing is computed on this
-//! side. Four ways to call, from the least to the most control:
+//! Every answer is proved equal to definitions written from a specification, document 01; this side lends slices and
+//! hands on what is in them. Four ways to call, from the least to the most control:
 //!
-//! - [`stats`] has the names and signatures of rssp's `stats.rs`, for a loader that changes one `use` line.
+//! - [`stats`] has items of rssp's `stats.rs` under their own names and signatures, for a loader that changes one `use`
+//!   line; it says which.
 //! - The functions here take a text and a lane number and answer a `Result`: the one [`Refusal`] they can meet is a
 //!   text longer than [`MAX_LEN`].
 //! - [`Buffers`] does the same over buffers that are kept from one chart to the next.
