@@ -1,4 +1,5 @@
--- Document 01, "Cells": what a byte of a row stands for, and what cells do.
+-- Document 01, "Cells": what a byte of a row stands for, and what cells do. "cell letters from the StepMania SM and SSC format pages. Where they
+-- differ the Rust decides and the difference is recorded": docs/DIFFERENCES.md, "The format pages and the Rust".
 use mathlib.Core.Bool.{Bool, true, false, cond}
 use Prim.Native.Nat.{ℕ}
 use lib.Dec.{eqb}
