@@ -3,7 +3,8 @@
 use crate::figures::{ArrowStats, Figures, count, place};
 use crate::{Lengths, NOTE_BYTES, Notes, Refusal, lent};
 
-/// Slices to lend, kept and grown as charts need them: reuse one for many charts, and only the longest allocates.
+/// Slices to lend, kept and grown as charts need them: reuse one for many charts, and a chart allocates only what those
+/// before it did not need.
 ///
 /// What a call answers is borrowed from the buffers and stands until the next call.
 ///

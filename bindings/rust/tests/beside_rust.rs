@@ -44,20 +44,29 @@ macro_rules! signatures {
             let _: fn(&mut TypedRowsScratch<8>) = TypedRowsScratch::clear;
             let _: fn(&TypedRowsScratch<8>) -> usize = TypedRowsScratch::row_capacity;
             let _: fn(&ChartNotesScratch) -> usize = ChartNotesScratch::capacity;
-            let ParsedChartNote {
-                row_index: 0,
-                column: 0,
-                note_type: ChartNoteType::Tap,
-                tail_row_index: None,
-            } = ({
-                let mut notes = ChartNotesScratch::default();
-                let _ = minimize_chart_count_rows_notes(b"1000", 4, &mut notes);
-                let note: Option<ParsedChartNote> = notes.drain().next();
-                note.unwrap()
-            })
+            let ArrowStats {
+                total_arrows: 0u32,
+                holding: 0i32,
+                ..
+            } = ArrowStats::default()
             else {
-                panic!("a tap");
+                panic!("a tally begins at 0");
             };
+            let mut notes = ChartNotesScratch::default();
+            let _ = minimize_chart_count_rows_notes(b"1000", 4, &mut notes);
+            let note: ParsedChartNote = notes.drain().next().unwrap();
+            let ParsedChartNote {
+                row_index: 0usize,
+                column: 0usize,
+                note_type: ChartNoteType::Tap,
+                tail_row_index: None::<usize>,
+            } = note
+            else {
+                panic!("not the tap: {note:?}");
+            };
+            use ChartNoteType::*;
+            let kinds = [Tap, Hold, Roll, Mine, Lift, Fake].map(|kind| kind as u8);
+            assert_eq!(kinds, [0, 1, 2, 3, 4, 5]);
             let empty = TypedRowsScratch::<4>::default();
             assert_eq!(format!("{empty:?}"), "TypedRowsScratch { row_capacity: 0 }");
         }
