@@ -314,3 +314,47 @@ fn calls_in_place_of_what_is_left_out() {
         );
     });
 }
+
+/// The names of the public functions, types and constants of a Rust file, and of what it hands on from its own crate.
+fn public_items(file: &str) -> Vec<&str> {
+    let mut names = Vec::new();
+    for line in file.lines() {
+        if let Some(list) = line.strip_prefix("pub use crate::{") {
+            names.extend(list.trim_end_matches("};").split(", "));
+        }
+        for word in ["fn", "struct", "enum", "type", "const"] {
+            let item = line
+                .strip_prefix("pub ")
+                .and_then(|rest| rest.strip_prefix(word));
+            if let Some(name) = item.and_then(|rest| rest.strip_prefix(' ')) {
+                let end = name.find(|c: char| !c.is_alphanumeric() && c != '_');
+                names.push(&name[..end.unwrap_or(name.len())]);
+            }
+        }
+    }
+    names
+}
+
+/// docs/RUST.md has a line for each public item of the Rust, and says `given` of those that `stats` has and of no other.
+#[test]
+fn the_table_has_every_public_item() {
+    let root = Path::new(env!("CARGO_MANIFEST_DIR")).join("../..");
+    let read = |path: &str| fs::read_to_string(root.join(path)).expect("a file of the repository");
+    let (rust, ours) = (
+        read("docs/src/stats.rs"),
+        read("bindings/rust/src/stats.rs"),
+    );
+    let (rust, ours) = (public_items(&rust), public_items(&ours));
+    let table = read("docs/RUST.md");
+    assert_eq!(rust.len(), 25);
+    for name in rust {
+        let start = format!("| `{name}` | ");
+        let line = table.lines().find_map(|line| line.strip_prefix(&start));
+        let line = line.unwrap_or_else(|| panic!("docs/RUST.md has no line for {name}"));
+        assert_eq!(
+            line.starts_with("given"),
+            ours.contains(&name),
+            "{name}: {line}"
+        );
+    }
+}
