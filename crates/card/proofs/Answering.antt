@@ -13,7 +13,7 @@ use Rattle.definitions.specs.Figures.{densities, spacings}
 use Rattle.definitions.specs.Notes.{notes}
 use Rattle.definitions.specs.Records.{records}
 use Rattle.definitions.specs.Entries.{mainNumber, mainDensities, mainNotes, mainFigures, measuresNumber, spacingsLeft, measureCount}
-use Rattle.records.proofs.ReadBack.{records-length}
+use Rattle.definitions.proofs.ReadBack.{records-length}
 use Rattle.scans.proofs.Raw.{densities-count}
 use Rattle.sheet.specs.Card.{sheetFigures}
 use Rattle.sheet.specs.declared.SheetFigures.{SheetFigures}

@@ -5,5 +5,11 @@ pub mod Cells
 pub mod Columns
 pub mod Reduction
 pub mod Thinned
+pub mod Lanes
+pub mod ChartRows
+pub mod Tails
+pub mod Blocks
+pub mod ReadBack
+pub mod WriterMakes
 pub mod Damage
 pub mod Figures

@@ -9,6 +9,7 @@ use Rattle.definitions.specs.Lines.{Row}
 use Rattle.definitions.specs.Reduction.{allZero, multiple, offZero, atMultiples, stride, reduce}
 use Rattle.definitions.proofs.Reduction.{stride-is}
 use Rattle.definitions.proofs.Bools.{and-left, and-right}
+use Rattle.definitions.proofs.Lists.{All, none as no-more, one}
 
 -- the second list is the first without some rows that are all zero
 pub data Thinned : List Row → List Row → Type 0 where
@@ -40,3 +41,12 @@ reduce-thin (r ∷ rs) =
 pub reduced-thin : (ms : List (List Row)) → Thinned (joined ms) (joined (map reduce ms))
 reduced-thin [] = none
 reduced-thin (m ∷ ms) = thinned-append (reduce-thin m) (reduced-thin ms)
+
+-- what holds of each row holds of those that stay
+thinned-all : {P : Row → Type 0} {s t : List Row} → Thinned s t → All P s → All P t
+thinned-all none q = no-more
+thinned-all (keep p) (one h q) = one h (thinned-all p q)
+thinned-all (leave z p) (one h q) = thinned-all p q
+
+pub reduce-all : {P : Row → Type 0} {rs : List Row} → All P rs → All P (reduce rs)
+reduce-all {P} {rs} h = thinned-all (reduce-thin rs) h

@@ -18,6 +18,7 @@ pub mod ReadBack
 pub mod Judged
 pub mod TimingRows
 pub mod Entries
+pub mod WriterMakes
 pub mod Examples
 pub mod Damage
 pub mod DamageExample

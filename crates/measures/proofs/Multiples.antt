@@ -9,8 +9,8 @@ use borrow.Author.Tests.{ne-eqb}
 use lib.ListN.{length}
 use Rattle.definitions.specs.Lists.{onlyIf}
 use Rattle.definitions.specs.Lines.{Row}
-use Rattle.definitions.specs.Reduction.{multiple, atMultiples, stride, reduce}
-use Rattle.definitions.proofs.Lists.{All, none, one}
+use Rattle.definitions.specs.Reduction.{multiple, atMultiples}
+pub use Rattle.definitions.proofs.Thinned.{reduce-all}
 
 -- lists one after the other
 pub at-append : (s i : ℕ) (xs ys : List Row) → atMultiples s i (xs ++ ys) ≡ atMultiples s i xs ++ atMultiples s (i + length xs) ys
@@ -39,19 +39,6 @@ at-between s i [] p h = refl
 at-between s i (r ∷ rs) p h =
     let low : i < s = omega arith in
     rw (mod-eq-of-lt low, ne-eqb i 0 (λ e. omega arith)) (at-between s (suc i) rs (omega arith) (omega arith))
-
--- what holds of each row holds of those that stay
-pub multiples-all : {P : Row → Type 0} (s i : ℕ) {rs : List Row} → All P rs → All P (atMultiples s i rs)
-multiples-all s i none = none
-multiples-all {P} s i (one {a = r} {l = rs} h q) = go (multiple s i) (multiples-all s (suc i) q)
-  where
-    go : (t : Bool) → All P (atMultiples s (suc i) rs) → All P (onlyIf t (r ∷ []) ++ atMultiples s (suc i) rs)
-    go true a = one h a
-    go false a = a
-
-pub reduce-all : {P : Row → Type 0} {rs : List Row} → All P rs → All P (reduce rs)
-unfolding reduce
-reduce-all {P} {rs} h = multiples-all (stride rs) 0 h
 
 -- a function of each row
 pub multiples-map : (f : Row → Row) (s i : ℕ) (rs : List Row) → atMultiples s i (map f rs) ≡ map f (atMultiples s i rs)

@@ -14,7 +14,7 @@ use Rattle.notes.specs.Drafts.{State, plain, waiting, ended, Draft, sett
 use Rattle.notes.specs.Writer.{noHead, dropped, draftBytes, blank, Stored, Holds, HeadThere, HoldEnded, invalidAfter, SomeDrafts, Closed}
 use Rattle.notes.specs.declared.ChartNotesScratch.{ChartNotesScratch}
 use Rattle.notes.proofs.Model.{gather-map}
-use Rattle.records.proofs.Blocks.{blocks-length}
+use Rattle.definitions.proofs.Blocks.{blocks-length}
 use Rattle.notes.proofs.Stored.{ten-bytes}
 use Rattle.notes.proofs.Steps.{dropped-there}
 

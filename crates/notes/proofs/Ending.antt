@@ -14,7 +14,7 @@ use Rattle.notes.specs.Writer.{Closed, Compacted}
 use Rattle.notes.specs.Written.{Written, SomeRows, Finished}
 use Rattle.notes.specs.declared.ChartNotesScratch.{ChartNotesScratch}
 use Rattle.notes.proofs.Model.{model}
-use Rattle.records.proofs.ReadBack.{records-length}
+use Rattle.definitions.proofs.ReadBack.{records-length}
 use Rattle.notes.proofs.Closing.{stored-length}
 
 -- the records lie in the slice

@@ -14,12 +14,13 @@ use Rattle.definitions.specs.Records.{fields, kindNumber, encode, records, word
 use Rattle.definitions.specs.declared.Kind.{Kind}
 use Rattle.definitions.specs.declared.Tail.the-variants.{Without, Row}
 use Rattle.definitions.specs.declared.Note.{Note}
-use Rattle.records.specs.Limits.{fieldsAt}
+use Rattle.records.specs.Fields.{fieldsAt}
 use Rattle.notes.specs.Drafts.{State, plain, waiting, ended, Draft, noteBy, keep, kept}
 use Rattle.notes.specs.Writer.{dropped, stateNumber, draftBytes, FineState, Fine, blank, Ended, Compacted}
 use Rattle.notes.proofs.Model.{gather-append}
-use Rattle.records.proofs.Blocks.{blocks-get, blocks-length, blocks-more}
-use Rattle.records.proofs.ReadBack.{blocks-word, word-row, word-tail, ten}
+use Rattle.definitions.proofs.Blocks.{blocks-get, blocks-length}
+use Rattle.definitions.proofs.ReadBack.{blocks-word, word-row, word-tail, ten}
+use Rattle.records.proofs.Blocks.{blocks-more}
 use Rattle.notes.proofs.Stored.{ten-bytes}
 
 -- ---- what is left of one draft

@@ -14,7 +14,8 @@ use Rattle.definitions.specs.Lists.{joined}
 use Rattle.definitions.specs.Records.{fields, bytes4, kindNumber}
 use Rattle.notes.specs.Drafts.{State, plain, waiting, ended, Draft, settleState, settled, settle}
 use Rattle.notes.specs.Writer.{noHead, endNumber, stateNumber, draftBytes, FineEnd, FineState, Fine, blank, Clean, Stored, endHead}
-use Rattle.records.proofs.Blocks.{blocks-sets, blocks-more, blocks-length}
+use Rattle.definitions.proofs.Blocks.{blocks-length}
+use Rattle.records.proofs.Blocks.{blocks-sets, blocks-more}
 
 pub ten-bytes : (d : Draft) → length (draftBytes d) ≡ 10
 unfolding draftBytes fields

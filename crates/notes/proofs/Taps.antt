@@ -17,7 +17,8 @@ use Rattle.definitions.specs.declared.Kind.the-variants.{Tap}
 use Rattle.definitions.specs.declared.NoteEffect.the-variants.{Single}
 use Rattle.taps.specs.Taps.{FreeAre}
 use Rattle.taps.proofs.Free.{Free, zero-cell, tap-there}
-use Rattle.records.proofs.Blocks.{blocks-length, sets-right}
+use Rattle.definitions.proofs.Blocks.{blocks-length}
+use Rattle.records.proofs.Blocks.{sets-right}
 use Rattle.notes.specs.Drafts.{Draft, stepCell}
 use Rattle.notes.specs.Writer.{noHead, noTail, draftBytes, Stored, Ready, NotePushed, Stepped}
 use Rattle.notes.specs.declared.ChartNotesScratch.{ChartNotesScratch}

@@ -10,19 +10,11 @@ use lib.Seq.{take-take, take-add, drop-at, drop-drop, length-take-le}
 use Rattle.definitions.specs.Lines.{isBlank, trim, kindOf, lineKind}
 use Rattle.definitions.specs.declared.LineKind.{LineKind}
 use Rattle.definitions.specs.declared.LineKind.the-variants as line
+pub use Rattle.definitions.proofs.ChartRows.{trim-short}
 use Rattle.lines.specs.Lines.{firstLine}
 use Rattle.lines.proofs.Lines.{line-within}
 use Rattle.measures.proofs.LineKinds.{row-length}
 use Rattle.reader.specs.Reading.{LineRead}
-
--- trimming takes bytes off the front
-pub trim-short : (l : List ℕ) → length (trim l) ≤ length l
-trim-short [] = omega arith
-trim-short (b ∷ l) = go (isBlank b) (trim-short l)
-  where
-    go : (t : Bool) → length (trim l) ≤ length l → length (cond t (trim l) (b ∷ l)) ≤ length (b ∷ l)
-    go true h = omega arith
-    go false h = omega arith
 
 trim-drop : (l : List ℕ) → trim l ≡ drop (length l - length (trim l)) l
 trim-drop [] = refl

@@ -1,12 +1,13 @@
--- Lists that are put together from blocks of ten bytes: what is read from them and stored to them.
+-- Lists that are put together from blocks of ten bytes: what is stored to them.
 use Prim.Native.Nat.{ℕ, zero, suc, _+_, _*_, _≤_, _<_}
 use mathlib.Core.Path.{_≡_, refl, sym, ap, _∙_}
 use mathlib.Core.List.{List, [], _∷_, _++_, map, append-nil, append-assoc}
 use native.Mathlib.Nat.{zero-add, add-zero, add-suc, suc-add, suc-mul, zero-mul}
 use native.Mathlib.Omega.{arith}
-use lib.ListN.{length, getD, set, length-append, length-set, List·getD-append}
-use lib.Seq.{sets, set-append-left, getD-append-add, sets-eq, drop-length}
+use lib.ListN.{length, getD, set, length-set}
+use lib.Seq.{sets, set-append-left, sets-eq, drop-length}
 use Rattle.definitions.specs.Lists.{joined}
+use Rattle.definitions.proofs.Blocks.{blocks-append, blocks-length}
 
 pub add-nine : (n : ℕ) → n + 9 ≡ suc (suc (suc (suc (suc (suc (suc (suc (suc n))))))))
 add-nine n = omega arith
@@ -37,29 +38,6 @@ pub sets-whole : (vs x : List ℕ) → length vs ≡ length x → sets x 0 vs �
 sets-whole vs x h = sets-eq vs x 0 (omega arith) ∙ rw (zero-add, h, drop-length) (append-nil vs)
 
 module _ {A : Type 0} (f : A → List ℕ) (ten : (a : A) → length (f a) ≡ 10) where
-  pub blocks-append : (xs ys : List A) → joined (map f (xs ++ ys)) ≡ joined (map f xs) ++ joined (map f ys)
-  blocks-append [] ys = refl
-  blocks-append (x ∷ xs) ys = ap (λ (l : List ℕ). f x ++ l) (blocks-append xs ys) ∙ sym (append-assoc (f x) (joined (map f xs)) (joined (map f ys)))
-
-  pub blocks-length : (xs : List A) → length (joined (map f xs)) ≡ length xs * 10
-  blocks-length [] = refl
-  blocks-length (x ∷ xs) =
-      let h : length (joined (map f xs)) ≡ length xs * 10 = blocks-length xs in
-      let t : length (f x) ≡ 10 = ten x in
-      simp (length-append, suc-mul) (omega arith)
-
-  -- byte m of block k
-  pub blocks-get : (xs : List A) (q : List ℕ) (k m : ℕ) (d : A) → k < length xs → m < 10
-      → getD (joined (map f xs) ++ q) (k * 10 + m) 0 ≡ getD (f (getD xs k d)) m 0
-  blocks-get [] q k m d h g = absurd (omega arith)
-  blocks-get (x ∷ xs) q zero m d h g =
-      let t : length (f x) ≡ 10 = ten x in
-      rw (zero-mul, zero-add, append-assoc) (List·getD-append (f x) (joined (map f xs) ++ q) 0 m (omega arith))
-  blocks-get (x ∷ xs) q (suc k) m d h g =
-      let t : length (f x) ≡ 10 = ten x in
-      let e : suc k * 10 + m ≡ length (f x) + (k * 10 + m) = simp suc-mul (omega arith) in
-      rw (e, append-assoc) (getD-append-add (f x) (joined (map f xs) ++ q) (k * 10 + m) 0 ∙ blocks-get xs q k m d (omega arith) g)
-
   -- stores within block k, which make it the block of b
   pub blocks-sets : (xs : List A) (q vs : List ℕ) (k m : ℕ) (d b : A) → k < length xs → m + length vs ≤ 10 → sets (f (getD xs k d)) m vs ≡ f b
       → sets (joined (map f xs) ++ q) (k * 10 + m) vs ≡ joined (map f (set xs k b)) ++ q
@@ -80,8 +58,8 @@ module _ {A : Type 0} (f : A → List ℕ) (ten : (a : A) → length (f a) ≡ 1
       → sets (joined (map f xs) ++ (x ++ q)) (length xs * 10) (f b) ≡ joined (map f (xs ++ (b ∷ []))) ++ q
   blocks-more xs x q b h =
       let t : length (f b) ≡ 10 = ten b in
-      let e : length xs * 10 ≡ length (joined (map f xs)) + 0 = rw blocks-length (omega arith) in
-      rw (e, blocks-append)
+      let e : length xs * 10 ≡ length (joined (map f xs)) + 0 = rw (blocks-length f ten) (omega arith) in
+      rw (e, blocks-append f ten)
       (sets-right (f b) (joined (map f xs)) (x ++ q) 0
       ∙ ap (λ (l : List ℕ). joined (map f xs) ++ l) (sets-left (f b) x q 0 (omega arith) ∙ ap (λ (l : List ℕ). l ++ q) (sets-whole (f b) x (omega arith)))
       ∙ simp (append-nil, append-assoc))

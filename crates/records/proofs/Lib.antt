@@ -1,4 +1,2 @@
--- Laws of blocks of ten bytes, of reading a record back, and of the notes that the definition makes.
+-- Laws of stores to blocks of ten bytes.
 pub mod Blocks
-pub mod ReadBack
-pub mod Made

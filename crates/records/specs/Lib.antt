@@ -1,2 +1,2 @@
--- The limits of what the writer makes.
-pub mod Limits
+-- What the contracts of this crate cite, beside the definitions.
+pub mod Fields

@@ -8,7 +8,7 @@ ghost use Prim.Native.Nat.{_+_, _*_, _≤_, _<_};
 ghost use lib.ListN.{length};
 ghost use lib.Seq.{sets};
 ghost use Rattle.definitions.specs.Records.{word, bytes4, fields, kindNumber, plainOf, heldOf, noteOf, readNote};
-ghost use Rattle.records.specs.Limits.{fieldsAt};
+ghost use Rattle.records.specs.Fields.{fieldsAt};
 
 // The tail field of a note without a tail.
 pub const NO_TAIL_ROW: u32 = 4294967295;

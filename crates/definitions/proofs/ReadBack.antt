@@ -6,17 +6,17 @@ use native.Mathlib.Nat.{div-div-eq-div-mul, div-add-mod', mod-eq-of-lt, mul-div-
 use native.Mathlib.Omega.{arith}
 use lib.ListN.{length, getD}
 use borrow.Author.Tests.{lt-ltb, lt-leb, eq-eqb}
 use Rattle.definitions.specs.Lists.{joined}
 use Rattle.definitions.specs.Records.{word, kindNumber, tailNumber, fields, encode, records, noteOf, readNote}
 use Rattle.definitions.specs.declared.Kind.{Kind}
 use Rattle.definitions.specs.declared.Kind.the-variants.{Tap, Hold, Roll, Mine, Lift, Fake}
 use Rattle.definitions.specs.declared.Tail.{Tail}
 use Rattle.definitions.specs.declared.Tail.the-variants.{Without, Row}
 use Rattle.definitions.specs.declared.Note.{Note}
 use Rattle.definitions.specs.declared.ReadNote.the-variants.{Found}
 use Rattle.definitions.proofs.Lists.{All, none, one}
-use Rattle.records.specs.Limits.{TailMade, Made}
-use Rattle.records.proofs.Blocks.{blocks-length, blocks-get}
+use Rattle.definitions.specs.WriterMakes.{TailMade, Made}
+use Rattle.definitions.proofs.Blocks.{blocks-length, blocks-get}
 
 linear : (x y z w a b c d : ℕ) → y * 256 + a ≡ x → z * 256 + b ≡ y → w * 256 + c ≡ z → d ≡ w → a + 256 * b + 65536 * c + 16777216 * d ≡ x
 linear x y z w a b c d p q r s = omega arith
@@ -102,7 +102,7 @@ kind-of : (n : Note) → getD (encode n) 9 0 ≡ kindNumber (n .kind)
 unfolding encode fields
 kind-of n = refl
 
-all-at : {P : Note → Type 0} (ns : List Note) (d : Note) (k : ℕ) → All P ns → k < length ns → P (getD ns k d)
+pub all-at : {P : Note → Type 0} (ns : List Note) (d : Note) (k : ℕ) → All P ns → k < length ns → P (getD ns k d)
 all-at [] d k none h = absurd (omega arith)
 all-at (n ∷ ns) d zero (one p ps) h = p
 all-at (n ∷ ns) d (suc k) (one p ps) h = all-at ns d k ps (omega arith)
