@@ -15,6 +15,7 @@ use Rattle.definitions.specs.Figures.{densities, spacings}
 use Rattle.definitions.specs.Beats.{measureBeats}
 use Rattle.definitions.specs.Objects.{lastBeat}
 use Rattle.definitions.specs.Notes.{notes}
+use Rattle.definitions.specs.Entries.{rowCount}
 use Rattle.definitions.specs.declared.LineKind.{LineKind}
 use Rattle.definitions.specs.declared.LineKind.the-variants as line
 use Rattle.definitions.specs.declared.Kind.{Kind}
@@ -132,11 +133,11 @@ abbrev pub openAt : ℕ → ℕ → List ℕ → Note → Bool
 openAt L d text x = openIn (rowsBefore L d text) (x .row) (x .column)
 
 -- "Its note may differ between the texts: in each it is missing or has that row, column and kind and a tail in d or later": in row s or later,
--- where d begins at row s
-unfoldable pub MissingOrLate : ℕ → ℕ → ℕ → Kind → List Note → Type 0
-MissingOrLate s i c k ns =
+-- where d begins at row s, and in one of the text's n minimised rows
+unfoldable pub MissingOrLate : ℕ → ℕ → ℕ → ℕ → Kind → List Note → Type 0
+MissingOrLate s n i c k ns =
     let here = those (λ x. eqb (x .row) i && eqb (x .column) c) ns in
-    (here ≡ []) ⊎ ((j : ℕ) × (s ≤ j) × (here ≡ record { row = i; tail = tail.Row j; column = c; kind = k } ∷ []))
+    (here ≡ []) ⊎ ((j : ℕ) × (s ≤ j) × (j < n) × (here ≡ record { row = i; tail = tail.Row j; column = c; kind = k } ∷ []))
 
 -- a byte 1, M, L, F or K: "For the last beat only the capitals M, L, F count."
 unfoldable pub object : ℕ → Bool
@@ -163,11 +164,11 @@ pub record DamageStays (L d : ℕ) (old new : List ℕ) : Type 0 where
   -- which are heads of the rows before d, the same in both texts.
   pub same-before : rowsBefore L d old ≡ rowsBefore L d new
   pub earlier-notes : those (λ x. not (openAt L d old x)) (earlier L d old) ≡ those (λ x. not (openAt L d new x)) (earlier L d new)
-  -- The note of such a head is in each text missing or has that row, column and kind and a tail in d or later.
+  -- The note of such a head is in each text missing or has that row, column and kind and a tail in d or later, which is a row of that text.
   pub open-heads : (i c : ℕ)
       → openIn (rowsBefore L d old) i c ≡ true
-      → MissingOrLate (length (rowsBefore L d old)) i c (headKind (byteIn (rowsBefore L d old) i c)) (notes L old)
-      × MissingOrLate (length (rowsBefore L d old)) i c (headKind (byteIn (rowsBefore L d old) i c)) (notes L new)
+      → MissingOrLate (length (rowsBefore L d old)) (rowCount L old) i c (headKind (byteIn (rowsBefore L d old) i c)) (notes L old)
+      × MissingOrLate (length (rowsBefore L d old)) (rowCount L new) i c (headKind (byteIn (rowsBefore L d old) i c)) (notes L new)
   -- The last beat is the same too where later measures hold a 1, M, L, F or K, and in them, in each column with a 3, such a cell stands
   -- before the first 3. "Equal floats have equal bits."
   pub same-last : HoldObject (allLater L d old) → ObjectFirst (allLater L d old) → lastBeat L old ≡ lastBeat L new

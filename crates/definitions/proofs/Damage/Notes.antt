@@ -9,7 +9,7 @@ use native.Mathlib.Nat.{add-zero, zero-add, add-suc, suc-add}
 use native.Mathlib.Omega.{arith}
 use borrow.Author.Tests.{lt-ltb, le-ltb, le-leb, lt-leb, eq-eqb, ne-eqb, ltb-true, ltb-false}
 use lib.Dec.{eqb, ltb, leb}
-use lib.ListN.{length, drop, getD, length-drop, List·getD-eq-default, List·getD-append}
+use lib.ListN.{length, drop, getD, length-append, length-drop, List·getD-eq-default, List·getD-append}
 use lib.Seq.{drop-append-le}
 use Rattle.definitions.specs.Lists.{those}
 use Rattle.definitions.specs.Lines.{Row}
@@ -23,6 +23,7 @@ use Rattle.definitions.specs.declared.NoteEffect.the-variants.{Nothing, 
 use Rattle.definitions.proofs.Bools.{and-left, and-right, and-false}
 use Rattle.definitions.proofs.Lists.{All, none as all-none, one as all-one, all-append, all-map, those-append, those-all, those-left, those-right}
 use Rattle.definitions.specs.Damage.{Each, end, next, without, with-tail, Shifted, isHead, headKind, untouched, byteIn, openIn, MissingOrLate}
+use Rattle.definitions.proofs.Tails.{tail-within}
 use Rattle.definitions.proofs.Damage.Bytes.{stopping, heading, stops-is, head-is, head-kind}
 
 -- what is headed in rows numbered from i, with the rows q after them
@@ -219,24 +220,6 @@ module _ (i c : ℕ) where
       (notes-here (suc k) j (omega arith) rs)
 
 -- A head that nothing stops has its tail after the rows that do not stop it, if it has one.
-data Late (s : ℕ) : Option ℕ → Type 0 where
-  never : Late s none
-  late : {j : ℕ} → s ≤ j → Late s (some j)
-
-meets-late : (x : NoteEffect) (i : ℕ) {t : Option ℕ} → Late i t → Late i (meets x i t)
-meets-late Nothing i h = h
-meets-late Closes i h = late {j = i} (omega arith)
-meets-late (Single k) i h = never
-meets-late (Head k) i h = never
-
-late-down : {s : ℕ} {t : Option ℕ} → Late (suc s) t → Late s t
-late-down never = never
-late-down (late {j = j} h) = late {j = j} (omega arith)
-
-tail-late : (c i : ℕ) (rs : List Row) → Late i (tailOf c i rs)
-tail-late c i [] = never
-tail-late c i (r ∷ rs) = meets-late (effectAt (byteAt c r)) i (late-down (tail-late c (suc i) rs))
-
 past-untouched : (c i : ℕ) (rs q : List Row) → untouched c rs ≡ true → tailOf c i (rs ++ q) ≡ tailOf c (i + length rs) q
 past-untouched c i [] q h = rw add-zero
 past-untouched c i (r ∷ rs) q h = go (effectAt (byteAt c r)) refl (past-untouched c (suc i) rs q)
@@ -258,7 +241,7 @@ head-there ps i c h = go (ltb i (length ps)) refl
     go false p = absurd (false≢true (rw (List·getD-eq-default ps [] (ltb-false i (length ps) p)) at h))
 
 pub open-head : (i c : ℕ) (ps q : List Row) → openIn ps i c ≡ true
-    → MissingOrLate (length ps) i c (headKind (byteIn ps i c)) (notesFrom 0 (ps ++ q))
+    → MissingOrLate (length ps) (length (ps ++ q)) i c (headKind (byteIn ps i c)) (notesFrom 0 (ps ++ q))
 unfolding MissingOrLate
 open-head i c ps q h = go (notes-here i c 0 i (zero-add i) (ps ++ q))
   where
@@ -287,12 +270,12 @@ open-head i c ps q h = go (notes-here i c 0 i (zero-add i) (ps ++ q))
         )
         (ap (λ n. heldNote i c k (tailOf c n q)) (omega (arith, inside, length-drop (suc i) ps)))
 
-    last : {t : Option ℕ} → Late (length ps) t → ns ≡ heldNote i c k t
-        → (ns ≡ []) ⊎ ((j : ℕ) × (length ps ≤ j) × (ns ≡ record { row = i; tail = tail.Row j; column = c; kind = k } ∷ []))
-    last never p = inl p
-    last (late {j = j} l) p = inr (j, l, p)
+    -- the tail of a head that nothing stops lies in q
+    last : (t : Option ℕ) → tailOf c (length ps) q ≡ t → ns ≡ heldNote i c k t → MissingOrLate (length ps) (length (ps ++ q)) i c k (notesFrom 0 (ps ++ q))
+    last none e p = inl p
+    last (some j) e p = let w = tail-within c (length ps) q j e in inr (j, w .0, omega (arith, w .1, length-append ps q), p)
 
     go : (ns ≡ []) ⊎ (ns ≡ headedBy i c (drop (suc i) (ps ++ q)) (byteAt c (getD (ps ++ q) i [])))
-        → (ns ≡ []) ⊎ ((j : ℕ) × (length ps ≤ j) × (ns ≡ record { row = i; tail = tail.Row j; column = c; kind = k } ∷ []))
+        → MissingOrLate (length ps) (length (ps ++ q)) i c k (notesFrom 0 (ps ++ q))
     go (inl p) = inl p
-    go (inr p) = last (tail-late c (length ps) q) (p ∙ there)
+    go (inr p) = last (tailOf c (length ps) q) refl (p ∙ there)

@@ -15,6 +15,7 @@ use Rattle.definitions.specs.Figures.{density, spacing, densities, spaci
 use Rattle.definitions.specs.Beats.{measureBeats, rowToBeat}
 use Rattle.definitions.specs.Objects.{place48, lastObject, last48, lastBeat}
 use Rattle.definitions.specs.Notes.{notes, notesFrom}
+use Rattle.definitions.specs.Entries.{rowCount}
 use Rattle.definitions.proofs.Lists.{parts, parts-suc}
 use Rattle.definitions.specs.Damage.{Differ, DamageStays, Each, Shifted, rowsBefore, rowsOf, rowsLater, allLater, earlier, later, byteIn, headKind, openIn, openAt, MissingOrLate, HoldObject, ObjectFirst}
 use Rattle.definitions.proofs.Damage.But.{But, charts-but, but-map, but-beats, same-but, takes, drops}
@@ -73,8 +74,8 @@ module _ (L d : ℕ) (old new : List ℕ) (x : Differ L d old new) where
       ∙ ap (those (λ x. not (openAt L d new x))) (sym (earlier-is L d new))
 
   open-heads : (text : List ℕ) → rowsBefore L d old ≡ rowsBefore L d text → (i c : ℕ) → openIn (rowsBefore L d old) i c ≡ true
-      → MissingOrLate (length (rowsBefore L d old)) i c (headKind (byteIn (rowsBefore L d old) i c)) (notes L text)
-  open-heads text e i c h = rw (notes-parts L d text, ← e) (open-head i c (rowsBefore L d old) (rowsOf L d text ++ rowsLater L d text) h)
+      → MissingOrLate (length (rowsBefore L d old)) (rowCount L text) i c (headKind (byteIn (rowsBefore L d old) i c)) (notes L text)
+  open-heads text e i c h = rw (notes-parts L d text, parts d (minimised L text), ← e) (open-head i c (rowsBefore L d old) (rowsOf L d text ++ rowsLater L d text) h)
 
   later-reduced : (n : ℕ) (ms : List (List Row)) → drop n (map reduce ms) ≡ map reduce (drop n ms)
   later-reduced zero ms = refl
