@@ -2,6 +2,8 @@
 
 use crate::figures::{ArrowStats, Figures, count, place};
 use crate::{Lengths, NOTE_BYTES, Notes, Refusal, lent};
+use std::cell::Cell;
+use std::mem;
 
 /// Slices to lend, kept and grown as charts need them: reuse one for many charts, and a chart allocates only what those
 /// before it did not need.
@@ -90,19 +92,80 @@ impl LastBeat {
     }
 }
 
-/// The first `len` elements of a buffer, which grows where it is shorter.
+/// The first `len` elements of a buffer. One that is shorter gives way to a new one, at least twice as long: what it
+/// had is not copied, and `vec!` asks the allocator for zeros instead of writing them.
 fn part<T: Clone + Default>(buffer: &mut Vec<T>, len: usize) -> &mut [T] {
     if buffer.len() < len {
-        buffer.resize(len, T::default());
+        let grown = len.max(2 * buffer.len());
+        *buffer = Vec::new();
+        *buffer = vec![T::default(); grown];
     }
     &mut buffer[..len]
 }
 
+thread_local! {
+    /// What the calls that allocate their answers lend besides, kept by each thread for its next call.
+    static KEPT: Cell<Buffers> = const { Cell::new(Buffers::EMPTY) };
+}
+
+/// Makes a call with the buffers that this thread has kept, and keeps them again.
+pub(crate) fn with_kept<T>(call: impl FnOnce(&mut Buffers) -> T) -> T {
+    // While a thread ends it may have none any more: then they are new, and let go of.
+    let mut buffers = KEPT.try_with(Cell::take).unwrap_or_default();
+    let answer = call(&mut buffers);
+    let _ = KEPT.try_with(|kept| kept.set(buffers));
+    answer
+}
+
+/// Lets go of what this thread has kept for the calls that allocate their answers.
+///
+/// An entry writes zeros past its answer, so it is lent the most that a text of that length could need:
+/// some 12 bytes for each byte of the text in the main call ([`Lengths`]). The functions of the crate's root and of
+/// [`stats`](crate::stats) keep these slices from call to call, each thread its own, since fresh memory costs about
+/// as much as the call itself. They are at most twice as long as the thread's longest text needed, and go with the thread.
+///
+/// ```
+/// let densities = padcheck::measure_densities(b"1000\n", 4)?;
+/// padcheck::release_buffers();
+/// assert_eq!(padcheck::measure_densities(b"1000\n", 4)?, densities);
+/// # Ok::<(), padcheck::Refusal>(())
+/// ```
+pub fn release_buffers() {
+    with_kept(|buffers| *buffers = Buffers::EMPTY);
+}
+
+/// A buffer itself, cut to an answer's length.
+fn taken<T>(buffer: &mut Vec<T>, len: usize) -> Vec<T> {
+    let mut answer = mem::take(buffer);
+    answer.truncate(len);
+    answer
+}
+
 impl Buffers {
+    const EMPTY: Self = Self {
+        text: Vec::new(),
+        densities: Vec::new(),
+        spacing: Vec::new(),
+        beats: Vec::new(),
+        work: Vec::new(),
+        notes: Vec::new(),
+        figures: [0; 32],
+    };
+
     /// Empty buffers; the first call allocates.
     #[must_use]
-    pub fn new() -> Self {
-        Self::default()
+    pub const fn new() -> Self {
+        Self::EMPTY
+    }
+
+    /// The text of the last call, taken out of the buffers instead of copied.
+    pub(crate) fn take_text(&mut self) -> Vec<u8> {
+        taken(&mut self.text, count(&self.figures, place::TEXT_BYTES))
+    }
+
+    /// The beats of the last call, taken out of the buffers instead of copied.
+    pub(crate) fn take_beats(&mut self) -> Vec<f32> {
+        taken(&mut self.beats, count(&self.figures, place::ROWS))
     }
 
     /// The main call: minimised text, tally, densities, row beats, notes and last beat.
@@ -261,5 +324,41 @@ impl Buffers {
             &mut self.figures,
         )?;
         Ok(ArrowStats::from_figures(&self.figures))
+    }
+}
+
+#[cfg(test)]
+mod tests {
+    use super::*;
+
+    #[test]
+    fn a_buffer_grows_and_is_lent_in_part() {
+        let mut buffer = vec![7_u8; 4];
+        assert_eq!(part(&mut buffer, 3), [7; 3]);
+        assert_eq!(part(&mut buffer, 5), [0; 5]);
+        assert_eq!(buffer.len(), 8);
+        assert_eq!(part(&mut buffer, 20).len(), 20);
+    }
+
+    #[test]
+    fn what_a_thread_keeps_serves_calls_of_any_length() {
+        let measure = "1000\n0100\n,\n";
+        for measures in [1, 40, 2, 0, 41, 41, 3] {
+            let text = measure.repeat(measures);
+            let chart = crate::minimize_chart_count_rows_notes(text.as_bytes(), 4).unwrap();
+            let densities = crate::measure_densities(text.as_bytes(), 4).unwrap();
+            assert_eq!(chart.text, text.as_bytes());
+            assert_eq!(chart.densities, densities);
+            assert_eq!(densities[..measures], vec![2; measures]);
+            assert_eq!(chart.beats.len(), 2 * measures);
+            assert_eq!(chart.notes.len(), 2 * measures);
+            assert_eq!(chart.stats.total_steps, 2 * measures as u32);
+        }
+        let kept = with_kept(|buffers| (buffers.notes.len(), buffers.text.len()));
+        // The note slice is kept, the answer's text was handed out.
+        assert!(kept.0 >= Lengths::of(41 * measure.len(), 4).notes);
+        assert_eq!(kept.1, 0);
+        release_buffers();
+        assert_eq!(with_kept(|buffers| buffers.notes.capacity()), 0);
     }
 }

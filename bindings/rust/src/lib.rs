@@ -1,12 +1,13 @@
 //! The chart figures of StepMania charts, proved: safe Rust over libpadcheck.a.
 //!
-//! Every answer is proved equal to definitions written from a specification, document 01; this side lends slices and
-//! hands on what is in them. Four ways to call, from the least to the most control:
+//! Every answer is proved equal to definitions written from a specification, document 01; this side lends slices, hands
+//! on what is in them, and takes the four numbers of a note out of the ten bytes of its record. Four ways to call, from
+//! the least to the most control:
 //!
 //! - [`stats`] has items of rssp's `stats.rs` under their own names and signatures, for a loader that changes one `use`
 //!   line; it says which.
 //! - The functions here take a text and a lane number and answer a `Result`: the one [`Refusal`] they can meet is a
-//!   text longer than [`MAX_LEN`].
+//!   text longer than [`MAX_LEN`]. What they lend besides their answers is kept by the thread: [`release_buffers`].
 //! - [`Buffers`] does the same over buffers that are kept from one chart to the next.
 //! - [`lent`] has the entries as they are, over slices of the caller's.
 //!
@@ -27,7 +28,7 @@ mod refusal;
 pub mod stats;
 mod symbols;
 
-pub use buffers::{Buffers, Chart, KeptChart, LastBeat, TimingRows};
+pub use buffers::{Buffers, Chart, KeptChart, LastBeat, TimingRows, release_buffers};
 pub use figures::{ArrowStats, Figures, place};
 pub use lengths::{Lengths, MAX_LEN, NOTE_BYTES, lanes_in_force};
 pub use note::{ChartNoteType, Notes, ParsedChartNote, read_note};

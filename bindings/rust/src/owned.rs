@@ -1,7 +1,8 @@
-//! The calls that allocate what they answer.
+//! The calls that allocate what they answer. What else they lend is kept by the thread ([`release_buffers`](crate::release_buffers)).
 
-use crate::buffers::{Buffers, LastBeat};
-use crate::{ArrowStats, ParsedChartNote, Refusal, lent};
+use crate::buffers::{LastBeat, with_kept};
+use crate::figures::{count, place};
+use crate::{ArrowStats, Lengths, ParsedChartNote, Refusal, lent};
 
 /// What the main call answers, owned.
 #[derive(Clone, Debug, PartialEq)]
@@ -36,15 +37,18 @@ pub struct OwnedChart {
 ///
 /// [`Refusal::TextTooLong`].
 pub fn minimize_chart_count_rows_notes(data: &[u8], lanes: usize) -> Result<OwnedChart, Refusal> {
-    let mut buffers = Buffers::new();
-    let chart = buffers.minimize_chart_count_rows_notes(data, lanes)?;
-    Ok(OwnedChart {
-        text: chart.text.to_vec(),
-        stats: chart.stats,
-        densities: widened(chart.densities),
-        beats: chart.beats.to_vec(),
-        notes: chart.notes.collect(),
-        last: chart.last,
+    with_kept(|buffers| {
+        let chart = buffers.minimize_chart_count_rows_notes(data, lanes)?;
+        let (stats, last) = (chart.stats, chart.last);
+        let (densities, notes) = (widened(chart.densities), chart.notes.collect());
+        Ok(OwnedChart {
+            text: buffers.take_text(),
+            stats,
+            densities,
+            beats: buffers.take_beats(),
+            notes,
+            last,
+        })
     })
 }
 
@@ -65,9 +69,11 @@ pub fn process_chart_kept(
     data: &[u8],
     lanes: usize,
 ) -> Result<(Vec<u8>, ArrowStats, Vec<usize>), Refusal> {
-    let mut buffers = Buffers::new();
-    let chart = buffers.process_chart_kept(data, lanes)?;
-    Ok((chart.text.to_vec(), chart.stats, widened(chart.densities)))
+    with_kept(|buffers| {
+        let chart = buffers.process_chart_kept(data, lanes)?;
+        let (stats, densities) = (chart.stats, widened(chart.densities));
+        Ok((buffers.take_text(), stats, densities))
+    })
 }
 
 /// Minimised rows, their beats, and whether any has a 2 or 4. `L` is 4, 5, 8 or 10; another does not compile.
@@ -96,10 +102,14 @@ pub fn minimize_timing_rows<const L: usize>(
             "a row has 4, 5, 8 or 10 lanes"
         )
     };
-    let mut buffers = Buffers::new();
-    let timing = buffers.minimize_timing_rows(data, L)?;
-    let (rows, _) = timing.rows.as_chunks();
-    Ok((rows.to_vec(), timing.beats.to_vec(), timing.has_heads))
+    let lengths = Lengths::of(data.len(), L);
+    let mut rows = vec![[0; L]; lengths.text.div_ceil(L)];
+    let mut beats = vec![0.0; lengths.beats];
+    let mut figures = [0; 32];
+    lent::minimize_timing_rows(data, L, rows.as_flattened_mut(), &mut beats, &mut figures)?;
+    rows.truncate(count(&figures, place::ROWS));
+    beats.truncate(count(&figures, place::ROWS));
+    Ok((rows, beats, figures[place::HAS_HEADS] == 1))
 }
 
 /// For each measure how many of its minimised rows have a 1, 2 or 4.
@@ -113,7 +123,7 @@ pub fn minimize_timing_rows<const L: usize>(
 ///
 /// [`Refusal::TextTooLong`].
 pub fn measure_densities(data: &[u8], lanes: usize) -> Result<Vec<usize>, Refusal> {
-    Buffers::new().measure_densities(data, lanes).map(widened)
+    with_kept(|buffers| buffers.measure_densities(data, lanes).map(widened))
 }
 
 /// For each measure whether it has no rows or each minimised row has a 1, 2 or 4.
@@ -127,9 +137,10 @@ pub fn measure_densities(data: &[u8], lanes: usize) -> Result<Vec<usize>, Refusa
 ///
 /// [`Refusal::TextTooLong`].
 pub fn equally_spaced(data: &[u8], lanes: usize) -> Result<Vec<bool>, Refusal> {
-    let mut buffers = Buffers::new();
-    let spacing = buffers.equally_spaced(data, lanes)?;
-    Ok(spacing.iter().map(|&spaced| spaced == 1).collect())
+    with_kept(|buffers| {
+        let spacing = buffers.equally_spaced(data, lanes)?;
+        Ok(spacing.iter().map(|&spaced| spaced == 1).collect())
+    })
 }
 
 /// The last object row's beat; 0 where there is none.
@@ -161,7 +172,7 @@ pub fn chart_last_beat(data: &[u8], lanes: usize) -> Result<LastBeat, Refusal> {
 ///
 /// [`Refusal::TextTooLong`].
 pub fn process_rows_judgable(data: &[u8], lanes: usize) -> Result<ArrowStats, Refusal> {
-    Buffers::new().process_rows_judgable(data, lanes)
+    with_kept(|buffers| buffers.process_rows_judgable(data, lanes))
 }
 
 /// The judged tally of minimised text with one flag a row: 0 unjudged, else judged. A row past the flags is judged.
@@ -176,7 +187,7 @@ pub fn process_rows_judgable(data: &[u8], lanes: usize) -> Result<ArrowStats, Re
 ///
 /// [`Refusal::TextTooLong`].
 pub fn process_timing_rows(data: &[u8], lanes: usize, flags: &[u8]) -> Result<ArrowStats, Refusal> {
-    Buffers::new().process_timing_rows(data, lanes, flags)
+    with_kept(|buffers| buffers.process_timing_rows(data, lanes, flags))
 }
 
 pub(crate) fn widened(counts: &[u32]) -> Vec<usize> {

@@ -102,18 +102,17 @@ pub fn minimize_chart_count_rows_notes(
     lanes: usize,
     chart_notes: &mut ChartNotesScratch,
 ) -> (Vec<u8>, ArrowStats, Vec<usize>, Vec<f32>, f64) {
-    let chart = accepted(
-        chart_notes
-            .buffers
-            .minimize_chart_count_rows_notes(data, lanes),
-    );
+    let buffers = &mut chart_notes.buffers;
+    let chart = accepted(buffers.minimize_chart_count_rows_notes(data, lanes));
     chart_notes.notes = chart.notes.len();
+    let (stats, last) = (chart.stats, chart.last.beat);
+    let densities = widened(chart.densities);
     (
-        chart.text.to_vec(),
-        chart.stats,
-        widened(chart.densities),
-        chart.beats.to_vec(),
-        chart.last.beat,
+        buffers.take_text(),
+        stats,
+        densities,
+        buffers.take_beats(),
+        last,
     )
 }
 
