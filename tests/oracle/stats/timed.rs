@@ -36,6 +36,29 @@ pub fn run(call: Call, data: &[u8], lanes: usize, flags: &[u8], buffers: &mut Bu
     }
 }
 
+/// The same, and the notes of the main call are handed out one by one, as a loader takes them.
+pub fn run_and_read(call: Call, data: &[u8], lanes: usize, flags: &[u8], buffers: &mut Buffers) {
+    run(call, data, lanes, flags, buffers);
+    for note in buffers.notes.drain() {
+        black_box(note);
+    }
+}
+
+/// Runs one call of the Rust with nothing kept from another. The notes of the main call are collected.
+pub fn run_anew(call: Call, data: &[u8], lanes: usize, flags: &[u8]) {
+    match call {
+        Call::MinimizeChartCountRowsNotes => {
+            let mut notes = ChartNotesScratch::default();
+            let chart = minimize_chart_count_rows_notes(data, lanes, &mut notes);
+            black_box((chart, notes.drain().collect::<Vec<_>>()));
+        }
+        Call::MeasureDensities => {
+            black_box(measure_densities(data, lanes));
+        }
+        _ => run(call, data, lanes, flags, &mut Buffers::default()),
+    }
+}
+
 fn kept<const L: usize>(data: &[u8]) {
     let mut rows: Vec<[u8; L]> = Vec::new();
     black_box(process_chart_in_impl::<L, false, true, _, _>(
