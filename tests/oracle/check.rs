@@ -159,17 +159,8 @@ fn refusals(checks: &mut Checks) {
 
 /// A refusal writes nothing; an accepted call leaves zeros past its answer.
 fn loans(checks: &mut Checks) {
+    refused_loans(checks);
     let text = b"2000\n3000\n";
-    for call in CALLS
-        .into_iter()
-        .filter(|&call| call != Call::ChartLastBeat)
-    {
-        let short = Loan::marked(&Lengths::default());
-        let mut loan = short.clone();
-        let refused = enter(call, text, 4, &[], &mut loan) != 0;
-        checks.same("refused", refused, true);
-        checks.same("a refusal writes nothing", loan.same(&short), true);
-    }
     let mut loan = Loan::marked(&lengths([13, 7, 4, 3, 81]));
     let number = enter(CALLS[0], text, 4, &[], &mut loan);
     checks.same("accepted", number, 0);
@@ -190,6 +181,24 @@ fn loans(checks: &mut Checks) {
     checks.same("densities not lent", loan.densities, vec![0xA5A5_A5A5; 7]);
 }
 
+/// One slice has an entry too few, the others have room to spare, and there is something in each. A call that is not lent the short one
+/// is accepted and writes.
+fn refused_loans(checks: &mut Checks) {
+    let text = b"2000\n3000\n";
+    let enough = [11, 6, 2, 2, 80];
+    for (call, numbers) in WHEN_SHORT {
+        for (place, &number) in numbers.iter().enumerate() {
+            let mut lent = enough.map(|length| length + 3);
+            lent[place] = enough[place] - 1;
+            let before = Loan::marked(&lengths(lent));
+            let mut loan = before.clone();
+            let what = format!("{}, slice {place} short", call.name());
+            checks.same(&what, enter(call, text, 4, &[], &mut loan), number);
+            checks.same(&what, loan.same(&before), number != 0);
+        }
+    }
+}
+
 /// Texts of the greatest length, the one past it, and the greatest last beat near it.
 fn longest_texts(checks: &mut Checks) {
     let call = Call::ChartLastBeat;
@@ -200,9 +209,12 @@ fn longest_texts(checks: &mut Checks) {
     checks.same("longest", enter(call, &text, 4, &[], &mut loan), 0);
     checks.same("its last beat in 48ths", loan.figures[6], 1_610_612_160);
     text.push(b'\n');
-    let mut loan = Loan::marked(&Lengths::default());
-    checks.same("one longer", enter(call, &text, 4, &[], &mut loan), 1);
-    checks.same("nothing written", loan.figures, [u64::MAX; 32]);
+    let before = Loan::marked(&lengths([9; 5]));
+    for call in CALLS {
+        let mut loan = before.clone();
+        checks.same("one longer", enter(call, &text, 4, &[], &mut loan), 1);
+        checks.same("a refusal writes nothing", loan.same(&before), true);
+    }
 }
 
 fn note_records(checks: &mut Checks) {

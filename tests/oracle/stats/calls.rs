@@ -202,14 +202,14 @@ fn timing_rows<const L: usize>(data: &[u8]) -> Answer {
     answer
 }
 
-/// Goes past the Rust's `measure_densities`, whose capacity expression divides by zero
-/// at the lane numbers that are 2^62 - 1 modulo 2^62; document 01 has L = 4 there.
+/// The Rust's `measure_densities` reserves room by a quotient that divides by zero at the lane numbers that are 2^62 - 1 modulo 2^62.
+/// There it is called with 4 lanes, which document 01 has in force.
 #[must_use]
 pub fn measure_densities(data: &[u8], lanes: usize) -> Answer {
-    let mut densities = Vec::new();
-    dispatch_lanes!(lanes, fill_densities_impl(data, &mut densities));
+    let divisor = lanes.wrapping_add(1).wrapping_mul(4);
+    let lanes = if divisor == 0 { 4 } else { lanes };
     let mut answer = Answer::default();
-    answer.set_densities(&densities);
+    answer.set_densities(&measure_densities_unchanged(data, lanes));
     answer
 }
 
