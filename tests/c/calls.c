@@ -166,6 +166,18 @@ static void check_untouched(const char *name, enum call call, const struct quest
     check(is_untouched(loan), "%s, %s: a refused call writes nothing", name, call_name(call));
 }
 
+/* Asks again with each slice one element short. */
+static void check_each_shorter(const char *name, enum call call, const struct question *q)
+{
+    for (int i = 0; i < LENT; i++) {
+        if (kinds[call].lent[i] && length_for((enum lent)i, q->len, q->lanes) > 0) {
+            struct loan loan = lend(call, q->len, q->lanes, i);
+            check_untouched(name, call, q, &loan, refusal_of[i]);
+            take_back(&loan);
+        }
+    }
+}
+
 void check_call(const char *name, enum call call, const struct question *q, const struct answer *answer)
 {
     struct loan loan = lend(call, q->len, q->lanes, NO_SLICE);
@@ -186,12 +198,18 @@ void check_call(const char *name, enum call call, const struct question *q, cons
               name, call_name(call), i);
     }
     take_back(&loan);
-    for (int i = 0; i < LENT; i++) {
-        if (kinds[call].lent[i] && length_for((enum lent)i, q->len, q->lanes) > 0) {
-            loan = lend(call, q->len, q->lanes, i);
-            check_untouched(name, call, q, &loan, refusal_of[i]);
-            take_back(&loan);
-        }
+    check_each_shorter(name, call, q);
+}
+
+void check_exact(const char *name, const struct question *q)
+{
+    for (enum call call = 0; call < CALLS; call++) {
+        struct loan loan = lend(call, q->len, q->lanes, NO_SLICE);
+        uint32_t number = enter(call, q, &loan);
+        check(number == PADCHECK_ACCEPTED, "%s, %s, %zu bytes, %zu lanes: returns %u", name, call_name(call), q->len,
+              q->lanes, number);
+        take_back(&loan);
+        check_each_shorter(name, call, q);
     }
 }
 

@@ -35,6 +35,10 @@ const char *call_name(enum call call);
    slice one element short, which must be refused and change nothing. */
 void check_call(const char *name, enum call call, const struct question *question, const struct answer *answer);
 
+/* Asks every call with slices of the exact lengths, which must be accepted; then again with each slice one element
+   short, which must be refused and change nothing. */
+void check_exact(const char *name, const struct question *question);
+
 /* Asks with slices of the exact lengths for a text of `room` bytes; the call must be refused and change nothing. */
 void check_refused(const char *name, enum call call, const struct question *question, size_t room, uint32_t number);
 

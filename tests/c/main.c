@@ -1,6 +1,8 @@
-/* Every entry of padcheck.h from C: document 01's example, its limits, note records, and the stored sample. */
+/* Every entry of padcheck.h from C: the header's names, document 01's example, its limits, note records, and the stored
+   sample. */
 #include "calls.h"
 #include "checks.h"
+#include "header.h"
 #include "stored.h"
 
 #include <stdio.h>
@@ -181,9 +183,13 @@ static void check_records(void)
 int main(int count, char **args)
 {
     if (count != 2) {
-        fprintf(stderr, "usage: check ANSWERS\nANSWERS is the stored sample, tests/vectors/answers.bin.\n");
+        fprintf(stderr, "usage: check ANSWERS\n       check --header\nANSWERS is the stored sample, "
+                        "tests/vectors/answers.bin; with --header only the header's names are checked.\n");
         return 2;
     }
+    check_header();
+    if (strcmp(args[1], "--header") == 0)
+        return checks_end() ? 0 : 1;
     check_example();
     check_longest();
     check_records();

@@ -110,13 +110,30 @@ mod tests {
         assert_eq!(Refusal::of(0), Ok(()));
     }
 
+    /// Each name with its number and its words.
+    const SAID: [(Refusal, u32, &str); 8] = [
+        (
+            Refusal::TextTooLong,
+            1,
+            "the text is longer than 16777215 bytes",
+        ),
+        (Refusal::TextShort, 2, "the text slice is too short"),
+        (Refusal::MeasuresShort, 3, "the measure slice is too short"),
+        (Refusal::BeatsShort, 4, "the beat slice is too short"),
+        (Refusal::WorkShort, 5, "the work slice is too short"),
+        (Refusal::NotesShort, 6, "the note slice is too short"),
+        (Refusal::NoRecord, 7, "there is no such note record"),
+        (Refusal::BadRecord, 8, "the note record breaks a limit"),
+    ];
+
     #[test]
-    fn every_refusal_is_said_in_words_of_its_own() {
-        let mut words: Vec<_> = Refusal::ALL.iter().map(ToString::to_string).collect();
-        words.sort();
-        words.dedup();
-        assert_eq!(words.len(), Refusal::ALL.len());
-        assert!(words[0].starts_with("refused 1: "));
+    fn every_refusal_is_said_in_its_words() {
+        assert_eq!(Refusal::ALL, SAID.map(|(refusal, _, _)| refusal));
+        for (refusal, number, words) in SAID {
+            assert_eq!(refusal.number(), number);
+            assert_eq!(refusal.meaning(), words);
+            assert_eq!(refusal.to_string(), format!("refused {number}: {words}"));
+        }
     }
 
     #[test]

@@ -300,3 +300,73 @@ fn records_are_read_or_refused() {
         );
     }
 }
+
+/// Each refusal as the archive gives it, by its name, its number and its words.
+#[test]
+fn every_refusal_that_is_met_says_its_number_and_its_words() {
+    let said = |refused: Result<(), Refusal>, want: Refusal, words: &str| {
+        assert_eq!(refused, Err(want));
+        assert_eq!(want.to_string(), words);
+    };
+    let main = |data: &[u8], lens: [usize; 5]| {
+        let [text, measures, beats, work, notes] = lens;
+        let (mut text, mut densities) = (vec![7; text], vec![7; measures]);
+        let (mut beats, mut work, mut notes) = (vec![7.0; beats], vec![7; work], vec![7; notes]);
+        lent::minimize_chart_count_rows_notes(
+            data,
+            4,
+            &mut text,
+            &mut densities,
+            &mut beats,
+            &mut work,
+            &mut notes,
+            &mut [7; 32],
+        )
+    };
+    let long = vec![b'1'; MAX_LEN + 1];
+    said(
+        main(&long, [0; 5]),
+        Refusal::TextTooLong,
+        "refused 1: the text is longer than 16777215 bytes",
+    );
+    let short = [
+        (Refusal::TextShort, "refused 2: the text slice is too short"),
+        (
+            Refusal::MeasuresShort,
+            "refused 3: the measure slice is too short",
+        ),
+        (
+            Refusal::BeatsShort,
+            "refused 4: the beat slice is too short",
+        ),
+        (Refusal::WorkShort, "refused 5: the work slice is too short"),
+        (
+            Refusal::NotesShort,
+            "refused 6: the note slice is too short",
+        ),
+    ];
+    for (place, (refusal, words)) in short.into_iter().enumerate() {
+        let lengths = Lengths::of(DATA.len(), 4);
+        let mut lens = [
+            lengths.text,
+            lengths.measures,
+            lengths.beats,
+            lengths.work,
+            lengths.notes,
+        ];
+        assert_eq!(main(DATA, lens), Ok(()));
+        lens[place] -= 1;
+        said(main(DATA, lens), refusal, words);
+    }
+    let mut note = [7; 4];
+    said(
+        lent::read_note(&[], 0, &mut note),
+        Refusal::NoRecord,
+        "refused 7: there is no such note record",
+    );
+    said(
+        lent::read_note(&[255; 10], 0, &mut note),
+        Refusal::BadRecord,
+        "refused 8: the note record breaks a limit",
+    );
+}

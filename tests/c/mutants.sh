@@ -1,0 +1,84 @@
+#!/bin/sh
+# Shows that the C test notices a wrong header: each number, length and word of padcheck.h is changed alone, and the test must fail.
+# A wrong number must be noticed twice, by the static assertions and, without them, by what the library answers.
+# The library is taken from PADCHECK_LIB_DIR, else from target/staticlib. The last line is 'N passed, M failed'; takes half a minute.
+set -eu
+cd "$(dirname "$0")/../.."
+. tests/need.sh
+need "the C test needs it" cc awk
+lib=${PADCHECK_LIB_DIR:-target/staticlib}/libpadcheck.a
+out=target/c/mutants
+rm -rf "$out"
+mkdir -p "$out/include"
+header=include/padcheck.h
+
+# The edits, a line each: what is changed, and the sed command.
+awk '
+function edit(what, command) { print what "|" NR command }
+/^    PADCHECK_[A-Z0-9_]+ = [0-9]+/ {
+    edit($1, "s/= " ($3 + 0) "/= " ($3 + 1) "/")
+    if ($3 + 0 > 0) edit($1, "s/= " ($3 + 0) "/= " ($3 - 1) "/")
+}
+/^#define PADCHECK_[A-Z_]+ .*[0-9]/ {
+    match($0, /[0-9]+\)?$/)
+    number = substr($0, RSTART) + 0
+    edit($2, sprintf("s/%.0f/%.0f/", number, number + 1))
+    edit($2, sprintf("s/%.0f/%.0f/", number, number - 1))
+}
+/^        return "/ {
+    edit("words", "s/return \"/return \"x/")
+    edit("words", "s/\";$/x\";/")
+}
+/^    case PADCHECK_/ { edit($2, "s/case .*:/case 77:/") }
+/^    return [^"]*;$/ {
+    rest = substr($0, 12)
+    at = 0
+    while (match(rest, /[0-9]+/)) {
+        at++
+        number = substr(rest, RSTART, RLENGTH)
+        edit("length", "s/[0-9][0-9]*/" (number + 1) "/" at)
+        rest = substr(rest, RSTART + RLENGTH)
+    }
+    if (/ \+ /) edit("length", "s/ + / - /")
+    if (/ \* /) edit("length", "s/ \\* / + /")
+    if (/ \/ /) edit("length", "s, / , * ,")
+}
+/return padcheck_beats_len/ { edit("length", "s/padcheck_beats_len(len, lanes)/padcheck_text_len(len)/") }
+' "$header" >"$out/edits"
+
+# Whether the test, built with these words, fails to build or to pass.
+notices() {
+    ! cc -std=c11 -I "$out/include" "$@" -o "$out/check" tests/c/main.c tests/c/header.c tests/c/calls.c \
+        tests/c/checks.c tests/c/stored.c "$lib" >"$out/log" 2>&1 ||
+        ! "$out/check" --header >"$out/log" 2>&1
+}
+
+passed=0
+failed=0
+said() {
+    if [ "$1" = yes ]; then
+        passed=$((passed + 1))
+    else
+        failed=$((failed + 1))
+        echo "failed: $2"
+    fi
+}
+
+cp "$header" "$out/include/padcheck.h"
+if notices; then said no "the header as it is does not pass"; else said yes; fi
+while IFS='|' read -r what command; do
+    sed "$command" "$header" >"$out/include/padcheck.h"
+    if cmp -s "$header" "$out/include/padcheck.h"; then
+        said no "$what: the edit changes nothing: $command"
+    elif ! notices; then
+        said no "$what: not noticed: $command"
+    # `holding` is 0 at the end of every text, so that only the assertion tells its place from the others that are 0.
+    elif [ "$what" != PADCHECK_HOLDING ] && ! notices -DCALLS_ALONE; then
+        said no "$what: not noticed by what the library answers: $command"
+    else
+        said yes
+    fi
+done <"$out/edits"
+rm -rf "$out"
+echo "$passed passed, $failed failed"
+[ "$failed" = 0 ]
