@@ -110,10 +110,11 @@ pub fn read_chart(
     requires { ⌜ (length (now «data») + 1 ≤ length (now text)) × ((length (now «data») + 1) / 2 + 1 ≤ length (now densities)) × (mostRows lanes (length (now «data»)) ≤ length (now beats)) × (10 * lanes * mostRows lanes (length (now «data»)) ≤ length (now slots)) ⌝ }
     ensures { λ r. ⌜ ChartAll lanes (now («data» .entry)) r (now (text .exit)) (now (densities .exit)) (now (beats .exit)) (now (slots .exit)) ⌝ }
 {
+    let width = reader::line_width(data, lanes);
     let mut off = 0;
     let mut p = no_chart();
     while off <= data.len() {
-        let line = reader::read_line(data, off, lanes);
+        let line = reader::read_line(data, off, lanes, width);
         let kind = line.kind;
         let start = line.start;
         let next = line.next;

@@ -119,10 +119,11 @@ pub fn keep_chart(data: &[u8], lanes: usize, text: &mut [u8], densities: &mut [u
     requires { ⌜ (length (now «data») + 1 ≤ length (now text)) × ((length (now «data») + 1) / 2 + 1 ≤ length (now densities)) ⌝ }
     ensures { λ r. ⌜ KeptAll lanes (now («data» .entry)) r (now (text .exit)) (now (densities .exit)) ⌝ }
 {
+    let width = reader::line_width(data, lanes);
     let mut off = 0;
     let mut p = no_pass();
     while off <= data.len() {
-        let line = reader::read_line(data, off, lanes);
+        let line = reader::read_line(data, off, lanes, width);
         let kind = line.kind;
         let start = line.start;
         let next = line.next;

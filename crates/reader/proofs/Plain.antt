@@ -1,4 +1,5 @@
--- A plain row: its line begins with no blank, `,`, `;` or `/`, and has the newline right after its L bytes or after one byte 13 more.
+-- A plain row: its line begins with no blank, `,`, `;` or `/` and has at least L bytes. Laws of a part of a text that begins with it, and of the
+-- text where that part stands.
 use mathlib.Core.Path.{_≡_, refl, ap, sym, _∙_, subst}
 use mathlib.Core.Bool.{Bool, true, false, cond, _||_}
 use mathlib.Core.List.{List, [], _∷_}
@@ -11,12 +12,12 @@ use borrow.Author.Tests.{eqb-true, eqb-false, eq-eqb, ne-eqb, le-leb}
 use lib.Dec.{eqb}
 use lib.ListN.{length, getD, take, drop, length-drop}
 use lib.Seq.{drop-cons, getD-take, getD-drop, length-take-le}
-use Rattle.definitions.specs.Lists.{oneIf, among}
+use Rattle.definitions.specs.Lists.{among}
 use Rattle.definitions.specs.Lines.{isBlank, trim, isRow, kindOf}
 use Rattle.definitions.specs.declared.LineKind.the-variants as line
 use Rattle.lines.specs.Lines.{firstLine}
 use Rattle.lines.specs.Words.{firstIn, halfAt, wordOf, Bytes}
-use Rattle.reader.specs.Reading.{LineRead, plainRow}
+use Rattle.reader.specs.Reading.{LineWidth, LineRead, plainRow}
 use Rattle.reader.proofs.Parts.{line-read}
 
 -- a place among n bytes is at most n
@@ -42,18 +43,10 @@ line-past (suc k) (suc n) m (x ∷ s) h e = rw suc-add (go (eqb x 10) h (λ l. l
     go true l ih = absurd (omega arith)
     go false l ih = ap (λ p. x ∷ p) (ih (omega arith))
 
--- a newline at k, and one after a byte 13
+-- a newline at k
 ends-here : (k : ℕ) (s : List ℕ) → k < length s → getD s k 0 ≡ 10 → firstLine (drop k s) ≡ take 0 (drop k s)
 unfolding firstLine
 ends-here k s h e = rw (drop-cons s k 0) (simp (eq-eqb (getD s k 0) 10 e))
-
-ends-next : (k : ℕ) (s : List ℕ) → k + 1 < length s → getD s k 0 ≡ 13 → getD s (k + 1) 0 ≡ 10 → firstLine (drop k s) ≡ take 1 (drop k s)
-unfolding firstLine
-ends-next k s h e f =
-    let a : k < length s = omega arith in
-    let b : suc k < length s = omega arith in
-    let g : getD s (suc k) 0 ≡ 10 = rw add-one at f in
-    rw (drop-cons s k 0 a, drop-cons s (suc k) 0 b, e) (simp (eq-eqb (getD s (suc k) 0) 10 g))
 
 -- none of the first L bytes is a newline and the next one is: they are the line
 pub line-just : (L n : ℕ) (s : List ℕ) → L < length s → L ≤ firstIn 10 (take n s) → getD s L 0 ≡ 10 → firstLine s ≡ take L s
@@ -78,44 +71,27 @@ bare-row L (b ∷ l) w h n =
     simp (ne-eqb b 47 (omega arith), ne-eqb b 44 (omega arith), ne-eqb b 59 n, le-leb L (length (b ∷ l)) w)
 
 -- a line of m bytes
-plain-line : (L m : ℕ) (text : List ℕ) (off : ℕ) → off + m < length text → L ≤ m → 0 < m → firstLine (drop off text) ≡ take m (drop off text)
-    → 47 < getD text off 0 → (getD text off 0 ≡ 59 → ⊥) → LineRead L text off (plainRow off (off + m))
-plain-line L m text off h w some found low semi =
-    let s = drop off text in
-    let raw = take m s in
-    let n : length raw ≡ m = length-take-le m s (omega (arith, length-drop off text)) in
-    let first : getD raw 0 0 ≡ getD text off 0 = part-byte m off 0 text some ∙ ap (λ k. getD text k 0) (add-zero off) in
-    let read = line-read L text off (omega arith) raw raw line.Row (sym found) (bare raw (rw first low)) (bare-row L raw (omega arith) (rw first low) (λ e. semi (sym first ∙ e))) in
-    let at : off + m - m ≡ off = omega arith in
-    rw (n, at) at read
+plain-line : (L m : ℕ) (part : List ℕ) → m < length part → L ≤ m → 0 < m → firstLine part ≡ take m part
+    → 47 < getD part 0 0 → (getD part 0 0 ≡ 59 → ⊥) → LineRead L part 0 (plainRow 0 m)
+plain-line L m part h w some found low semi =
+    let raw = take m part in
+    let n : length raw ≡ m = length-take-le m part (omega arith) in
+    let first : getD raw 0 0 ≡ getD part 0 0 = getD-take m part 0 0 some in
+    let read = line-read L part 0 (omega arith) raw raw line.Row (sym found) (bare raw (rw first low)) (bare-row L raw (omega arith) (rw first low) (λ e. semi (sym first ∙ e))) in
+    let at : m - m ≡ 0 = omega arith in
+    rw (n, zero-add, at) at read
 
-pub plain-row : (L : ℕ) (text : List ℕ) (off end : ℕ) → off + 10 ≤ length text → L ≤ firstIn 10 (take 8 (drop off text))
-    → 47 < getD text off 0 → (getD text off 0 ≡ 59 → ⊥) → end ≡ off + L + oneIf (eqb (getD text (off + L) 0) 13) → getD text end 0 ≡ 10
-    → LineRead L text off (plainRow off end)
-plain-row L text off end h near low semi e newline = go (eqb (getD text (off + L) 0) 13) refl
-  where
-    few : L ≤ 8
-    few = omega (arith, place-few 10 8 (drop off text))
-
-    long : L + 1 < length (drop off text)
-    long = omega (arith, few, length-drop off text)
-
-    go : (t : Bool) → eqb (getD text (off + L) 0) 13 ≡ t → LineRead L text off (plainRow off end)
-    go true q =
-        let at : end ≡ off + (L + 1) = e ∙ ap (λ t. off + L + oneIf t) q ∙ omega arith in
-        let last : getD (drop off text) L 0 ≡ 13 = getD-drop off text L 0 ∙ eqb-true (getD text (off + L) 0) 13 q in
-        let after : getD (drop off text) (L + 1) 0 ≡ 10 = getD-drop off text (L + 1) 0 ∙ ap (λ k. getD text k 0) (sym at) ∙ newline in
-        rw at (plain-line L (L + 1) text off (omega (arith, few)) (omega arith) (omega arith) (line-past L 8 1 (drop off text) near (ends-next L (drop off text) long last after)) low semi)
-    go false q =
-        let at : end ≡ off + L = e ∙ ap (λ t. off + L + oneIf t) q ∙ omega arith in
-        let after : getD text (off + L) 0 ≡ 10 = ap (λ k. getD text k 0) (sym at) ∙ newline in
-        let found : firstLine (drop off text) ≡ take L (drop off text) = line-just L 8 (drop off text) (omega (arith, long)) near (getD-drop off text L 0 ∙ after) in
-        elim (decLt 0 L) [
-          | yes some ↦ rw at (plain-line L L text off (omega (arith, few)) (omega arith) some found low semi)
-          | no none ↦
-              let first : getD text off 0 ≡ 10 = ap (λ k. getD text k 0) (omega arith) ∙ after in
-              absurd (omega arith)
-        ]
+-- The line that a part of the text begins with, at its place in the text.
+pub added-back : (L m : ℕ) (text : List ℕ) (off : ℕ) → off ≤ length text → LineRead L (drop off text) 0 (plainRow 0 m) → LineRead L text off (plainRow off (off + m))
+added-back L m text off h x =
+    record {
+      kind = x .kind;
+      next = omega (arith, x .next);
+      within = omega (arith, x .within, length-drop off text);
+      comma = λ e. omega (arith, x .comma e);
+      row = x .row;
+      room = λ e. (omega (arith, x .room e .0), omega (arith, x .room e .0));
+    }
 
 -- ---- a row that is told by its first four bytes, its last four and the two in its middle
 
@@ -127,14 +103,12 @@ first-other (suc n) [] h f = absurd (omega arith)
 first-other (suc n) (x ∷ xs) h f =
     rw (ne-eqb x 10 (f 0 (omega arith))) (omega (arith, first-other n xs (omega arith) (λ k b. f (suc k) (omega arith))))
 
-pub just-row : (L : ℕ) (text : List ℕ) (off : ℕ) → off + L < length text → 0 < L → ((k : ℕ) → k < L → getD text (off + k) 0 ≡ 10 → ⊥)
-    → 47 < getD text off 0 → (getD text off 0 ≡ 59 → ⊥) → getD text (off + L) 0 ≡ 10 → LineRead L text off (plainRow off (off + L))
-just-row L text off h some other low semi newline =
-    let s = drop off text in
-    let size : length (take L s) ≡ L = length-take-le L s (rw length-drop (omega arith)) in
-    let near : L ≤ firstIn 10 (take L s) = first-other L (take L s) (omega arith) (λ k b. rw (part-byte L off k text b) (other k b)) in
-    let found : firstLine s ≡ take L s = line-just L L s (rw length-drop (omega arith)) near (getD-drop off text L 0 ∙ newline) in
-    plain-line L L text off h (omega arith) some found low semi
+pub just-row : (L m : ℕ) (part : List ℕ) → m < length part → L ≤ m → 0 < m → ((k : ℕ) → k < m → getD part k 0 ≡ 10 → ⊥)
+    → 47 < getD part 0 0 → (getD part 0 0 ≡ 59 → ⊥) → getD part m 0 ≡ 10 → LineRead L part 0 (plainRow 0 m)
+just-row L m part h w some other low semi newline =
+    let size : length (take m part) ≡ m = length-take-le m part (omega arith) in
+    let near : m ≤ firstIn 10 (take m part) = first-other m (take m part) (omega arith) (λ k b. rw (getD-take m part k 0 b) (other k b)) in
+    plain-line L m part h w some (line-just m m part h near newline) low semi
 
 -- four bytes at i and four at j
 abbrev pub ends : List ℕ → ℕ → ℕ → List ℕ
@@ -177,22 +151,31 @@ ends-other s i j e =
       four-other s j (other-byte _ (f .0)) (other-byte _ (g .0)) (other-byte _ (h .0)) (other-byte _ (k .0)),
     )
 
--- all bytes of a row of up to ten
-pub all-other : (s : List ℕ) (off L mid : ℕ) → 4 ≤ L → L ≤ 10 → mid ≡ off + L / 2 → among 10 (ends s off (off + L - 4)) ≡ false
-    → (getD s (mid - 1) 0 ≡ 10 → ⊥) → (getD s mid 0 ≡ 10 → ⊥) → (k : ℕ) → k < L → getD s (off + k) 0 ≡ 10 → ⊥
-all-other s off L mid low high m e left right k h =
-    let f = ends-other s off (off + L - 4) e in
+-- all cells of a row of up to ten
+cells-other : (s : List ℕ) (L : ℕ) → 4 ≤ L → L ≤ 10 → among 10 (ends s 0 (L - 4)) ≡ false
+    → (getD s (L / 2 - 1) 0 ≡ 10 → ⊥) → (getD s (L / 2) 0 ≡ 10 → ⊥) → (k : ℕ) → k < L → getD s k 0 ≡ 10 → ⊥
+cells-other s L low high e left right k h =
+    let f = ends-other s 0 (L - 4) e in
     elim (decLt k 4) [
-      | yes b ↦ f .0 k b
+      | yes b ↦ rw zero-add at (f .0 k b)
       | no n ↦
           elim (decLt k (L - 4)) [
             | no w ↦
-                let place : off + L - 4 + (k - (L - 4)) ≡ off + k = omega arith in
+                let place : L - 4 + (k - (L - 4)) ≡ k = omega arith in
                 subst (λ p. getD s p 0 ≡ 10 → ⊥) place (f .1 (k - (L - 4)) (omega arith))
             | yes w ↦
                 elim (decLt k (L / 2)) [
-                  | yes u ↦ let place : mid - 1 ≡ off + k = omega arith in subst (λ p. getD s p 0 ≡ 10 → ⊥) place left
-                  | no u ↦ let place : mid ≡ off + k = omega arith in subst (λ p. getD s p 0 ≡ 10 → ⊥) place right
+                  | yes u ↦ let place : L / 2 - 1 ≡ k = omega arith in subst (λ p. getD s p 0 ≡ 10 → ⊥) place left
+                  | no u ↦ let place : L / 2 ≡ k = omega arith in subst (λ p. getD s p 0 ≡ 10 → ⊥) place right
                 ]
           ]
+    ]
+
+-- and of its line, which has at most one byte more
+pub all-other : (s : List ℕ) (L m : ℕ) → 4 ≤ L → L ≤ 10 → LineWidth L m → among 10 (ends s 0 (L - 4)) ≡ false
+    → (getD s (L / 2 - 1) 0 ≡ 10 → ⊥) → (getD s (L / 2) 0 ≡ 10 → ⊥) → (getD s (m - 1) 0 ≡ 10 → ⊥) → (k : ℕ) → k < m → getD s k 0 ≡ 10 → ⊥
+all-other s L m low high w e left right last k h =
+    elim (decLt k L) [
+      | yes b ↦ cells-other s L low high e left right k b
+      | no n ↦ let place : m - 1 ≡ k = omega (arith, w .0, w .1) in subst (λ p. getD s p 0 ≡ 10 → ⊥) place last
     ]

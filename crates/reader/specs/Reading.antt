@@ -10,6 +10,10 @@ use Rattle.definitions.specs.declared.LineKind.the-variants as line
 use Rattle.lines.specs.Lines.{firstLine, linesFrom}
 use Rattle.reader.specs.declared.ReadLine.{ReadLine}
 
+-- A row's line of so many bytes has its L cells, and at most one byte after them.
+abbrev pub LineWidth : ℕ → ℕ → Type 0
+LineWidth L width = (L ≤ width) × (width ≤ L + 1)
+
 -- What `read_line` gives at `off`: the line's kind and where the next line starts. A row's L bytes stand in the text; a `,` line takes at
 -- least two bytes with its newline, and a row's line L + 1.
 pub record LineRead (L : ℕ) (text : List ℕ) (off : ℕ) (r : ReadLine) : Type 0 where

@@ -17,11 +17,12 @@ fn fill_densities(data: &[u8], lanes: usize, densities: &mut [u32]) -> usize
     ensures { λ r. ⌜ r ≡ length (densitiesOf lanes (now («data» .entry))) ⌝ }
     ensures { λ _. ⌜ now (densities .exit) ≡ padded 0 (length (now (densities .entry))) (densitiesOf lanes (now («data» .entry))) ⌝ }
 {
+    let width = reader::line_width(data, lanes);
     let mut off = 0;
     let mut m = 0;
     let mut steps: u32 = 0;
     while off <= data.len() {
-        let line = reader::read_line(data, off, lanes);
+        let line = reader::read_line(data, off, lanes, width);
         let kind = line.kind;
         let start = line.start;
         let next = line.next;

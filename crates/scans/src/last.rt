@@ -45,10 +45,11 @@ fn scan_last(data: &[u8], lanes: usize) -> LastObject
     requires { ⌜ (length (now «data») ≤ 16777215) × (4 ≤ lanes) × (lanes ≤ 10) ⌝ }
     ensures { λ r. ⌜ (Placed r) × (placeOf r ≡ lastOf (objectsFrom (λ c. 0) 0 (chart lanes (now («data» .entry))))) ⌝ }
 {
+    let width = reader::line_width(data, lanes);
     let mut off = 0;
     let mut s = objects::no_last();
     while off <= data.len() {
-        let line = reader::read_line(data, off, lanes);
+        let line = reader::read_line(data, off, lanes, width);
         let kind = line.kind;
         let start = line.start;
         let next = line.next;

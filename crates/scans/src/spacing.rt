@@ -70,11 +70,12 @@ fn fill_spacing(data: &[u8], lanes: usize, spacing: &mut [u8]) -> usize
     ensures { λ r. ⌜ r ≡ length (spacings lanes (now («data» .entry))) ⌝ }
     ensures { λ _. ⌜ now (spacing .exit) ≡ padded 0 (length (now (spacing .entry))) (spacings lanes (now («data» .entry))) ⌝ }
 {
+    let width = reader::line_width(data, lanes);
     let mut off = 0;
     let mut m = 0;
     let mut s = no_spacing();
     while off <= data.len() {
-        let line = reader::read_line(data, off, lanes);
+        let line = reader::read_line(data, off, lanes, width);
         let kind = line.kind;
         let start = line.start;
         let next = line.next;

@@ -120,10 +120,11 @@ fn pass_chart(data: &[u8], lanes: usize, text: &mut [u8], beats: &mut [f32]) -> 
     requires { ⌜ (length (now «data») + 1 ≤ length (now text)) × (mostRows lanes (length (now «data»)) ≤ length (now beats)) ⌝ }
     ensures { λ r. ⌜ TimedAll lanes (now («data» .entry)) r (now (text .exit)) (now (beats .exit)) ⌝ }
 {
+    let width = reader::line_width(data, lanes);
     let mut off = 0;
     let mut p = no_pass();
     while off <= data.len() {
-        let line = reader::read_line(data, off, lanes);
+        let line = reader::read_line(data, off, lanes, width);
         let kind = line.kind;
         let start = line.start;
         let next = line.next;

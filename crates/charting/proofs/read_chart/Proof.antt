@@ -16,26 +16,29 @@ use Rattle.charting.proofs.read_chart.Statement.{statement}
 use Rattle.charting.proofs.read_chart.Tie as tie
 
 abbrev Inv-loop : tie.InvT-loop
-Inv-loop «data» lanes text₀ densities₀ beats₀ slots₀ off₀ p₀ text densities beats slots off p =
+Inv-loop «data» lanes text₀ densities₀ beats₀ slots₀ width off₀ p₀ text densities beats slots off p =
     (off ≤ length «data» + 1) × (p .pass .out ≤ off) × (length text ≡ length text₀) × (length densities ≡ length densities₀) × (length beats ≡ length beats₀) × (length slots ≡ length slots₀) × (Minimising lanes «data» off (Charted lanes p text densities beats slots))
 
 abbrev μ-loop : tie.MeasureT-loop
-μ-loop «data» lanes text₀ densities₀ beats₀ slots₀ off₀ p₀ text densities beats slots off p = length «data» + 1 - off
+μ-loop «data» lanes text₀ densities₀ beats₀ slots₀ width off₀ p₀ text densities beats slots off p = length «data» + 1 - off
 
-few : (c : tie.At-loop Inv-loop μ-loop) → let a = c .before .before .before .before .before .before .before .args in Small (a .lanes) (c .loop .p .pass) (length (now (a .«data»)))
+few : (c : tie.At-loop Inv-loop μ-loop) → let a = c .before .before .before .before .before .before .before .before .args in Small (a .lanes) (c .loop .p .pass) (length (now (a .«data»)))
 few c =
     let x = c .loop .inv .6 in
-    kept-few _ _ _ _ _ _ _ (minimising-few _ _ _ (c .before .before .before .before .before .before .before .pre .0 .0) (c .loop .inv .0) x) (x .held .kept)
+    kept-few _ _ _ _ _ _ _ (minimising-few _ _ _ (c .before .before .before .before .before .before .before .before .pre .0 .0) (c .loop .inv .0) x) (x .held .kept)
 
 -- a row's bytes stand in the text
 row-room : (c : tie.After-enum-told4 Inv-loop μ-loop) →
     let r = c .before .before .read-line .result in
-    let a = c .before .before .before .before .before .before .before .before .before .before .before .args in
+    let a = c .before .before .before .before .before .before .before .before .before .before .before .before .args in
     (r .start + a .lanes + 1 ≤ r .next) × (c .before .before .before .before .loop .off + a .lanes + 1 ≤ r .next) × (r .next ≤ length (now (a .«data»)) + 1)
 row-room c =
     let l = c .before .before .read-line .ensures in
     let w = l .room (c .enum-told4 .given .1) in
     (w .1, w .0, l .within)
+
+line-width-requires : tie.Need-line-width-requires Inv-loop μ-loop
+line-width-requires c κs = search needs
 
 no-chart-requires : tie.Need-no-chart-requires Inv-loop μ-loop
 no-chart-requires c κs = search needs
@@ -43,7 +46,7 @@ no-chart-requires c κs = search needs
 loop-holds : tie.Need-loop-holds Inv-loop μ-loop
 loop-holds c =
     let n = c .no-chart .ensures in
-    let s = c .before .before .before .before .before .before in
+    let s = c .before .before .before .before .before .before .before in
     let a = s .args in
     (omega arith, omega (arith, n .1), refl, refl, refl, refl, minimising-start (a .lanes) (now (a .«data»)) (n .0 (a .lanes) (now (a .text)) (now (a .densities)) (now (a .beats)) (now (a .slots)) (omega (arith, s .pre .0))))
 
@@ -60,7 +63,7 @@ chart-comma-requires : tie.Need-chart-comma-requires Inv-loop μ-loop
 chart-comma-requires c κs =
     let a = c .before .before .before .before .before .before in
     let at = a .before .before in
-    let s = at .before .before .before .before .before .before .before in
+    let s = at .before .before .before .before .before .before .before .before in
     let w = few at in
     let x = at .loop .inv .6 in (
       (
@@ -96,7 +99,7 @@ part-chart-row-end c = let w = row-room (c .before) in omega (arith, w .0, w .2)
 chart-row-requires : tie.Need-chart-row-requires Inv-loop μ-loop
 chart-row-requires c κs =
     let at = c .before .before .before .before .before .before in
-    let s = at .before .before .before .before .before .before .before in
+    let s = at .before .before .before .before .before .before .before .before in
     let r = row-room (c .before .before) in
     let w = few at in
     (rw length-take (omega (arith, r .0, r .1, r .2, at .loop .inv .1, at .loop .inv .2, s .pre .1 .0)), omega (arith, w .rows, s .pre .0 .2))
@@ -145,7 +148,7 @@ loop-again-3 c =
     let k = c .before .before in
     let a = k .before .before .before .before .before in
     let at = a .before .before in
-    let args = at .before .before .before .before .before .before .before .args in
+    let args = at .before .before .before .before .before .before .before .before .args in
     let w = row-room (k .before .before .before) in
     let start = a .read-line .result .start in
     let part = ap (λ n. take n (drop start (now (args .«data»)))) (add-sub-cancel-left start (args .lanes)) in
@@ -164,7 +167,7 @@ loop-again-3 c =
 -- at the loop's end one measure is still open
 over : (c : tie.Left-loop Inv-loop μ-loop) →
     let at = c .before in
-    let a = at .before .before .before .before .before .before .before .args in
+    let a = at .before .before .before .before .before .before .before .before .args in
     Over (a .lanes) (now (a .«data»)) (Charted (a .lanes) (at .loop .p) (at .loop .text) (at .loop .densities) (at .loop .beats) (at .loop .slots))
 over c =
     let at = c .before in
@@ -177,7 +180,7 @@ end-measure-requires : tie.Need-end-measure-requires Inv-loop μ-loop
 end-measure-requires c κs =
     let l = c .before .before .before .before in
     let at = l .before in
-    let s = at .before .before .before .before .before .before .before in
+    let s = at .before .before .before .before .before .before .before .before in
     let x = over l in
     let w = kept-few _ _ _ _ _ _ _ (over-few _ _ (s .pre .0 .0) x) (x .held .kept) in (
       (omega (arith, s .pre .0 .0), s .pre .0 .1, omega (arith, at .loop .inv .0, at .loop .inv .1, at .loop .inv .2, s .pre .1 .0), record { done = _; cur = x .cur; charted = x .held }),
@@ -216,7 +219,7 @@ returns c =
     let e = last-end c in
     let l = e .before .before .before .before .before in
     let at = l .before in
-    let s = at .before .before .before .before .before .before .before in
+    let s = at .before .before .before .before .before .before .before .before in
     let x = over l in
     let r = e .end-measure .ensures in
     chart-all _ _ _ _ _ _ _ _ _ (x .read) (over-few _ _ (s .pre .0 .0) x) (r .0 _ _ (x .held))
@@ -229,6 +232,7 @@ read-chart-spec =
     (tie.spec
     Inv-loop
     μ-loop
+    line-width-requires
     no-chart-requires
     loop-holds
     read-line-requires

@@ -16,26 +16,29 @@ use Rattle.keeping.proofs.keep_chart.Statement.{statement}
 use Rattle.keeping.proofs.keep_chart.Tie as tie
 
 abbrev Inv-loop : tie.InvT-loop
-Inv-loop «data» lanes text₀ densities₀ off₀ p₀ text densities off p =
+Inv-loop «data» lanes text₀ densities₀ width off₀ p₀ text densities off p =
     (off ≤ length «data» + 1) × (p .out ≤ off) × (length text ≡ length text₀) × (length densities ≡ length densities₀) × (Minimising lanes «data» off (Kept lanes p text densities))
 
 abbrev μ-loop : tie.MeasureT-loop
-μ-loop «data» lanes text₀ densities₀ off₀ p₀ text densities off p = length «data» + 1 - off
+μ-loop «data» lanes text₀ densities₀ width off₀ p₀ text densities off p = length «data» + 1 - off
 
-few : (c : tie.At-loop Inv-loop μ-loop) → let a = c .before .before .before .before .before .args in Small (a .lanes) (c .loop .p) (length (now (a .«data»)))
+few : (c : tie.At-loop Inv-loop μ-loop) → let a = c .before .before .before .before .before .before .args in Small (a .lanes) (c .loop .p) (length (now (a .«data»)))
 few c =
     let x = c .loop .inv .4 in
-    kept-few _ _ _ _ _ _ _ (minimising-few _ _ _ (c .before .before .before .before .before .pre .0 .0) (c .loop .inv .0) x) (x .held)
+    kept-few _ _ _ _ _ _ _ (minimising-few _ _ _ (c .before .before .before .before .before .before .pre .0 .0) (c .loop .inv .0) x) (x .held)
 
 -- a row's bytes stand in the text
 row-room : (c : tie.After-enum-told4 Inv-loop μ-loop) →
     let r = c .before .before .read-line .result in
-    let a = c .before .before .before .before .before .before .before .before .before .args in
+    let a = c .before .before .before .before .before .before .before .before .before .before .args in
     (r .start + a .lanes + 1 ≤ r .next) × (c .before .before .before .before .loop .off + a .lanes + 1 ≤ r .next) × (r .next ≤ length (now (a .«data»)) + 1)
 row-room c =
     let l = c .before .before .read-line .ensures in
     let w = l .room (c .enum-told4 .given .1) in
     (w .1, w .0, l .within)
+
+line-width-requires : tie.Need-line-width-requires Inv-loop μ-loop
+line-width-requires c κs = search needs
 
 no-pass-requires : tie.Need-no-pass-requires Inv-loop μ-loop
 no-pass-requires c κs = search needs
@@ -43,8 +46,8 @@ no-pass-requires c κs = search needs
 loop-holds : tie.Need-loop-holds Inv-loop μ-loop
 loop-holds c =
     let n = c .no-pass .ensures in
-    let a = c .before .before .before .before .args in
-    (omega arith, omega (arith, n .1), refl, refl, minimising-start (a .lanes) (now (a .«data»)) (record { open-is = n .0 (a .lanes) (now (a .text)) (omega (arith, c .before .before .before .before .pre .0)); stored = ap (λ m. take m (now (a .densities))) (n .4) }))
+    let a = c .before .before .before .before .before .args in
+    (omega arith, omega (arith, n .1), refl, refl, minimising-start (a .lanes) (now (a .«data»)) (record { open-is = n .0 (a .lanes) (now (a .text)) (omega (arith, c .before .before .before .before .before .pre .0)); stored = ap (λ m. take m (now (a .densities))) (n .4) }))
 
 read-line-requires : tie.Need-read-line-requires Inv-loop μ-loop
 read-line-requires c κs = search needs
@@ -58,7 +61,7 @@ enum-told-2 c = search needs
 pass-comma-requires : tie.Need-pass-comma-requires Inv-loop μ-loop
 pass-comma-requires c κs =
     let at = c .before .before .before .before .before .before in
-    let s = at .before .before .before .before .before in
+    let s = at .before .before .before .before .before .before in
     let w = few at in
     let x = at .loop .inv .4 in (
       (
@@ -92,7 +95,7 @@ part-pass-row-end c = let w = row-room (c .before) in omega (arith, w .0, w .2)
 pass-row-requires : tie.Need-pass-row-requires Inv-loop μ-loop
 pass-row-requires c κs =
     let at = c .before .before .before .before .before .before in
-    let s = at .before .before .before .before .before in
+    let s = at .before .before .before .before .before .before in
     let r = row-room (c .before .before) in
     let w = few at in
     (rw length-take (omega (arith, r .0, r .1, r .2, at .loop .inv .1, at .loop .inv .2, s .pre .1 .0)), omega (arith, w .rows))
@@ -135,7 +138,7 @@ loop-again-3 c =
     let k = c .before .before in
     let a = k .before .before .before .before .before in
     let at = a .before .before in
-    let args = at .before .before .before .before .before .args in
+    let args = at .before .before .before .before .before .before .args in
     let w = row-room (k .before .before .before) in
     let start = a .read-line .result .start in
     let part = ap (λ n. take n (drop start (now (args .«data»)))) (add-sub-cancel-left start (args .lanes)) in
@@ -152,7 +155,7 @@ loop-again-3 c =
 -- at the loop's end one measure is still open
 over : (c : tie.Left-loop Inv-loop μ-loop) →
     let at = c .before in
-    let a = at .before .before .before .before .before .args in
+    let a = at .before .before .before .before .before .before .args in
     Over (a .lanes) (now (a .«data»)) (Kept (a .lanes) (at .loop .p) (at .loop .text) (at .loop .densities))
 over c =
     let at = c .before in
@@ -161,16 +164,16 @@ over c =
     (λ w. minimising-semi _ _ _ _ (w .0 .taken) (w .1 .ensures) (at .loop .inv .4) (w .3 .given .1))
     (c .loop-test .came)
 
-over-small : (c : tie.Left-loop Inv-loop μ-loop) → let a = c .before .before .before .before .before .before .args in Small (a .lanes) (c .before .loop .p) (length (now (a .«data»)))
+over-small : (c : tie.Left-loop Inv-loop μ-loop) → let a = c .before .before .before .before .before .before .before .args in Small (a .lanes) (c .before .loop .p) (length (now (a .«data»)))
 over-small c =
     let x = over c in
-    kept-few _ _ _ _ _ _ _ (over-few _ _ (c .before .before .before .before .before .before .pre .0 .0) x) (x .held)
+    kept-few _ _ _ _ _ _ _ (over-few _ _ (c .before .before .before .before .before .before .before .pre .0 .0) x) (x .held)
 
 end-measure-requires : tie.Need-end-measure-requires Inv-loop μ-loop
 end-measure-requires c κs =
     let l = c .before .before in
     let at = l .before in
-    let s = at .before .before .before .before .before in
+    let s = at .before .before .before .before .before .before in
     let x = over l in
     let w = over-small l in (
       (omega (arith, s .pre .0 .0), s .pre .0 .1, omega (arith, at .loop .inv .0, at .loop .inv .1, at .loop .inv .2, s .pre .1 .0), omega (arith, w .rows, s .pre .0 .2), record { done = _; cur = x .cur; open-is = x .held .open-is }),
@@ -192,7 +195,7 @@ returns c =
     let e = c .before .before .before .before in
     let l = e .before .before .before in
     let at = l .before in
-    let s = at .before .before .before .before .before in
+    let s = at .before .before .before .before .before .before in
     let x = over l in
     let r = e .end-measure .ensures in
     kept-all _ _ _ _ _ _ _ (x .read) (over-few _ _ (s .pre .0 .0) x) (r .0 _ _ (x .held))
@@ -205,6 +208,7 @@ keep-chart-spec =
     (tie.spec
     Inv-loop
     μ-loop
+    line-width-requires
     no-pass-requires
     loop-holds
     read-line-requires

@@ -1,46 +1,52 @@
 -- `reader::read_line` meets its contract: a row that one look tells is read as any line is.
-use native.Mathlib.Omega.{arith}
 use borrow.Author.Needs.{needs}
+use denote.Ref.{now}
+use Rattle.lines.proofs.Trims.{part-all}
+use Rattle.reader.proofs.Plain.{added-back}
 use Rattle.reader.proofs.read_line.Statement.{statement}
 use Rattle.reader.proofs.read_line.Tie as tie
 
-sub-if1 : tie.Need-sub-if1
-sub-if1 c = search needs
+sub-is-near-row : tie.Need-sub-is-near-row
+sub-is-near-row c = search needs
 
-read-other-line-requires : tie.Need-read-other-line-requires
-read-other-line-requires c κs = search needs
+part-is-near-row-start : tie.Need-part-is-near-row-start
+part-is-near-row-start c = search needs
+
+part-is-near-row-end : tie.Need-part-is-near-row-end
+part-is-near-row-end c = search needs
+
+is-near-row-requires : tie.Need-is-near-row-requires
+is-near-row-requires c κs = search needs
+
+add-t11 : tie.Need-add-t11
+add-t11 c = search needs
+
+add-t12 : tie.Need-add-t12
+add-t12 c = search needs
 
 returns : tie.Need-returns
-returns c = search needs
+returns c =
+    let look = c .before in
+    let start = look .before .before .before in
+    let a = start .args in
+    added-back (a .lanes) (a .width) (now (a .«data»)) (a .off) (start .pre .0) (rw part-all at (look .is-near-row .ensures (c .if1 .taken)))
 
-is-just-row-requires : tie.Need-is-just-row-requires
-is-just-row-requires c κs = search needs
-
-add-t9 : tie.Need-add-t9
-add-t9 c = omega arith
-
-add-t10 : tie.Need-add-t10
-add-t10 c = omega arith
+read-any-line-requires : tie.Need-read-any-line-requires
+read-any-line-requires c κs = search needs
 
 returns-2 : tie.Need-returns-2
-returns-2 c = c .before .is-just-row .ensures (c .if2 .taken)
-
-read-other-line-requires-2 : tie.Need-read-other-line-requires-2
-read-other-line-requires-2 c κs = search needs
-
-returns-3 : tie.Need-returns-3
-returns-3 c = search needs
+returns-2 c = search needs
 
 pub read-line-spec : {M : Type 1} → statement M
 read-line-spec =
     tie.close
     (tie.spec
-    sub-if1
-    read-other-line-requires
+    sub-is-near-row
+    part-is-near-row-start
+    part-is-near-row-end
+    is-near-row-requires
+    add-t11
+    add-t12
     returns
-    is-just-row-requires
-    add-t9
-    add-t10
-    returns-2
-    read-other-line-requires-2
-    returns-3)
+    read-any-line-requires
+    returns-2)

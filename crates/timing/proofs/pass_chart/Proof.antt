@@ -15,26 +15,29 @@ use Rattle.timing.proofs.pass_chart.Statement.{statement}
 use Rattle.timing.proofs.pass_chart.Tie as tie
 
 abbrev Inv-loop : tie.InvT-loop
-Inv-loop «data» lanes text₀ beats₀ off₀ p₀ text beats off p =
+Inv-loop «data» lanes text₀ beats₀ width off₀ p₀ text beats off p =
     (off ≤ length «data» + 1) × (p .out ≤ off) × (length text ≡ length text₀) × (length beats ≡ length beats₀) × (Minimising lanes «data» off (Timed lanes p text beats))
 
 abbrev μ-loop : tie.MeasureT-loop
-μ-loop «data» lanes text₀ beats₀ off₀ p₀ text beats off p = length «data» + 1 - off
+μ-loop «data» lanes text₀ beats₀ width off₀ p₀ text beats off p = length «data» + 1 - off
 
-few : (c : tie.At-loop Inv-loop μ-loop) → let a = c .before .before .before .before .before .args in Small (a .lanes) (c .loop .p) (length (now (a .«data»)))
+few : (c : tie.At-loop Inv-loop μ-loop) → let a = c .before .before .before .before .before .before .args in Small (a .lanes) (c .loop .p) (length (now (a .«data»)))
 few c =
     let x = c .loop .inv .4 in
-    timed-small _ _ _ _ _ _ _ (minimising-few _ _ _ (c .before .before .before .before .before .pre .0 .0) (c .loop .inv .0) x) (x .held)
+    timed-small _ _ _ _ _ _ _ (minimising-few _ _ _ (c .before .before .before .before .before .before .pre .0 .0) (c .loop .inv .0) x) (x .held)
 
 -- a row's bytes stand in the text
 row-room : (c : tie.After-enum-told4 Inv-loop μ-loop) →
     let r = c .before .before .read-line .result in
-    let a = c .before .before .before .before .before .before .before .before .before .args in
+    let a = c .before .before .before .before .before .before .before .before .before .before .args in
     (r .start + a .lanes + 1 ≤ r .next) × (c .before .before .before .before .loop .off + a .lanes + 1 ≤ r .next) × (r .next ≤ length (now (a .«data»)) + 1)
 row-room c =
     let l = c .before .before .read-line .ensures in
     let w = l .room (c .enum-told4 .given .1) in
     (w .1, w .0, l .within)
+
+line-width-requires : tie.Need-line-width-requires Inv-loop μ-loop
+line-width-requires c κs = search needs
 
 no-pass-requires : tie.Need-no-pass-requires Inv-loop μ-loop
 no-pass-requires c κs = search needs
@@ -42,7 +45,7 @@ no-pass-requires c κs = search needs
 loop-holds : tie.Need-loop-holds Inv-loop μ-loop
 loop-holds c =
     let n = c .no-pass .ensures in
-    let a = c .before .before .before .before .args in
+    let a = c .before .before .before .before .before .args in
     (omega arith, omega (arith, n .1), refl, refl, minimising-start (a .lanes) (now (a .«data»)) (n .0 (a .lanes) (now (a .text)) (now (a .beats))))
 
 read-line-requires : tie.Need-read-line-requires Inv-loop μ-loop
@@ -57,7 +60,7 @@ enum-told-2 c = search needs
 finish-timing-rows-requires : tie.Need-finish-timing-rows-requires Inv-loop μ-loop
 finish-timing-rows-requires c κs =
     let at = c .before .before .before .before .before .before in
-    let s = at .before .before .before .before .before in
+    let s = at .before .before .before .before .before .before in
     let w = few at in
     let x = at .loop .inv .4 in (
       (
@@ -91,7 +94,7 @@ part-pass-row-end c = let w = row-room (c .before) in omega (arith, w .0, w .2)
 pass-row-requires : tie.Need-pass-row-requires Inv-loop μ-loop
 pass-row-requires c κs =
     let at = c .before .before .before .before .before .before in
-    let s = at .before .before .before .before .before in
+    let s = at .before .before .before .before .before .before in
     let r = row-room (c .before .before) in
     let w = few at in
     (rw length-take (omega (arith, r .0, r .1, r .2, at .loop .inv .1, at .loop .inv .2, s .pre .1 .0)), omega (arith, w .fifth, s .pre .0 .1))
@@ -134,7 +137,7 @@ loop-again-3 c =
     let k = c .before .before in
     let a = k .before .before .before .before .before in
     let at = a .before .before in
-    let args = at .before .before .before .before .before .args in
+    let args = at .before .before .before .before .before .before .args in
     let w = row-room (k .before .before .before) in
     let start = a .read-line .result .start in
     let part = ap (λ n. take n (drop start (now (args .«data»)))) (add-sub-cancel-left start (args .lanes)) in
@@ -150,7 +153,7 @@ loop-again-3 c =
 -- at the loop's end one measure is still open
 over : (c : tie.Left-loop Inv-loop μ-loop) →
     let at = c .before in
-    let a = at .before .before .before .before .before .args in
+    let a = at .before .before .before .before .before .before .args in
     Over (a .lanes) (now (a .«data»)) (Timed (a .lanes) (at .loop .p) (at .loop .text) (at .loop .beats))
 over c =
     let at = c .before in
@@ -163,7 +166,7 @@ finish-timing-rows-requires-2 : tie.Need-finish-timing-rows-requires-2 Inv-loop 
 finish-timing-rows-requires-2 c κs =
     let l = c .before .before in
     let at = l .before in
-    let s = at .before .before .before .before .before in
+    let s = at .before .before .before .before .before .before in
     let w = few at in
     let x = over l in (
       (
@@ -191,7 +194,7 @@ returns c =
     let f = c .before .before .before .before in
     let l = f .before .before .before in
     let at = l .before in
-    let s = at .before .before .before .before .before in
+    let s = at .before .before .before .before .before .before in
     let w = few at in
     timed-all _ _ _ _ _ _ _ _ (over l) (f .finish-timing-rows2 .ensures .0)
     (omega (arith, f .finish-timing-rows2 .ensures .1 .0, f .finish-timing-rows2 .kept .1 .0, at .loop .inv .0, at .loop .inv .1, at .loop .inv .2, s .pre .1 .0))
@@ -203,6 +206,7 @@ pass-chart-spec =
     (tie.spec
     Inv-loop
     μ-loop
+    line-width-requires
     no-pass-requires
     loop-holds
     read-line-requires

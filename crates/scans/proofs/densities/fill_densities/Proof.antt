@@ -17,11 +17,11 @@ use Rattle.scans.proofs.densities.fill_densities.Statement.{statement}
 use Rattle.scans.proofs.densities.fill_densities.Tie as tie
 
 abbrev Inv-loop : tie.InvT-loop
-Inv-loop «data» lanes densities₀ off₀ m₀ steps₀ densities off m steps =
+Inv-loop «data» lanes densities₀ width off₀ m₀ steps₀ densities off m steps =
     (off ≤ length «data» + 1) × (length densities ≡ length densities₀) × (Filling density (Steps steps) lanes «data» off m densities)
 
 abbrev μ-loop : tie.MeasureT-loop
-μ-loop «data» lanes densities₀ off₀ m₀ steps₀ densities off m steps = length «data» + 1 - off
+μ-loop «data» lanes densities₀ width off₀ m₀ steps₀ densities off m steps = length «data» + 1 - off
 
 -- the measures so far are few enough for the slice
 few : (c : tie.After-read-line Inv-loop μ-loop) → 2 * c .before .before .loop .m ≤ c .before .before .loop .off
@@ -30,8 +30,11 @@ few c = filling-few density _ _ _ _ _ _ (c .before .before .loop .inv .2)
 -- a row's bytes stand in the text
 row-room : (c : tie.After-enum-told4 Inv-loop μ-loop) →
     let r = c .before .before .read-line .result in
-    r .start + c .before .before .before .before .before .before .before .args .lanes + 1 ≤ r .next
+    r .start + c .before .before .before .before .before .before .before .before .args .lanes + 1 ≤ r .next
 row-room c = c .before .before .read-line .ensures .room (c .enum-told4 .given .1) .1
+
+line-width-requires : tie.Need-line-width-requires Inv-loop μ-loop
+line-width-requires c κs = search needs
 
 loop-holds : tie.Need-loop-holds Inv-loop μ-loop
 loop-holds c = (omega arith, refl, filling-start density (Steps 0) _ _ _ steps-start)
@@ -116,13 +119,13 @@ loop-again-3 c =
       a .read-line .ensures .within,
       omega arith,
       filling-row density _ _ _ _ _ _ _ (a .before .loop-test .taken) (a .read-line .ensures) (a .before .before .loop .inv .2) (c .before .before .before .enum-told4 .given .1)
-          (Steps _) (steps-more _ _ _ (c .one-if .ensures .0 ∙ ap oneIf (c .before .row-has-note .ensures ∙ ap isStep (ap (λ n. take n (drop (a .read-line .result .start) (now (a .before .before .before .before .before .args .«data»)))) (add-sub-cancel-left (a .read-line .result .start) (a .before .before .before .before .before .args .lanes)))))),
+          (Steps _) (steps-more _ _ _ (c .one-if .ensures .0 ∙ ap oneIf (c .before .row-has-note .ensures ∙ ap isStep (ap (λ n. take n (drop (a .read-line .result .start) (now (a .before .before .before .before .before .before .args .«data»)))) (add-sub-cancel-left (a .read-line .result .start) (a .before .before .before .before .before .before .args .lanes)))))),
     )
 
 -- at the loop's end one measure is still open, with `steps`
 last : (c : tie.Left-loop Inv-loop μ-loop) →
     let at = c .before in
-    let a = at .before .before .before .args in
+    let a = at .before .before .before .before .args in
     Filled density (a .lanes) (now (a .«data»)) (at .loop .m) (at .loop .steps) (at .loop .densities)
 last c =
     let at = c .before in
@@ -153,7 +156,7 @@ returns c =
     let z = c .before .before in
     let out = z .before .before in
     let at = out .before in
-    let a = at .before .before .before .args in
+    let a = at .before .before .before .before .args in
     let room : at .loop .m < length (at .loop .densities) = omega (arith, last out .room) in
     let raw = densities-raw (a .lanes) (now (a .«data»)) in (
       filled-count density _ _ _ _ _ room (last out) ∙ sym (ap length raw),
@@ -166,6 +169,7 @@ fill-densities-spec =
     (tie.spec
     Inv-loop
     μ-loop
+    line-width-requires
     loop-holds
     read-line-requires
     enum-told

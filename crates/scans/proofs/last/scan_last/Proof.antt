@@ -13,20 +13,23 @@ use Rattle.scans.proofs.last.scan_last.Statement.{statement}
 use Rattle.scans.proofs.last.scan_last.Tie as tie
 
 abbrev Inv-loop : tie.InvT-loop
-Inv-loop «data» lanes off₀ s₀ off s = (off ≤ length «data» + 1) × (Looking s lanes «data» off)
+Inv-loop «data» lanes width off₀ s₀ off s = (off ≤ length «data» + 1) × (Looking s lanes «data» off)
 
 abbrev μ-loop : tie.MeasureT-loop
-μ-loop «data» lanes off₀ s₀ off s = length «data» + 1 - off
+μ-loop «data» lanes width off₀ s₀ off s = length «data» + 1 - off
 
 -- what is counted is few
 few : (c : tie.At-loop Inv-loop μ-loop) → Few (c .loop .s) (c .loop .off)
-few c = looking-few _ _ _ _ (c .before .before .before .pre .1) (c .loop .inv .1)
+few c = looking-few _ _ _ _ (c .before .before .before .before .pre .1) (c .loop .inv .1)
 
 -- a row's bytes stand in the text
 row-room : (c : tie.After-enum-told4 Inv-loop μ-loop) →
     let r = c .before .before .read-line .result in
-    r .start + c .before .before .before .before .before .before .before .args .lanes + 1 ≤ r .next
+    r .start + c .before .before .before .before .before .before .before .before .args .lanes + 1 ≤ r .next
 row-room c = c .before .before .read-line .ensures .room (c .enum-told4 .given .1) .1
+
+line-width-requires : tie.Need-line-width-requires Inv-loop μ-loop
+line-width-requires c κs = search needs
 
 no-last-requires : tie.Need-no-last-requires Inv-loop μ-loop
 no-last-requires c κs = search needs
@@ -97,7 +100,7 @@ loop-again-3 : tie.Need-loop-again-3 Inv-loop μ-loop
 loop-again-3 c =
     let a = c .before .before .before .before in
     let at = a .read-line .result .start in
-    let args = a .before .before .before .before .before .args in (
+    let args = a .before .before .before .before .before .before .args in (
       a .read-line .ensures .within,
       looking-row _ _ _ _ _ (a .before .loop-test .taken) (a .read-line .ensures) (a .before .before .loop .inv .1) (c .before .before .enum-told4 .given .1)
           _ _ (ap (λ n. take n (drop at (now (args .«data»)))) (add-sub-cancel-left at (args .lanes))) (c .last-row .ensures),
@@ -106,7 +109,7 @@ loop-again-3 c =
 -- at the loop's end one measure is still open
 over : (c : tie.Left-loop Inv-loop μ-loop) →
     let at = c .before in
-    let a = at .before .before .before .args in
+    let a = at .before .before .before .before .args in
     Looked (at .loop .s) (a .lanes) (now (a .«data»))
 over c =
     let at = c .before in
@@ -117,7 +120,7 @@ over c =
 
 last-measure-requires-2 : tie.Need-last-measure-requires-2 Inv-loop μ-loop
 last-measure-requires-2 c κs =
-    let w = looked-few _ _ _ (c .before .before .before .before .pre .1) (over c) in
+    let w = looked-few _ _ _ (c .before .before .before .before .before .pre .1) (over c) in
     (omega (arith, w .rows), omega (arith, w .midx))
 
 returns : tie.Need-returns Inv-loop μ-loop
@@ -129,6 +132,7 @@ scan-last-spec =
     (tie.spec
     Inv-loop
     μ-loop
+    line-width-requires
     no-last-requires
     loop-holds
     read-line-requires

@@ -16,11 +16,11 @@ use Rattle.scans.proofs.spacing.fill_spacing.Statement.{statement}
 use Rattle.scans.proofs.spacing.fill_spacing.Tie as tie
 
 abbrev Inv-loop : tie.InvT-loop
-Inv-loop «data» lanes spacing₀ off₀ m₀ s₀ spacing off m s =
+Inv-loop «data» lanes spacing₀ width off₀ m₀ s₀ spacing off m s =
     (off ≤ length «data» + 1) × (length spacing ≡ length spacing₀) × (Filling spacedIn (Spaces s) lanes «data» off m spacing)
 
 abbrev μ-loop : tie.MeasureT-loop
-μ-loop «data» lanes spacing₀ off₀ m₀ s₀ spacing off m s = length «data» + 1 - off
+μ-loop «data» lanes spacing₀ width off₀ m₀ s₀ spacing off m s = length «data» + 1 - off
 
 -- the measures so far are few enough for the slice, and the open one's rows for their counts
 few : (c : tie.At-loop Inv-loop μ-loop) → 2 * c .loop .m ≤ c .loop .off
@@ -34,8 +34,11 @@ rows-few c =
 -- a row's bytes stand in the text
 row-room : (c : tie.After-enum-told4 Inv-loop μ-loop) →
     let r = c .before .before .read-line .result in
-    r .start + c .before .before .before .before .before .before .before .before .args .lanes + 1 ≤ r .next
+    r .start + c .before .before .before .before .before .before .before .before .before .args .lanes + 1 ≤ r .next
 row-room c = c .before .before .read-line .ensures .room (c .enum-told4 .given .1) .1
+
+line-width-requires : tie.Need-line-width-requires Inv-loop μ-loop
+line-width-requires c κs = search needs
 
 no-spacing-requires : tie.Need-no-spacing-requires Inv-loop μ-loop
 no-spacing-requires c κs = search needs
@@ -106,9 +109,10 @@ loop-again-2 c =
     let k = c .before in
     let a = k .before .before .before in
     let at = a .before .before in
-    let room : at .loop .m < length (at .loop .spacing) = omega (arith, few at) in (
+    let s = at .before .before .before .before .before in
+    let room : at .loop .m < length (at .loop .spacing) = omega (arith, few at, at .loop .inv .1, a .before .loop-test .taken, s .pre .1 .0) in (
       a .read-line .ensures .within,
-      simp length-set (omega arith),
+      simp length-set (at .loop .inv .1),
       filling-comma spacedIn _ _ _ _ _ _ _ (a .before .loop-test .taken) (a .read-line .ensures) (at .loop .inv .2) (k .before .enum-told2 .given .1)
           (Spaces _) _ room (k .is-spaced .ensures) (c .no-spacing2 .ensures),
     )
@@ -119,9 +123,9 @@ loop-less-3 c = omega (arith, c .before .before .before .before .read-line .ensu
 loop-again-3 : tie.Need-loop-again-3 Inv-loop μ-loop
 loop-again-3 c =
     let a = c .before .before .before .before in
-    let text = now (a .before .before .before .before .before .before .args .«data») in
-    let part : take (a .read-line .result .start + a .before .before .before .before .before .before .args .lanes - a .read-line .result .start) (drop (a .read-line .result .start) text) ≡ take (a .before .before .before .before .before .before .args .lanes) (drop (a .read-line .result .start) text) =
-    ap (λ n. take n (drop (a .read-line .result .start) text)) (add-sub-cancel-left (a .read-line .result .start) (a .before .before .before .before .before .before .args .lanes)) in (
+    let text = now (a .before .before .before .before .before .before .before .args .«data») in
+    let part : take (a .read-line .result .start + a .before .before .before .before .before .before .before .args .lanes - a .read-line .result .start) (drop (a .read-line .result .start) text) ≡ take (a .before .before .before .before .before .before .before .args .lanes) (drop (a .read-line .result .start) text) =
+    ap (λ n. take n (drop (a .read-line .result .start) text)) (add-sub-cancel-left (a .read-line .result .start) (a .before .before .before .before .before .before .before .args .lanes)) in (
       a .read-line .ensures .within,
       omega arith,
       filling-row spacedIn _ _ _ _ _ _ _ (a .before .loop-test .taken) (a .read-line .ensures) (a .before .before .loop .inv .2) (c .before .before .enum-told4 .given .1)
@@ -134,7 +138,7 @@ is-spaced-requires-2 c κs = omega (arith, rows-few (c .before) .0)
 -- at the loop's end one measure is still open
 last : (c : tie.After-is-spaced2 Inv-loop μ-loop) →
     let at = c .before .before in
-    let a = at .before .before .before .before .args in
+    let a = at .before .before .before .before .before .args in
     Filled spacedIn (a .lanes) (now (a .«data»)) (at .loop .m) (c .is-spaced2 .result) (at .loop .spacing)
 last c =
     let at = c .before .before in
@@ -163,7 +167,7 @@ returns c =
     let z = c .before .before in
     let out = z .before .before in
     let at = out .before .before in
-    let a = at .before .before .before .before .args in
+    let a = at .before .before .before .before .before .args in
     let room : at .loop .m < length (at .loop .spacing) = omega (arith, last out .room) in
     let raw = spacings-raw (a .lanes) (now (a .«data»)) in (
       filled-count spacedIn _ _ _ _ _ room (last out) ∙ sym (ap length raw),
@@ -176,6 +180,7 @@ fill-spacing-spec =
     (tie.spec
     Inv-loop
     μ-loop
+    line-width-requires
     no-spacing-requires
     loop-holds
     read-line-requires
