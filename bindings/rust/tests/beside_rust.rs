@@ -291,6 +291,14 @@ fn calls_in_place_of_what_is_left_out() {
             same(&judged, rust, data, lanes);
         }
 
+        if lanes_in_force(lanes) == 4 {
+            let (text, tally, densities, rows, beats, last, _) =
+                rssp::minimize_chart_rows_bits(data);
+            let ours = stats::minimize_chart_count_rows(data, 4);
+            same(ours, (text, tally, densities, beats, last), data, 4);
+            same(stats::minimize_rows_typed::<4>(data).3, rows, data, 4);
+        }
+
         let minimised = stats::minimize_chart_for_hash(data, lanes);
         if !minimised.contains(&b'\r') {
             same(
