@@ -15,6 +15,7 @@ use Rattle.definitions.specs.Reduction.{minimised}
 abbrev pub f32 : ℕ → Float
 f32 n = ofInt binary32 (pos n)
 
+-- the same as a 64-bit float
 abbrev pub f64 : ℕ → Float
 f64 n = ofInt binary64 (pos n)
 
@@ -40,6 +41,7 @@ abbrev pub beatsFrom : ℕ → List (List Row) → List (List Float)
 beatsFrom m [] = []
 beatsFrom m (x ∷ xs) = rowBeats m (length x) 0 (length x) ∷ beatsFrom (suc m) xs
 
+-- the row beats of each measure of a text
 unfoldable pub measureBeats : ℕ → List ℕ → List (List Float)
 measureBeats L text = beatsFrom 0 (minimised L text)
 

@@ -31,16 +31,19 @@ meetsPhantom Blocks d = ltb 0 d
 meetsPhantom Opens d = false
 meetsPhantom Closes d = false
 
+-- one is met in column c of rows, from the depth d on
 abbrev pub phantomMet : ℕ → ℕ → List Row → Bool
 phantomMet c d [] = false
 phantomMet c d (r ∷ rs) = meetsPhantom (holdAt (byteAt c r)) d || phantomMet c (phantomStep (holdAt (byteAt c r)) d) rs
 
+-- a head, 2 or 4
 abbrev pub isOpening : DepthEffect → Bool
 isOpening Nothing = false
 isOpening Blocks = false
 isOpening Opens = true
 isOpening Closes = false
 
+-- a tail, 3
 abbrev pub isClosing : DepthEffect → Bool
 isClosing Nothing = false
 isClosing Blocks = false
@@ -51,6 +54,7 @@ isClosing Closes = true
 abbrev pub headCount : List Row → ℕ
 headCount rows = count (λ b. isOpening (holdAt b)) (joined rows)
 
+-- the tails of rows
 abbrev pub tailCount : List Row → ℕ
 tailCount rows = count (λ b. isClosing (holdAt b)) (joined rows)
 
@@ -74,6 +78,7 @@ abbrev pub keepRow : (ℕ → List Pair) → ℕ → ℕ → Row → Row
 keepRow ps i c [] = []
 keepRow ps i c (b ∷ r) = keepHead (holdAt b) (isHeadOf i (ps c)) b ∷ keepRow ps i (suc c) r
 
+-- rows numbered from i, each with its paired heads alone
 abbrev pub keepFrom : (ℕ → List Pair) → ℕ → List Row → List Row
 keepFrom ps i [] = []
 keepFrom ps i (r ∷ rs) = keepRow ps i 0 r ∷ keepFrom ps (suc i) rs

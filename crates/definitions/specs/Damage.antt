@@ -29,6 +29,7 @@ pub data Standing : Type 0 where
   ended : ℕ → Standing
   over : Standing
 
+-- where the reading stands after a line of that kind
 abbrev pub after : Standing → LineKind → Standing
 after (ended k) line.Passed = ended k
 after (ended k) line.Comma = ended (suc k)
@@ -76,9 +77,11 @@ pub data Each {A : Type 0} (R : A → A → Type 0) : List A → List A → Type
 abbrev pub rowsBefore : ℕ → ℕ → List ℕ → List Row
 rowsBefore L d text = joined (take d (minimised L text))
 
+-- the minimised rows of measure d
 abbrev pub rowsOf : ℕ → ℕ → List ℕ → List Row
 rowsOf L d text = getD (minimised L text) d []
 
+-- those of the measures after d
 abbrev pub rowsLater : ℕ → ℕ → List ℕ → List Row
 rowsLater L d text = joined (drop (suc d) (minimised L text))
 
@@ -90,6 +93,7 @@ allLater L d text = joined (drop (suc d) (chart L text))
 abbrev pub earlier : ℕ → ℕ → List ℕ → List Note
 earlier L d text = those (λ x. ltb (x .row) (length (rowsBefore L d text))) (notes L text)
 
+-- the notes headed in measures after d
 abbrev pub later : ℕ → ℕ → List ℕ → List Note
 later L d text = those (λ x. leb (length (rowsBefore L (suc d) text)) (x .row)) (notes L text)
 
@@ -99,6 +103,7 @@ pub data ShiftedTail (a b : ℕ) : Tail → Tail → Type 0 where
   without : ShiftedTail a b tail.Without tail.Without
   with-tail : {x y : ℕ} → y + a ≡ x + b → ShiftedTail a b (tail.Row x) (tail.Row y)
 
+-- x of the old text is y in the new: row and tail with the shift, column and kind the same
 pub record Shifted (a b : ℕ) (x y : Note) : Type 0 where
   pub row : y .row + a ≡ x .row + b
   pub tail : ShiftedTail a b (x .tail) (y .tail)
@@ -113,6 +118,7 @@ stops b = among b (49 ∷ 50 ∷ 51 ∷ 52 ∷ 77 ∷ 76 ∷ 70 ∷ 109 ∷ 108 
 unfoldable pub isHead : ℕ → Bool
 isHead b = among b (50 ∷ 52 ∷ [])
 
+-- the kind of the note that a 2 or a 4 heads
 unfoldable pub headKind : ℕ → Kind
 headKind b = cond (eqb b 50) Hold Roll
 
@@ -129,6 +135,7 @@ byteIn rows i c = byteAt c (getD rows i [])
 abbrev pub openIn : List Row → ℕ → ℕ → Bool
 openIn rows i c = isHead (byteIn rows i c) && untouched c (drop (suc i) rows)
 
+-- the note's head is one of those open where d begins
 abbrev pub openAt : ℕ → ℕ → List ℕ → Note → Bool
 openAt L d text x = openIn (rowsBefore L d text) (x .row) (x .column)
 

@@ -16,9 +16,11 @@ use Rattle.definitions.specs.Entries.{noteFigures}
 use Rattle.definitions.specs.Examples.{bytes}
 use Rattle.definitions.specs.Damage.{Differ, done, kept, out, earlier, later, stops, isHead, rowsBefore, openIn, openAt}
 
+-- the old text
 unfoldable pub old-text : List ℕ
 old-text = bytes "2010|3002|,|1000|0003|,|0100|0200|0300|1000"
 
+-- the new text
 unfoldable pub new-text : List ℕ
 new-text = bytes "2010|3002|,|000M|// more|,|0100|0200|0300|1000"
 

@@ -40,6 +40,7 @@ tallyFigures t =
     ∷ t .holding
     ∷ []
 
+-- the places of the tally in a call that answers none
 abbrev pub noTally : List ℕ
 noTally = replicate 14 0
 
@@ -48,17 +49,21 @@ abbrev pub figures : ℕ → ℕ → ℕ → ℕ → ℕ → ℕ → ℕ → Lis
 figures bytes measures rows records lastBits heads last tally =
     bytes ∷ measures ∷ rows ∷ records ∷ lastBits ∷ heads ∷ last ∷ 0 ∷ (tally ++ replicate 10 0)
 
+-- how many measures a text has
 abbrev pub measureCount : ℕ → List ℕ → ℕ
 measureCount L text = length (minimised L text)
 
+-- how many minimised rows a text has
 abbrev pub rowCount : ℕ → List ℕ → ℕ
 rowCount L text = length (joined (minimised L text))
 
+-- the bits of a text's last beat
 abbrev pub lastBits : ℕ → List ℕ → ℕ
 lastBits L text = toBits binary64 (lastBeat L text)
 
 -- minimize_chart_count_rows_notes, the main call
 module _ (lanes : ℕ) (text out densities₀ : List ℕ) (beats₀ : List Float) (work notes₀ : List ℕ) where
+  -- the number that the call returns
   unfoldable pub mainNumber : ℕ
   mainNumber =
       firstHeld
@@ -70,12 +75,15 @@ module _ (lanes : ℕ) (text out densities₀ : List ℕ) (beats₀ : List Float
       ∷ shortNotes (lanesOf lanes) (length text) (length notes₀)
       ∷ [])
 
+  -- what it leaves in the text slice
   unfoldable pub mainText : List ℕ
   mainText = leaves 0 mainNumber (minimisedText (lanesOf lanes) text) out
 
+  -- in the measure slice
   unfoldable pub mainDensities : List ℕ
   mainDensities = leaves 0 mainNumber (densities (lanesOf lanes) text) densities₀
 
+  -- in the beat slice
   unfoldable pub mainBeats : List Float
   mainBeats = leaves (f32 0) mainNumber (beats (lanesOf lanes) text) beats₀
 
@@ -83,9 +91,11 @@ module _ (lanes : ℕ) (text out densities₀ : List ℕ) (beats₀ : List Float
   unfoldable pub mainWork : List ℕ
   mainWork = leaves 0 mainNumber [] work
 
+  -- in the note slice
   unfoldable pub mainNotes : List ℕ
   mainNotes = leaves 0 mainNumber (records (notes (lanesOf lanes) text)) notes₀
 
+  -- in the figures, which held `old`
   unfoldable pub mainFigures : List ℕ → List ℕ
   mainFigures old =
       replaces mainNumber
@@ -102,6 +112,7 @@ module _ (lanes : ℕ) (text out densities₀ : List ℕ) (beats₀ : List Float
 
 -- process_chart_kept, the kept-row call
 module _ (lanes : ℕ) (text out densities₀ work : List ℕ) where
+  -- the number that the call returns
   unfoldable pub keptNumber : ℕ
   keptNumber =
       firstHeld
@@ -111,15 +122,19 @@ module _ (lanes : ℕ) (text out densities₀ work : List ℕ) where
       ∷ shortWork (lanesOf lanes) (length text) (length work)
       ∷ [])
 
+  -- what it leaves in the text slice
   unfoldable pub keptText : List ℕ
   keptText = leaves 0 keptNumber (minimisedText (lanesOf lanes) text) out
 
+  -- in the measure slice
   unfoldable pub keptDensities : List ℕ
   keptDensities = leaves 0 keptNumber (densities (lanesOf lanes) text) densities₀
 
+  -- in the work slice
   unfoldable pub keptWork : List ℕ
   keptWork = leaves 0 keptNumber [] work
 
+  -- in the figures, which held `old`
   unfoldable pub keptFigures : List ℕ → List ℕ
   keptFigures old =
       replaces keptNumber
@@ -136,6 +151,7 @@ module _ (lanes : ℕ) (text out densities₀ work : List ℕ) where
 
 -- minimize_timing_rows
 module _ (lanes : ℕ) (text out : List ℕ) (beats₀ : List Float) where
+  -- the number that the call returns
   unfoldable pub timingNumber : ℕ
   timingNumber =
       firstHeld
@@ -144,12 +160,15 @@ module _ (lanes : ℕ) (text out : List ℕ) (beats₀ : List Float) where
       ∷ shortBeats (lanesOf lanes) (length text) (length beats₀)
       ∷ [])
 
+  -- what it leaves in the text slice
   unfoldable pub timingText : List ℕ
   timingText = leaves 0 timingNumber (timingRows (lanesOf lanes) text) out
 
+  -- in the beat slice
   unfoldable pub timingBeats : List Float
   timingBeats = leaves (f32 0) timingNumber (beats (lanesOf lanes) text) beats₀
 
+  -- in the figures, which held `old`
   unfoldable pub timingFigures : List ℕ → List ℕ
   timingFigures old =
       replaces timingNumber
@@ -166,38 +185,48 @@ module _ (lanes : ℕ) (text out : List ℕ) (beats₀ : List Float) where
 
 -- measure_densities and equally_spaced
 module _ (lanes : ℕ) (text slice : List ℕ) where
+  -- the number that either call returns
   unfoldable pub measuresNumber : ℕ
   measuresNumber = firstHeld (longText (length text) ∷ shortMeasures (length text) (length slice) ∷ [])
 
+  -- what `measure_densities` leaves in the measure slice
   unfoldable pub densitiesLeft : List ℕ
   densitiesLeft = leaves 0 measuresNumber (densities (lanesOf lanes) text) slice
 
+  -- what `equally_spaced` leaves in the measure slice
   unfoldable pub spacingsLeft : List ℕ
   spacingsLeft = leaves 0 measuresNumber (spacings (lanesOf lanes) text) slice
 
+  -- what either leaves in the figures, which held `old`
   unfoldable pub measuresFigures : List ℕ → List ℕ
   measuresFigures old = replaces measuresNumber (figures 0 (measureCount (lanesOf lanes) text) 0 0 0 0 0 noTally) old
 
 -- chart_last_beat
 module _ (lanes : ℕ) (text : List ℕ) where
+  -- the number that the call returns
   unfoldable pub lastNumber : ℕ
   lastNumber = firstHeld (longText (length text) ∷ [])
 
+  -- what it leaves in the figures, which held `old`
   unfoldable pub lastFigures : List ℕ → List ℕ
   lastFigures old =
       replaces lastNumber (figures 0 0 0 0 (lastBits (lanesOf lanes) text) 0 (last48 (lanesOf lanes) text) noTally) old
 
 -- process_rows_judgable and process_timing_rows
 module _ (lanes : ℕ) (text work : List ℕ) where
+  -- the number that either call returns
   unfoldable pub judgedNumber : ℕ
   judgedNumber = firstHeld (longText (length text) ∷ shortWork (lanesOf lanes) (length text) (length work) ∷ [])
 
+  -- what either leaves in the work slice
   unfoldable pub judgedWork : List ℕ
   judgedWork = leaves 0 judgedNumber [] work
 
+  -- what `process_rows_judgable` leaves in the figures, which held `old`
   unfoldable pub judgedFigures : List ℕ → List ℕ
   judgedFigures old = replaces judgedNumber (figures 0 0 0 0 0 0 0 (tallyFigures (judgedTally (lanesOf lanes) text))) old
 
+  -- what `process_timing_rows` leaves there, with these flags
   unfoldable pub flaggedFigures : List ℕ → List ℕ → List ℕ
   flaggedFigures flags old =
       replaces judgedNumber (figures 0 0 0 0 0 0 0 (tallyFigures (flaggedTally (lanesOf lanes) flags text))) old
@@ -207,15 +236,19 @@ abbrev pub readNumberOf : ReadNote → ℕ
 readNumberOf (Found n) = 0
 readNumberOf (Refused k) = k
 
+-- the four places of a note
 abbrev pub noteFigures : Note → List ℕ
 noteFigures n = n .row ∷ tailNumber (n .tail) ∷ n .column ∷ kindNumber (n .kind) ∷ []
 
+-- what is left in four places that held `old`
 abbrev pub readLeft : ReadNote → List ℕ → List ℕ
 readLeft (Found n) old = noteFigures n
 readLeft (Refused k) old = old
 
+-- the number that `read_note` returns for record k of s
 unfoldable pub readNumber : List ℕ → ℕ → ℕ
 readNumber s k = readNumberOf (readNote s k)
 
+-- what it leaves in the four places, which held `old`
 unfoldable pub readFigures : List ℕ → ℕ → List ℕ → List ℕ
 readFigures s k old = readLeft (readNote s k) old

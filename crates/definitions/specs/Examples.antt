@@ -34,6 +34,7 @@ bytes (_then_ c s) = cond (eqb (code c) 124) 10 (cond (eqb (code c) 94) 13 (code
 pub data Field : Type 0 where
   arrows left steps mines holds : Field
 
+-- the value of that field
 abbrev pub field : Field → ArrowStats → ℕ
 field arrows t = t .«total_arrows»
 field left t = t .left
@@ -64,6 +65,7 @@ figure (judged f) L s = field f (judgedTally L s) ∷ []
 abbrev pub wholeBeats : List ℕ → List ℕ
 wholeBeats ks = map (λ (k : ℕ). toBits binary32 (f32 k)) ks
 
+-- one whole beat as the bits of a 64-bit float
 abbrev pub wholeBeat : ℕ → List ℕ
 wholeBeat k = toBits binary64 (f64 k) ∷ []
 
@@ -72,18 +74,22 @@ pub record Says : Type 0 where
   pub of : Figure
   pub value : List ℕ
 
+-- that figure has this value
 infix 4 _is_
 abbrev pub _is_ : Figure → List ℕ → Says
 f is v = record { of = f; value = v }
 
+-- a lane count, a text and what is said of it
 pub record Example : Type 0 where
   pub lanes : ℕ
   pub given : List ℕ
   pub says : List Says
 
+-- an example at 4 lanes
 abbrev pub at4 : String → List Says → Example
 at4 s says = record { lanes = 4; given = bytes s; says = says }
 
+-- P1 to P11
 pub table : List Example
 table =
     -- P1
@@ -152,6 +158,7 @@ table =
 abbrev pub given-by-definitions : Example → List (List ℕ)
 given-by-definitions e = map (λ (s : Says). figure (s .of) (e .lanes) (e .given)) (e .says)
 
+-- what an example says
 abbrev pub said : Example → List (List ℕ)
 said e = map (λ (s : Says). s .value) (e .says)
 

@@ -18,6 +18,7 @@ textOf [] = []
 textOf (m ∷ []) = rowText m
 textOf (m ∷ m' ∷ ms) = rowText m ++ (44 ∷ 10 ∷ textOf (m' ∷ ms))
 
+-- the minimised text of a text
 unfoldable pub minimisedText : ℕ → List ℕ → List ℕ
 minimisedText L text = textOf (minimised L text)
 
@@ -35,6 +36,7 @@ abbrev pub spacing : List Row → Bool
 spacing [] = true
 spacing (r ∷ rs) = isStep r && spacing rs
 
+-- the density of each measure of a text
 unfoldable pub densities : ℕ → List ℕ → List ℕ
 densities L text = map density (minimised L text)
 

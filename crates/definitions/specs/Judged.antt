@@ -50,6 +50,7 @@ isUnjudgedFake LowerMine = true
 isUnjudgedFake LowerLift = true
 isUnjudgedFake LowerFake = true
 
+-- a sum of n fakes and nothing else
 abbrev pub onlyFakes : ℕ → RowSum
 onlyFakes n =
     record {
@@ -85,6 +86,7 @@ openOf J i ps = count (λ (p : Pair). J (p .head) && (ltb (p .head) i && leb i (
 unfoldable pub openBefore : ℕ → (ℕ → Bool) → (ℕ → List Pair) → ℕ → ℕ
 openBefore L J ps i = sumColumns L (λ c. openOf J i (ps c))
 
+-- the tally t with rows more, numbered from i, where ps has the pairs of each column
 abbrev pub judgeFrom : ℕ → (ℕ → Bool) → (ℕ → List Pair) → ArrowStats → ℕ → List Row → ArrowStats
 judgeFrom L J ps t i [] = t
 judgeFrom L J ps t i (r ∷ rs) =

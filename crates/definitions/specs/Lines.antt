@@ -17,6 +17,7 @@ abbrev pub cutAt : Bool → ℕ → List (List ℕ) → List (List ℕ)
 cutAt true b ls = [] ∷ ls
 cutAt false b ls = toFirst b ls
 
+-- the lines of a text
 abbrev pub cut : List ℕ → List (List ℕ)
 cut [] = [] ∷ []
 cut (b ∷ s) = cutAt (eqb b 10) b (cut s)
@@ -25,6 +26,7 @@ cut (b ∷ s) = cutAt (eqb b 10) b (cut s)
 unfoldable pub isBlank : ℕ → Bool
 isBlank b = among b (9 ∷ 10 ∷ 12 ∷ 13 ∷ 32 ∷ [])
 
+-- a line without its leading blanks
 abbrev pub trim : List ℕ → List ℕ
 trim [] = []
 trim (b ∷ s) = cond (isBlank b) (trim s) (b ∷ s)
@@ -48,5 +50,6 @@ kindOf L (b ∷ s) =
 unfoldable pub lineKind : ℕ → List ℕ → LineKind
 lineKind L l = kindOf L (trim l)
 
+-- a line's row
 abbrev pub lineRow : ℕ → List ℕ → Row
 lineRow L l = take L (trim l)

@@ -31,6 +31,7 @@ module _ {A : Type 0} where
   those p [] = []
   those p (a ∷ l) = onlyIf (p a) (a ∷ []) ++ those p l
 
+  -- how many pass a test
   abbrev pub count : (A → Bool) → List A → ℕ
   count p [] = 0
   count p (a ∷ l) = oneIf (p a) + count p l

@@ -46,9 +46,11 @@ abbrev pub tailOf : ℕ → ℕ → List Row → Option ℕ
 tailOf c i [] = none
 tailOf c i (r ∷ rs) = meets (effectAt (byteAt c r)) i (tailOf c (suc i) rs)
 
+-- a note without a tail
 abbrev pub plainNote : ℕ → ℕ → Kind → List Note
 plainNote i c k = record { row = i; tail = tail.Without; column = c; kind = k } ∷ []
 
+-- a note with the tail row that its head has; without one it is dropped
 abbrev pub heldNote : ℕ → ℕ → Kind → Option ℕ → List Note
 heldNote i c k none = []
 heldNote i c k (some j) = record { row = i; tail = tail.Row j; column = c; kind = k } ∷ []

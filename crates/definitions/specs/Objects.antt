@@ -36,9 +36,11 @@ objectAt b = objectEffect (cellOf b)
 abbrev pub Depths : Type 0
 Depths = ℕ → ℕ
 
+-- the depths after a row
 abbrev pub afterRow : Depths → Row → Depths
 afterRow D r = λ c. deeper (objectAt (byteAt c r)) (D c)
 
+-- the depths after rows
 abbrev pub afterRows : Depths → List Row → Depths
 afterRows D [] = D
 afterRows D (r ∷ rs) = afterRows (afterRow D r) rs
@@ -48,6 +50,7 @@ abbrev pub objectFrom : Depths → ℕ → Row → Bool
 objectFrom D c [] = false
 objectFrom D c (b ∷ r) = isObject (objectAt b) (D c) || objectFrom D (suc c) r
 
+-- a row is an object row where the depths before it are D
 abbrev pub objectRow : Depths → Row → Bool
 objectRow D r = objectFrom D 0 r
 
@@ -68,6 +71,7 @@ abbrev pub objectsFrom : Depths → ℕ → List (List Row) → List Place
 objectsFrom D m [] = []
 objectsFrom D m (x ∷ xs) = objectsIn D m 0 (length x) x ++ objectsFrom (afterRows D x) (suc m) xs
 
+-- the last of some places
 abbrev pub lastOf : List Place → Option Place
 lastOf [] = none
 lastOf (p ∷ []) = some p
@@ -82,6 +86,7 @@ abbrev pub place48 : Option Place → ℕ
 place48 none = 0
 place48 (some p) = lastRow (p .m) (p .r) (p .n)
 
+-- a text's last beat in 48ths
 unfoldable pub last48 : ℕ → List ℕ → ℕ
 last48 L text = place48 (lastObject L text)
 

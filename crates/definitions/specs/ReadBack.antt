@@ -27,6 +27,7 @@ beginsMark (b ∷ s) = among b (44 ∷ 59 ∷ [])
 abbrev pub backRow : ℕ → List ℕ → List Row
 backRow L l = onlyIf (isRow L l && not (beginsMark l)) (take L l ∷ [])
 
+-- the rows of lines
 abbrev pub backRows : ℕ → List (List ℕ) → List Row
 backRows L [] = []
 backRows L (l ∷ ls) = backRow L (trimCr l) ++ backRows L ls

@@ -39,6 +39,7 @@ tailNumber (Row j) = j
 unfoldable pub fields : ℕ → ℕ → ℕ → ℕ → List ℕ
 fields row tail column kind = bytes4 row ++ (bytes4 tail ++ (column ∷ kind ∷ []))
 
+-- a note's ten bytes
 unfoldable pub encode : Note → List ℕ
 encode n = fields (n .row) (tailNumber (n .tail)) (n .column) (kindNumber (n .kind))
 
@@ -52,12 +53,14 @@ abbrev pub plainOf : ℕ → ℕ → ℕ → Kind → ReadNote
 plainOf row tail column kind =
     cond (eqb tail 4294967295) (Found (record { row = row; tail = Without; column = column; kind = kind })) (Refused 8)
 
+-- of kinds 1 and 2: a tail above its row
 abbrev pub heldOf : ℕ → ℕ → ℕ → Kind → ReadNote
 heldOf row tail column kind =
     cond (ltb row tail)
     (cond (ltb tail 16777216) (Found (record { row = row; tail = Row tail; column = column; kind = kind })) (Refused 8))
     (Refused 8)
 
+-- of any fields
 unfoldable pub noteOf : ℕ → ℕ → ℕ → ℕ → ReadNote
 noteOf row tail column kind =
     cond (leb 10 column) (Refused 8)

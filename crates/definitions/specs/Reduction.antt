@@ -13,6 +13,7 @@ abbrev pub allZero : Row → Bool
 allZero [] = true
 allZero (b ∷ r) = eqb b 48 && allZero r
 
+-- i is a multiple of s
 abbrev pub multiple : ℕ → ℕ → Bool
 multiple s i = eqb (i % s) 0
 
@@ -39,6 +40,7 @@ largest (suc k) rs = cond (allows rs (2 ^ suc k)) (2 ^ suc k) (largest k rs)
 unfoldable pub stride : List Row → ℕ
 stride rs = largest (length rs) rs
 
+-- the rows of a measure that stay
 unfoldable pub reduce : List Row → List Row
 reduce rs = atMultiples (stride rs) 0 rs
 

@@ -13,6 +13,7 @@ pub record Check : Type 0 where
   pub number : ℕ
   pub holds : Bool
 
+-- a check of that number and condition
 abbrev pub check : ℕ → Bool → Check
 check n t = record { number = n; holds = t }
 

@@ -15,6 +15,7 @@ use Rattle.definitions.specs.declared.ArrowStats.{ArrowStats}
 pub data Counted : Type 0 where
   nothing hold roll tail mine lift fake : Counted
 
+-- "The Rust also reads m, l, f as mine, lift, fake"
 abbrev pub countedAs : Cell → Counted
 countedAs Empty = nothing
 countedAs Tap = nothing
@@ -29,6 +30,7 @@ countedAs LowerMine = mine
 countedAs LowerLift = lift
 countedAs LowerFake = fake
 
+-- a number for each, so that two can be compared
 abbrev pub place : Counted → ℕ
 place nothing = 0
 place hold = 1
@@ -72,6 +74,7 @@ rowSumBy arrow r =
 unfoldable pub rowSum : Row → RowSum
 rowSum r = rowSumBy isArrow r
 
+-- the tally of no rows
 abbrev pub noStats : ArrowStats
 noStats =
     record {
@@ -120,6 +123,7 @@ addRow t s =
     (leb 1 (s .arrows) && leb 3 (s .arrows + t .holding))
     (t .holding + (s .holds + s .rolls) - s .tails)
 
+-- a tally with rows more
 abbrev pub tallyFrom : ArrowStats → List Row → ArrowStats
 tallyFrom t [] = t
 tallyFrom t (r ∷ rs) = tallyFrom (addRow t (rowSum r)) rs

@@ -11,6 +11,7 @@ use Rattle.definitions.specs.Correction.{isOpening}
 unfoldable pub timingRows : ℕ → List ℕ → List ℕ
 timingRows L text = joined (joined (minimised L text))
 
+-- some of these bytes is a 2 or 4
 abbrev pub hasHead : List ℕ → Bool
 hasHead [] = false
 hasHead (b ∷ s) = isOpening (holdAt b) || hasHead s
