@@ -21,8 +21,12 @@ pub fn drawn() -> Vec<Check> {
 /// Cases whose seed is one of 256 numbers.
 pub fn bytes() -> Vec<Check> {
     vec![
-        Check::new("cell_of and effects", cell),
+        Check::new("cell_of", cell_of),
+        Check::new("hold_effect", hold_effect),
+        Check::new("object_effect", object_effect),
         Check::new("tap_sum", tap_sum),
+        Check::new("find_byte", find_byte),
+        Check::new("count_byte", count_byte),
     ]
 }
 
@@ -48,9 +52,15 @@ fn row_beat(case: &Case, compared: &mut Compare) {
     let (m, n) = (measure(&mut rng), rows(&mut rng));
     let r = rng.below(n as usize) as u32;
     let rust = leaves::row_beat(m as usize, r as usize, n as usize);
+    let mut beat = [-7.5];
+    compared.same("taken", ours::row_beat(m, r, n, &mut beat), Some(()));
     let what = format!("bits for measure {m}, row {r} of {n}");
-    compared.same(&what, ours::row_beat(m, r, n).to_bits(), rust.to_bits());
-    compared.same("row past the measure", ours::row_beat(m, n, n), -1.0);
+    compared.same(&what, beat[0].to_bits(), rust.to_bits());
+    let mut beat = [-7.5];
+    for (m, r, n) in [(m, n, n), (MOST_MEASURE + 1, r, n), (m, r, MOST_ROWS + 1)] {
+        compared.same("not taken", ours::row_beat(m, r, n, &mut beat), None);
+    }
+    compared.same("left alone", beat, [-7.5]);
 }
 
 fn append_row_beats(case: &Case, compared: &mut Compare) {
@@ -73,11 +83,18 @@ fn append_row_beats(case: &Case, compared: &mut Compare) {
         &bits(&want),
     );
     let over = n + after as u32 + 1;
-    compared.same(
-        "no room",
-        ours::append_row_beats(&mut beats, before, m, over),
-        None,
-    );
+    for (at, m, n) in [
+        (before, m, over),
+        (beats.len() + 1, m, 0),
+        (before, MOST_MEASURE + 1, n),
+    ] {
+        compared.same(
+            "not taken",
+            ours::append_row_beats(&mut beats, at, m, n),
+            None,
+        );
+    }
+    compared.same_slices("left alone", &bits(&beats), &bits(&want));
 }
 
 fn calc_last_beat(case: &Case, compared: &mut Compare) {
@@ -89,44 +106,94 @@ fn calc_last_beat(case: &Case, compared: &mut Compare) {
         0 => leaves::calc_last_beat(None, 0, 0),
         _ => leaves::calc_last_beat(Some(m as usize), r as usize, n as usize),
     };
+    let mut last = [7; 2];
+    compared.same("taken", ours::calc_last_beat(m, r, n, &mut last), Some(()));
     let what = format!("bits and 48ths for measure {m}, row {r} of {n}");
-    compared.same(&what, ours::calc_last_beat(m, r, n), Some(rust));
+    compared.same(&what, (last[0], last[1]), rust);
+    let mut last = [7; 2];
+    let n = n.max(1);
+    for (m, r, n) in [(m, n, n), (MOST_MEASURE + 1, r, n), (m, r, MOST_ROWS + 1)] {
+        compared.same("not taken", ours::calc_last_beat(m, r, n, &mut last), None);
+    }
+    compared.same("left alone", last, [7; 2]);
 }
 
 fn bits(beats: &[f32]) -> Vec<u32> {
     beats.iter().map(|beat| beat.to_bits()).collect()
 }
 
-/// Letters in the order of the variants; the Rust has no such table, so its rows of one such byte are asked.
-fn cell(case: &Case, compared: &mut Compare) {
+/// Letters in the order of the variants.
+fn cell_of(case: &Case, compared: &mut Compare) {
     let b = case.seed as u8;
-    let letters = b"1234MLFKmlf";
-    let number = letters.iter().position(|&letter| letter == b);
+    let number = b"1234MLFKmlf".iter().position(|&letter| letter == b);
     compared.same(
         "cell",
         ours::cell_of(b),
         number.map_or(0, |at| at as u32 + 1),
     );
-    let row = [b, b'0', b'0', b'0'];
-    let counted = leaves::count_line(4, &[b"2000".as_slice(), &row].concat());
-    let phantom = (counted.has_phantom, counted.phantom_depths[0]);
-    let effect = |blocks, depth| match (blocks, depth) {
+}
+
+/// The number of an effect, from whether the cell blocks and what becomes of a depth of 1.
+fn effect(blocks: bool, depth: u32) -> u32 {
+    match (blocks, depth) {
         (true, _) => 1,
         (false, 2) => 2,
         (false, 0) => 3,
         _ => 0,
-    };
-    compared.same(
-        "hold effect",
-        ours::hold_effect(b),
-        effect(phantom.0, phantom.1),
-    );
-    let object = (counted.object[1] && b != b'3', counted.object_depths[0]);
-    compared.same(
-        "object effect",
-        ours::object_effect(b),
-        effect(object.0, object.1),
-    );
+    }
+}
+
+/// The Rust has no table of effects, so a row of one such byte is counted after a head.
+fn counted(b: u8) -> leaves::Counted {
+    leaves::count_line(4, &[b'2', b'0', b'0', b'0', b, b'0', b'0', b'0'])
+}
+
+fn hold_effect(case: &Case, compared: &mut Compare) {
+    let b = case.seed as u8;
+    let counted = counted(b);
+    let rust = effect(counted.has_phantom, counted.phantom_depths[0]);
+    compared.same("effect", ours::hold_effect(b), rust);
+}
+
+fn object_effect(case: &Case, compared: &mut Compare) {
+    let b = case.seed as u8;
+    let counted = counted(b);
+    let rust = effect(counted.object[1] && b != b'3', counted.object_depths[0]);
+    compared.same("effect", ours::object_effect(b), rust);
+}
+
+/// Slices of up to 33 bytes with this byte from each place on or there alone, others around it that differ from it in a bit or two.
+fn haystacks(byte: u8) -> impl Iterator<Item = Vec<u8>> {
+    (0..=33).flat_map(move |len| {
+        (0..=len).flat_map(move |at| {
+            [1, 0x80, 0x81, 0xff].into_iter().flat_map(move |bits| {
+                let mut alone = vec![byte ^ bits; len];
+                if let Some(there) = alone.get_mut(at) {
+                    *there = byte;
+                }
+                let mut onward = alone.clone();
+                onward[at..].fill(byte);
+                [alone, onward]
+            })
+        })
+    })
+}
+
+/// The first place is each of those of a word, and of the bytes past the last word.
+fn find_byte(case: &Case, compared: &mut Compare) {
+    let byte = case.seed as u8;
+    for slice in haystacks(byte) {
+        let rust = leaves::find_byte(&slice, byte);
+        compared.same("place", ours::find_byte(&slice, byte), rust);
+    }
+}
+
+fn count_byte(case: &Case, compared: &mut Compare) {
+    let byte = case.seed as u8;
+    for slice in haystacks(byte) {
+        let rust = leaves::count_byte(&slice, byte);
+        compared.same("count", ours::count_byte(&slice, byte), rust);
+    }
 }
 
 fn tap_sum(case: &Case, compared: &mut Compare) {

@@ -7,9 +7,8 @@ need "the differential run is built with it" rt rustc
 sh tests/oracle/build.sh
 rt staticlib padcheck
 rt staticlib leaves
-rt staticlib row_leaves
 out=target/differential
 mkdir -p "$out"
 rustc --edition 2024 -O --extern oracle=target/oracle/liboracle.rlib \
-    -L native=target/staticlib -l static=padcheck -l static=leaves -l static=row_leaves \
+    -L native=target/staticlib -l static=padcheck -l static=leaves \
     -o "$out/differential" tests/differential/main.rs

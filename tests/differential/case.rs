@@ -1,11 +1,26 @@
 //! A case, what a check of it compares, and the totals: a case that differs is shrunk byte by byte before it is shown.
 
+use oracle::calls::lanes_in_force;
 use std::fmt::Debug;
 use std::time::{Duration, Instant};
 
 /// How many cases that differ are shown of each check, and how long one is shrunk.
 const SHOWN: u64 = 3;
 const SHRINKING: Duration = Duration::from_secs(3);
+
+/// The lane counts, and how many numbers an entry can return: 0 for accepted and the refusals 1 to 8.
+pub const LANE_COUNTS: [usize; 4] = [4, 5, 8, 10];
+pub const NUMBERS: usize = 9;
+
+/// How often an entry returned each number, for each lane count.
+pub type Answers = [[u64; NUMBERS]; LANE_COUNTS.len()];
+
+/// The place of the lane count in force among the four.
+pub fn lane_place(lanes: usize) -> usize {
+    let in_force = lanes_in_force(lanes);
+    let place = LANE_COUNTS.iter().position(|&count| count == in_force);
+    place.expect("one of the four lane counts is in force")
+}
 
 /// A text, or rows back to back, with a lane number. All else that a check draws comes from the seed.
 #[derive(Clone, Debug, Default)]
@@ -21,9 +36,18 @@ pub struct Compare {
     same: u64,
     differ: u64,
     first: Option<String>,
+    answers: Answers,
 }
 
 impl Compare {
+    /// Compares the number that an entry returned, and keeps it.
+    pub fn number(&mut self, lanes: usize, ours: u32, rust: u32) {
+        self.same("number", ours, rust);
+        if let Some(count) = self.answers[lane_place(lanes)].get_mut(ours as usize) {
+            *count += 1;
+        }
+    }
+
     pub fn same<T: PartialEq + Debug>(&mut self, what: &str, ours: T, rust: T) {
         if ours == rust {
             self.same += 1;
@@ -61,6 +85,7 @@ pub struct Check {
     differing: u64,
     same: u64,
     differ: u64,
+    answers: Answers,
 }
 
 impl Check {
@@ -72,7 +97,20 @@ impl Check {
             differing: 0,
             same: 0,
             differ: 0,
+            answers: Answers::default(),
         }
+    }
+
+    pub fn name(&self) -> &'static str {
+        self.name
+    }
+
+    pub fn comparisons(&self) -> u64 {
+        self.same + self.differ
+    }
+
+    pub fn answers(&self) -> &Answers {
+        &self.answers
     }
 
     pub fn run(&mut self, case: &Case) {
@@ -80,6 +118,11 @@ impl Check {
         self.cases += 1;
         self.same += compared.same;
         self.differ += compared.differ;
+        for (counts, more) in self.answers.iter_mut().zip(compared.answers) {
+            for (count, more) in counts.iter_mut().zip(more) {
+                *count += more;
+            }
+        }
         if compared.differ > 0 {
             self.differing += 1;
             if self.differing <= SHOWN {
@@ -152,11 +195,11 @@ pub fn totals(checks: &[Check]) -> (u64, u64) {
             "{:36} {:>10} cases {:>11} comparisons",
             check.name,
             check.cases,
-            check.same + check.differ
+            check.comparisons()
         );
         passed += check.same;
         failed += check.differ;
-        if check.same + check.differ == 0 {
+        if check.comparisons() == 0 {
             println!("failed: {} compared nothing", check.name);
             failed += 1;
         }

@@ -1,7 +1,8 @@
-//! Texts that are not drawn: every short text over a few letters, a few texts for each lane number whose slices are lent too short, and
-//! texts of the greatest length and one byte more.
+//! Texts that are not drawn: every short text over a few letters, texts for each case of the correction, a few texts for each lane number
+//! whose slices are lent too short, and texts of the greatest length and one byte more.
 
-use crate::case::{Case, Check};
+use crate::case::{Case, Check, LANE_COUNTS};
+use crate::kinds::Kinds;
 use crate::random::Rng;
 use oracle::entry::MAX_LEN;
 
@@ -16,7 +17,7 @@ const ALPHABETS: [(&[u8], u32); 4] = [
 /// Lane numbers that the short texts are read by.
 const LANES: [usize; 3] = [4, 5, 0];
 
-pub fn short_texts(checks: &mut [Check]) {
+pub fn short_texts(checks: &mut [Check], kinds: &mut Kinds) {
     for (letters, longest) in ALPHABETS {
         for len in 0..=longest {
             for number in 0..letters.len().pow(len) {
@@ -26,6 +27,7 @@ pub fn short_texts(checks: &mut [Check]) {
                     lanes: LANES[number % LANES.len()],
                     bytes: text,
                 };
+                kinds.note(&case);
                 checks.iter_mut().for_each(|check| check.run(&case));
             }
         }
@@ -41,6 +43,46 @@ fn word(letters: &[u8], len: u32, number: usize) -> Vec<u8> {
             letter
         })
         .collect()
+}
+
+/// A column's cells for each case of document 01's correction, in the order of its conditions: no head, heads that all pair, heads other
+/// than tails, a 1, M, L or F at a phantom depth, a phantom depth left over.
+const COLUMNS: [&[u8]; 12] = [
+    b"3", b"0", b"23", b"43", b"2", b"233", b"223", b"213", b"2M3", b"2L3", b"2F3", b"32",
+];
+
+/// A row whose last cell is byte 13 follows each of these columns. The main call counts anew over its text read back, where such a row is
+/// none: so its tally shows whether it counted anew.
+pub fn corrections(checks: &mut [Check], kinds: &mut Kinds) {
+    for lanes in LANE_COUNTS {
+        for column in COLUMNS {
+            for place in 0..lanes {
+                let mut bytes = Vec::new();
+                for &cell in column {
+                    let mut row = vec![b'0'; lanes];
+                    row[place] = cell;
+                    bytes.extend_from_slice(&row);
+                    bytes.push(b'\n');
+                }
+                bytes.push(b'1');
+                bytes.resize(bytes.len() + lanes - 2, b'0');
+                bytes.extend_from_slice(b"\r\n");
+                // A seed of its own, so that the slices lent differ; the last one leaves the text without its last newline.
+                for seed in 0..4 {
+                    if seed == 3 {
+                        bytes.pop();
+                    }
+                    let case = Case {
+                        bytes: bytes.clone(),
+                        lanes,
+                        seed,
+                    };
+                    kinds.note(&case);
+                    checks.iter_mut().for_each(|check| check.run(&case));
+                }
+            }
+        }
+    }
 }
 
 /// A few texts of at least a row, at lane numbers 0 to 12 and some large ones.

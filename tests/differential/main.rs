@@ -1,35 +1,44 @@
-//! The differential run: libpadcheck.a, libleaves.a and librow_leaves.a beside the Rust, in one process, on random and short texts.
-//! Ends with `N passed, M failed`; the exit status is not 0 if anything differs.
+//! The differential run: libpadcheck.a and libleaves.a beside the Rust, in one process, on random, short and long texts.
+//! Ends with `N passed, M failed`; the exit status is not 0 if anything differs or was left out.
 
 mod beat_checks;
 mod case;
+mod coverage;
 mod entries;
+mod kinds;
 mod limits;
+mod long_texts;
 mod ours;
 mod random;
 mod row_checks;
 mod text_checks;
 
-use case::Case;
+use case::{Case, Check};
+use kinds::Kinds;
 use random::Rng;
 use std::process::ExitCode;
 
 const HELP: &str = "\
-differential [--long | --cases N] [SEED..]
+differential [--long | --cases N] [--at-least COUNT] [SEED..]
 
-Compares the exported entries and the leaves with the Rust: N random texts, N random lists of rows and
-N beats for each SEED (1 where none is given), then every short text over a few letters, each entry
-with every combination of its slices one entry too short, and texts of the greatest length. N is 200000, or 10000000 with --long. A text that differs is shown as short as it
-can be made. The last line is 'N passed, M failed', counted in comparisons.";
+Compares the exported entries and the leaves with the Rust. For each SEED (1 where none is given): N random
+texts, N random lists of rows, which are read as texts too, N beats, and random texts of 10,000 to 1,000,000
+bytes. Then every short text over a few letters, texts for each case of the correction, each entry with every
+combination of its slices one entry too short, and texts of the greatest length. N is 200000, or 10000000 with
+--long. A text that differs is shown as short as it can be made. An entry, a leaf, a number that an entry can
+return, a lane count or a kind of text that was not met is a failure, and so are fewer comparisons than COUNT.
+The last line is 'N passed, M failed', counted in comparisons.";
 
 struct Options {
     cases: u64,
+    at_least: u64,
     seeds: Vec<u64>,
 }
 
 fn options(args: impl Iterator<Item = String>) -> Result<Option<Options>, String> {
     let mut options = Options {
         cases: 200_000,
+        at_least: 0,
         seeds: Vec::new(),
     };
     let mut args = args;
@@ -37,9 +46,14 @@ fn options(args: impl Iterator<Item = String>) -> Result<Option<Options>, String
         match arg.as_str() {
             "--help" | "-h" => return Ok(None),
             "--long" => options.cases = 10_000_000,
-            "--cases" => {
+            "--cases" | "--at-least" => {
                 let number = args.next().and_then(|number| number.parse().ok());
-                options.cases = number.ok_or("--cases wants a number")?;
+                let number = number.ok_or(format!("{arg} wants a number"))?;
+                if arg == "--cases" {
+                    options.cases = number;
+                } else {
+                    options.at_least = number;
+                }
             }
             _ => {
                 let seed = arg.parse().map_err(|_| format!("{arg} is no seed"))?;
@@ -68,6 +82,7 @@ fn main() -> ExitCode {
 }
 
 fn run(options: &Options) -> ExitCode {
+    let mut kinds = Kinds::new();
     let mut texts = text_checks::checks();
     let mut rows = row_checks::checks();
     let mut beats = beat_checks::drawn();
@@ -75,12 +90,15 @@ fn run(options: &Options) -> ExitCode {
     for &seed in &options.seeds {
         let mut rng = Rng::new(seed);
         for _ in 0..options.cases {
-            let case = text_case(&mut rng);
-            texts.iter_mut().for_each(|check| check.run(&case));
+            run_text(&text_case(&mut rng), &mut texts, &mut kinds);
             let case = row_case(&mut rng);
             rows.iter_mut().for_each(|check| check.run(&case));
             beats.iter_mut().for_each(|check| check.run(&case));
+            run_text(&lines_case(&mut rng, case), &mut texts, &mut kinds);
         }
+        long_texts::run(&mut rng, options.cases, |case| {
+            run_text(case, &mut texts, &mut kinds);
+        });
     }
     for seed in 0..256 {
         let case = Case {
@@ -89,32 +107,46 @@ fn run(options: &Options) -> ExitCode {
         };
         bytes.iter_mut().for_each(|check| check.run(&case));
     }
-    limits::short_texts(&mut texts);
+    limits::short_texts(&mut texts, &mut kinds);
+    limits::corrections(&mut texts, &mut kinds);
     let mut shortages: Vec<_> = text_checks::shortages().collect();
     limits::every_lane(&mut shortages);
-    let mut long: Vec<_> = text_checks::entries().collect();
+    let mut longest: Vec<_> = text_checks::entries().collect();
     if case::any_differs(&texts) {
         println!("the longest texts are left out: shorter ones differ already");
     } else {
-        limits::long_texts(&mut long);
+        limits::long_texts(&mut longest);
     }
+    let groups = [
+        ("texts", texts),
+        ("rows", rows),
+        ("beats", beats),
+        ("bytes", bytes),
+        ("every combination of slices one entry too short", shortages),
+        ("longest texts", longest),
+    ];
+    report(options, &groups, &kinds)
+}
 
+fn run_text(case: &Case, texts: &mut [Check], kinds: &mut Kinds) {
+    kinds.note(case);
+    texts.iter_mut().for_each(|check| check.run(case));
+}
+
+/// Prints the totals and what was left out.
+fn report(options: &Options, groups: &[(&str, Vec<Check>)], kinds: &Kinds) -> ExitCode {
     let (mut passed, mut failed) = (0, 0);
-    for (title, checks) in [
-        ("texts", &texts),
-        ("rows", &rows),
-        ("beats", &beats),
-        ("bytes", &bytes),
-        (
-            "every combination of slices one entry too short",
-            &shortages,
-        ),
-        ("longest texts", &long),
-    ] {
+    for (title, checks) in groups {
         println!("{title}:");
         let (same, differ) = case::totals(checks);
         passed += same;
         failed += differ;
+    }
+    let checks: Vec<&Check> = groups.iter().flat_map(|(_, checks)| checks).collect();
+    failed += coverage::missing(&checks, kinds);
+    if passed < options.at_least {
+        println!("failed: fewer than {} comparisons passed", options.at_least);
+        failed += 1;
     }
     println!("{passed} passed, {failed} failed");
     if failed == 0 {
@@ -139,6 +171,16 @@ fn row_case(rng: &mut Rng) -> Case {
     Case {
         bytes,
         lanes,
+        seed: rng.next(),
+    }
+}
+
+/// The text of a case that is rows.
+fn lines_case(rng: &mut Rng, rows: Case) -> Case {
+    let bytes = random::lines_of(rng, rows.lanes, &rows.bytes);
+    Case {
+        bytes,
+        lanes: rows.lanes,
         seed: rng.next(),
     }
 }

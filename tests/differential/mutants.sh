@@ -23,7 +23,7 @@ while IFS='|' read -r check file edit; do
     elif ! rustc --edition 2024 -C opt-level=1 -A warnings --crate-type rlib --crate-name oracle \
         -o "$copy/liboracle.rlib" "$copy/tests/oracle/oracle.rs" ||
         ! rustc --edition 2024 -C opt-level=1 -A warnings --extern oracle="$copy/liboracle.rlib" \
-            -L native=target/staticlib -l static=padcheck -l static=leaves -l static=row_leaves \
+            -L native=target/staticlib -l static=padcheck -l static=leaves \
             -o "$copy/differential" tests/differential/main.rs; then
         said="the copy does not build"
     elif "$copy/differential" --cases 20000 >"$copy/out" 2>&1; then

@@ -1,5 +1,6 @@
-//! Random texts, rows, lane numbers and loans, all from a seed.
+//! Random texts, rows, lane numbers, flags and loans, all from a seed.
 
+use crate::case::Case;
 use oracle::calls::{Call, lanes_in_force};
 use oracle::entry::{Lengths, Loan, refusals};
 
@@ -38,7 +39,7 @@ impl Rng {
 }
 
 /// What cells are drawn from; a letter that stands twice is drawn twice as often.
-const STYLES: [&[u8]; 6] = [
+pub const STYLES: [&[u8]; 6] = [
     b"00000001",
     b"0011",
     b"0000123",
@@ -47,10 +48,13 @@ const STYLES: [&[u8]; 6] = [
     b"223",
 ];
 
+/// From this length on a text is long.
+pub const LONG: usize = 10_000;
+
 /// Bytes that mean something to the line reader, and some that do not.
 const MARKS: &[u8] = b"0000111234MLFKmlf\n\n\n\n\n\r\t\x0b\x0c  ,,;/x\x00\x80\xff";
 
-const BLANKS: &[u8] = b"\t\x0c\r ";
+pub const BLANKS: &[u8] = b"\t\x0c\r ";
 
 const HUGE_LANES: [usize; 8] = [
     usize::MAX,
@@ -175,12 +179,39 @@ fn nest(rng: &mut Rng, lanes: usize, count: usize, rows: &mut [u8]) {
     }
 }
 
-/// What a call is lent: slices exact, with room to spare, or one entry too short, all full of garbage.
-pub fn loan(rng: &mut Rng, call: Call, len: usize, lanes: usize) -> Loan {
+/// Rows back to back as a text: a line each, with the ends of measures among them or none.
+pub fn lines_of(rng: &mut Rng, lanes: usize, rows: &[u8]) -> Vec<u8> {
+    let newline: &[u8] = if rng.one_in(4) { b"\r\n" } else { b"\n" };
+    let commas = rng.pick(&[0, 0, 3, 9]);
+    let mut text = Vec::with_capacity(rows.len() * 2);
+    for row in rows.chunks_exact(lanes) {
+        text.extend_from_slice(row);
+        text.extend_from_slice(newline);
+        if commas > 0 && rng.one_in(commas) {
+            text.push(b',');
+            text.extend_from_slice(newline);
+        }
+    }
+    text
+}
+
+/// What a call is lent: slices exact, with room to spare, or, for a text that is not long, one entry too short; all full of garbage.
+pub fn loan(rng: &mut Rng, call: Call, case: &Case) -> Loan {
     let (figure, garbage) = (rng.next(), rng.next());
-    lent(figure, garbage, call, len, lanes, |_, enough| {
-        vary(rng, enough)
-    })
+    let (len, is_long) = (case.bytes.len(), case.bytes.len() >= LONG);
+    lent(
+        figure,
+        garbage,
+        call,
+        len,
+        case.lanes,
+        |_, enough| match rng.below(16) {
+            0 if !is_long => enough.saturating_sub(1),
+            1 if !is_long => enough / 2,
+            2..=6 => enough + 1 + rng.below(9),
+            _ => enough,
+        },
+    )
 }
 
 /// Slices full of garbage, of the lengths that `length` gives for each refusal's number and the shortest length without it.
@@ -216,18 +247,16 @@ pub fn lent(
     loan
 }
 
-fn vary(rng: &mut Rng, enough: usize) -> usize {
-    match rng.below(16) {
-        0 => enough.saturating_sub(1),
-        1 => enough / 2,
-        2..=6 => enough + 1 + rng.below(9),
-        _ => enough,
+/// The flags of a case: at times fewer than its rows or more, at times of one judged row alone.
+pub fn flags(case: &Case) -> Vec<u8> {
+    let mut rng = Rng::new(!case.seed);
+    let lines = case.bytes.iter().filter(|&&b| b == b'\n').count() + 1;
+    if rng.one_in(4) {
+        let mut flags = vec![0; lines];
+        flags[rng.below(lines)] = 1;
+        return flags;
     }
-}
-
-/// Flags, of which there are at times fewer than rows.
-pub fn flags(rng: &mut Rng) -> Vec<u8> {
-    (0..rng.below(40))
+    (0..rng.below(lines.max(20) * 2))
         .map(|_| rng.pick(&[0, 0, 1, 2, 255]))
         .collect()
 }

@@ -97,13 +97,15 @@ fn count_byte(case: &Case, compared: &mut Compare) {
 /// All lines one after the other: the next one starts a byte past the line's end. Past the text's end the Rust has none, and ours is empty.
 fn next_line(case: &Case, compared: &mut Compare) {
     let text = &case.bytes;
+    let (mut ours, mut rust) = (Vec::new(), Vec::new());
     let mut start = 0;
     while let Some((_, len, next)) = leaves::next_line(text, start) {
-        let ours = ours::next_line(text, start);
-        compared.same("length", ours, len);
-        compared.same("next line's start", start + ours + 1, next);
+        let line = ours::next_line(text, start);
+        ours.push((line, start.saturating_add(line).saturating_add(1)));
+        rust.push((len, next));
         start = next;
     }
+    compared.same_slices("length and next line's start", &ours, &rust);
     for past in [text.len() + 1, text.len() + 2, usize::MAX] {
         compared.same("length past the end", ours::next_line(text, past), 0);
     }
@@ -116,9 +118,11 @@ fn lanes_of(case: &Case, compared: &mut Compare) {
 
 /// An entry's number, figures and slices beside what the oracle leaves in an equal loan, which is drawn.
 fn entered(call: Call, ours: Enter, case: &Case, compared: &mut Compare) {
-    let mut rng = Rng::new(case.seed);
-    let flags = random::flags(&mut rng);
-    let loan = random::loan(&mut rng, call, case.bytes.len(), case.lanes);
+    let loan = random::loan(&mut Rng::new(case.seed), call, case);
+    let flags = match call {
+        Call::ProcessTimingRows => random::flags(case),
+        _ => Vec::new(),
+    };
     entered_with(call, ours, case, &flags, loan, compared);
 }
 
@@ -134,7 +138,7 @@ fn entered_with(
     let mut want = left.clone();
     let number = ours(&case.bytes, case.lanes, flags, &mut left);
     let rust = enter(call, &case.bytes, case.lanes, flags, &mut want);
-    compared.same("number", number, rust);
+    compared.number(case.lanes, number, rust);
     compared.same_slices("figures", &left.figures, &want.figures);
     for number in refusals(call) {
         match number {

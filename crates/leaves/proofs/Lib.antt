@@ -1,2 +1,2 @@
--- Laws for the leaves' tests.
-pub mod Tests
+-- Laws of the tests that an export makes before it asks its leaf.
+pub mod Taken

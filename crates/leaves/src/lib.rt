@@ -1,5 +1,5 @@
-// Leaves exported to Rust for the differential runs. Each is called with anything: what its leaf requires is tested first, and where that
-// fails a number is returned that no leaf answers.
+// Leaves exported to Rust, for the differential run alone. Each says its answer for every input, and what it leaves in what it is lent: where
+// the input is none that the leaf takes, a number that the leaf never answers, and nothing is written. The definitions are in specs/Answers.
 mod beat;
 mod cell;
 mod line;

@@ -1,77 +1,86 @@
-// Minimising of a measure's rows in place. The largest number is returned where the rows do not stand in the text or the lanes are not 1 to 10.
+// Minimising of a measure's rows in place. The largest number is returned where the rows do not stand in the text.
 ghost use mathlib.Core.Path.{_≡_};
-ghost use mathlib.Core.Bool.{true};
-ghost use Prim.Native.Nat.{_+_, _*_, _≤_, _<_};
+ghost use Rattle.definitions.specs.Lanes.{lanesOf};
+ghost use Rattle.definitions.specs.Reduction.{allZero};
+ghost use Rattle.leaves.specs.Answers.{rowsStand, strideNumber, blocksStand, compactedNumber, compactedText};
 
 #[no_mangle]
-pub extern "C" fn leaves_is_all_zero(row: &[u8]) -> bool {
+pub extern "C" fn leaves_is_all_zero(row: &[u8]) -> bool
+    ensures { λ r. ⌜ r ≡ allZero (now (row .entry)) ⌝ }
+{
     measures::is_all_zero(row)
 }
 
 #[no_mangle]
-pub extern "C" fn leaves_lanes_of(lanes: usize) -> usize {
+pub extern "C" fn leaves_lanes_of(lanes: usize) -> usize
+    ensures { λ r. ⌜ r ≡ lanesOf lanes ⌝ }
+{
     measures::lanes_of(lanes)
 }
 
-// Whether so many rows of `width` bytes stand in `len` bytes from `start` on.
-fn has_rows(len: usize, start: usize, rows: usize, width: usize) -> bool
-    ensures { λ r. ⌜ (r ≡ true → (0 < width) × (start + rows * width ≤ len)) ⌝ }
+// Whether so many rows of `lanes` bytes stand `width` bytes apart in `len` bytes from `start` on.
+fn rows_stand(len: usize, start: usize, rows: usize, width: usize, lanes: usize) -> bool
+    ensures { λ r. ⌜ r ≡ rowsStand len start rows width lanes ⌝ }
 {
-    if width == 0 {
+    if lanes == 0 {
+        return false;
+    }
+    if width < lanes {
         return false;
     }
     if len < start {
         return false;
     }
-    if (len - start) / width < rows {
-        return false;
-    }
-    true
+    rows <= (len - start) / width
 }
 
-// Rows back to back.
+// 2 to the power that `measure_reduce_shift` finds. A `width` of `lanes` is for rows back to back, one more for rows with a byte 10 after each.
 #[no_mangle]
-pub extern "C" fn leaves_measure_reduce_shift(
+pub extern "C" fn leaves_stride(
     text: &[u8],
     start: usize,
     rows: usize,
+    width: usize,
     lanes: usize,
-) -> usize {
-    if has_rows(text.len(), start, rows, lanes) {
-        return measures::measure_reduce_shift(text, start, rows, lanes, lanes);
+) -> usize
+    ensures { λ r. ⌜ r ≡ strideNumber (now (text .entry)) start rows width lanes ⌝ }
+{
+    if rows_stand(text.len(), start, rows, width, lanes) {
+        return 1 << measures::measure_reduce_shift(text, start, rows, width, lanes);
     }
     0xffff_ffff_ffff_ffff
 }
 
-#[no_mangle]
-pub extern "C" fn leaves_reduce_rows(
-    text: &mut [u8],
-    start: usize,
-    rows: usize,
-    lanes: usize,
-) -> usize {
-    if has_rows(text.len(), start, rows, lanes) {
-        return measures::reduce_rows(text, start, rows, lanes);
+// Whether so many blocks of `width` bytes stand there, and 2 to the power `shift` divides their number, which is not 0.
+fn blocks_stand(len: usize, start: usize, rows: usize, shift: usize, width: usize) -> bool
+    ensures { λ r. ⌜ r ≡ blocksStand len start rows shift width ⌝ }
+{
+    if rows == 0 {
+        return false;
     }
-    0xffff_ffff_ffff_ffff
+    if 63 < shift {
+        return false;
+    }
+    if rows % (1usize << shift) != 0 {
+        return false;
+    }
+    rows_stand(len, start, rows, width, width)
 }
 
-// Rows with a byte 10 after each.
+// How many rows stay, moved together.
 #[no_mangle]
-pub extern "C" fn leaves_reduce_output_measure(
+pub extern "C" fn leaves_compact_output_rows(
     text: &mut [u8],
     start: usize,
     rows: usize,
-    lanes: usize,
-) -> usize {
-    if lanes == 0 {
-        return 0xffff_ffff_ffff_ffff;
-    }
-    if 10 < lanes {
-        return 0xffff_ffff_ffff_ffff;
-    }
-    if has_rows(text.len(), start, rows, lanes + 1) {
-        return measures::reduce_output_measure(text, start, rows, lanes);
+    shift: usize,
+    width: usize,
+) -> usize
+    ensures { λ r. ⌜ r ≡ compactedNumber (now (text .entry)) start rows shift width ⌝ }
+    ensures { λ _. ⌜ now (text .exit) ≡ compactedText (now (text .entry)) start rows shift width ⌝ }
+{
+    if blocks_stand(text.len(), start, rows, shift, width) {
+        return measures::compact_output_rows(text, start, rows, shift, width);
     }
     0xffff_ffff_ffff_ffff
 }

@@ -1,0 +1,2 @@
+-- What each export answers and leaves, for every input.
+pub mod Answers
