@@ -8,44 +8,19 @@ use oracle::entry;
 
 const HEADER: &str = include_str!("../../include/padcheck.h");
 
+/// The crate's root, which names its files, and those files.
+const LEAVES_ROOT: &str = include_str!("../../crates/leaves/src/lib.rt");
 const LEAVES: [&str; 4] = [
-    include_str!("../../crates/leaves/src/line.rt"),
-    include_str!("../../crates/leaves/src/cell.rt"),
-    include_str!("../../crates/leaves/src/measure.rt"),
     include_str!("../../crates/leaves/src/beat.rt"),
+    include_str!("../../crates/leaves/src/cell.rt"),
+    include_str!("../../crates/leaves/src/line.rt"),
+    include_str!("../../crates/leaves/src/measure.rt"),
 ];
 
 /// Prints what is missing; returns how many things are.
 pub fn missing(checks: &[&Check], kinds: &Kinds) -> u64 {
-    let mut missing = Vec::new();
-    for entry in names(HEADER, "\nuint32_t padcheck_") {
-        let Some(numbers) = numbers(entry) else {
-            missing.push(format!(
-                "the entry {entry} is in the header and not known here"
-            ));
-            continue;
-        };
-        let answers = answers(checks, entry);
-        for (counts, lanes) in answers.iter().zip(LANE_COUNTS) {
-            for &number in numbers
-                .iter()
-                .filter(|&&number| counts[number as usize] == 0)
-            {
-                missing.push(format!("{entry} never returned {number} at {lanes} lanes"));
-            }
-        }
-    }
-    for leaf in LEAVES
-        .iter()
-        .flat_map(|source| names(source, "extern \"C\" fn leaves_"))
-    {
-        if !checks
-            .iter()
-            .any(|check| check.name() == leaf && check.comparisons() > 0)
-        {
-            missing.push(format!("the leaf {leaf} was never compared"));
-        }
-    }
+    let mut missing = missing_answers(checks);
+    missing.extend(missing_leaves(checks));
     for (kind, lanes) in kinds.missing() {
         missing.push(format!("no text of this kind at {lanes} lanes: {kind}"));
     }
@@ -53,6 +28,52 @@ pub fn missing(checks: &[&Check], kinds: &Kinds) -> u64 {
         println!("failed: {line}");
     }
     missing.len() as u64
+}
+
+/// The numbers of each entry that it never returned. The entries are those of the header, and all that the oracle has are among them.
+fn missing_answers(checks: &[&Check]) -> Vec<String> {
+    let mut missing = Vec::new();
+    let entries: Vec<&str> = names(HEADER, "\nuint32_t padcheck_").collect();
+    for call in CALLS {
+        if !entries.contains(&call.name()) {
+            missing.push(format!("{} is not in the header", call.name()));
+        }
+    }
+    for entry in entries {
+        let Some(numbers) = numbers(entry) else {
+            missing.push(format!("{entry} is in the header and not known here"));
+            continue;
+        };
+        for (counts, lanes) in answers(checks, entry).iter().zip(LANE_COUNTS) {
+            for number in &numbers {
+                if counts[*number as usize] == 0 {
+                    missing.push(format!("{entry} never returned {number} at {lanes} lanes"));
+                }
+            }
+        }
+    }
+    missing
+}
+
+/// The exports of `leaves` that no check compared.
+fn missing_leaves(checks: &[&Check]) -> Vec<String> {
+    let mut missing = Vec::new();
+    if LEAVES_ROOT.matches("\nmod ").count() != LEAVES.len() {
+        missing.push(String::from("a file of the leaves is not known here"));
+    }
+    for source in LEAVES {
+        let mut leaves = names(source, "\npub extern \"C\" fn leaves_").peekable();
+        if leaves.peek().is_none() {
+            missing.push(String::from("a file of the leaves has no export"));
+        }
+        for leaf in leaves {
+            let mut alike = checks.iter().filter(|check| check.name() == leaf);
+            if !alike.any(|check| check.comparisons() > 0) {
+                missing.push(format!("the leaf {leaf} was never compared"));
+            }
+        }
+    }
+    missing
 }
 
 /// The names in a source that stand between a prefix and an opening parenthesis.
