@@ -10,7 +10,7 @@ pub const LANES: [usize; 4] = [4, 5, 8, 10];
 const PACK: (u64, usize) = (2000, 20_000);
 
 /// A text, or charts one after the other.
-#[derive(Clone, Copy, PartialEq, Eq)]
+#[derive(Clone, Copy, PartialEq, Eq, PartialOrd, Ord)]
 pub enum Text {
     Long,
     Sparse,
@@ -40,7 +40,7 @@ impl Text {
 }
 
 /// What ends a line.
-#[derive(Clone, Copy, PartialEq, Eq)]
+#[derive(Clone, Copy, PartialEq, Eq, PartialOrd, Ord)]
 pub enum Lines {
     Lf,
     Crlf,

@@ -1,4 +1,4 @@
-//! What an entry is lent.
+//! What an entry is lent, and how many bytes that is.
 
 use oracle::calls::Call;
 use oracle::entry::{Lengths, Loan, refusals};
@@ -25,4 +25,14 @@ pub fn lent(call: Call, len: usize, lanes: usize) -> Loan {
         loan.spacing = Vec::new();
     }
     loan
+}
+
+/// Bytes of all slices of a loan.
+pub fn bytes(loan: &Loan) -> usize {
+    size_of_val(&loan.text[..])
+        + size_of_val(&loan.densities[..])
+        + size_of_val(&loan.spacing[..])
+        + size_of_val(&loan.beats[..])
+        + size_of_val(&loan.work[..])
+        + size_of_val(&loan.notes[..])
 }

@@ -11,7 +11,7 @@ mod options;
 mod report;
 mod ways;
 
-use loads::{Lines, Load};
+use loads::{Lines, Load, Text};
 use options::{HELP, Options};
 use oracle::calls::Call;
 use report::Cell;
@@ -26,6 +26,10 @@ fn main() -> ExitCode {
         }
         Ok(Some(options)) if options.once => {
             once::run();
+            Ok(())
+        }
+        Ok(Some(options)) if options.memory => {
+            report::print_memory(&options.calls, &options.lanes);
             Ok(())
         }
         Ok(Some(options)) if options.growth => growth(&options),
@@ -48,38 +52,16 @@ fn table(options: &Options) -> Result<(), String> {
         for &text in &options.texts {
             for &lanes in &options.lanes {
                 eprintln!("{} {} {lanes} lanes", text.name(), lines.name());
-                let load = Load::new(text, lines, lanes);
-                for &call in &options.calls {
-                    compare(call, &load)?;
-                    for &way in &options.ways {
-                        if way.calls().any(|known| known == call) {
-                            let times = timed(way, call, &load, 1, options);
-                            let [ours, rust, zeros] = times;
-                            cells.push(Cell {
-                                way,
-                                call,
-                                text,
-                                lines,
-                                lanes,
-                                bytes: load.bytes(),
-                                ours,
-                                rust,
-                                zeros: (way == Way::Entry).then_some(zeros),
-                            });
-                        }
-                    }
-                }
+                cells.extend(cells_of(text, lines, lanes, options)?);
             }
         }
     }
-    // The order of the tables: way, text, line ends, call.
-    let place = |cell: &Cell| {
-        let way = Way::ALL.iter().position(|way| *way == cell.way);
-        let lines = Lines::ALL.iter().position(|lines| *lines == cell.lines);
-        let text = loads::Text::ALL.iter().position(|text| *text == cell.text);
+    cells.sort_by_key(|cell| {
+        let Cell {
+            way, text, lines, ..
+        } = *cell;
         (way, text, lines, cell.call as usize, cell.lanes)
-    };
-    cells.sort_by_key(place);
+    });
     report::print_worst(&cells);
     if options.speeds {
         report::print_speeds(cells.iter());
@@ -87,6 +69,37 @@ fn table(options: &Options) -> Result<(), String> {
     report::print_ranges(&cells, &options.lanes);
     report::print_ratios(&cells, &options.lanes);
     Ok(())
+}
+
+/// The cells of one load.
+fn cells_of(
+    text: Text,
+    lines: Lines,
+    lanes: usize,
+    options: &Options,
+) -> Result<Vec<Cell>, String> {
+    let load = Load::new(text, lines, lanes);
+    let mut cells = Vec::new();
+    for &call in &options.calls {
+        compare(call, &load)?;
+        for &way in options.ways.iter().filter(|way| way.makes(call)) {
+            let parts: [Part; 3] = [Pair::run_ours, Pair::run_rust, Pair::run_zeros];
+            let pair = Pair::new(way, call, &load, 1);
+            let [ours, rust, zeros] = timed(pair, &load, parts, options);
+            cells.push(Cell {
+                way,
+                call,
+                text,
+                lines,
+                lanes,
+                bytes: load.bytes(),
+                ours,
+                rust,
+                zeros: (way == Way::Entry).then_some(zeros),
+            });
+        }
+    }
+    Ok(cells)
 }
 
 /// What a byte costs in texts of 1, 4 and 16 MB, and the largest of the three beside the smallest.
@@ -104,7 +117,8 @@ fn growth(options: &Options) -> Result<(), String> {
                     let count = 16_000_000 / len as u64;
                     let load = Load::of(count, len, chart::Kind::Closed, lines, lanes);
                     compare(call, &load)?;
-                    let [ours, ..] = timed(Way::Entry, call, &load, load.texts.len(), options);
+                    let pair = Pair::new(Way::Entry, call, &load, load.texts.len());
+                    let [ours] = timed(pair, &load, [Pair::run_ours], options);
                     *cost = ours * 1e9 / load.bytes();
                 }
                 let [one, four, sixteen] = costs;
@@ -127,11 +141,17 @@ fn compare(call: Call, load: &Load) -> Result<(), String> {
     Err(format!("{name} and the Rust differ; nothing is timed"))
 }
 
-/// The best times in seconds over all texts of a load, in turns: ours, the Rust's, and for an entry a memset of its zeros.
-fn timed(way: Way, call: Call, load: &Load, sets: usize, options: &Options) -> [f64; 3] {
-    let mut pair = Pair::new(way, call, load, sets);
-    let parts: [fn(&mut Pair, &Load); 3] = [Pair::run_ours, Pair::run_rust, Pair::run_zeros];
-    let mut best = [f64::MAX; 3];
+/// What is timed of a pair.
+type Part = fn(&mut Pair, &Load);
+
+/// The best times in seconds of some parts over all texts of a load, in turns.
+fn timed<const N: usize>(
+    mut pair: Pair,
+    load: &Load,
+    parts: [Part; N],
+    options: &Options,
+) -> [f64; N] {
+    let mut best = [f64::MAX; N];
     for _ in 0..options.runs {
         for (part, best) in parts.iter().zip(&mut best) {
             let start = options.clock.seconds();

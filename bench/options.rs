@@ -6,7 +6,7 @@ use crate::ways::Way;
 use oracle::calls::{CALLS, Call};
 
 pub const HELP: &str = "\
-bench [--runs N] [--thread] [--ways LIST] [--lanes LIST] [--texts LIST] [--lines LIST] [--speeds | --growth | --once] [CALL..]
+bench [--runs N] [--thread] [--ways LIST] [--lanes LIST] [--texts LIST] [--lines LIST] [--speeds | --growth | --memory | --once] [CALL..]
 
 Times each call, or those of the given names, beside the Rust: both in one process, on the same texts, in turns, the best
 of N runs each (N is 7). A ratio is ours to the Rust's: over 1.00 ours is faster. It prints the cells under 1.00,
@@ -29,11 +29,12 @@ A LIST has its words parted by commas, and leaves out the others:
   --speeds also prints the speeds of every cell, of the Rust, and of the memset of an entry's zeros
   --growth prints instead what a byte costs an entry in texts of 1, 4 and 16 MB, as many as make 16 MB, each with slices
            of its own
+  --memory prints instead how many bytes an entry is lent for the longest text
   --once   makes each call once on short texts instead, for callgrind; `instructions.sh` runs it
 
 The entries' answers are compared with the Rust's before anything is timed. Run it on a machine that does nothing else.
 On a busy one take more runs, and --thread, which times by the processor time of the thread and not by the clock on the
-wall. All of it takes some 20 minutes.";
+wall. All of it takes some 20 minutes, on a busy machine twice that.";
 
 pub struct Options {
     pub runs: usize,
@@ -45,6 +46,7 @@ pub struct Options {
     pub calls: Vec<Call>,
     pub speeds: bool,
     pub growth: bool,
+    pub memory: bool,
     pub once: bool,
 }
 
@@ -64,6 +66,7 @@ pub fn parse(mut args: impl Iterator<Item = String>) -> Result<Option<Options>, 
         calls: Vec::new(),
         speeds: false,
         growth: false,
+        memory: false,
         once: false,
     };
     while let Some(arg) = args.next() {
@@ -80,6 +83,7 @@ pub fn parse(mut args: impl Iterator<Item = String>) -> Result<Option<Options>, 
             "--thread" => options.clock = Clock::Thread,
             "--speeds" => options.speeds = true,
             "--growth" => options.growth = true,
+            "--memory" => options.memory = true,
             "--once" => options.once = true,
             _ => options
                 .calls

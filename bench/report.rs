@@ -1,8 +1,10 @@
 //! What was measured, and the tables it is printed in.
 
 use crate::loads::{Lines, Text};
+use crate::loans;
 use crate::ways::Way;
 use oracle::calls::Call;
+use oracle::entry::MAX_LEN;
 
 /// One cell: a call made in one way on one load, the best times in seconds.
 pub struct Cell {
@@ -88,6 +90,29 @@ pub fn print_ranges(cells: &[Cell], lanes: &[usize]) {
         println!();
     }
     println!();
+}
+
+/// How many bytes the slices have that an entry is lent for the longest text.
+pub fn print_memory(calls: &[Call], lanes: &[usize]) {
+    print_head("| call |", lanes);
+    for &call in calls {
+        print!("| `{}` |", call.name());
+        for &lanes in lanes {
+            print!(
+                " {} |",
+                grouped(loans::bytes(&loans::lent(call, MAX_LEN, lanes)))
+            );
+        }
+        println!();
+    }
+}
+
+/// A number with a comma between thousands.
+fn grouped(number: usize) -> String {
+    match number / 1000 {
+        0 => number.to_string(),
+        rest => format!("{},{:03}", grouped(rest), number % 1000),
+    }
 }
 
 /// A table's head, with a column for each lane count.

@@ -3,14 +3,14 @@
 use crate::entries::{ENTRIES, Entry};
 use crate::loads::Load;
 use crate::loans::lent;
-use oracle::calls::{CALLS, Call, MEASURES, NOTE_BYTES, NOTES, ROWS, TEXT_BYTES};
+use oracle::calls::{Call, MEASURES, NOTE_BYTES, NOTES, ROWS, TEXT_BYTES};
 use oracle::entry::{Loan, enter};
 use oracle::timed;
 use padcheck::stats::{self, ChartNotesScratch};
 use std::hint::black_box;
 
 /// How a call is made.
-#[derive(Clone, Copy, PartialEq, Eq)]
+#[derive(Clone, Copy, PartialEq, Eq, PartialOrd, Ord)]
 pub enum Way {
     /// An exported entry over slices that are lent again and again; the Rust with its buffers reused.
     Entry,
@@ -43,12 +43,12 @@ impl Way {
         }
     }
 
-    /// The calls that can be made in this way.
-    pub fn calls(self) -> impl Iterator<Item = Call> {
-        CALLS.into_iter().filter(move |call| match self {
+    /// Whether the call can be made in this way.
+    pub fn makes(self, call: Call) -> bool {
+        match self {
             Self::Entry | Self::Anew => true,
             // The last beat needs no buffer.
-            Self::Buffers | Self::First => *call != Call::ChartLastBeat,
+            Self::Buffers | Self::First => call != Call::ChartLastBeat,
             Self::Stats => matches!(
                 call,
                 Call::MinimizeChartCountRowsNotes
@@ -56,7 +56,7 @@ impl Way {
                     | Call::EquallySpaced
                     | Call::ChartLastBeat
             ),
-        })
+        }
     }
 }
 
@@ -193,7 +193,7 @@ fn with_stats(call: Call, data: &[u8], lanes: usize, scratch: &mut ChartNotesScr
         Call::MeasureDensities => take(stats::measure_densities(data, lanes)),
         Call::EquallySpaced => take(stats::measure_equally_spaced(data, lanes)),
         Call::ChartLastBeat => take(stats::chart_last_beat(data, lanes)),
-        _ => unreachable!("`Way::calls` has no other for this way"),
+        _ => unreachable!("`Way::makes` has no other for this way"),
     }
 }
 
