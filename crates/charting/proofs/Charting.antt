@@ -27,7 +27,7 @@ use Rattle.noting.specs.Noted.{Noted, NoteRoom}
 use Rattle.noting.proofs.Rows.{row-number}
 use Rattle.output.proofs.Writing.{wrote-holds}
 use Rattle.reader.specs.Reading.{ReadAll}
-use Rattle.reader.proofs.Minimising.{Few}
+use Rattle.reader.proofs.Passes.{Few}
 use Rattle.charting.specs.declared.ChartPass.{ChartPass}
 use Rattle.charting.specs.Pass.{Charted, SomeCharted, ChartEnded, ChartAll}
 

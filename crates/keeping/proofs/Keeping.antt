@@ -17,7 +17,7 @@ use Rattle.measures.proofs.Shorter.{reduce-short}
 use Rattle.output.proofs.Writing.{text-done}
 use Rattle.phantoms.specs.Phantoms.{Counts}
 use Rattle.reader.specs.Reading.{ReadAll}
-use Rattle.reader.proofs.Minimising.{Few}
+use Rattle.reader.proofs.Passes.{Few}
 use Rattle.keeping.specs.declared.Pass.{Pass}
 use Rattle.keeping.specs.Pass.{Kept, Ended, KeptAll}
 

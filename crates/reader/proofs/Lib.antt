@@ -4,5 +4,6 @@ pub mod Plain
 pub mod Reading
 pub mod BackReading
 pub mod PlainBack
+pub mod Passes
 pub mod Minimising
 pub mod BackRows

@@ -1,32 +1,21 @@
--- The loop of a scan that fills a slice with the figure f of each measure: the measures that have ended are stored, and S ties the loop's
--- state to the rows of the open one.
+-- What a scan that fills a slice with the figure f of each measure holds: the measures that have ended are stored, and S ties the loop's state to
+-- the rows of the open one.
 use mathlib.Core.Path.{_≡_, refl, ap, sym, _∙_}
-use mathlib.Core.List.{List, [], _∷_, _++_, map}
+use mathlib.Core.List.{List, [], _∷_, _++_, map, map-append}
 use Prim.Native.Nat.{ℕ, _+_, _*_, _≤_, _<_}
-use native.Mathlib.Nat.{le-trans, mul-le-mul-right}
 use native.Mathlib.Numerals.{add-one}
 use native.Mathlib.Omega.{arith}
-use lib.ListN.{length, take, drop, set, length-append, length-set}
+use lib.ListN.{length, take, set, length-append, length-set}
 use lib.Seq.{take-suc-set, length-take-le}
-use Rattle.definitions.specs.Lists.{joined, padded}
+use Rattle.definitions.specs.Lists.{padded}
 use Rattle.definitions.specs.Lines.{Row}
 use Rattle.definitions.specs.Measures.{chart}
-use Rattle.definitions.specs.declared.LineKind.the-variants as line
-use Rattle.reader.specs.declared.ReadLine.{ReadLine}
-use Rattle.reader.specs.Reading.{LineRead, Reading, ReadAll}
-use Rattle.reader.proofs.Reading.{read-start, read-passed, read-comma, read-row, read-semi, read-end}
+use Rattle.reader.proofs.Passes.{Passing, Over, pass-few}
 use Rattle.slices.specs.Zeroed.{zeroed}
 use Rattle.slices.proofs.Zeroed.{zeroed-padded}
 
-map-append : (f : List Row → ℕ) (s t : List (List Row)) → map f (s ++ t) ≡ map f s ++ map f t
-map-append f [] t = refl
-map-append f (a ∷ s) t = ap (λ l. f a ∷ l) (map-append f s t)
-
 module _ (f : List Row → ℕ) where
-  pub record Filling (S : List Row → Type 0) (L : ℕ) (text : List ℕ) (off m : ℕ) (dst : List ℕ) : Type 0 where
-    pub done : List (List Row)
-    pub cur : List Row
-    pub reading : Reading L text off done cur
+  pub record Filling (S : List Row → Type 0) (m : ℕ) (dst : List ℕ) (done : List (List Row)) (cur : List Row) : Type 0 where
     pub count : m ≡ length done
     pub stored : take m dst ≡ map f done
     pub state : S cur
@@ -36,76 +25,36 @@ module _ (f : List Row → ℕ) where
     pub room : 2 * m ≤ length text + 1
     pub figures : map f (chart L text) ≡ take m dst ++ (v ∷ [])
 
-  pub filling-start : (S : List Row → Type 0) (L : ℕ) (text dst : List ℕ) → S [] → Filling S L text 0 0 dst
-  filling-start S L text dst s =
-      record { done = []; cur = []; reading = read-start L text; count = refl; stored = refl; state = s }
+  pub filling-start : (S : List Row → Type 0) (dst : List ℕ) → S [] → Filling S 0 dst [] []
+  filling-start S dst s = record { count = refl; stored = refl; state = s }
 
-  -- there are at most half as many measures, and at most as many rows, as bytes read
-  pub filling-few : (S : List Row → Type 0) (L : ℕ) (text : List ℕ) (off m : ℕ) (dst : List ℕ) → Filling S L text off m dst → 2 * m ≤ off
-  filling-few S L text off m dst x = omega (arith, x .count, x .reading .measures-few)
+  -- measures and the open one's rows are few
+  pub filling-few : (S : List Row → Type 0) (L : ℕ) (text : List ℕ) (off m : ℕ) (dst : List ℕ) → 4 ≤ L → (x : Passing L text off (Filling S m dst))
+      → (2 * m ≤ length text + 1) × (5 * length (x .cur) ≤ length text + 1)
+  filling-few S L text off m dst w x =
+      let few = pass-few L text off w x in
+      (omega (arith, x .held .count, few .measures), omega (arith, few .fifth))
 
-  few : (L a b off : ℕ) → (L + 1) * (a + b) ≤ off → b ≤ off
-  few L a b off h =
-      let less : b ≤ 1 * (a + b) = omega arith in
-      let some : 1 ≤ L + 1 = omega arith in
-      le-trans less (le-trans (mul-le-mul-right (a + b) some) h)
+  module _ (S S' : List Row → Type 0) (m : ℕ) (dst : List ℕ) where
+    pub filling-row : (row : Row) → ((cur : List Row) → S cur → S' (cur ++ (row ∷ [])))
+        → (done : List (List Row)) (cur : List Row) → Filling S m dst done cur → Filling S' m dst done (cur ++ (row ∷ []))
+    filling-row row g done cur x = record { count = x .count; stored = x .stored; state = g cur (x .state) }
 
-  pub filling-rows : (S : List Row → Type 0) (L : ℕ) (text : List ℕ) (off m : ℕ) (dst : List ℕ) (x : Filling S L text off m dst) → length (x .cur) ≤ off
-  filling-rows S L text off m dst x = few L (length (joined (x .done))) (length (x .cur)) off (x .reading .rows-few)
-
-  module _ (S : List Row → Type 0) (L : ℕ) (text : List ℕ) (off m : ℕ) (dst : List ℕ) (r : ReadLine) (h : off ≤ length text) (l : LineRead L text off r) (x : Filling S L text off m dst) where
-    pub filling-passed : r .kind ≡ line.Passed → Filling S L text (r .next) m dst
-    filling-passed e =
+    pub filling-comma : (v : ℕ) → m < length dst → ((cur : List Row) → S cur → v ≡ f cur) → S' []
+        → (done : List (List Row)) (cur : List Row) → Filling S m dst done cur → Filling S' (m + 1) (set dst m v) (done ++ (cur ∷ [])) []
+    filling-comma v w g s done cur x =
         record {
-          done = x .done;
-          cur = x .cur;
-          reading = read-passed L text off r h l (x .done) (x .cur) (x .reading) e;
-          count = x .count;
-          stored = x .stored;
-          state = x .state;
-        }
-
-    pub filling-row : r .kind ≡ line.Row → (S' : List Row → Type 0) → ((cur : List Row) → S cur → S' (cur ++ (take L (drop (r .start) text) ∷ []))) → Filling S' L text (r .next) m dst
-    filling-row e S' g =
-        record {
-          done = x .done;
-          cur = x .cur ++ (take L (drop (r .start) text) ∷ []);
-          reading = read-row L text off r h l (x .done) (x .cur) (x .reading) e;
-          count = x .count;
-          stored = x .stored;
-          state = g (x .cur) (x .state);
-        }
-
-    pub filling-comma : r .kind ≡ line.Comma → (S' : List Row → Type 0) (v : ℕ) → m < length dst → ((cur : List Row) → S cur → v ≡ f cur) → S' [] → Filling S' L text (r .next) (m + 1) (set dst m v)
-    filling-comma e S' v w g s =
-        record {
-          done = x .done ++ (x .cur ∷ []);
-          cur = [];
-          reading = read-comma L text off r h l (x .done) (x .cur) (x .reading) e;
           count = rw length-append (omega (arith, x .count));
-          stored = rw (add-one, take-suc-set dst m v w, x .stored, g (x .cur) (x .state)) (sym (map-append f (x .done) (x .cur ∷ [])));
+          stored = rw (add-one, take-suc-set dst m v w, x .stored, g cur (x .state)) (sym (map-append f done (cur ∷ [])));
           state = s;
         }
 
-    pub filling-semi : r .kind ≡ line.Semi → (v : ℕ) → ((cur : List Row) → S cur → v ≡ f cur) → Filled L text m v dst
-    filling-semi e v g = over (read-semi L text off r h l (x .done) (x .cur) (x .reading) e)
-      where
-        over : ReadAll L text (x .done) (x .cur) → Filled L text m v dst
-        over a =
-            record {
-              room = omega (arith, x .count, a .measures-few);
-              figures = ap (map f) (a .chart-is) ∙ map-append f (x .done) (x .cur ∷ []) ∙ rw (← g (x .cur) (x .state), ← x .stored);
-            }
-
-  pub filling-end : (S : List Row → Type 0) (L : ℕ) (text : List ℕ) (off m : ℕ) (dst : List ℕ) → length text < off → off ≤ length text + 1 → Filling S L text off m dst → (v : ℕ) → ((cur : List Row) → S cur → v ≡ f cur) → Filled L text m v dst
-  filling-end S L text off m dst h w x v g = over (read-end L text off h w (x .done) (x .cur) (x .reading))
-    where
-      over : ReadAll L text (x .done) (x .cur) → Filled L text m v dst
-      over a =
-          record {
-            room = omega (arith, x .count, a .measures-few);
-            figures = ap (map f) (a .chart-is) ∙ map-append f (x .done) (x .cur ∷ []) ∙ rw (← g (x .cur) (x .state), ← x .stored);
-          }
+  pub filling-over : (S : List Row → Type 0) (L : ℕ) (text : List ℕ) (m : ℕ) (dst : List ℕ) (v : ℕ) → ((cur : List Row) → S cur → v ≡ f cur) → Over L text (Filling S m dst) → Filled L text m v dst
+  filling-over S L text m dst v g x =
+      record {
+        room = omega (arith, x .held .count, x .read .measures-few);
+        figures = ap (map f) (x .read .chart-is) ∙ map-append f (x .done) (x .cur ∷ []) ∙ rw (← g (x .cur) (x .held .state), ← x .held .stored);
+      }
 
   -- the last figure stored and zeros after it: the whole slice
   module _ (L : ℕ) (text : List ℕ) (m v : ℕ) (dst : List ℕ) (w : m < length dst) (x : Filled L text m v dst) where

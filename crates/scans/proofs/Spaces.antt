@@ -2,7 +2,7 @@
 use mathlib.Core.Path.{_≡_, refl, ap, sym, _∙_}
 use mathlib.Core.Bool.{true, false}
 use mathlib.Core.List.{List, [], _∷_, _++_, map}
-use Prim.Native.Nat.{ℕ, _+_, _/_, _^_, _≤_, _<_, min}
+use Prim.Native.Nat.{ℕ, _+_, _*_, _/_, _^_, _≤_, _<_, min}
 use native.Mathlib.Omega.{arith}
 use borrow.Author.Tests.{le-leb, eq-eqb, ne-eqb}
 use lib.Dec.{leb}
@@ -56,7 +56,7 @@ module _ (s : MeasureSpacing) (cur : List Row) (x : Spaces s cur) (row : Row) (n
       }
 
 -- its counts are at most that of its rows
-pub spaces-few : (s : MeasureSpacing) (cur : List Row) → Spaces s cur → (b : ℕ) → length cur ≤ b → (s .rows ≤ b) × (s .steps ≤ b)
+pub spaces-few : (s : MeasureSpacing) (cur : List Row) → Spaces s cur → (b : ℕ) → 5 * length cur ≤ b → (5 * s .rows ≤ b) × (5 * s .steps ≤ b)
 spaces-few s cur x b h = (omega (arith, x .rows), omega (arith, x .steps, steps-most cur))
 
 -- without rows it is spaced

@@ -15,7 +15,8 @@ use Rattle.definitions.specs.Beats.{f32, measureBeats, beats as beatsOf}
 use Rattle.definitions.specs.TimingRows.{timingRows, timingHeads}
 use Rattle.definitions.proofs.Lists.{joined-snoc}
 use Rattle.output.proofs.Writing.{rows-done}
-use Rattle.reader.proofs.Minimising.{Over, Few}
+use Rattle.reader.proofs.Passes.{Over, Few}
+use Rattle.reader.proofs.Minimising.{Reduced}
 use Rattle.slices.specs.Zeroed.{zeroed}
 use Rattle.slices.proofs.Zeroed.{zeroed-answer}
 use Rattle.timing.specs.declared.Pass.{Pass}
@@ -42,7 +43,7 @@ pub timed-more : (L : ℕ) (p q : Pass) (text after : List ℕ) (beats : List Fl
 timed-more L p q text after beats row w f done cur = subst (λ n. Timed n p text beats done cur → Timed n q after beats done (cur ++ (row ∷ []))) w (f beats done cur)
 
 -- The last measure ended too: all of the chart's.
-pub timed-all : (L : ℕ) (p q : Pass) (data-text text after : List ℕ) (beats beats₁ : List Float) → Over L data-text (Timed L p text beats)
+pub timed-all : (L : ℕ) (p q : Pass) (data-text text after : List ℕ) (beats beats₁ : List Float) → Over L data-text (Reduced (Timed L p text beats))
     → ((done : List (List Row)) (cur : List Row) → Timed L p text beats done cur → Timed L q after beats₁ (done ++ (reduce cur ∷ [])) [])
     → q .out ≤ length after → q .kept ≤ length beats₁ → TimedAll L data-text q after beats₁
 unfolding timingRows timingHeads minimised measureBeats beatsOf

@@ -1,32 +1,34 @@
 -- `scans::scan_last` meets its contract. The loop's invariant: what is kept is what counts of the lines read.
 use Prim.Native.Nat.{_≤_, _-_, _+_}
-use mathlib.Core.Path.{ap}
 use mathlib.Core.Logic.{⊎-elim}
-use native.Mathlib.Nat.{add-sub-cancel-left}
 use native.Mathlib.Omega.{arith}
 use borrow.Author.Needs.{needs}
-use lib.ListN.{length, take, drop, length-take}
+use lib.ListN.{length}
 use denote.Ref.{now}
 use Rattle.objects.proofs.Scan.{low-more}
-use Rattle.scans.proofs.Looking.{Looking, Looked, Few, looking-start, looking-few, looked-few, looking-passed, looking-comma, looking-row, looking-semi, looking-end, looked-last}
+use Rattle.reader.proofs.Passes.{Passing, Over, RowPart, row-part, pass-start, pass-few, over-few, pass-passed, pass-comma, pass-row, pass-semi, pass-end}
+use Rattle.objects.specs.LastKept.{LastKept}
+use Rattle.scans.proofs.Looking.{Small, looking-few, looked-last}
 use Rattle.scans.proofs.last.scan_last.Statement.{statement}
 use Rattle.scans.proofs.last.scan_last.Tie as tie
 
 abbrev Inv-loop : tie.InvT-loop
-Inv-loop «data» lanes width off₀ s₀ off s = (off ≤ length «data» + 1) × (Looking s lanes «data» off)
+Inv-loop «data» lanes width off₀ s₀ off s = Passing lanes «data» off (LastKept s)
 
 abbrev μ-loop : tie.MeasureT-loop
 μ-loop «data» lanes width off₀ s₀ off s = length «data» + 1 - off
 
 -- what is counted is few
-few : (c : tie.At-loop Inv-loop μ-loop) → Few (c .loop .s) (c .loop .off)
-few c = looking-few _ _ _ _ (c .before .before .before .before .pre .1) (c .loop .inv .1)
+few : (c : tie.At-loop Inv-loop μ-loop) → Small (c .loop .s) (length (now (c .before .before .before .before .args .«data»)) + 1)
+few c =
+    let x = c .loop .inv in
+    looking-few _ _ _ _ _ (pass-few _ _ _ (c .before .before .before .before .pre .1) x) (x .held)
 
 -- a row's bytes stand in the text
-row-room : (c : tie.After-enum-told4 Inv-loop μ-loop) →
-    let r = c .before .before .read-line .result in
-    r .start + c .before .before .before .before .before .before .before .before .args .lanes + 1 ≤ r .next
-row-room c = c .before .before .read-line .ensures .room (c .enum-told4 .given .1) .1
+row : (c : tie.After-enum-told4 Inv-loop μ-loop) →
+    let a = c .before .before .before .before .before .before .before .before .args in
+    RowPart (a .lanes) (now (a .«data»)) (c .before .before .read-line .result)
+row c = row-part _ _ _ _ (c .before .before .read-line .ensures) (c .enum-told4 .given .1)
 
 line-width-requires : tie.Need-line-width-requires Inv-loop μ-loop
 line-width-requires c κs = search needs
@@ -35,7 +37,7 @@ no-last-requires : tie.Need-no-last-requires Inv-loop μ-loop
 no-last-requires c κs = search needs
 
 loop-holds : tie.Need-loop-holds Inv-loop μ-loop
-loop-holds c = (omega arith, looking-start _ _ _ (c .no-last .ensures))
+loop-holds c = pass-start _ _ (c .no-last .ensures)
 
 read-line-requires : tie.Need-read-line-requires Inv-loop μ-loop
 read-line-requires c κs = search needs
@@ -58,69 +60,58 @@ enum-told-4 : tie.Need-enum-told-4 Inv-loop μ-loop
 enum-told-4 c = search needs
 
 add-end : tie.Need-add-end Inv-loop μ-loop
-add-end c = omega (arith, row-room c, c .before .before .read-line .ensures .within)
+add-end c = omega (arith, row c .within)
 
 sub-last-row : tie.Need-sub-last-row Inv-loop μ-loop
 sub-last-row c = omega arith
 
 part-last-row-start : tie.Need-part-last-row-start Inv-loop μ-loop
-part-last-row-start c = omega (arith, row-room c, c .before .before .read-line .ensures .within)
+part-last-row-start c = omega (arith, row c .within)
 
 part-last-row-end : tie.Need-part-last-row-end Inv-loop μ-loop
-part-last-row-end c = omega (arith, row-room c, c .before .before .read-line .ensures .within)
+part-last-row-end c = omega (arith, row c .within)
 
 last-row-requires : tie.Need-last-row-requires Inv-loop μ-loop
 last-row-requires c κs =
     let at = c .before .before .before .before .before in
+    let s = at .before .before .before .before in
     let w = few at in
-    (rw length-take (omega arith), omega (arith, w .rows), low-more (at .loop .off) 4294967294 (at .loop .s .depths) (omega arith) (w .low))
+    (omega (arith, row (c .before) .wide, s .pre .2), omega (arith, w .rows, s .pre .0), low-more (length (now (s .args .«data»)) + 1) 4294967294 (at .loop .s .depths) (omega (arith, s .pre .0)) (w .low))
 
 loop-less : tie.Need-loop-less Inv-loop μ-loop
 loop-less c = omega (arith, c .before .before .read-line .ensures .next)
 
 loop-again : tie.Need-loop-again Inv-loop μ-loop
 loop-again c =
-    let a = c .before .before in
-    (a .read-line .ensures .within, looking-passed _ _ _ _ _ (a .before .loop-test .taken) (a .read-line .ensures) (a .before .before .loop .inv .1) (c .enum-told .given .1))
+    let l = c .before .before in
+    pass-passed _ _ _ _ (l .before .loop-test .taken) (l .read-line .ensures) (l .before .before .loop .inv) (c .enum-told .given .1)
 
 loop-less-2 : tie.Need-loop-less-2 Inv-loop μ-loop
 loop-less-2 c = omega (arith, c .before .before .before .read-line .ensures .next)
 
 loop-again-2 : tie.Need-loop-again-2 Inv-loop μ-loop
 loop-again-2 c =
-    let a = c .before .before .before in (
-      a .read-line .ensures .within,
-      looking-comma _ _ _ _ _ (a .before .loop-test .taken) (a .read-line .ensures) (a .before .before .loop .inv .1) (c .before .enum-told2 .given .1) _ (c .last-measure .ensures),
-    )
+    let l = c .before .before .before in
+    pass-comma _ _ _ _ (l .before .loop-test .taken) (l .read-line .ensures) (l .before .before .loop .inv) (c .before .enum-told2 .given .1) (c .last-measure .ensures)
 
 loop-less-3 : tie.Need-loop-less-3 Inv-loop μ-loop
 loop-less-3 c = omega (arith, c .before .before .before .before .read-line .ensures .next)
 
 loop-again-3 : tie.Need-loop-again-3 Inv-loop μ-loop
 loop-again-3 c =
-    let a = c .before .before .before .before in
-    let at = a .read-line .result .start in
-    let args = a .before .before .before .before .before .before .args in (
-      a .read-line .ensures .within,
-      looking-row _ _ _ _ _ (a .before .loop-test .taken) (a .read-line .ensures) (a .before .before .loop .inv .1) (c .before .before .enum-told4 .given .1)
-          _ _ (ap (λ n. take n (drop at (now (args .«data»)))) (add-sub-cancel-left at (args .lanes))) (c .last-row .ensures),
-    )
+    let l = c .before .before .before .before in
+    pass-row _ _ _ _ (l .before .loop-test .taken) (l .read-line .ensures) (l .before .before .loop .inv) (c .before .before .enum-told4 .given .1) (c .last-row .ensures)
 
 -- at the loop's end one measure is still open
-over : (c : tie.Left-loop Inv-loop μ-loop) →
-    let at = c .before in
-    let a = at .before .before .before .before .args in
-    Looked (at .loop .s) (a .lanes) (now (a .«data»))
+over : (c : tie.Left-loop Inv-loop μ-loop) → let a = c .before .before .before .before .before .args in Over (a .lanes) (now (a .«data»)) (LastKept (c .before .loop .s))
 over c =
-    let at = c .before in
-    ⊎-elim
-    (λ w. looking-end _ _ _ _ (w .left) (at .loop .inv .0) (at .loop .inv .1))
-    (λ w. looking-semi _ _ _ _ _ (w .0 .taken) (w .1 .ensures) (at .loop .inv .1) (w .3 .given .1))
-    (c .loop-test .came)
+    let x = c .before .loop .inv in
+    ⊎-elim (λ w. pass-end _ _ _ (w .left) x) (λ w. pass-semi _ _ _ _ (w .0 .taken) (w .1 .ensures) x (w .3 .given .1)) (c .loop-test .came)
 
 last-measure-requires-2 : tie.Need-last-measure-requires-2 Inv-loop μ-loop
 last-measure-requires-2 c κs =
-    let w = looked-few _ _ _ (c .before .before .before .before .before .pre .1) (over c) in
+    let x = over c in
+    let w = looking-few _ _ _ _ _ (over-few _ _ (c .before .before .before .before .before .pre .1) x) (x .held) in
     (omega (arith, w .rows), omega (arith, w .midx))
 
 returns : tie.Need-returns Inv-loop μ-loop

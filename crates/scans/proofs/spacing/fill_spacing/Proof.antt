@@ -3,39 +3,39 @@
 use Prim.Native.Nat.{_≤_, _<_, _-_, _+_, _*_}
 use mathlib.Core.Path.{_≡_, refl, sym, ap, _∙_}
 use mathlib.Core.Logic.{⊎-elim}
-use native.Mathlib.Nat.{add-sub-cancel-left}
 use native.Mathlib.Omega.{arith}
 use borrow.Author.Needs.{needs}
-use lib.ListN.{length, take, drop, length-set}
+use lib.ListN.{length, length-set}
 use denote.Ref.{now}
 use Rattle.definitions.specs.Lists.{padded}
 use Rattle.scans.specs.Spaces.{Spaces}
-use Rattle.scans.proofs.Filling.{Filling, Filled, filling-start, filling-few, filling-rows, filling-passed, filling-row, filling-comma, filling-semi, filling-end, filled-count, filled-slice}
+use Rattle.reader.proofs.Passes.{Passing, RowPart, row-part, pass-start, pass-passed, pass-comma, pass-row, pass-semi, pass-end}
+use Rattle.scans.proofs.Filling.{Filling, Filled, filling-start, filling-few, filling-row, filling-comma, filling-over, filled-count, filled-slice}
 use Rattle.scans.proofs.Spaces.{spacedIn, spacings-raw, spaces-few}
 use Rattle.scans.proofs.spacing.fill_spacing.Statement.{statement}
 use Rattle.scans.proofs.spacing.fill_spacing.Tie as tie
 
 abbrev Inv-loop : tie.InvT-loop
 Inv-loop «data» lanes spacing₀ width off₀ m₀ s₀ spacing off m s =
-    (off ≤ length «data» + 1) × (length spacing ≡ length spacing₀) × (Filling spacedIn (Spaces s) lanes «data» off m spacing)
+    (length spacing ≡ length spacing₀) × (Passing lanes «data» off (Filling spacedIn (Spaces s) m spacing))
 
 abbrev μ-loop : tie.MeasureT-loop
 μ-loop «data» lanes spacing₀ width off₀ m₀ s₀ spacing off m s = length «data» + 1 - off
 
 -- the measures so far are few enough for the slice, and the open one's rows for their counts
-few : (c : tie.At-loop Inv-loop μ-loop) → 2 * c .loop .m ≤ c .loop .off
-few c = filling-few spacedIn _ _ _ _ _ _ (c .loop .inv .2)
+few : (c : tie.At-loop Inv-loop μ-loop) → let n = length (now (c .before .before .before .before .before .args .«data»)) in (2 * c .loop .m ≤ n + 1) × (5 * length (c .loop .inv .1 .cur) ≤ n + 1)
+few c = filling-few spacedIn _ _ _ _ _ _ (c .before .before .before .before .before .pre .1 .1 .0) (c .loop .inv .1)
 
-rows-few : (c : tie.At-loop Inv-loop μ-loop) → (c .loop .s .rows ≤ c .loop .off) × (c .loop .s .steps ≤ c .loop .off)
+rows-few : (c : tie.At-loop Inv-loop μ-loop) → let n = length (now (c .before .before .before .before .before .args .«data»)) in (5 * c .loop .s .rows ≤ n + 1) × (5 * c .loop .s .steps ≤ n + 1)
 rows-few c =
-    let x = c .loop .inv .2 in
-    spaces-few _ (x .cur) (x .state) _ (filling-rows spacedIn _ _ _ _ _ _ x)
+    let x = c .loop .inv .1 in
+    spaces-few _ (x .cur) (x .held .state) _ (few c .1)
 
 -- a row's bytes stand in the text
-row-room : (c : tie.After-enum-told4 Inv-loop μ-loop) →
-    let r = c .before .before .read-line .result in
-    r .start + c .before .before .before .before .before .before .before .before .before .args .lanes + 1 ≤ r .next
-row-room c = c .before .before .read-line .ensures .room (c .enum-told4 .given .1) .1
+row : (c : tie.After-enum-told4 Inv-loop μ-loop) →
+    let a = c .before .before .before .before .before .before .before .before .before .args in
+    RowPart (a .lanes) (now (a .«data»)) (c .before .before .read-line .result)
+row c = row-part _ _ _ _ (c .before .before .read-line .ensures) (c .enum-told4 .given .1)
 
 line-width-requires : tie.Need-line-width-requires Inv-loop μ-loop
 line-width-requires c κs = search needs
@@ -44,7 +44,7 @@ no-spacing-requires : tie.Need-no-spacing-requires Inv-loop μ-loop
 no-spacing-requires c κs = search needs
 
 loop-holds : tie.Need-loop-holds Inv-loop μ-loop
-loop-holds c = (omega arith, refl, filling-start spacedIn (Spaces _) _ _ _ (c .no-spacing .ensures))
+loop-holds c = (refl, pass-start _ _ (filling-start spacedIn (Spaces _) _ (c .no-spacing .ensures)))
 
 read-line-requires : tie.Need-read-line-requires Inv-loop μ-loop
 read-line-requires c κs = search needs
@@ -59,10 +59,10 @@ is-spaced-requires : tie.Need-is-spaced-requires Inv-loop μ-loop
 is-spaced-requires c κs = omega (arith, rows-few (c .before .before .before .before) .0)
 
 slice-write-spacing : tie.Need-slice-write-spacing Inv-loop μ-loop
-slice-write-spacing c = omega (arith, few (c .before .before .before .before .before))
+slice-write-spacing c = omega (arith, few (c .before .before .before .before .before) .0)
 
 add-m : tie.Need-add-m Inv-loop μ-loop
-add-m c = omega (arith, few (c .before .before .before .before .before))
+add-m c = omega (arith, few (c .before .before .before .before .before) .0)
 
 no-spacing-requires-2 : tie.Need-no-spacing-requires-2 Inv-loop μ-loop
 no-spacing-requires-2 c κs = search needs
@@ -74,16 +74,16 @@ enum-told-4 : tie.Need-enum-told-4 Inv-loop μ-loop
 enum-told-4 c = search needs
 
 add-end : tie.Need-add-end Inv-loop μ-loop
-add-end c = omega (arith, row-room c, c .before .before .read-line .ensures .within)
+add-end c = omega (arith, row c .within)
 
 sub-spacing-row : tie.Need-sub-spacing-row Inv-loop μ-loop
 sub-spacing-row c = omega arith
 
 part-spacing-row-start : tie.Need-part-spacing-row-start Inv-loop μ-loop
-part-spacing-row-start c = omega (arith, row-room c, c .before .before .read-line .ensures .within)
+part-spacing-row-start c = omega (arith, row c .within)
 
 part-spacing-row-end : tie.Need-part-spacing-row-end Inv-loop μ-loop
-part-spacing-row-end c = omega (arith, row-room c, c .before .before .read-line .ensures .within)
+part-spacing-row-end c = omega (arith, row c .within)
 
 spacing-row-requires : tie.Need-spacing-row-requires Inv-loop μ-loop
 spacing-row-requires c κs =
@@ -95,11 +95,9 @@ loop-less c = omega (arith, c .before .before .read-line .ensures .next)
 
 loop-again : tie.Need-loop-again Inv-loop μ-loop
 loop-again c =
-    let a = c .before .before in (
-      a .read-line .ensures .within,
-      omega arith,
-      filling-passed spacedIn _ _ _ _ _ _ _ (a .before .loop-test .taken) (a .read-line .ensures) (a .before .before .loop .inv .2) (c .enum-told .given .1),
-    )
+    let l = c .before .before in
+    let at = l .before .before in
+    (at .loop .inv .0, pass-passed _ _ _ _ (l .before .loop-test .taken) (l .read-line .ensures) (at .loop .inv .1) (c .enum-told .given .1))
 
 loop-less-2 : tie.Need-loop-less-2 Inv-loop μ-loop
 loop-less-2 c = omega (arith, c .before .before .before .before .read-line .ensures .next)
@@ -107,14 +105,13 @@ loop-less-2 c = omega (arith, c .before .before .before .before .read-line .ensu
 loop-again-2 : tie.Need-loop-again-2 Inv-loop μ-loop
 loop-again-2 c =
     let k = c .before in
-    let a = k .before .before .before in
-    let at = a .before .before in
+    let l = k .before .before .before in
+    let at = l .before .before in
     let s = at .before .before .before .before .before in
-    let room : at .loop .m < length (at .loop .spacing) = omega (arith, few at, at .loop .inv .1, a .before .loop-test .taken, s .pre .1 .0) in (
-      a .read-line .ensures .within,
-      simp length-set (at .loop .inv .1),
-      filling-comma spacedIn _ _ _ _ _ _ _ (a .before .loop-test .taken) (a .read-line .ensures) (at .loop .inv .2) (k .before .enum-told2 .given .1)
-          (Spaces _) _ room (k .is-spaced .ensures) (c .no-spacing2 .ensures),
+    let room : at .loop .m < length (at .loop .spacing) = omega (arith, few at .0, at .loop .inv .0, s .pre .1 .0) in (
+      simp length-set (at .loop .inv .0),
+      pass-comma _ _ _ _ (l .before .loop-test .taken) (l .read-line .ensures) (at .loop .inv .1) (k .before .enum-told2 .given .1)
+          (filling-comma spacedIn (Spaces _) (Spaces _) _ _ _ room (k .is-spaced .ensures) (c .no-spacing2 .ensures)),
     )
 
 loop-less-3 : tie.Need-loop-less-3 Inv-loop μ-loop
@@ -122,14 +119,11 @@ loop-less-3 c = omega (arith, c .before .before .before .before .read-line .ensu
 
 loop-again-3 : tie.Need-loop-again-3 Inv-loop μ-loop
 loop-again-3 c =
-    let a = c .before .before .before .before in
-    let text = now (a .before .before .before .before .before .before .before .args .«data») in
-    let part : take (a .read-line .result .start + a .before .before .before .before .before .before .before .args .lanes - a .read-line .result .start) (drop (a .read-line .result .start) text) ≡ take (a .before .before .before .before .before .before .before .args .lanes) (drop (a .read-line .result .start) text) =
-    ap (λ n. take n (drop (a .read-line .result .start) text)) (add-sub-cancel-left (a .read-line .result .start) (a .before .before .before .before .before .before .before .args .lanes)) in (
-      a .read-line .ensures .within,
-      omega arith,
-      filling-row spacedIn _ _ _ _ _ _ _ (a .before .loop-test .taken) (a .read-line .ensures) (a .before .before .loop .inv .2) (c .before .before .enum-told4 .given .1)
-          (Spaces _) (λ cur x. rw part at (c .spacing-row .ensures cur x)),
+    let l = c .before .before .before .before in
+    let at = l .before .before in (
+      at .loop .inv .0,
+      pass-row _ _ _ _ (l .before .loop-test .taken) (l .read-line .ensures) (at .loop .inv .1) (c .before .before .enum-told4 .given .1)
+          (filling-row spacedIn (Spaces _) (Spaces _) _ _ _ (c .spacing-row .ensures)),
     )
 
 is-spaced-requires-2 : tie.Need-is-spaced-requires-2 Inv-loop μ-loop
@@ -141,11 +135,9 @@ last : (c : tie.After-is-spaced2 Inv-loop μ-loop) →
     let a = at .before .before .before .before .before .args in
     Filled spacedIn (a .lanes) (now (a .«data»)) (at .loop .m) (c .is-spaced2 .result) (at .loop .spacing)
 last c =
-    let at = c .before .before in
-    ⊎-elim
-    (λ w. filling-end spacedIn _ _ _ _ _ _ (w .left) (at .loop .inv .0) (at .loop .inv .2) _ (c .is-spaced2 .ensures))
-    (λ w. filling-semi spacedIn _ _ _ _ _ _ _ (w .0 .taken) (w .1 .ensures) (at .loop .inv .2) (w .3 .given .1) _ (c .is-spaced2 .ensures))
-    (c .before .loop-test .came)
+    let x = c .before .before .loop .inv .1 in
+    filling-over spacedIn (Spaces _) _ _ _ _ _ (c .is-spaced2 .ensures)
+    (⊎-elim (λ w. pass-end _ _ _ (w .left) x) (λ w. pass-semi _ _ _ _ (w .0 .taken) (w .1 .ensures) x (w .3 .given .1)) (c .before .loop-test .came))
 
 slice-write-spacing-2 : tie.Need-slice-write-spacing-2 Inv-loop μ-loop
 slice-write-spacing-2 c = omega (arith, last c .room)
@@ -171,7 +163,7 @@ returns c =
     let room : at .loop .m < length (at .loop .spacing) = omega (arith, last out .room) in
     let raw = spacings-raw (a .lanes) (now (a .«data»)) in (
       filled-count spacedIn _ _ _ _ _ room (last out) ∙ sym (ap length raw),
-      z .zero-u8 .ensures ∙ filled-slice spacedIn _ _ _ _ _ room (last out) _ (at .loop .inv .1) ∙ ap (padded 0 (length (now (a .spacing)))) (sym raw),
+      z .zero-u8 .ensures ∙ filled-slice spacedIn _ _ _ _ _ room (last out) _ (at .loop .inv .0) ∙ ap (padded 0 (length (now (a .spacing)))) (sym raw),
     )
 
 pub fill-spacing-spec : {M : Type 1} → statement M
