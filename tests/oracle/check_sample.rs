@@ -4,6 +4,7 @@
 use crate::Checks;
 use crate::reader::Reader;
 use oracle::calls::{self, Answer, CALLS};
+use oracle::deciding::TEXTS;
 use oracle::entry::{Lengths, Loan, enter};
 use oracle::vectors::{MARK, SEED, Sample, answer_slices, file, samples};
 use std::fs;
@@ -21,6 +22,7 @@ pub fn run(checks: &mut Checks, copies: &[String]) {
     checks.same("another seed gives another sample", other == written, false);
     layout(checks, &written, &samples);
     coverage(checks, &samples);
+    described(checks, &samples);
     agreement(checks, &samples);
 }
 
@@ -67,6 +69,20 @@ fn answer_holds(record: &mut Reader, answer: &Answer) -> bool {
     let lengths: Vec<usize> = (0..4).map(|_| record.length()).collect();
     let slices: Vec<&[u8]> = lengths.into_iter().map(|n| record.bytes(n)).collect();
     figures == answer.figures && slices == answer_slices(answer)
+}
+
+/// The description has the number of texts, and each text that one rule decides under its number and name.
+fn described(checks: &mut Checks, samples: &[Sample]) {
+    let readme = fs::read_to_string("tests/vectors/README.md").unwrap_or_default();
+    let count = format!(" for {} texts,", samples.len());
+    checks.same("texts in README.md", readme.contains(&count), true);
+    let first = samples.len() - TEXTS.len();
+    for (i, text) in TEXTS.iter().enumerate() {
+        let line = format!("\n| {} | {} | ", first + i, text.name);
+        let what = format!("`{}` in README.md", text.name);
+        checks.same(&what, readme.contains(&line), true);
+        checks.same(&what, samples[first + i].text == text.bytes(), true);
+    }
 }
 
 fn coverage(checks: &mut Checks, samples: &[Sample]) {

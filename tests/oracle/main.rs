@@ -2,6 +2,7 @@
 
 use oracle::calls::{self, Answer, CALLS, Call, TALLY_NAMES};
 use oracle::card::{card, note_lines};
+use oracle::deciding::TEXTS;
 use oracle::vectors;
 use std::env;
 use std::fs;
@@ -12,6 +13,7 @@ const HELP: &str = "\
 oracle figures LANES [FLAGSFILE] < TEXT   every figure of the eight chart calls
 oracle card < TEXT                        what the program card prints
 oracle vectors SEED OUT                   write the sample of answers to the file OUT
+oracle differing SAMPLE                   the texts of a sample that are answered differently
 oracle --help                             this help
 
 LANES is the lane number as a caller has it. FLAGSFILE holds one byte a row,
@@ -37,6 +39,7 @@ fn run(args: &[&str]) -> Result<(), String> {
         ["figures", lanes, flags] => figures(lanes, &read_file(flags)?),
         ["card"] => print(card(&read_text()?).as_bytes()),
         ["vectors", seed, out] => write_vectors(seed, out),
+        ["differing", sample] => print_differing(sample),
         [] => Err(String::from("what to do? `oracle --help` lists it")),
         _ => Err(format!(
             "not understood: `{}`; see `oracle --help`",
@@ -151,6 +154,18 @@ fn listed<T: ToString>(name: &str, values: &[T]) -> String {
 fn write_vectors(seed: &str, out: &str) -> Result<(), String> {
     let bytes = vectors::file(parse_number("SEED", seed)?);
     fs::write(out, bytes).map_err(|error| format!("cannot write `{out}`: {error}"))
+}
+
+/// The number of each text, and its name where one rule decides it.
+fn print_differing(sample: &str) -> Result<(), String> {
+    let file = read_file(sample)?;
+    let first = vectors::samples(vectors::SEED).len() - TEXTS.len();
+    let line = |number: usize| {
+        let name = number.checked_sub(first).map(|i| TEXTS[i].name);
+        format!("{number} {}\n", name.unwrap_or("-"))
+    };
+    let lines: String = vectors::differing(&file).into_iter().map(line).collect();
+    print(lines.as_bytes())
 }
 
 fn parse_number(name: &str, text: &str) -> Result<u64, String> {

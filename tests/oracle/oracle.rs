@@ -5,9 +5,10 @@
 //! - `timed`: the calls with nothing around them.
 //! - `entry`: the calls as they are met from outside, with the refusals of document 01.
 //! - `card`: what the program card prints.
-//! - `vectors`: the stored sample of answers.
+//! - `vectors`: the stored sample of answers; `deciding`: those of its texts that one rule decides.
 
 pub mod card;
+pub mod deciding;
 pub mod entry;
 #[allow(dead_code, unused_imports)]
 mod stats;

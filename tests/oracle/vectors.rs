@@ -2,6 +2,7 @@
 //! The layout is described in `tests/vectors/README.md`.
 
 use crate::calls::{Answer, CALLS, answer, lanes_in_force};
+use crate::deciding::{Deciding, TEXTS};
 use crate::leaves::parse_minimized_rows;
 
 /// The seed of the stored sample.
@@ -102,6 +103,38 @@ fn push_length(out: &mut Vec<u8>, bytes: &[u8]) {
     out.extend((bytes.len() as u32).to_le_bytes());
 }
 
+/// The numbers of the texts of a file whose answers are not those that are stored.
+#[must_use]
+pub fn differing(file: &[u8]) -> Vec<usize> {
+    let mut rest = &file[24..];
+    let mut numbers = Vec::new();
+    for index in 0.. {
+        let Some(head) = rest.first_chunk::<4>() else {
+            break;
+        };
+        let (stored, after) = rest.split_at(u32::from_le_bytes(*head) as usize);
+        if record(&question(stored)) != stored {
+            numbers.push(index);
+        }
+        rest = after;
+    }
+    numbers
+}
+
+/// The question of a stored record.
+fn question(record: &[u8]) -> Sample {
+    let number = |at: usize, bytes: usize| {
+        let low_first = record[at..at + bytes].iter().rev();
+        low_first.fold(0, |number, &byte| number << 8 | usize::from(byte))
+    };
+    let (text, flags) = (number(4, 4), number(8, 4));
+    Sample {
+        lanes: number(12, 8),
+        text: record[20..20 + text].to_vec(),
+        flags: record[20 + text..20 + text + flags].to_vec(),
+    }
+}
+
 // The samples
 
 #[must_use]
@@ -122,7 +155,17 @@ pub fn samples(seed: u64) -> Vec<Sample> {
         let lines = numbers.below(1800 / (lanes + 1)) + 1;
         texts.push((lanes, mixed_text(&mut numbers, lanes, lines)));
     }
-    with_flags(&mut numbers, texts)
+    let mut samples = with_flags(&mut numbers, texts);
+    samples.extend(TEXTS.iter().map(deciding));
+    samples
+}
+
+fn deciding(text: &Deciding) -> Sample {
+    Sample {
+        lanes: text.lanes,
+        text: text.bytes(),
+        flags: text.flags.to_vec(),
+    }
 }
 
 /// Flags by turns: none, too few, as many as rows, too many, as many and all 0.
