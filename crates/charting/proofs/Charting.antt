@@ -2,7 +2,7 @@
 use mathlib.Core.Path.{_≡_, ap, sym, _∙_, subst}
 use mathlib.Core.List.{List, [], _∷_, _++_, map, map-append, append-nil}
 use Prim.Native.Nat.{ℕ, _+_, _*_, _≤_, _<_}
-use native.Mathlib.Nat.{le-trans, le-of-eq, mul-le-mul-right, mul-comm, mul-assoc, add-zero}
+use native.Mathlib.Nat.{le-trans, le-of-eq, mul-le-mul-right, mul-comm, mul-assoc}
 use native.Mathlib.Omega.{arith}
 use lib.Ieee.{Float}
 use lib.ListN.{length, take, drop, length-append}
@@ -19,12 +19,10 @@ use Rattle.keeping.specs.Pass.{Kept, Closed, Ended}
 use Rattle.keeping.proofs.Keeping.{kept-all}
 use Rattle.measures.specs.Rows.{rowsAt, Holds}
 use Rattle.measures.proofs.Forms.{in-text, form-rows}
-use Rattle.measures.proofs.Shorter.{reduce-short}
 use Rattle.walking.specs.Walked.{Walking}
 use Rattle.measures.proofs.RowsAt.{rows-length}
 use Rattle.noting.specs.declared.Noting.{Noting}
-use Rattle.noting.specs.Noted.{Noted, NoteRoom}
-use Rattle.noting.proofs.Rows.{row-number}
+use Rattle.noting.specs.Noted.{Noted}
 use Rattle.output.proofs.Writing.{wrote-holds}
 use Rattle.reader.specs.Reading.{ReadAll}
 use Rattle.reader.proofs.Passes.{Few}
@@ -49,9 +47,6 @@ module _ (L : ℕ) (p : ChartPass) (text densities : List ℕ) (beats : List Flo
         let k = ends done cur (x .kept) .closed in
         omega (arith, rows-before, k .rows, k .counted .rows, length-append (joined done) (reduce cur))
 
-    pub rows-less : e .rows ≤ p .pass .rows
-    rows-less = omega (arith, ends done cur (x .kept) .closed .rows, reduce-short cur, x .kept .open-is .rows)
-
     pub charted-end : p .pass .counting .rows ≤ length beats → (beats₁ : List Float)
         → beats₁ ≡ (take (p .pass .counting .rows) beats ++ rowBeats (e .midx) (e .rows) 0 (e .rows)) ++ drop (p .pass .counting .rows + e .rows) beats
         → (s : Noting) (slots₁ : List ℕ)
@@ -66,31 +61,6 @@ module _ (L : ℕ) (p : ChartPass) (text densities : List ℕ) (beats : List Flo
               ap (λ n. take n beats₁) (sym rows-after)
               ∙ ap (take (p .pass .counting .rows + e .rows)) eb
               ∙ beats-appended beats (p .pass .counting .rows) (e .midx) (e .rows) done (reduce cur) room (x .beats-are) (k .closed .midx) (k .closed .rows);
-        }
-
-  module _ (s : SomeCharted L p text densities beats slots) where
-    pub some-less : e .rows ≤ p .pass .rows
-    some-less = rows-less (s .done) (s .cur) (s .charted)
-
-    -- the minimised rows stand within the text
-    pub rows-within : e .out ≤ length after → e .start + e .rows * (L + 1) ≤ length after
-    rows-within h =
-        let k = ends (s .done) (s .cur) (s .charted .kept) .closed in
-        omega (arith, h, k .wrote .size, ap (λ n. n * (L + 1)) (k .rows))
-
-    pub room-noted : p .pass .counting .rows + p .pass .rows < 4194304 → (p .pass .counting .rows + p .pass .rows) * L * 10 ≤ length slots → p .pass .midx ≤ 8388608
-        → NoteRoom L (p .noting) (e .rows) slots
-    room-noted few room least =
-        let x = s .charted .noted in
-        let here : p .noting .scratch .«row_index» ≡ p .pass .counting .rows =
-        row-number L (p .noting) slots (s .done) [] x ∙ add-zero (length (joined (s .done))) ∙ sym (rows-before (s .done) (s .cur) (s .charted)) in
-        let less : p .noting .scratch .«row_index» + e .rows ≤ p .pass .counting .rows + p .pass .rows = omega (arith, here, some-less) in
-        record {
-          done = s .done;
-          noted = x;
-          few = omega (arith, less, few);
-          room = le-trans (mul-le-mul-right 10 (mul-le-mul-right L less)) room;
-          midx = omega (arith, x .last .midx, s .charted .kept .open-is .midx, least);
         }
 
 -- there is room for the walk over the minimised rows

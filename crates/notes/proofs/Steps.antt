@@ -1,13 +1,13 @@
 -- What one cell does to the drafts that lie in the record slice, by its effect.
-use mathlib.Core.Path.{_≡_, refl, ap, _∙_}
-use mathlib.Core.Bool.{Bool, true, false, cond, _||_, not}
+use mathlib.Core.Path.{_≡_, refl, ap, sym, _∙_, subst}
+use mathlib.Core.Bool.{Bool, true, false, cond, _||_, not, or-false}
 use mathlib.Core.List.{List, map, append-nil}
 use mathlib.Core.Option.{some, none}
 use Prim.Native.Nat.{ℕ, _+_, _*_, _≤_, _<_}
 use native.Mathlib.Omega.{arith}
 use lib.Dec.{eqb}
 use lib.ListN.{length, getD, set, length-set}
-use lib.Seq.{sets, length-sets, getD-set-same, getD-set-other, set-set}
+use lib.Seq.{sets, length-sets, getD-set-same, getD-set-other, set-set, set-getD}
 use borrow.Author.Tests.{eqb-true}
 use Rattle.definitions.specs.Cells.{cellOf}
 use Rattle.definitions.specs.Notes.{effectAt}
@@ -16,16 +16,16 @@ use Rattle.definitions.specs.declared.Kind.{Kind}
 use Rattle.definitions.specs.declared.NoteEffect.{NoteEffect}
 use Rattle.definitions.specs.declared.NoteEffect.the-variants.{Nothing, Closes, Single, Head}
 use Rattle.notes.specs.Drafts.{State, plain, waiting, Draft, settle, stepCell}
-use Rattle.notes.specs.Writer.{noHead, dropped, draftBytes, FineState, Fine, Holds, Stored, Ready, HeadThere, HoldEnded, NotePushed, endHead, invalidAfter, Stepped, OtherHeads}
+use Rattle.notes.specs.Writer.{noHead, dropped, draftBytes, FineState, Fine, Holds, Stored, Ready, HeadThere, HoldEnded, NotePushed, CellReady, CellNoted, afterCell, endAt, noteAt, endHead, invalidAfter, Stepped, OtherHeads}
 use Rattle.notes.specs.declared.ChartNotesScratch.{ChartNotesScratch}
 use Rattle.notes.proofs.Stored.{stored-settle, stored-plain, stored-head}
 
-length-endHead : (l hs : List ℕ) (c t : ℕ) → length (endHead l hs c t) ≡ length l
-length-endHead l hs c t = go (eqb (getD hs c 0) noHead)
+pub length-endAt : (l : List ℕ) (h t : ℕ) → length (endAt l h t) ≡ length l
+length-endAt l h t = go (eqb h noHead)
   where
-    go : (b : Bool) → length (cond b l (sets l (getD hs c 0 * 10 + 4) (bytes4 t))) ≡ length l
+    go : (b : Bool) → length (cond b l (sets l (h * 10 + 4) (bytes4 t))) ≡ length l
     go true = refl
-    go false = length-sets l (getD hs c 0 * 10 + 4) (bytes4 t)
+    go false = length-sets l (h * 10 + 4) (bytes4 t)
 
 -- where the flag stays false there was no head to drop
 drop-keeps : (b t : Bool) → (b || not t) ≡ false → (b ≡ false) × (t ≡ true)
@@ -76,7 +76,7 @@ module _ (l : List ℕ) (s : ChartNotesScratch) (c : ℕ) (R : Ready l s c) (l�
   }
 
   room : s .count * 10 + 10 ≤ length (endHead l (s .«hold_heads») c dropped)
-  room = rw length-endHead (R .room)
+  room = rw length-endAt (R .room)
 
   draft : Kind → State → Draft
   draft k t = record { row = s .«row_index»; column = c; kind = k; state = t }
@@ -108,3 +108,47 @@ module _ (l : List ℕ) (s : ChartNotesScratch) (c : ℕ) (R : Ready l s c) (l�
     bound = omega (arith, N .count);
     row = N .row;
   }
+
+-- ---- the same in numbers
+
+pub noted-nothing : (l : List ℕ) (head count row column : ℕ) (x : NoteEffect) → x ≡ Nothing → CellNoted l head count row column x l head count false
+noted-nothing l head count row column x e s eh ec er =
+    record {
+      stored = λ ds S. rw (← eh, ← ec, e, append-nil, or-false, set-getD (s .«hold_heads») column 0) S;
+      bound = omega (arith, ec);
+      row = refl;
+    }
+
+module _ (l : List ℕ) (head count row column : ℕ) (R : CellReady l head count row column) (l′ : List ℕ) where
+  ready : (s : ChartNotesScratch) → getD (s .«hold_heads») column 0 ≡ head → s .count ≡ count → s .«row_index» ≡ row → Ready l s column
+  ready s eh ec er =
+      record {
+        inside = R .inside;
+        low = rw er (R .low);
+        room = rw ec (R .room);
+        few = rw ec (R .few);
+        head = λ ne. rw (eh, ec) (R .there (λ z. ne (eh ∙ z)));
+      }
+
+  pub noted-closes : (x : NoteEffect) → x ≡ Closes → l′ ≡ endAt l head row → CellNoted l head count row column x l′ noHead count false
+  noted-closes x e b s eh ec er =
+      let t = afterCell s column noHead count false in
+      subst (λ (q : ℕ). Stepped l s l′ t 1 (stepCell q column x)) er
+      (step-closes l s column (ready s eh ec er) l′ t x e
+      (record { bytes = rw (eh, er) b; heads = refl; count = sym ec; row = refl; invalid = or-false (s .«has_invalid») }))
+
+  pub noted-single : (x : NoteEffect) (k : Kind) → x ≡ Single k → l′ ≡ noteAt l head count row column k
+      → CellNoted l head count row column x l′ noHead (count + 1) (not (eqb head noHead))
+  noted-single x k e b s eh ec er =
+      let t = afterCell s column noHead (count + 1) (not (eqb head noHead)) in
+      subst (λ (q : ℕ). Stepped l s l′ t 1 (stepCell q column x)) er
+      (step-single l s column (ready s eh ec er) l′ t x k e
+      (record { bytes = rw (eh, ec, er) b; heads = refl; count = rw ec; row = refl; invalid = rw eh }))
+
+  pub noted-head : (x : NoteEffect) (k : Kind) → x ≡ Head k → l′ ≡ noteAt l head count row column k
+      → CellNoted l head count row column x l′ count (count + 1) (not (eqb head noHead))
+  noted-head x k e b s eh ec er =
+      let t = afterCell s column count (count + 1) (not (eqb head noHead)) in
+      subst (λ (q : ℕ). Stepped l s l′ t 1 (stepCell q column x)) er
+      (step-head l s column (ready s eh ec er) l′ t x k e
+      (record { bytes = rw (eh, ec, er) b; heads = rw ec; count = rw ec; row = refl; invalid = rw eh }))

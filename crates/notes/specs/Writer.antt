@@ -14,7 +14,8 @@ use Rattle.definitions.specs.Records.{fields, bytes4, kindNumber, records}
 use Rattle.definitions.specs.declared.Kind.{Kind}
 use Rattle.definitions.specs.declared.Kind.the-variants.{Tap}
 use Rattle.taps.specs.Taps.{FreeTaps, FreeAre}
-use Rattle.notes.specs.Drafts.{State, plain, waiting, ended, Draft, kept}
+use Rattle.definitions.specs.declared.NoteEffect.{NoteEffect}
+use Rattle.notes.specs.Drafts.{State, plain, waiting, ended, Draft, kept, stepCell}
 use Rattle.notes.specs.declared.ChartNotesScratch.{ChartNotesScratch}
 
 -- in place of an open head, and the tail fields of records without a tail and of dropped ones
@@ -93,9 +94,13 @@ pub record HeadThere (l : List ℕ) (s : ChartNotesScratch) (column : ℕ) : Typ
   pub inside : column < 10
   pub head : (getD (s .«hold_heads») column 0 ≡ noHead → ⊥) → getD (s .«hold_heads») column 0 * 10 + 10 ≤ length l
 
--- the slice after the open head of a column, if there is one, has ended so
+-- the slice after the note of a head, if there is one, has ended so
+abbrev pub endAt : List ℕ → ℕ → ℕ → List ℕ
+endAt l head tail = cond (eqb head noHead) l (sets l (head * 10 + 4) (bytes4 tail))
+
+-- the same of the open head of a column
 abbrev pub endHead : List ℕ → List ℕ → ℕ → ℕ → List ℕ
-endHead l hs column tail = cond (eqb (getD hs column 0) noHead) l (sets l (getD hs column 0 * 10 + 4) (bytes4 tail))
+endHead l hs column tail = endAt l (getD hs column 0) tail
 
 -- whether a record was dropped, after the open head of a column was
 abbrev pub invalidAfter : ChartNotesScratch → ℕ → Bool
@@ -124,11 +129,34 @@ pub record NotePushed (l : List ℕ) (s : ChartNotesScratch) (column : ℕ) (kin
   pub row : r .«row_index» ≡ s .«row_index»
   pub invalid : r .«has_invalid» ≡ invalidAfter s column
 
+-- what a cell asks, in numbers: the open head of its column, the number of records, its row and its column
+pub record CellReady (l : List ℕ) (head count row column : ℕ) : Type 0 where
+  pub inside : column < 10
+  pub low : row < 16777216
+  pub room : count * 10 + 10 ≤ length l
+  pub few : count + 1 < noHead
+  pub there : (head ≡ noHead → ⊥) → head < count
+
+-- the slice after the head's note was dropped and a record without a tail added
+abbrev pub noteAt : List ℕ → ℕ → ℕ → ℕ → ℕ → Kind → List ℕ
+noteAt l head count row column kind = sets (endAt l head dropped) (count * 10) (fields row noTail column (kindNumber kind))
+
 -- whatever drafts were there, f of them are, and at most m more
 pub record Stepped (l : List ℕ) (s : ChartNotesScratch) (l′ : List ℕ) (r : ChartNotesScratch) (m : ℕ) (f : List Draft → List Draft) : Type 0 where
   pub stored : (ds : List Draft) → Holds l s ds → Holds l′ r (f ds)
   pub bound : r .count ≤ s .count + m
   pub row : r .«row_index» ≡ s .«row_index»
+
+-- the struct after a cell of a column, with the column's open head and the number of records, and whether the cell dropped a record
+abbrev pub afterCell : ChartNotesScratch → ℕ → ℕ → ℕ → Bool → ChartNotesScratch
+afterCell s column head count invalid =
+    record { «hold_heads» = set (s .«hold_heads») column head; count = count; «row_index» = s .«row_index»; «has_invalid» = s .«has_invalid» || invalid }
+
+-- the same in numbers: whatever struct has them, and whatever drafts were there, is one step on
+abbrev pub CellNoted : List ℕ → ℕ → ℕ → ℕ → ℕ → NoteEffect → List ℕ → ℕ → ℕ → Bool → Type 0
+CellNoted l head count row column x l′ head′ count′ invalid =
+    (s : ChartNotesScratch) → getD (s .«hold_heads») column 0 ≡ head → s .count ≡ count → s .«row_index» ≡ row
+    → Stepped l s l′ (afterCell s column head′ count′ invalid) 1 (stepCell row column x)
 
 -- the open heads of other columns stay
 pub record OtherHeads (hs : List ℕ) (column : ℕ) (ks : List ℕ) : Type 0 where

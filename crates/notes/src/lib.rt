@@ -19,7 +19,7 @@ ghost use Rattle.definitions.specs.Lists.{oneIf};
 ghost use Rattle.definitions.specs.Lines.{Row};
 ghost use Rattle.definitions.specs.Records.{fields};
 ghost use Rattle.notes.specs.Drafts.{stepCell};
-ghost use Rattle.notes.specs.Writer.{HeadThere, HoldEnded, invalidAfter, Ready, NotePushed, noHead, noTail, FreeHeads, dropped, Stepped, OtherHeads, Closed, Compacted, SomeDrafts};
+ghost use Rattle.notes.specs.Writer.{HeadThere, HoldEnded, invalidAfter, Ready, NotePushed, noHead, noTail, FreeHeads, dropped, endAt, noteAt, CellReady, Stepped, OtherHeads, Closed, Compacted, SomeDrafts};
 ghost use Rattle.taps.specs.Taps.{tapLineMask};
 ghost use Rattle.taps.specs.declared.Taps.the-variants.{Mask};
 ghost use Rattle.notes.specs.Masks.{LowOf};
@@ -52,6 +52,32 @@ pub fn begin() -> ChartNotesScratch
     }
 }
 
+// Ends a head's note with this tail; `NO_HEAD` has none.
+pub fn end_note(head: u32, tail: u32, notes: &mut [u8])
+    requires { ⌜ ((head ≡ noHead → ⊥) → head * 10 + 10 ≤ length (now notes)) ⌝ }
+    ensures { λ _. ⌜ now (notes .exit) ≡ endAt (now (notes .entry)) head tail ⌝ }
+{
+    if head != NO_HEAD {
+        put_word(notes, (head as usize) * 10 + 4, tail);
+    }
+}
+
+// Drops a head's note and adds a record without a tail.
+pub fn put_note(head: u32, count: usize, row: u32, column: usize, kind: Kind, notes: &mut [u8])
+    requires { ⌜ CellReady (now notes) head count row column ⌝ }
+    ensures { λ _. ⌜ now (notes .exit) ≡ noteAt (now (notes .entry)) head count row column kind ⌝ }
+{
+    end_note(head, INVALID_NOTE_ROW, notes);
+    put_record(
+        notes,
+        count,
+        row,
+        NO_TAIL_ROW,
+        column as u8,
+        kind_number(kind),
+    );
+}
+
 // Ends the open head of a column, if there is one, with this tail.
 fn end_hold(s: ChartNotesScratch, column: usize, tail: u32, notes: &mut [u8]) -> ChartNotesScratch
     requires { ⌜ HeadThere (now notes) s column ⌝ }
@@ -59,10 +85,8 @@ fn end_hold(s: ChartNotesScratch, column: usize, tail: u32, notes: &mut [u8]) ->
 {
     let mut out = s;
     let head = out.hold_heads[column];
-    if head != NO_HEAD {
-        put_word(notes, (head as usize) * 10 + 4, tail);
-        out.hold_heads[column] = NO_HEAD;
-    }
+    end_note(head, tail, notes);
+    out.hold_heads[column] = NO_HEAD;
     out
 }
 

@@ -1,6 +1,6 @@
 -- What is noted of minimised rows of at most L bytes: `done` are the measures that have ended, `cur` the rows of the open one, l is the note slice.
 use mathlib.Core.List.{List, [], _++_}
-use Prim.Native.Nat.{ℕ, _+_, _*_, _≤_, _<_}
+use Prim.Native.Nat.{ℕ, _≤_, _<_}
 use lib.ListN.{length}
 use Rattle.definitions.specs.Lists.{joined}
 use Rattle.definitions.specs.Lines.{Row}
@@ -28,11 +28,3 @@ pub record RowReady (n : Noting) (row l : List ℕ) : Type 0 where
   pub rows : n .last .rows < 16777216
   pub low : Low 4294967294 (n .last .depths)
   pub free : FreeAre (n .busy) noHead (n .scratch .«hold_heads»)
-
--- there is room for the notes of a measure of so many rows more
-pub record NoteRoom (L : ℕ) (n : Noting) (more : ℕ) (l : List ℕ) : Type 0 where
-  pub done : List (List Row)
-  pub noted : Noted L n l done
-  pub few : n .scratch .«row_index» + more < 4194304
-  pub room : (n .scratch .«row_index» + more) * L * 10 ≤ length l
-  pub midx : n .last .midx ≤ 8388608

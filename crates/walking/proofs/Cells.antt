@@ -8,7 +8,7 @@ use native.Mathlib.Numerals.{add-one}
 use native.Mathlib.Omega.{arith}
 use borrow.Author.Tests.{eqb-true}
 use lib.Dec.{eqb}
-use lib.ListN.{length, getD, set, drop}
+use lib.ListN.{length, getD, set, drop, length-set}
 use lib.Seq.{set-getD, getD-set-same, getD-set-other}
 use Rattle.definitions.specs.Lines.{Row}
 use Rattle.definitions.specs.Cells.{cellOf, isArrow}
@@ -17,23 +17,21 @@ use Rattle.definitions.specs.Objects.{objectAt, isObject, deeper}
 use Rattle.definitions.specs.Notes.{effectAt}
 use Rattle.definitions.specs.Tally.{rowSum}
 use Rattle.definitions.specs.declared.RowSum.{RowSum}
-use Rattle.definitions.specs.declared.NoteEffect.{NoteEffect}
 use Rattle.taps.specs.Taps.{FreeAre}
 use Rattle.phantoms.specs.declared.Phantoms.{Phantoms}
-use Rattle.phantoms.specs.declared.PhantomCell.{PhantomCell}
 use Rattle.phantoms.specs.Phantoms.{depthAt, CellCounted}
 use Rattle.phantoms.proofs.Loop.{Passed, passed-start, passed-next}
-use Rattle.objects.specs.Rows.{CellDone}
-use Rattle.objects.specs.declared.ObjectCell.{ObjectCell}
 use Rattle.objects.proofs.Scan.{Scanned, scan-start, scan-next}
 use Rattle.tallies.specs.Sums.{noSum, addArrow, addCounted, addCell}
 use Rattle.tallies.proofs.Loops.{Summed, summed-start, summed-next, drop-next}
 use Rattle.notes.specs.declared.ChartNotesScratch.{ChartNotesScratch}
-use Rattle.notes.specs.Drafts.{stepCell}
-use Rattle.notes.specs.Writer.{noHead, Stepped, OtherHeads}
+use Rattle.notes.specs.Writer.{noHead, afterCell}
 use Rattle.notes.proofs.Steps.{zero-nothing, step-nothing}
 use Rattle.notes.proofs.Rows.{Midrow, mid-start, mid-step}
+use Rattle.walking.specs.Cells.{ByteWalked}
 use Rattle.walking.specs.Walked.{Marked}
+use Rattle.walking.specs.declared.CellAt.{CellAt}
+use Rattle.walking.specs.declared.WalkCell.{WalkCell}
 use Rattle.walking.proofs.Marks.{free-marked}
 
 -- From the phantoms p₀, the object depths low₀, the notes s₀ in l₀ and the mask busy₀ on.
@@ -47,11 +45,12 @@ pub record Cells (row : Row) (l₀ : List ℕ) (p₀ : Phantoms) (low₀ : List 
   pub depths : FreeAre busy₀ 0 (p₀ .depths) → FreeAre busy 0 (p .depths)
   pub lows : FreeAre busy₀ 0 low₀ → FreeAre busy 0 low
   pub heads : FreeAre busy₀ noHead (s₀ .«hold_heads») → FreeAre busy noHead (s .«hold_heads»)
+  pub size : length (s .«hold_heads») ≡ 10
 
-pub cells-start : (row : Row) (l : List ℕ) (p : Phantoms) (low : List ℕ) (s : ChartNotesScratch) (busy : ℕ) (sum : RowSum) → length (p .depths) ≡ 10 → length low ≡ 10 → sum ≡ noSum
+pub cells-start : (row : Row) (l : List ℕ) (p : Phantoms) (low : List ℕ) (s : ChartNotesScratch) (busy : ℕ) (sum : RowSum) → length (p .depths) ≡ 10 → length low ≡ 10 → length (s .«hold_heads») ≡ 10 → sum ≡ noSum
     → Cells row l p low s busy l p low false s sum busy 1 0
 unfolding rowSum
-cells-start row l p low s busy sum h k e = record {
+cells-start row l p low s busy sum h k ten e = record {
   passed = passed-start row p h;
   scanned = scan-start row low k;
   mid = mid-start l s row;
@@ -60,7 +59,12 @@ cells-start row l p low s busy sum h k e = record {
   depths = λ f. f;
   lows = λ f. f;
   heads = λ f. f;
+  size = ten;
 }
+
+-- the phantom depth of a cell that was walked
+pub counted-cell : (b : ℕ) (at : CellAt) (l l′ : List ℕ) (r : WalkCell) → ByteWalked b at l l′ r → CellCounted b (at .depth) (r .phantom)
+counted-cell b at l l′ r w = record { depth = w .depth; heads = w .heads; tails = w .tails; met = w .met }
 
 -- ---- a `0`
 
@@ -96,37 +100,39 @@ module _ (row : Row) (l₀ : List ℕ) (p₀ : Phantoms) (low₀ : List ℕ) (s�
     depths = C .depths;
     lows = C .lows;
     heads = C .heads;
+    size = C .size;
   }
 
-  pub cells-next : (t : RowSum) → t ≡ addCell sum i (cellOf (getD row i 0)) (isArrow (cellOf (getD row i 0)))
-      → (q : PhantomCell) → CellCounted (getD row i 0) (depthAt p i) q
-      → (o : ObjectCell) → CellDone (getD row i 0) (getD low i 0) o
-      → (l′ : List ℕ) (r : ChartNotesScratch) (x : NoteEffect) → x ≡ effectAt (getD row i 0) → length l′ ≡ length l
-      → Stepped l s l′ r 1 (stepCell (s .«row_index») i x) → OtherHeads (s .«hold_heads») i (r .«hold_heads»)
+  -- one cell more
+  pub cells-next : (l′ : List ℕ) (r : WalkCell) → length l′ ≡ length l
+      → ByteWalked (getD row i 0) (record { depth = depthAt p i; low = getD low i 0; head = getD (s .«hold_heads») i 0; count = s .count; row = s .«row_index»; column = i }) l l′ r
+      → (t : RowSum) → t ≡ addCell sum i (cellOf (getD row i 0)) (isArrow (cellOf (getD row i 0)))
       → (busy′ : ℕ) (used : Bool) → Marked busy i used busy′
-      → (used ≡ false → (q .depth ≡ 0) × (o .depth ≡ 0) × (getD (r .«hold_heads») i 0 ≡ noHead))
-      → Cells row l₀ p₀ low₀ s₀ busy₀ l′ (record { depths = set (p .depths) i (q .depth); heads = p .heads + q .heads; tails = p .tails + q .tails; met = p .met || q .met })
-      (set low i (o .depth)) (object || o .object) r t busy′ (b * 2) (i + 1)
-  cells-next t et q cq o co l′ r x ex el T others busy′ used M free = record {
-    passed = passed-next row p₀ p q i (C .passed) h m cq;
-    scanned = scan-next row low₀ low object i (C .scanned) (o .object) (o .depth) h m (co .object) (co .depth);
-    mid = mid-step l₀ s₀ l s i row (C .mid) l′ r x ex h el T;
+      → (used ≡ false → (r .phantom .depth ≡ 0) × (r .object .depth ≡ 0) × (r .head ≡ noHead))
+      → Cells row l₀ p₀ low₀ s₀ busy₀ l′ (record { depths = set (p .depths) i (r .phantom .depth); heads = p .heads + r .phantom .heads; tails = p .tails + r .phantom .tails; met = p .met || r .phantom .met })
+      (set low i (r .object .depth)) (object || r .object .object) (afterCell s i (r .head) (r .count) (r .invalid)) t busy′ (b * 2) (i + 1)
+  cells-next l′ r el w t et busy′ used M free = record {
+    passed = passed-next row p₀ p (r .phantom) i (C .passed) h m (counted-cell _ _ l l′ r w);
+    scanned = scan-next row low₀ low object i (C .scanned) (r .object .object) (r .object .depth) h m (w .object) (w .low);
+    mid = mid-step l₀ s₀ l s i row (C .mid) l′ (afterCell s i (r .head) (r .count) (r .invalid)) (effectAt (getD row i 0)) refl h el (w .noted s refl refl refl);
     summed = summed-next isArrow (drop i row) (drop (i + 1) row) (rowSum row) sum t i (getD row i 0) (drop-next row i h) et (C .summed);
     power = next-power;
-    depths = λ f. free-marked busy i busy′ used 0 (p .depths) (set (p .depths) i (q .depth)) M
-        (λ u. getD-set-same (p .depths) i (q .depth) 0 (omega (arith, C .passed .size)) ∙ free u .0) (λ c ne. getD-set-other (p .depths) i c (q .depth) 0 ne) (C .depths f);
-    lows = λ f. free-marked busy i busy′ used 0 low (set low i (o .depth)) M
-        (λ u. getD-set-same low i (o .depth) 0 (omega (arith, C .scanned .size)) ∙ free u .1) (λ c ne. getD-set-other low i c (o .depth) 0 ne) (C .lows f);
-    heads = λ f. free-marked busy i busy′ used noHead (s .«hold_heads») (r .«hold_heads») M (λ u. free u .2) (λ c ne. others .others c ne) (C .heads f);
+    depths = λ f. free-marked busy i busy′ used 0 (p .depths) (set (p .depths) i (r .phantom .depth)) M
+        (λ u. getD-set-same (p .depths) i (r .phantom .depth) 0 (omega (arith, C .passed .size)) ∙ free u .0) (λ c ne. getD-set-other (p .depths) i c (r .phantom .depth) 0 ne) (C .depths f);
+    lows = λ f. free-marked busy i busy′ used 0 low (set low i (r .object .depth)) M
+        (λ u. getD-set-same low i (r .object .depth) 0 (omega (arith, C .scanned .size)) ∙ free u .1) (λ c ne. getD-set-other low i c (r .object .depth) 0 ne) (C .lows f);
+    heads = λ f. free-marked busy i busy′ used noHead (s .«hold_heads») (set (s .«hold_heads») i (r .head)) M
+        (λ u. getD-set-same (s .«hold_heads») i (r .head) 0 (omega (arith, C .size)) ∙ free u .2) (λ c ne. getD-set-other (s .«hold_heads») i c (r .head) 0 ne) (C .heads f);
+    size = length-set (s .«hold_heads») i (r .head) ∙ C .size;
   }
 
 -- the same, of values that are the same
-pub cells-moved : {row : Row} {l₀ : List ℕ} {p₀ : Phantoms} {low₀ : List ℕ} {s₀ : ChartNotesScratch} {busy₀ b i : ℕ} {l l′ ds ds′ : List ℕ} {hs hs′ ts ts′ : ℕ} {met met′ : Bool}
-    {low low′ : List ℕ} {object object′ : Bool} {s s′ : ChartNotesScratch} {sum sum′ : RowSum} {busy busy′ : ℕ}
-    → l′ ≡ l → ds′ ≡ ds → hs′ ≡ hs → ts′ ≡ ts → met′ ≡ met → low′ ≡ low → object′ ≡ object → s′ ≡ s → sum′ ≡ sum → busy′ ≡ busy
-    → Cells row l₀ p₀ low₀ s₀ busy₀ l (record { depths = ds; heads = hs; tails = ts; met = met }) low object s sum busy b i
-    → Cells row l₀ p₀ low₀ s₀ busy₀ l′ (record { depths = ds′; heads = hs′; tails = ts′; met = met′ }) low′ object′ s′ sum′ busy′ b i
-cells-moved e₀ e₁ e₂ e₃ e₄ e₅ e₆ e₇ e₈ e₉ C = rw (e₀, e₁, e₂, e₃, e₄, e₅, e₆, e₇, e₈, e₉) C
+pub cells-moved : {row : Row} {l₀ : List ℕ} {p₀ : Phantoms} {low₀ : List ℕ} {s₀ : ChartNotesScratch} {busy₀ b i j : ℕ} {l l′ ds ds′ : List ℕ} {hs hs′ ts ts′ : ℕ} {met met′ : Bool}
+    {low low′ : List ℕ} {object object′ : Bool} {os os′ : List ℕ} {n n′ : ℕ} {f f′ : Bool} {sum sum′ : RowSum} {busy busy′ : ℕ}
+    → l′ ≡ l → ds′ ≡ ds → hs′ ≡ hs → ts′ ≡ ts → met′ ≡ met → low′ ≡ low → object′ ≡ object → os′ ≡ os → n′ ≡ n → f′ ≡ f → sum′ ≡ sum → busy′ ≡ busy
+    → Cells row l₀ p₀ low₀ s₀ busy₀ l (record { depths = ds; heads = hs; tails = ts; met = met }) low object (record { «hold_heads» = os; count = n; «row_index» = j; «has_invalid» = f }) sum busy b i
+    → Cells row l₀ p₀ low₀ s₀ busy₀ l′ (record { depths = ds′; heads = hs′; tails = ts′; met = met′ }) low′ object′ (record { «hold_heads» = os′; count = n′; «row_index» = j; «has_invalid» = f′ }) sum′ busy′ b i
+cells-moved e₀ e₁ e₂ e₃ e₄ e₅ e₆ e₇ e₈ e₉ e₁₀ e₁₁ C = rw (e₀, e₁, e₂, e₃, e₄, e₅, e₆, e₇, e₈, e₉, e₁₀, e₁₁) C
 
 -- a column that is not used
 pub unused : (a b c n : ℕ) → ((not (eqb a 0) || not (eqb b 0)) || not (eqb c n)) ≡ false → (a ≡ 0) × (b ≡ 0) × (c ≡ n)

@@ -2,3 +2,4 @@
 pub mod Marks
 pub mod Cells
 pub mod Walks
+pub mod Effects

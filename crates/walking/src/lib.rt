@@ -1,8 +1,13 @@
 // A measure's minimised rows gone over once: each row is counted and noted, an ordinary one by its mask, any other by its cells.
+mod cell;
+
 use counting::Counting;
+use notes::ChartNotesScratch;
 use noting::Noting;
 use objects::Depths;
+use objects::ObjectCell;
 use objects::Objects;
+use phantoms::PhantomCell;
 use phantoms::Phantoms;
 use taps::Taps;
 ghost use mathlib.Core.Path.{_≡_};
@@ -29,6 +34,27 @@ pub struct WalkTo {
     pub row: usize,
 }
 
+// Where a cell stands: the phantom depth, the object depth and the open head of its column, the number of records, its row and its column.
+pub struct CellAt {
+    pub depth: u32,
+    pub low: u32,
+    pub head: u32,
+    pub count: usize,
+    pub row: u32,
+    pub column: usize,
+}
+
+// What a cell leaves: its phantom and its object depth, the open head of its column, the number of records, whether it dropped one, and the
+// kind of its note.
+pub struct WalkCell {
+    pub phantom: PhantomCell,
+    pub object: ObjectCell,
+    pub head: u32,
+    pub count: usize,
+    pub invalid: bool,
+    pub kind: u8,
+}
+
 // Columns as a mask, with this one's bit as told.
 fn mark(busy: u32, bit: u32, used: bool) -> u32
     requires { ⌜ bit ≤ 1023 ⌝ }
@@ -52,6 +78,13 @@ fn object_depths(d: Depths) -> [u32; 10]
     d.depths
 }
 
+// The open heads of the columns.
+fn open_heads(s: ChartNotesScratch) -> [u32; 10]
+    ensures { λ r. ⌜ (r ≡ s .«hold_heads») × (length (s .«hold_heads») ≡ 10) ⌝ }
+{
+    s.hold_heads
+}
+
 // One row more, by its cells. Most bytes of a chart are `0`, which changes nothing.
 fn walk_cells(c: Counting, n: Noting, row: &[u8], slots: &mut [u8]) -> Walk
     requires { ⌜ (length (now row) ≤ 10) × (c .rows < 4194304) × Few c × RowReady n (now row) (now slots) ⌝ }
@@ -64,7 +97,10 @@ fn walk_cells(c: Counting, n: Noting, row: &[u8], slots: &mut [u8]) -> Walk
     let mut met = c.phantoms.met;
     let mut low = object_depths(n.last.depths);
     let mut object = false;
-    let mut scratch = n.scratch;
+    let mut open = open_heads(n.scratch);
+    let mut count = n.scratch.count;
+    let mut invalid = n.scratch.has_invalid;
+    let row_index = n.scratch.row_index;
     let mut sum = tallies::no_sum();
     let mut busy = c.busy | n.busy | n.last.busy;
     let mut bit: u32 = 1;
@@ -72,17 +108,28 @@ fn walk_cells(c: Counting, n: Noting, row: &[u8], slots: &mut [u8]) -> Walk
     while i < row.len() {
         let b = row[i];
         if b != b'0' {
-            sum = tallies::sum_cell(sum, i, b);
-            let p = phantoms::phantom_cell(b, depths[i]);
+            let at = CellAt {
+                depth: depths[i],
+                low: low[i],
+                head: open[i],
+                count,
+                row: row_index,
+                column: i,
+            };
+            let w = cell::walk_cell(b, at, slots);
+            let p = w.phantom;
+            let o = w.object;
+            let head = w.head;
             depths[i] = p.depth;
             heads += p.heads;
             tails += p.tails;
             met = met | p.met;
-            let o = objects::object_cell(b, low[i]);
             low[i] = o.depth;
             object = object | o.object;
-            scratch = notes::push_cell(scratch, i, cells::note_effect(b), slots);
-            let head = scratch.hold_heads[i];
+            open[i] = head;
+            count = w.count;
+            invalid = invalid | w.invalid;
+            sum = cell::count_kind(sum, i, w.kind, p.tails);
             busy = mark(
                 busy,
                 bit,
@@ -92,7 +139,12 @@ fn walk_cells(c: Counting, n: Noting, row: &[u8], slots: &mut [u8]) -> Walk
         bit *= 2;
         i += 1;
     }
-    scratch.row_index = scratch.row_index + 1;
+    let scratch = ChartNotesScratch {
+        hold_heads: open,
+        count,
+        row_index: row_index + 1,
+        has_invalid: invalid,
+    };
     let stats = tallies::add_row_lent(c.stats, sum);
     let phantoms = Phantoms {
         depths,
