@@ -6,12 +6,11 @@ use mathlib.Core.List.{List, [], _∷_}
 use Prim.Native.Nat.{ℕ, zero, suc, _+_, _-_, _*_, _/_, _≤_, _<_}
 use native.Mathlib.Decide.{decLt}
 use native.Mathlib.Nat.{add-zero, zero-add, suc-add}
-use native.Mathlib.Numerals.{add-one}
 use native.Mathlib.Omega.{arith}
-use borrow.Author.Tests.{eqb-true, eqb-false, eq-eqb, ne-eqb, le-leb}
+use borrow.Author.Tests.{eqb-false, eq-eqb, ne-eqb, le-leb}
 use lib.Dec.{eqb}
 use lib.ListN.{length, getD, take, drop, length-drop}
-use lib.Seq.{drop-cons, getD-take, getD-drop, length-take-le}
+use lib.Seq.{drop-cons, getD-take, length-take-le}
 use Rattle.definitions.specs.Lists.{among}
 use Rattle.definitions.specs.Lines.{isBlank, trim, isRow, kindOf}
 use Rattle.definitions.specs.declared.LineKind.the-variants as line
@@ -51,10 +50,6 @@ ends-here k s h e = rw (drop-cons s k 0) (simp (eq-eqb (getD s k 0) 10 e))
 -- none of the first L bytes is a newline and the next one is: they are the line
 pub line-just : (L n : ℕ) (s : List ℕ) → L < length s → L ≤ firstIn 10 (take n s) → getD s L 0 ≡ 10 → firstLine s ≡ take L s
 line-just L n s h near e = line-past L n 0 s near (ends-here L s h e) ∙ ap (λ k. take k s) (add-zero L)
-
--- byte k of m bytes at `off`
-pub part-byte : (m off k : ℕ) (text : List ℕ) → k < m → getD (take m (drop off text)) k 0 ≡ getD text (off + k) 0
-part-byte m off k text h = getD-take m (drop off text) k 0 h ∙ getD-drop off text k 0
 
 -- a line that begins with a byte past `/` loses nothing at its front
 bare : (l : List ℕ) → 47 < getD l 0 0 → l ≡ trim l

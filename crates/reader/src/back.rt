@@ -22,21 +22,21 @@ fn is_back_row(line: &[u8], lanes: usize) -> bool
     }
 }
 
-// Whether the line at `off` is a row of just `lanes` bytes: no newline among them and one after them, no `,` or `;` first and no byte 13 last.
-// It may say no of such a row: of one longer than a word always.
-fn is_plain_row(text: &[u8], off: usize, lanes: usize) -> bool
-    requires { ⌜ off + 10 ≤ length (now text) ⌝ }
-    ensures { λ r. ⌜ (r ≡ true → (trim : Bool) → BackRead trim lanes (now (text .entry)) off (plainBack off lanes)) ⌝ }
+// Whether a text that goes on as `part` does begins with a row of just `lanes` bytes: no newline among them and one after them, no `,` or `;`
+// first and no byte 13 last. It may say no of such a row: of one longer than a word always.
+fn is_plain_row(part: &[u8], lanes: usize) -> bool
+    requires { ⌜ 10 ≤ length (now part) ⌝ }
+    ensures { λ r. ⌜ (r ≡ true → (trim : Bool) → BackRead trim lanes (now (part .entry)) 0 (plainBack 0 lanes)) ⌝ }
 {
-    if lines::near_newline(text, off) < lanes {
+    if lines::near_newline(part, 0) < lanes {
         return false;
     }
     if lanes == 0 {
         return false;
     }
-    let first = text[off];
-    let last = text[off + lanes - 1];
-    (first != b',') & (first != b';') & (last != 13) & (text[off + lanes] == 10)
+    let first = part[0];
+    let last = part[lanes - 1];
+    (first != b',') & (first != b';') & (last != 13) & (part[lanes] == 10)
 }
 
 // Any line.
@@ -64,10 +64,11 @@ pub fn back_line(text: &[u8], off: usize, lanes: usize, trim: bool) -> BackLine
     requires { ⌜ off ≤ length (now text) ⌝ }
     ensures { λ r. ⌜ BackRead trim lanes (now (text .entry)) off r ⌝ }
 {
-    if text.len() - off < 10 {
+    let part = &text[off..];
+    if part.len() < 10 {
         return any_back_line(text, off, lanes, trim);
     }
-    if is_plain_row(text, off, lanes) {
+    if is_plain_row(part, lanes) {
         return BackLine {
             row: true,
             next: off + lanes + 1,

@@ -1,9 +1,9 @@
 -- `reader::back::is_plain_row` meets its contract: its tests are what `plain-back` asks for.
 use mathlib.Core.Bool.{not, _&&_, false≢true}
-use Prim.Native.Nat.{_+_, _-_, _≤_}
+use Prim.Native.Nat.{_-_, _≤_}
 use native.Mathlib.Omega.{arith}
 use lib.Dec.{eqb}
-use lib.ListN.{getD, drop}
+use lib.ListN.{getD}
 use denote.Ref.{now}
 use borrow.Author.Needs.{needs}
 use borrow.Author.Tests.{eqb-true, eqb-false, not-true}
@@ -17,7 +17,7 @@ use Rattle.reader.proofs.back.is_plain_row.Tie as tie
 few : (c : tie.Else2) → c .before .before .before .before .args .lanes ≤ 8
 few c =
     let a = c .before .before .before .before .args in
-    omega (arith, place-few 10 8 (drop (a .off) (now (a .text))), c .before .before .near-newline .ensures)
+    omega (arith, place-few 10 8 (now (a .part)), c .before .before .near-newline .ensures)
 
 near-newline-requires : tie.Need-near-newline-requires
 near-newline-requires c κs = search needs
@@ -31,17 +31,11 @@ returns-2 c e = absurd (false≢true e)
 shared-slice-read-first : tie.Need-shared-slice-read-first
 shared-slice-read-first c = search needs
 
-add-last : tie.Need-add-last
-add-last c = omega (arith, few (c .before))
-
 sub-last : tie.Need-sub-last
 sub-last c = search needs
 
 shared-slice-read-last : tie.Need-shared-slice-read-last
 shared-slice-read-last c = omega (arith, few (c .before .before))
-
-add-result : tie.Need-add-result
-add-result c = omega (arith, few (c .before .before))
 
 shared-slice-read-result : tie.Need-shared-slice-read-result
 shared-slice-read-result c = omega (arith, few (c .before .before .before))
@@ -52,19 +46,19 @@ returns-3 c e =
     let near = some .before .before in
     let start = near .before .before in
     let a = start .args in
-    let text = now (a .text) in
-    let first = getD text (a .off) 0 in
+    let part = now (a .part) in
+    let first = getD part 0 0 in
     let comma = eqb first 44 in
     let semi = eqb first 59 in
-    let cr = eqb (getD text (a .off + a .lanes - 1) 0) 13 in
-    let newline = eqb (getD text (a .off + a .lanes) 0) 10 in
+    let cr = eqb (getD part (a .lanes - 1) 0) 13 in
+    let newline = eqb (getD part (a .lanes) 0) 10 in
     let three = and-left (not comma && not semi && not cr) newline e in
     let two = and-left (not comma && not semi) (not cr) three in
-    plain-back (a .lanes) text (a .off) (start .pre) (omega (arith, some .if2 .left)) (omega (arith, near .near-newline .ensures))
+    plain-back (a .lanes) part (start .pre) (omega (arith, some .if2 .left)) (omega (arith, near .near-newline .ensures))
     (eqb-false first 44 (not-true comma (and-left (not comma) (not semi) two)))
     (eqb-false first 59 (not-true semi (and-right (not comma) (not semi) two)))
-    (eqb-false (getD text (a .off + a .lanes - 1) 0) 13 (not-true cr (and-right (not comma && not semi) (not cr) three)))
-    (eqb-true (getD text (a .off + a .lanes) 0) 10 (and-right (not comma && not semi && not cr) newline e))
+    (eqb-false (getD part (a .lanes - 1) 0) 13 (not-true cr (and-right (not comma && not semi) (not cr) three)))
+    (eqb-true (getD part (a .lanes) 0) 10 (and-right (not comma && not semi && not cr) newline e))
 
 pub is-plain-row-spec : {M : Type 1} → statement M
 is-plain-row-spec =
@@ -74,9 +68,7 @@ is-plain-row-spec =
     returns
     returns-2
     shared-slice-read-first
-    add-last
     sub-last
     shared-slice-read-last
-    add-result
     shared-slice-read-result
     returns-3)
