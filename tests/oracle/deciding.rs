@@ -157,9 +157,9 @@ pub const TEXTS: &[Deciding] = &[
         "tally: holding not below 0 in a step, counted anew",
         "3100|2000|0110|3000|",
     ),
-    four("tally: a tail takes off one held", "2200|3000|0110|0300|"),
+    four("tally: a tail takes off one held", "2200|3000|0011|0300|"),
     lanes("tally: five columns", 5, "11111|00001|"),
-    lanes("tally: slow path", 5, "2000M|00100|30000|"),
+    lanes("tally: slow path", 5, "2000M|01100|30000|"),
     // Correction
     four("correction: if there is a head", "3000|100\r|"),
     four("correction: more tails", "2000|3000|3000|100\r|"),
@@ -203,7 +203,7 @@ pub const TEXTS: &[Deciding] = &[
     four("judged: K in three holds", "2220|000K|3330|"),
     four("judged: the tail's row", "2200|3310|"),
     four("judged: after the tail's row", "2200|3300|1000|"),
-    four("judged: a tail alone", "3000|2200|1000|3300|"),
+    four("judged: a tail alone", "3000|2200|0010|3300|"),
     // Flags
     flagged("flags: 0 unjudged", "1000|0100|", &[0, 1]),
     flagged("flags: 2 judged", "1000|0100|", &[2, 255]),

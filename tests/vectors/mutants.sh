@@ -1,6 +1,6 @@
 #!/bin/sh
 # Shows that each rule is decided by the stored text that README.md names for it: each change of mutants.txt goes into a copy of the Rust,
-# and the copy must answer that text differently. Takes some minutes; 'mutants.sh TEXT' runs those of one text. Ends with 'N passed, M failed'.
+# and the copy must answer that text differently. Takes about ten minutes; 'mutants.sh TEXT' runs those of one text. Ends with 'N passed, M failed'.
 set -u
 only=${1-}
 cd "$(dirname "$0")/../.."
