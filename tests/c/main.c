@@ -183,13 +183,10 @@ static void check_records(void)
 int main(int count, char **args)
 {
     if (count != 2) {
-        fprintf(stderr, "usage: check ANSWERS\n       check --header\nANSWERS is the stored sample, "
-                        "tests/vectors/answers.bin; with --header only the header's names are checked.\n");
+        fprintf(stderr, "usage: check ANSWERS\nANSWERS is the stored sample, tests/vectors/answers.bin.\n");
         return 2;
     }
     check_header();
-    if (strcmp(args[1], "--header") == 0)
-        return checks_end() ? 0 : 1;
     check_example();
     check_longest();
     check_records();
