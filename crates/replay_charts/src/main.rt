@@ -8,7 +8,7 @@ use stored::compare::same_bytes;
 use stored::compare::same_figures;
 use stored::compare::same_floats;
 use stored::compare::same_numbers;
-use stored::contents_of;
+use stored::content;
 use stored::lent;
 use stored::next_answer;
 
@@ -21,17 +21,18 @@ fn same_chart(
     s: &[u8],
     at: usize,
 ) -> bool {
-    let p = contents_of(s, at);
-    same_figures(figures, s, at)
-        && same_bytes(text, s, p.text, p.text_len)
-        && same_numbers(densities, s, p.measures, p.measures_len)
-        && all_zero(work)
+    let figures = same_figures(figures, stored::figures(s, at));
+    let text = same_bytes(text, content(s, at, 0));
+    let densities = same_numbers(densities, content(s, at, 1));
+    let work = all_zero(work);
+    figures & text & densities & work
 }
 
 // What the main call leaves beside that: row beats and note records.
 fn same_notes(beats: &[f32], notes: &[u8], s: &[u8], at: usize) -> bool {
-    let p = contents_of(s, at);
-    same_floats(beats, s, p.beats, p.beats_len) && same_bytes(notes, s, p.notes, p.notes_len)
+    let beats = same_floats(beats, content(s, at, 2));
+    let notes = same_bytes(notes, content(s, at, 3));
+    beats & notes
 }
 
 fn main_agrees(data: &[u8], lanes: usize, s: &[u8], at: usize) -> bool {
@@ -51,9 +52,9 @@ fn main_agrees(data: &[u8], lanes: usize, s: &[u8], at: usize) -> bool {
         &mut notes,
         &mut figures,
     );
-    number == 0
-        && same_chart(&figures, &text, &densities, &work, s, at)
-        && same_notes(&beats, &notes, s, at)
+    let chart = same_chart(&figures, &text, &densities, &work, s, at);
+    let rest = same_notes(&beats, &notes, s, at);
+    (number == 0) & chart & rest
 }
 
 fn kept_agrees(data: &[u8], lanes: usize, s: &[u8], at: usize) -> bool {
@@ -69,7 +70,8 @@ fn kept_agrees(data: &[u8], lanes: usize, s: &[u8], at: usize) -> bool {
         &mut work,
         &mut figures,
     );
-    number == 0 && same_chart(&figures, &text, &densities, &work, s, at)
+    let chart = same_chart(&figures, &text, &densities, &work, s, at);
+    (number == 0) & chart
 }
 
 // A record without the four bytes of its length.
@@ -78,7 +80,7 @@ fn record_agrees(s: &[u8]) -> Compared {
     let lanes = stored::lanes(s);
     let main = stored::flags_end(s);
     let kept = next_answer(s, main);
-    if next_answer(s, kept) > s.len() {
+    if s.len() < next_answer(s, kept) {
         return Compared::Malformed;
     }
     if !main_agrees(data, lanes, s, main) {

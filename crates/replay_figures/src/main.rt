@@ -8,7 +8,7 @@ use stored::compare::same_bytes;
 use stored::compare::same_figures;
 use stored::compare::same_floats;
 use stored::compare::same_numbers;
-use stored::contents_of;
+use stored::content;
 use stored::lent;
 use stored::next_answer;
 
@@ -23,54 +23,42 @@ fn timing_rows_agree(data: &[u8], lanes: usize, s: &[u8], at: usize) -> bool {
         &mut beats,
         &mut figures,
     );
-    if number != 0 {
-        return false;
-    }
-    let p = contents_of(s, at);
-    same_figures(&figures, s, at)
-        && same_bytes(&text, s, p.text, p.text_len)
-        && same_floats(&beats, s, p.beats, p.beats_len)
+    let figures = same_figures(&figures, stored::figures(s, at));
+    let text = same_bytes(&text, content(s, at, 0));
+    let beats = same_floats(&beats, content(s, at, 2));
+    (number == 0) & figures & text & beats
 }
 
 fn densities_agree(data: &[u8], lanes: usize, s: &[u8], at: usize) -> bool {
     let mut densities = lent::densities();
     let mut figures = lent::figures();
     let number = padcheck::padcheck_measure_densities(data, lanes, &mut densities, &mut figures);
-    if number != 0 {
-        return false;
-    }
-    let p = contents_of(s, at);
-    same_figures(&figures, s, at) && same_numbers(&densities, s, p.measures, p.measures_len)
+    let figures = same_figures(&figures, stored::figures(s, at));
+    let densities = same_numbers(&densities, content(s, at, 1));
+    (number == 0) & figures & densities
 }
 
 fn spacing_agrees(data: &[u8], lanes: usize, s: &[u8], at: usize) -> bool {
     let mut spacing = lent::spacing();
     let mut figures = lent::figures();
     let number = padcheck::padcheck_equally_spaced(data, lanes, &mut spacing, &mut figures);
-    if number != 0 {
-        return false;
-    }
-    let p = contents_of(s, at);
-    same_figures(&figures, s, at) && same_bytes(&spacing, s, p.measures, p.measures_len)
+    let figures = same_figures(&figures, stored::figures(s, at));
+    let spacing = same_bytes(&spacing, content(s, at, 1));
+    (number == 0) & figures & spacing
 }
 
 fn last_beat_agrees(data: &[u8], lanes: usize, s: &[u8], at: usize) -> bool {
     let mut figures = lent::figures();
     let number = padcheck::padcheck_chart_last_beat(data, lanes, &mut figures);
-    if number != 0 {
-        return false;
-    }
-    same_figures(&figures, s, at)
+    (number == 0) & same_figures(&figures, stored::figures(s, at))
 }
 
 fn judged_agrees(data: &[u8], lanes: usize, s: &[u8], at: usize) -> bool {
     let mut work = lent::work();
     let mut figures = lent::figures();
     let number = padcheck::padcheck_process_rows_judgable(data, lanes, &mut work, &mut figures);
-    if number != 0 {
-        return false;
-    }
-    same_figures(&figures, s, at) && all_zero(&work)
+    let figures = same_figures(&figures, stored::figures(s, at));
+    (number == 0) & figures & all_zero(&work)
 }
 
 fn flagged_agrees(data: &[u8], lanes: usize, flags: &[u8], s: &[u8], at: usize) -> bool {
@@ -83,10 +71,8 @@ fn flagged_agrees(data: &[u8], lanes: usize, flags: &[u8], s: &[u8], at: usize) 
         &mut work,
         &mut figures,
     );
-    if number != 0 {
-        return false;
-    }
-    same_figures(&figures, s, at) && all_zero(&work)
+    let figures = same_figures(&figures, stored::figures(s, at));
+    (number == 0) & figures & all_zero(&work)
 }
 
 // The answers of all six, from the third to the last of the record.

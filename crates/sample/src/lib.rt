@@ -1,7 +1,7 @@
 // The file of the stored sample: its head, its records one after the other, and what a replay says of them.
 use libc::STDOUT_FILENO;
 use stored::Compared;
-use stored::compare::number_at;
+use stored::number_at;
 ghost use Prim.Native.Nat.{_<_};
 
 fn say(words: &[u8]) {

@@ -1,139 +1,134 @@
-// What an entry left in the slices it was lent, beside a stored answer. A place past the end of the stored bytes reads as 0, so that no
-// function here asks anything of its caller.
-ghost use Prim.Native.Nat.{_<_, _≤_};
+// What an entry left in what it was lent, beside the stored bytes of an answer. Each says true where the two are equal, else false.
+ghost use mathlib.Core.Path.{_≡_};
+ghost use mathlib.Core.List.{[]};
+ghost use Prim.Native.Nat.{_<_};
+ghost use lib.ListN.{length, getD};
+ghost use Rattle.lines.specs.Words.{halfAt};
+ghost use Rattle.stored.specs.Agreement.{hasAnswer, sameFigures, numbers, longs, floatBits, bitsOf};
+use lines::words;
 
-// The byte `i` places after `at`.
-fn byte_at(s: &[u8], at: usize, i: usize) -> u8 {
-    if i < s.len() {
-        if at < s.len() - i {
-            return s[at + i];
-        }
-    }
-    0
-}
-
-fn wide(b: u8) -> u64
-    ensures { λ r. ⌜ r < 256 ⌝ }
+// A number of an entry as one of the stored numbers.
+fn wide(n: u32) -> u64
+    ensures { λ r. ⌜ r ≡ n ⌝ }
 {
-    b as u64
-}
-
-fn wide_number(n: u32) -> u64 {
     n as u64
 }
 
-// The number of the four bytes from `at` on, low byte first.
-pub fn number_at(s: &[u8], at: usize) -> u64
-    ensures { λ r. ⌜ r < 4294967296 ⌝ }
+// Byte `i` of an answer; past its end 0.
+fn wanted_byte(want: &[u8], i: usize) -> u8
+    ensures { λ r. ⌜ r ≡ getD (now (want .entry)) i 0 ⌝ }
 {
-    let b0 = wide(byte_at(s, at, 0));
-    let b1 = wide(byte_at(s, at, 1));
-    let b2 = wide(byte_at(s, at, 2));
-    let b3 = wide(byte_at(s, at, 3));
-    b0 + 256 * b1 + 65536 * b2 + 16777216 * b3
+    if i < want.len() { want[i] } else { 0 }
 }
 
-// The place n bytes after `at`; one that is far past every record where either is larger than a record can be.
-pub fn after(at: usize, n: u64) -> usize
-    ensures { λ r. ⌜ r ≤ 2000000 ⌝ }
+// Number `i` of an answer, of four bytes; past its end 0.
+fn wanted_number(want: &[u8], i: usize) -> u64
+    ensures { λ r. ⌜ r ≡ getD (numbers (now (want .entry))) i 0 ⌝ }
 {
-    if at < 1000000 {
-        if n < 1000000 {
-            return at + n as usize;
-        }
-    }
-    2000000
-}
-
-// Number `i` of those that stand back to back from `at` on, four bytes each.
-fn number_from(s: &[u8], at: usize, i: usize) -> u64 {
-    if i < 1000000 {
-        number_at(s, after(at, i as u64 * 4))
+    if i < want.len() / 4 {
+        words::half_at(want, 4 * i)
     } else {
         0
     }
 }
 
+// Number `i` of an answer, of eight bytes; past its end 0.
+fn wanted_long(want: &[u8], i: usize) -> u64
+    ensures { λ r. ⌜ r ≡ getD (longs (now (want .entry))) i 0 ⌝ }
+{
+    if i < want.len() / 8 {
+        words::halves_at(want, 8 * i)
+    } else {
+        0
+    }
+}
+
+// A float's bits; what is no number has a number that no four bytes hold.
+fn bits_of(x: f32) -> u64
+    ensures { λ r. ⌜ r ≡ floatBits x ⌝ }
+{
+    if x != x {
+        return 4294967296;
+    }
+    wide(f32::to_bits(x))
+}
+
 // The 32 figures, eight bytes each.
-pub fn same_figures(figures: &[u64; 32], s: &[u8], at: usize) -> bool {
+pub fn same_figures(figures: &[u64; 32], want: &[u8]) -> bool
+    ensures { λ r. ⌜ r ≡ sameFigures (now (figures .entry)) (longs (now (want .entry))) ⌝ }
+{
+    if want.len() / 8 != 32 {
+        return false;
+    }
     let mut i = 0;
     while i < 32 {
-        if figures[i] % 4294967296 != number_from(s, at, 2 * i) {
-            return false;
-        }
-        if figures[i] / 4294967296 != number_from(s, at, 2 * i + 1) {
-            return false;
+        if figures[i] != wanted_long(want, i) {
+            return false; // a figure differs
         }
         i += 1;
     }
     true
 }
 
-// `len` bytes, and zeros to the slice's end.
-pub fn same_bytes(slice: &[u8], s: &[u8], at: usize, len: u64) -> bool {
+// The bytes of an answer, and zeros to the slice's end.
+pub fn same_bytes(bytes: &[u8], want: &[u8]) -> bool
+    ensures { λ r. ⌜ r ≡ hasAnswer (now (bytes .entry)) (now (want .entry)) ⌝ }
+{
+    if bytes.len() < want.len() {
+        return false;
+    }
     let mut i = 0;
-    while i < slice.len() {
-        if slice[i] != wanted_byte(s, at, i, len) {
-            return false;
+    while i < bytes.len() {
+        if bytes[i] != wanted_byte(want, i) {
+            return false; // a byte differs
         }
         i += 1;
     }
-    len <= slice.len() as u64
+    true
 }
 
-fn wanted_byte(s: &[u8], at: usize, i: usize, len: u64) -> u8 {
-    if (i as u64) < len {
-        byte_at(s, at, i)
-    } else {
-        0
+// The numbers of an answer, and zeros to the slice's end.
+pub fn same_numbers(slice: &[u32], want: &[u8]) -> bool
+    ensures { λ r. ⌜ r ≡ hasAnswer (now (slice .entry)) (numbers (now (want .entry))) ⌝ }
+{
+    if slice.len() < want.len() / 4 {
+        return false;
     }
-}
-
-fn wanted_number(s: &[u8], at: usize, i: usize, len: u64) -> u64 {
-    if (i as u64) < len / 4 {
-        number_from(s, at, i)
-    } else {
-        0
-    }
-}
-
-// The numbers of `len` bytes, and zeros to the slice's end.
-pub fn same_numbers(slice: &[u32], s: &[u8], at: usize, len: u64) -> bool {
     let mut i = 0;
     while i < slice.len() {
-        if wide_number(slice[i]) != wanted_number(s, at, i, len) {
-            return false;
+        if wide(slice[i]) != wanted_number(want, i) {
+            return false; // a number differs
         }
         i += 1;
     }
-    len / 4 <= slice.len() as u64
+    true
 }
 
-// A float's bits; none has those that stand for no number.
-fn bits_of(x: f32) -> u64 {
-    if x >= 0.0 {
-        return wide_number(f32::to_bits(x));
+// The floats of an answer, and zeros to the slice's end.
+pub fn same_floats(floats: &[f32], want: &[u8]) -> bool
+    ensures { λ r. ⌜ r ≡ hasAnswer (bitsOf (now (floats .entry))) (numbers (now (want .entry))) ⌝ }
+{
+    if floats.len() < want.len() / 4 {
+        return false;
     }
-    4294967295
-}
-
-// The floats of `len` bytes, and zeros to the slice's end.
-pub fn same_floats(slice: &[f32], s: &[u8], at: usize, len: u64) -> bool {
     let mut i = 0;
-    while i < slice.len() {
-        if bits_of(slice[i]) != wanted_number(s, at, i, len) {
-            return false;
+    while i < floats.len() {
+        if bits_of(floats[i]) != wanted_number(want, i) {
+            return false; // a float differs
         }
         i += 1;
     }
-    len / 4 <= slice.len() as u64
+    true
 }
 
-pub fn all_zero(slice: &[u16]) -> bool {
+// No answer, and zeros throughout.
+pub fn all_zero(work: &[u16]) -> bool
+    ensures { λ r. ⌜ r ≡ hasAnswer (now (work .entry)) [] ⌝ }
+{
     let mut i = 0;
-    while i < slice.len() {
-        if slice[i] != 0 {
-            return false;
+    while i < work.len() {
+        if work[i] != 0 {
+            return false; // an entry is not 0
         }
         i += 1;
     }

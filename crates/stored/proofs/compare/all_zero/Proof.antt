@@ -1,18 +1,22 @@
--- `stored::compare::all_zero` is safe and ends: an entry a turn.
-use Prim.Native.Nat.{_-_}
+-- `stored::compare::all_zero` meets its contract: the comparison with no answer. Assumes nothing.
+use mathlib.Core.List.{[]}
+use Prim.Native.Nat.{_≤_, _-_}
+use mathlib.Core.Path.{_≡_, sym, _∙_}
 use native.Mathlib.Omega.{arith}
 use lib.ListN.{length}
+use Rattle.stored.specs.Agreement.{hasAnswer}
+use Rattle.stored.proofs.Comparing.{hasFrom, has-start, has-turn, has-stop, has-end}
 use Rattle.stored.proofs.compare.all_zero.Statement.{statement}
 use Rattle.stored.proofs.compare.all_zero.Tie as tie
 
 abbrev Inv-loop : tie.InvT-loop
-Inv-loop slice i₀ i = Unit {0}
+Inv-loop work i₀ i = (i ≤ length work) × (hasAnswer work [] ≡ hasFrom i work [])
 
 abbrev μ-loop : tie.MeasureT-loop
-μ-loop slice i₀ i = length slice - i
+μ-loop work i₀ i = length work - i
 
 loop-holds : tie.Need-loop-holds Inv-loop μ-loop
-loop-holds c = tt
+loop-holds c = (omega arith, has-start _ _)
 
 mul-if1 : tie.Need-mul-if1 Inv-loop μ-loop
 mul-if1 c = omega arith
@@ -21,7 +25,9 @@ shared-slice-read-if1 : tie.Need-shared-slice-read-if1 Inv-loop μ-loop
 shared-slice-read-if1 c = omega arith
 
 returns : tie.Need-returns Inv-loop μ-loop
-returns c = tt
+returns c =
+    let at = c .before .before .before .loop in
+    sym (at .inv .1 ∙ has-stop _ _ (omega arith) (at .i) 0 (c .before .before .loop-test .taken) (c .if1 .taken))
 
 add-i : tie.Need-add-i Inv-loop μ-loop
 add-i c = omega arith
@@ -30,10 +36,12 @@ loop-less : tie.Need-loop-less Inv-loop μ-loop
 loop-less c = omega arith
 
 loop-again : tie.Need-loop-again Inv-loop μ-loop
-loop-again c = tt
+loop-again c =
+    let at = c .before .before .before .loop in
+    (omega arith, at .inv .1 ∙ has-turn _ _ (omega arith) (at .i) 0 (c .before .before .loop-test .taken) (c .if1 .left))
 
 returns-2 : tie.Need-returns-2 Inv-loop μ-loop
-returns-2 c = tt
+returns-2 c = let at = c .before .loop in sym (at .inv .1 ∙ has-end _ _ (omega arith) (at .i) (c .loop-test .left))
 
 pub all-zero-spec : {M : Type 1} → statement M
 all-zero-spec =

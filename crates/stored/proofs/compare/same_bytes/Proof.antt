@@ -1,27 +1,35 @@
--- `stored::compare::same_bytes` is safe and ends: a byte a turn.
-use Prim.Native.Nat.{_-_}
+-- `stored::compare::same_bytes` meets its contract: what is left of the comparison from place i on. Assumes nothing.
+use Prim.Native.Nat.{_≤_, _-_}
+use mathlib.Core.Path.{_≡_, sym, _∙_}
 use native.Mathlib.Omega.{arith}
 use lib.ListN.{length}
+use Rattle.stored.specs.Agreement.{hasAnswer}
+use Rattle.stored.proofs.Comparing.{hasFrom, has-start, has-turn, has-stop, has-end, has-long}
 use Rattle.stored.proofs.compare.same_bytes.Statement.{statement}
 use Rattle.stored.proofs.compare.same_bytes.Tie as tie
 
 abbrev Inv-loop : tie.InvT-loop
-Inv-loop slice s at len i₀ i = Unit {0}
+Inv-loop bytes want i₀ i = (i ≤ length bytes) × (length want ≤ length bytes) × (hasAnswer bytes want ≡ hasFrom i bytes want)
 
 abbrev μ-loop : tie.MeasureT-loop
-μ-loop slice s at len i₀ i = length slice - i
+μ-loop bytes want i₀ i = length bytes - i
+
+returns : tie.Need-returns Inv-loop μ-loop
+returns c = sym (has-long _ _ (c .if1 .taken))
 
 loop-holds : tie.Need-loop-holds Inv-loop μ-loop
-loop-holds c = tt
+loop-holds c = (omega arith, omega arith, has-start _ _)
 
-shared-slice-read-if1 : tie.Need-shared-slice-read-if1 Inv-loop μ-loop
-shared-slice-read-if1 c = omega arith
+shared-slice-read-if2 : tie.Need-shared-slice-read-if2 Inv-loop μ-loop
+shared-slice-read-if2 c = omega arith
 
 wanted-byte-requires : tie.Need-wanted-byte-requires Inv-loop μ-loop
 wanted-byte-requires c κs = tt
 
-returns : tie.Need-returns Inv-loop μ-loop
-returns c = tt
+returns-2 : tie.Need-returns-2 Inv-loop μ-loop
+returns-2 c =
+    let at = c .before .before .before .before .loop in
+    sym (at .inv .2 ∙ has-stop _ _ (at .inv .1) (at .i) 0 (c .before .before .before .loop-test .taken) (λ e. c .if2 .taken (e ∙ sym (c .before .wanted-byte .ensures))))
 
 add-i : tie.Need-add-i Inv-loop μ-loop
 add-i c = omega arith
@@ -30,10 +38,12 @@ loop-less : tie.Need-loop-less Inv-loop μ-loop
 loop-less c = omega arith
 
 loop-again : tie.Need-loop-again Inv-loop μ-loop
-loop-again c = tt
+loop-again c =
+    let at = c .before .before .before .before .loop in
+    (omega arith, at .inv .1, at .inv .2 ∙ has-turn _ _ (at .inv .1) (at .i) 0 (c .before .before .before .loop-test .taken) (c .if2 .left ∙ c .before .wanted-byte .ensures))
 
-returns-2 : tie.Need-returns-2 Inv-loop μ-loop
-returns-2 c = tt
+returns-3 : tie.Need-returns-3 Inv-loop μ-loop
+returns-3 c = let at = c .before .loop in sym (at .inv .2 ∙ has-end _ _ (at .inv .1) (at .i) (c .loop-test .left))
 
 pub same-bytes-spec : {M : Type 1} → statement M
 same-bytes-spec =
@@ -41,11 +51,12 @@ same-bytes-spec =
     (tie.spec
     Inv-loop
     μ-loop
-    loop-holds
-    shared-slice-read-if1
-    wanted-byte-requires
     returns
+    loop-holds
+    shared-slice-read-if2
+    wanted-byte-requires
+    returns-2
     add-i
     loop-less
     loop-again
-    returns-2)
+    returns-3)

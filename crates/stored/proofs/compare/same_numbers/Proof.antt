@@ -1,33 +1,47 @@
--- `stored::compare::same_numbers` is safe and ends: a number a turn.
-use Prim.Native.Nat.{_-_}
+-- `stored::compare::same_numbers` meets its contract: what is left of the comparison from place i on. Assumes nothing.
+use Prim.Native.Nat.{_<_, _≤_, _-_}
+use mathlib.Core.Path.{_≡_, sym, _∙_}
 use native.Mathlib.Omega.{arith}
 use lib.ListN.{length}
+use Rattle.stored.specs.Agreement.{hasAnswer, numbers}
+use Rattle.stored.proofs.Comparing.{hasFrom, has-start, has-turn, has-stop, has-end, has-long}
+use Rattle.stored.proofs.Reading.{numbers-length}
 use Rattle.stored.proofs.compare.same_numbers.Statement.{statement}
 use Rattle.stored.proofs.compare.same_numbers.Tie as tie
 
 abbrev Inv-loop : tie.InvT-loop
-Inv-loop slice s at len i₀ i = Unit {0}
+Inv-loop slice want i₀ i = (i ≤ length slice) × (length (numbers want) ≤ length slice) × (hasAnswer slice (numbers want) ≡ hasFrom i slice (numbers want))
 
 abbrev μ-loop : tie.MeasureT-loop
-μ-loop slice s at len i₀ i = length slice - i
+μ-loop slice want i₀ i = length slice - i
+
+returns : tie.Need-returns Inv-loop μ-loop
+returns c =
+    let a = c .before .before .before .args in
+    let h : length (a .slice .now) < length (numbers (a .want .now)) = omega (arith, numbers-length (a .want .now)) in
+    sym (has-long _ _ h)
 
 loop-holds : tie.Need-loop-holds Inv-loop μ-loop
-loop-holds c = tt
+loop-holds c = (omega arith, omega (arith, numbers-length (c .before .before .before .args .want .now)), has-start _ _)
 
-mul-wide-number : tie.Need-mul-wide-number Inv-loop μ-loop
-mul-wide-number c = omega arith
+mul-wide : tie.Need-mul-wide Inv-loop μ-loop
+mul-wide c = omega arith
 
-shared-slice-read-wide-number : tie.Need-shared-slice-read-wide-number Inv-loop μ-loop
-shared-slice-read-wide-number c = omega arith
+shared-slice-read-wide : tie.Need-shared-slice-read-wide Inv-loop μ-loop
+shared-slice-read-wide c = omega arith
 
-wide-number-requires : tie.Need-wide-number-requires Inv-loop μ-loop
-wide-number-requires c κs = tt
+wide-requires : tie.Need-wide-requires Inv-loop μ-loop
+wide-requires c κs = tt
 
 wanted-number-requires : tie.Need-wanted-number-requires Inv-loop μ-loop
 wanted-number-requires c κs = tt
 
-returns : tie.Need-returns Inv-loop μ-loop
-returns c = tt
+returns-2 : tie.Need-returns-2 Inv-loop μ-loop
+returns-2 c =
+    let at = c .before .before .before .before .before .loop in
+    sym
+    (at .inv .2
+    ∙ has-stop _ _ (at .inv .1) (at .i) 0 (c .before .before .before .before .loop-test .taken) (λ e. c .if2 .taken (c .before .before .wide .ensures ∙ e ∙ sym (c .before .wanted-number .ensures))))
 
 add-i : tie.Need-add-i Inv-loop μ-loop
 add-i c = omega arith
@@ -36,10 +50,16 @@ loop-less : tie.Need-loop-less Inv-loop μ-loop
 loop-less c = omega arith
 
 loop-again : tie.Need-loop-again Inv-loop μ-loop
-loop-again c = tt
+loop-again c =
+    let at = c .before .before .before .before .before .loop in (
+      omega arith,
+      at .inv .1,
+      at .inv .2
+          ∙ has-turn _ _ (at .inv .1) (at .i) 0 (c .before .before .before .before .loop-test .taken) (sym (c .before .before .wide .ensures) ∙ c .if2 .left ∙ c .before .wanted-number .ensures),
+    )
 
-returns-2 : tie.Need-returns-2 Inv-loop μ-loop
-returns-2 c = tt
+returns-3 : tie.Need-returns-3 Inv-loop μ-loop
+returns-3 c = let at = c .before .loop in sym (at .inv .2 ∙ has-end _ _ (at .inv .1) (at .i) (c .loop-test .left))
 
 pub same-numbers-spec : {M : Type 1} → statement M
 same-numbers-spec =
@@ -47,13 +67,14 @@ same-numbers-spec =
     (tie.spec
     Inv-loop
     μ-loop
-    loop-holds
-    mul-wide-number
-    shared-slice-read-wide-number
-    wide-number-requires
-    wanted-number-requires
     returns
+    loop-holds
+    mul-wide
+    shared-slice-read-wide
+    wide-requires
+    wanted-number-requires
+    returns-2
     add-i
     loop-less
     loop-again
-    returns-2)
+    returns-3)

@@ -1,0 +1,4 @@
+-- The laws that the comparisons' proofs go by.
+pub mod Comparing
+pub mod Reading
+pub mod Parts

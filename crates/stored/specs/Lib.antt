@@ -1,0 +1,4 @@
+-- What the contracts of the stored sample's reader cite, beside the definitions.
+pub mod Agreement
+pub mod Layout
+pub mod Lent
