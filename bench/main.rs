@@ -63,11 +63,12 @@ fn table(options: &Options) -> Result<(), String> {
         (way, text, lines, cell.call as usize, cell.lanes)
     });
     report::print_worst(&cells);
+    report::print_under_by_zeros(&cells);
+    report::print_ranges(&cells, &options.lanes);
+    report::print_ratios(&cells, &options.lanes);
     if options.speeds {
         report::print_speeds(cells.iter());
     }
-    report::print_ranges(&cells, &options.lanes);
-    report::print_ratios(&cells, &options.lanes);
     Ok(())
 }
 
@@ -84,8 +85,8 @@ fn cells_of(
         compare(call, &load)?;
         for &way in options.ways.iter().filter(|way| way.makes(call)) {
             let parts: [Part; 3] = [Pair::run_ours, Pair::run_rust, Pair::run_zeros];
-            let pair = Pair::new(way, call, &load, 1);
-            let [ours, rust, zeros] = timed(pair, &load, parts, options);
+            let mut pair = Pair::new(way, call, &load, 1);
+            let [ours, rust, zeros] = timed(&mut pair, &load, parts, options);
             cells.push(Cell {
                 way,
                 call,
@@ -95,7 +96,7 @@ fn cells_of(
                 bytes: load.bytes(),
                 ours,
                 rust,
-                zeros: (way == Way::Entry).then_some(zeros),
+                zeros: pair.has_zeros().then_some(zeros),
             });
         }
     }
@@ -117,8 +118,8 @@ fn growth(options: &Options) -> Result<(), String> {
                     let count = 16_000_000 / len as u64;
                     let load = Load::of(count, len, chart::Kind::Closed, lines, lanes);
                     compare(call, &load)?;
-                    let pair = Pair::new(Way::Entry, call, &load, load.texts.len());
-                    let [ours] = timed(pair, &load, [Pair::run_ours], options);
+                    let mut pair = Pair::new(Way::Entry, call, &load, load.texts.len());
+                    let [ours] = timed(&mut pair, &load, [Pair::run_ours], options);
                     *cost = ours * 1e9 / load.bytes();
                 }
                 let [one, four, sixteen] = costs;
@@ -146,7 +147,7 @@ type Part = fn(&mut Pair, &Load);
 
 /// The best times in seconds of some parts over all texts of a load, in turns.
 fn timed<const N: usize>(
-    mut pair: Pair,
+    pair: &mut Pair,
     load: &Load,
     parts: [Part; N],
     options: &Options,
@@ -155,7 +156,7 @@ fn timed<const N: usize>(
     for _ in 0..options.runs {
         for (part, best) in parts.iter().zip(&mut best) {
             let start = options.clock.seconds();
-            part(&mut pair, load);
+            part(pair, load);
             *best = best.min(options.clock.seconds() - start);
         }
     }

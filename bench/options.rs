@@ -10,9 +10,10 @@ bench [--runs N] [--thread] [--ways LIST] [--lanes LIST] [--texts LIST] [--lines
 
 Times each call, or those of the given names, beside the Rust: both in one process, on the same texts, in turns, the best
 of N runs each (N is 7). A ratio is ours to the Rust's: over 1.00 ours is faster. It prints the cells under 1.00,
-at most 40, the worst first, with the speeds of both in MB of text a second (1 MB is 1,000,000 bytes); the least and the
-greatest ratio of each call at each lane count, over all texts and line ends; and the ratios of all cells. Where an
-entry is under 1.00, the ratio that it has less a memset of the same bytes as its zeros stands beside it.
+the worst first, at most 30 of the entries and 30 of the binding, with the speeds of both in MB of text a second (1 MB is
+1,000,000 bytes), and those of the entries that their zeros alone keep there; the least and the greatest ratio of each
+call at each lane count, over all texts and line ends; and the ratios of all cells. Where an entry is under 1.00, the
+ratio that it has less a memset of the same bytes as its zeros stands beside it.
 
 A LIST has its words parted by commas, and leaves out the others:
   --ways   entry     an exported entry, slices and the Rust's buffers reused
@@ -26,7 +27,7 @@ A LIST has its words parted by commas, and leaves out the others:
            pack      2,000 charts of 20,000 bytes, one after the other
            unclosed  the long text and a head that nothing closes, so that the tally is counted anew
   --lines  lf crlf
-  --speeds also prints the speeds of every cell, of the Rust, and of the memset of an entry's zeros
+  --speeds also prints, at the end, the speeds of every cell, of the Rust, and of the memset of an entry's zeros
   --growth prints instead what a byte costs an entry in texts of 1, 4 and 16 MB, as many as make 16 MB, each with slices
            of its own
   --memory prints instead how many bytes an entry is lent for the longest text

@@ -6,6 +6,9 @@ use crate::ways::Way;
 use oracle::calls::Call;
 use oracle::entry::MAX_LEN;
 
+/// What is printed as 1.00 or more is at least this.
+const ROUNDED_ONE: f64 = 0.995;
+
 /// One cell: a call made in one way on one load, the best times in seconds.
 pub struct Cell {
     pub way: Way,
@@ -16,7 +19,7 @@ pub struct Cell {
     pub bytes: f64,
     pub ours: f64,
     pub rust: f64,
-    /// A memset of the same bytes as the call's zeros; an entry has it.
+    /// A memset of the same bytes as the call's zeros; an entry that is lent a slice has it.
     pub zeros: Option<f64>,
 }
 
@@ -32,7 +35,7 @@ impl Cell {
 
     /// Whether it is printed as less than 1.00.
     fn is_under(&self) -> bool {
-        self.ratio() < 0.995
+        self.ratio() < ROUNDED_ONE
     }
 
     /// Millions of bytes of text a second.
@@ -54,16 +57,32 @@ impl Cell {
     }
 }
 
-/// How many of the cells under 1.00 are printed with their speeds.
-const WORST: usize = 40;
+/// How many of the entries' cells under 1.00 are printed with their speeds, and of the binding's as many.
+const WORST: usize = 30;
 
-/// How many cells are under 1.00, and those, the worst first.
+/// How many cells are under 1.00, the entries' and the binding's apart, and the worst of them first.
 pub fn print_worst(cells: &[Cell]) {
-    let mut worst: Vec<&Cell> = cells.iter().filter(|cell| cell.is_under()).collect();
+    for (name, of_entries) in [("entries", true), ("the binding's calls", false)] {
+        let is_here = |cell: &&Cell| (cell.way == Way::Entry) == of_entries;
+        let count = cells.iter().filter(is_here).count();
+        let mut worst: Vec<&Cell> = cells.iter().filter(is_here).collect();
+        worst.retain(|cell| cell.is_under());
+        worst.sort_by(|a, b| a.ratio().total_cmp(&b.ratio()));
+        println!("Under 1.00, {name}: {} of {count} cells.\n", worst.len());
+        if !worst.is_empty() {
+            print_speeds(worst.into_iter().take(WORST));
+        }
+    }
+}
+
+/// The entries' cells that are under 1.00 and would not be less their zeros, the worst first.
+pub fn print_under_by_zeros(cells: &[Cell]) {
+    let is_by_zeros = |cell: &&Cell| cell.is_under() && cell.less_zeros() >= Some(ROUNDED_ONE);
+    let mut worst: Vec<&Cell> = cells.iter().filter(is_by_zeros).collect();
     worst.sort_by(|a, b| a.ratio().total_cmp(&b.ratio()));
-    println!("Under 1.00: {} of {} cells.\n", worst.len(), cells.len());
+    println!("Under 1.00 by the zeros alone: {} cells.\n", worst.len());
     if !worst.is_empty() {
-        print_speeds(worst.into_iter().take(WORST));
+        print_speeds(worst.into_iter());
     }
 }
 
@@ -131,9 +150,7 @@ pub fn print_speeds<'a>(cells: impl Iterator<Item = &'a Cell>) {
     println!("|---|---|---|---|---|---|---|---|---|---|");
     for cell in cells {
         let optional = |number: Option<String>| number.unwrap_or_default();
-        // A call without slices has no zeros.
         let zeros = cell.zeros.map(|zeros| cell.speed(zeros));
-        let zeros = zeros.filter(|speed| *speed < 1e6);
         println!(
             "{} {} | {:.0} | {:.0} | {:.2} | {} | {} |",
             cell.line_name(),
@@ -163,6 +180,7 @@ pub fn print_ratios(cells: &[Cell], lanes: &[usize]) {
         }
         println!();
     }
+    println!();
 }
 
 /// A ratio; under 1.00 it is bold, with what it is less the zeros in brackets.

@@ -2,7 +2,7 @@
 
 use crate::entries::{ENTRIES, Entry};
 use crate::loads::Load;
-use crate::loans::lent;
+use crate::loans::{bytes, lent};
 use oracle::calls::{Call, MEASURES, NOTE_BYTES, NOTES, ROWS, TEXT_BYTES};
 use oracle::entry::{Loan, enter};
 use oracle::timed;
@@ -122,6 +122,11 @@ impl Pair {
                 _ => timed::run_anew(call, text, lanes, flags),
             }
         }
+    }
+
+    /// Whether this is an entry that is lent a slice, and so leaves zeros.
+    pub fn has_zeros(&self) -> bool {
+        self.loans.iter().any(|loan| bytes(loan) > 0)
     }
 
     /// Sets what the entry left as zeros to 0 once more, once for each text: all past its answer, and the work slice.
