@@ -98,10 +98,7 @@ struct figure {
     uint64_t want;
 };
 
-#define FIGURE(name, want)                                                                                             \
-    {                                                                                                                  \
-#name, PADCHECK_##name, want                                                                                   \
-    }
+#define FIGURE(name, want) {#name, PADCHECK_##name, want}
 
 static void check_figures(const char *call, uint32_t number, const struct figure *figures, size_t count)
 {
@@ -109,6 +106,10 @@ static void check_figures(const char *call, uint32_t number, const struct figure
     for (size_t i = 0; i < count; i++)
         check(room.figures[figures[i].place] == figures[i].want, "%s: %s is %llu, should be %llu", call,
               figures[i].name, (unsigned long long)room.figures[figures[i].place], (unsigned long long)figures[i].want);
+    for (size_t i = 0; i < count; i++)
+        for (size_t j = 0; j < i; j++)
+            check(figures[i].want != figures[j].want, "%s: %s and %s are the same", call, figures[i].name,
+                  figures[j].name);
     memset(&room, 0xA5, sizeof room);
 }
 
