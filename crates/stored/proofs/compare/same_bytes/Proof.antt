@@ -1,5 +1,5 @@
 -- `stored::compare::same_bytes` meets its contract: what is left of the comparison from place i on. Assumes nothing.
-use Prim.Native.Nat.{_≤_, _-_}
+use Prim.Native.Nat.{_<_, _≤_, _-_}
 use mathlib.Core.Path.{_≡_, sym, _∙_}
 use native.Mathlib.Omega.{arith}
 use lib.ListN.{length}
@@ -29,7 +29,8 @@ wanted-byte-requires c κs = tt
 returns-2 : tie.Need-returns-2 Inv-loop μ-loop
 returns-2 c =
     let at = c .before .before .before .before .loop in
-    sym (at .inv .2 ∙ has-stop _ _ (at .inv .1) (at .i) 0 (c .before .before .before .loop-test .taken) (λ e. c .if2 .taken (e ∙ sym (c .before .wanted-byte .ensures))))
+    let h : at .i < length (c .before .before .before .before .before .before .before .before .args .bytes .now) = omega arith in
+    sym (at .inv .2 ∙ has-stop _ _ (at .inv .1) (at .i) 0 h (λ e. c .if2 .taken (e ∙ sym (c .before .wanted-byte .ensures))))
 
 add-i : tie.Need-add-i Inv-loop μ-loop
 add-i c = omega arith
@@ -40,7 +41,8 @@ loop-less c = omega arith
 loop-again : tie.Need-loop-again Inv-loop μ-loop
 loop-again c =
     let at = c .before .before .before .before .loop in
-    (omega arith, at .inv .1, at .inv .2 ∙ has-turn _ _ (at .inv .1) (at .i) 0 (c .before .before .before .loop-test .taken) (c .if2 .left ∙ c .before .wanted-byte .ensures))
+    let h : at .i < length (c .before .before .before .before .before .before .before .before .args .bytes .now) = omega arith in
+    (omega arith, at .inv .1, at .inv .2 ∙ has-turn _ _ (at .inv .1) (at .i) 0 h (c .if2 .left ∙ c .before .wanted-byte .ensures))
 
 returns-3 : tie.Need-returns-3 Inv-loop μ-loop
 returns-3 c = let at = c .before .loop in sym (at .inv .2 ∙ has-end _ _ (at .inv .1) (at .i) (c .loop-test .left))
