@@ -43,11 +43,16 @@ pub fn cell_of(b: u8) -> Cell
     }
 }
 
-// Whether the byte is an arrow. The tests are joined without a branch.
+// Whether the byte is an arrow.
 pub fn is_note(b: u8) -> bool
     ensures { λ r. ⌜ r ≡ isArrow (cellOf b) ⌝ }
 {
-    (b == b'1') | (b == b'2') | (b == b'4')
+    match b {
+        b'1' => true,
+        b'2' => true,
+        b'4' => true,
+        _ => false,
+    }
 }
 
 // Whether the row has an arrow. It looks at every byte, so that no turn of the loop branches on one.

@@ -1,18 +1,19 @@
 -- A row's sum as the loops reach it: what is done, and the counts of the rest.
-use mathlib.Core.Path.{_≡_}
-use mathlib.Core.Bool.{Bool, false, _&&_}
+use mathlib.Core.Path.{_≡_, refl}
+use mathlib.Core.Bool.{Bool, true, false, _&&_}
 use mathlib.Core.List.{[], _∷_}
 use Prim.Native.Nat.{ℕ, suc, _+_}
 use native.Mathlib.Nat.{zero-add, add-zero, add-assoc}
 use lib.Dec.{eqb}
 use Rattle.definitions.specs.Lines.{Row}
-use Rattle.definitions.specs.Cells.{cellOf}
+use Rattle.definitions.specs.Cells.{cellOf, isArrow}
 use Rattle.definitions.specs.Tally.{countFrom, counted, direction, rowSumBy}
 use Rattle.definitions.specs.Tally.{hold, roll, tail, mine, lift, fake}
+use Rattle.definitions.specs.Judged.{isJudgedArrow}
 use Rattle.definitions.specs.declared.Cell.{Cell}
-use Rattle.definitions.specs.declared.Cell.the-variants.{Empty}
+use Rattle.definitions.specs.declared.Cell.the-variants.{Lift, LowerLift}
 use Rattle.definitions.specs.declared.RowSum.{RowSum}
-use Rattle.tallies.specs.Sums.{noSum, addArrow, addCounted, addCell}
+use Rattle.tallies.specs.Sums.{noSum, addArrow, addCounted, addCell, arrowOf}
 
 -- the sum s, with the cells of a row from column c on
 unfoldable pub sumFrom : (Cell → Bool) → RowSum → ℕ → Row → RowSum
@@ -48,7 +49,16 @@ pub no-arrow : (s : RowSum) (c : ℕ) → addArrow s c false ≡ s
 unfolding addArrow
 no-arrow s c = simp add-zero
 
--- a `0` adds nothing
-pub empty-adds : (arrow : Cell → Bool) → arrow Empty ≡ false → (s : RowSum) (c b : ℕ) → b ≡ 48 → s ≡ addCell s c (cellOf b) (arrow (cellOf b))
-unfolding cellOf addArrow addCounted
-empty-adds arrow n s c b e = rw (e, n) (simp add-zero)
+-- a cell that is an arrow of every row, or of none
+pub arrow-either : (judged : Bool) (x : Cell) (a : Bool) → isArrow x ≡ a → isJudgedArrow x ≡ a → arrowOf judged x ≡ a
+arrow-either true x a p q = q
+arrow-either false x a p q = p
+
+-- a lift is an arrow of a judged row
+pub lift-arrow : (judged : Bool) → arrowOf judged Lift ≡ judged
+lift-arrow true = refl
+lift-arrow false = refl
+
+pub lower-lift-arrow : (judged : Bool) → arrowOf judged LowerLift ≡ judged
+lower-lift-arrow true = refl
+lower-lift-arrow false = refl

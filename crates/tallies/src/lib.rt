@@ -11,10 +11,11 @@ ghost use Rattle.definitions.specs.Cells.{cellOf, isArrow};
 ghost use Rattle.definitions.specs.Tracker.{holdAt};
 ghost use Rattle.definitions.specs.Tally.{noStats, rowSum, rowSumBy, addSum, addRow};
 ghost use Rattle.definitions.specs.Correction.{keepHead, withSteps};
-ghost use Rattle.definitions.specs.Judged.{isJudgedArrow, onlyFakes, judgedSum, judgeRow};
+ghost use Rattle.definitions.specs.Judged.{onlyFakes, judgedSum, judgeRow};
 ghost use Rattle.taps.specs.Taps.{tapLineMask, TapCounts};
 ghost use Rattle.taps.specs.declared.Taps.the-variants.{Mask};
 ghost use Rattle.definitions.specs.Lines.{Row};
+ghost use Rattle.definitions.specs.declared.Cell.the-variants.{Lift};
 ghost use Rattle.tallies.specs.Bounds.{Under, Below};
 ghost use Rattle.tallies.specs.Kept.{hasBit, keptCell, keepMask};
 ghost use Rattle.tallies.specs.Sums.{noSum, addArrow, addCounted, addCell, arrowOf};
@@ -55,34 +56,56 @@ fn bump_dir(s: RowSum, column: usize) -> RowSum
     t
 }
 
-// With what a byte is counted as beside an arrow.
-fn add_counted(s: RowSum, b: u8) -> RowSum
-    requires { ⌜ Under 11 s ⌝ }
-    ensures { λ r. ⌜ r ≡ addCounted s (cellOf b) ⌝ }
+// With a lift, which is an arrow of a judged row.
+fn add_lift(s: RowSum, column: usize, judged: bool) -> RowSum
+    requires { ⌜ Under 10 s ⌝ }
+    ensures { λ r. ⌜ r ≡ addCounted (addArrow s column judged) Lift ⌝ }
 {
-    let mut t = s;
-    match cells::cell_of(b) {
-        Cell::Hold => t.holds += 1,
-        Cell::Roll => t.rolls += 1,
-        Cell::Tail => t.tails += 1,
-        Cell::Mine | Cell::LowerMine => t.mines += 1,
-        Cell::Lift | Cell::LowerLift => t.lifts += 1,
-        Cell::Fake | Cell::LowerFake => t.fakes += 1,
-        Cell::Empty | Cell::Tap | Cell::KeySound => {}
+    if judged {
+        let mut t = bump_dir(s, column);
+        t.lifts += 1;
+        return t;
     }
+    let mut t = s;
+    t.lifts += 1;
     t
 }
 
-// One cell of a row, in a column, where `arrow` says whether it is an arrow.
-fn add_cell(s: RowSum, column: usize, b: u8, arrow: bool) -> RowSum
+// One cell of a row, in a column, by one match: an arrow, what else it is counted as, or both. A judged row has lifts for arrows too.
+fn add_cell(s: RowSum, column: usize, b: u8, judged: bool) -> RowSum
     requires { ⌜ Under 10 s ⌝ }
-    ensures { λ r. ⌜ r ≡ addCell s column (cellOf b) arrow ⌝ }
+    ensures { λ r. ⌜ r ≡ addCell s column (cellOf b) (arrowOf judged (cellOf b)) ⌝ }
 {
-    if arrow {
-        let t = bump_dir(s, column);
-        return add_counted(t, b);
+    match cells::cell_of(b) {
+        Cell::Tap => bump_dir(s, column),
+        Cell::Hold => {
+            let mut t = bump_dir(s, column);
+            t.holds += 1;
+            t
+        }
+        Cell::Roll => {
+            let mut t = bump_dir(s, column);
+            t.rolls += 1;
+            t
+        }
+        Cell::Tail => {
+            let mut t = s;
+            t.tails += 1;
+            t
+        }
+        Cell::Mine | Cell::LowerMine => {
+            let mut t = s;
+            t.mines += 1;
+            t
+        }
+        Cell::Lift | Cell::LowerLift => add_lift(s, column, judged),
+        Cell::Fake | Cell::LowerFake => {
+            let mut t = s;
+            t.fakes += 1;
+            t
+        }
+        Cell::Empty | Cell::KeySound => s,
     }
-    add_counted(s, b)
 }
 
 // One cell of a plain row.
@@ -90,8 +113,7 @@ pub fn sum_cell(s: RowSum, column: usize, b: u8) -> RowSum
     requires { ⌜ Under 10 s ⌝ }
     ensures { λ r. ⌜ r ≡ addCell s column (cellOf b) (isArrow (cellOf b)) ⌝ }
 {
-    let arrow = cells::is_note(b);
-    add_cell(s, column, b, arrow)
+    add_cell(s, column, b, false)
 }
 
 // What a row adds up to, cell by cell.
@@ -242,27 +264,13 @@ fn keep_head(b: u8, paired: bool) -> u8
     }
 }
 
-// Whether the byte is an arrow of a judged row.
-fn is_judged_arrow(b: u8) -> bool
-    ensures { λ r. ⌜ r ≡ isJudgedArrow (cellOf b) ⌝ }
-{
-    match cells::cell_of(b) {
-        Cell::Tap | Cell::Hold | Cell::Roll | Cell::Lift | Cell::LowerLift => true,
-        _ => false,
-    }
-}
-
 // One cell of a row of which only the heads of a mask count, judged or plain.
 fn kept_cell(s: RowSum, column: usize, b: u8, heads: u16, judged: bool) -> RowSum
     requires { ⌜ (column < 10) × Under 10 s ⌝ }
     ensures { λ r. ⌜ r ≡ addCell s column (keptCell heads column b) (arrowOf judged (keptCell heads column b)) ⌝ }
 {
     let kept = keep_head(b, has_bit(heads, column));
-    if judged {
-        let arrow = is_judged_arrow(kept);
-        return add_cell(s, column, kept, arrow);
-    }
-    sum_cell(s, column, kept)
+    add_cell(s, column, kept, judged)
 }
 
 // What a row adds up to of which only the heads of a mask count, judged or plain.
@@ -309,7 +317,7 @@ pub fn judged_sum_masked(judged: bool, row: &[u8], heads: u16) -> RowSum
     only_fakes(s.arrows + s.mines + s.fakes)
 }
 
-// What a judged row adds up to, with all its heads. A `0` adds nothing.
+// What a judged row adds up to, with all its heads.
 pub fn judged_sum(row: &[u8]) -> RowSum
     requires { ⌜ length (now row) ≤ 10 ⌝ }
     ensures { λ r. ⌜ r ≡ judgedSum true (now (row .entry)) ⌝ }
@@ -317,11 +325,7 @@ pub fn judged_sum(row: &[u8]) -> RowSum
     let mut s = no_sum();
     let mut i = 0;
     while i < row.len() {
-        let b = row[i];
-        if b != b'0' {
-            let arrow = is_judged_arrow(b);
-            s = add_cell(s, i, b, arrow);
-        }
+        s = add_cell(s, i, row[i], true);
         i += 1;
     }
     s

@@ -37,11 +37,15 @@ pub enum TimingAnswer {
     },
 }
 
-// Whether the byte is a 2 or 4. The tests are joined without a branch.
+// Whether the byte is a 2 or 4.
 fn is_head(b: u8) -> bool
     ensures { λ r. ⌜ r ≡ isOpening (holdAt b) ⌝ }
 {
-    (b == b'2') | (b == b'4')
+    match b {
+        b'2' => true,
+        b'4' => true,
+        _ => false,
+    }
 }
 
 // Whether any of the bytes is. It looks at every byte, so that no turn of the loop branches on one.

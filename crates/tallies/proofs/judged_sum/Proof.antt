@@ -1,13 +1,9 @@
 -- `tallies::judged_sum` meets its contract. The loop's invariant: the sum so far, with the cells from column `i` on, is the row's.
-use mathlib.Core.Path.{refl, ap, _∙_}
 use Prim.Native.Nat.{_≤_, _-_}
-use mathlib.Core.Logic.{⊎-elim}
 use native.Mathlib.Omega.{arith}
 use lib.ListN.{length, drop, drop-of-length-le}
 use mathlib.Core.Bool.{true}
 use Rattle.definitions.specs.Judged.{isJudgedArrow, judgedSum}
-use Rattle.tallies.specs.Sums.{addCell}
-use Rattle.tallies.proofs.Sums.{empty-adds}
 use Rattle.tallies.proofs.Bounds.{under-more}
 use Rattle.tallies.proofs.Loops.{Summed, summed-start, summed-next, summed-end, drop-next}
 use Rattle.tallies.proofs.judged_sum.Statement.{statement}
@@ -26,15 +22,12 @@ loop-holds : tie.Need-loop-holds Inv-loop μ-loop
 unfolding judgedSum
 loop-holds c = (omega arith, summed-start isJudgedArrow _ _ (c .no-sum .ensures))
 
-shared-slice-read-b : tie.Need-shared-slice-read-b Inv-loop μ-loop
-shared-slice-read-b c = omega arith
-
-is-judged-arrow-requires : tie.Need-is-judged-arrow-requires Inv-loop μ-loop
-is-judged-arrow-requires c κs = tt
+shared-slice-read-add-cell : tie.Need-shared-slice-read-add-cell Inv-loop μ-loop
+shared-slice-read-add-cell c = omega arith
 
 add-cell-requires : tie.Need-add-cell-requires Inv-loop μ-loop
 add-cell-requires c κs =
-    let at = c .before .before .before .before .loop in
+    let at = c .before .before .loop in
     under-more (at .i) 10 _ (omega arith) (at .inv .1 .under)
 
 add-i : tie.Need-add-i Inv-loop μ-loop
@@ -47,15 +40,8 @@ loop-again : tie.Need-loop-again Inv-loop μ-loop
 loop-again c =
     let at = c .before .before .before .loop in
     let row = c .before .before .before .before .before .before .args .row .now in
-    let rest = drop-next row (at .i) (c .before .before .loop-test .taken) in (
-      omega arith,
-      ⊎-elim
-          (λ v. rw (v .3)
-          (summed-next isJudgedArrow _ _ _ (at .s) _ (at .i) _ rest (v .2 .ensures ∙ ap (addCell (at .s) (at .i) _) (v .1 .ensures)) (at .inv .1)))
-          (λ v. rw (v .1)
-          (summed-next isJudgedArrow _ _ _ (at .s) _ (at .i) _ rest (empty-adds isJudgedArrow refl (at .s) (at .i) _ (v .0 .left)) (at .inv .1)))
-          (c .if1 .came),
-    )
+    let rest = drop-next row (at .i) (c .before .before .loop-test .taken) in
+    (omega arith, summed-next isJudgedArrow _ _ _ (at .s) _ (at .i) _ rest (c .add-cell .ensures) (at .inv .1))
 
 returns : tie.Need-returns Inv-loop μ-loop
 returns c =
@@ -70,8 +56,7 @@ judged-sum-spec =
     μ-loop
     no-sum-requires
     loop-holds
-    shared-slice-read-b
-    is-judged-arrow-requires
+    shared-slice-read-add-cell
     add-cell-requires
     add-i
     loop-less
