@@ -217,13 +217,17 @@ pub fn add_row_lent(t: ArrowStats, s: RowSum) -> ArrowStats
     stats
 }
 
-// The judged tally with one row more, before which `held` holds are open.
+// The judged tally with one row more, before which `held` holds are open: a hand is told otherwise than on a plain row, and nothing is held.
 pub fn add_judged_row(t: ArrowStats, judged: bool, held: u32, s: RowSum) -> ArrowStats
     requires { ⌜ Below 4294967285 t × Under 10 s × (held ≤ 4294967285) ⌝ }
     ensures { λ r. ⌜ r ≡ judgeRow t judged held s ⌝ }
 {
     let hand = judged & (1 <= s.arrows + s.mines + s.fakes) & (3 <= s.arrows + held);
-    add_sum(t, s, hand, 0)
+    let hands = t.hands + cells::one_if(hand);
+    let mut r = add_row_lent(t, s);
+    r.hands = hands;
+    r.holding = 0;
+    r
 }
 
 // The tally with one row more.
@@ -293,7 +297,7 @@ pub fn count_line_masked(t: ArrowStats, row: &[u8], heads: u16) -> ArrowStats
     ensures { λ r. ⌜ r ≡ addRow t (rowSum (keepMask heads 0 (now (row .entry)))) ⌝ }
 {
     let s = kept_sum(row, heads, false);
-    add_row(t, s)
+    add_row_lent(t, s)
 }
 
 // A sum of fakes alone.
