@@ -2,7 +2,7 @@
 -- the open one: each line read takes it to the next. What a pass holds is the only thing in which the loops differ.
 use mathlib.Core.Path.{_≡_, ap, sym, _∙_, subst}
 use mathlib.Core.List.{List, [], _∷_, _++_}
-use Prim.Native.Nat.{ℕ, _+_, _*_, _-_, _/_, _≤_, _<_}
+use Prim.Native.Nat.{ℕ, _+_, _*_, _-_, _≤_, _<_}
 use native.Mathlib.Nat.{le-trans, mul-le-mul-right, le-div-iff-mul-le, mul-comm, le-of-eq, add-sub-cancel-left}
 use native.Mathlib.Omega.{arith}
 use lib.ListN.{length, take, drop, length-drop}

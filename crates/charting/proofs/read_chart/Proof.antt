@@ -1,5 +1,5 @@
 -- `charting::read_chart` meets its contract. The loop's invariant: what the pass holds and has written is that of the lines read.
-use Prim.Native.Nat.{_≤_, _-_, _+_}
+use Prim.Native.Nat.{_-_, _+_}
 use mathlib.Core.Path.{_≡_, refl}
 use mathlib.Core.Logic.{⊎-elim}
 use native.Mathlib.Omega.{arith}

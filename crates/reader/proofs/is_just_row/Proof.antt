@@ -1,5 +1,5 @@
 -- `reader::is_just_row` meets its contract: its tests are what `just-row` asks for.
-use mathlib.Core.Path.{_≡_, refl, ap₂, sym, _∙_}
+use mathlib.Core.Path.{refl, ap₂, sym, _∙_}
 use mathlib.Core.Bool.{not, _&&_}
 use Prim.Native.Nat.{ℕ, _+_, _*_, _-_, _/_}
 use native.Mathlib.Omega.{arith}

@@ -1,5 +1,5 @@
 -- `timing::pass_chart` meets its contract. The loop's invariant: what the pass holds and has written is that of the lines read.
-use Prim.Native.Nat.{_≤_, _-_, _+_}
+use Prim.Native.Nat.{_-_, _+_}
 use mathlib.Core.Path.{_≡_, refl}
 use mathlib.Core.Logic.{⊎-elim}
 use native.Mathlib.Omega.{arith}
@@ -7,7 +7,7 @@ use borrow.Author.Needs.{needs}
 use denote.Ref.{now}
 use lib.ListN.{length}
 use Rattle.reader.proofs.Passes.{Over, RowPart, row-part, pass-semi, pass-end}
-use Rattle.reader.proofs.Minimising.{Reduced, Minimising, minimising-start, minimising-few, minimising-room, minimising-passed, comma-room, row-room, minimising-comma, minimising-row}
+use Rattle.reader.proofs.Minimising.{Reduced, Minimising, minimising-start, minimising-few, minimising-room, minimising-passed, row-room, minimising-comma, minimising-row}
 use Rattle.timing.specs.Pass.{Timed}
 use Rattle.timing.proofs.Keeping.{Small, timed-small, timed-more, timed-all}
 use Rattle.timing.proofs.pass_chart.Statement.{statement}

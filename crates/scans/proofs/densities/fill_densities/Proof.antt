@@ -8,7 +8,7 @@ use borrow.Author.Needs.{needs}
 use lib.ListN.{length, length-set}
 use denote.Ref.{now}
 use Rattle.definitions.specs.Lists.{oneIf, padded}
-use Rattle.definitions.specs.Figures.{isStep, density}
+use Rattle.definitions.specs.Figures.{density}
 use Rattle.scans.proofs.Raw.{densities-raw}
 use Rattle.reader.proofs.Passes.{Passing, RowPart, row-part, pass-start, pass-passed, pass-comma, pass-row, pass-semi, pass-end}
 use Rattle.scans.proofs.Filling.{Filling, Filled, filling-start, filling-few, filling-row, filling-comma, filling-over, filled-count, filled-slice}
