@@ -10,7 +10,7 @@ ghost use Rattle.definitions.specs.Tally.{noStats};
 ghost use Rattle.definitions.specs.ReadBack.{readBack};
 ghost use Rattle.definitions.specs.declared.ArrowStats.{ArrowStats};
 ghost use Rattle.definitions.specs.Lines.{Row};
-ghost use Rattle.taps.specs.Taps.{FreeTaps, TapCounts};
+ghost use Rattle.taps.specs.Taps.{FreeTaps, Fits, TapCounts};
 ghost use Rattle.tallies.specs.Bounds.{Below};
 ghost use Rattle.clean.specs.Clean.{CleanJudged};
 ghost use Rattle.clean.specs.Pass.{CellPassed, CellsPassed, openHeads, Ready, RowPassed};
@@ -134,12 +134,12 @@ fn count_cells(t: CleanRows, row: &[u8]) -> CleanRows
 }
 
 // One row more of taps alone, none in a column with an open head: it leaves the depths as they are.
-fn count_taps(t: CleanRows, mask: u8, counts: &[u16; 256]) -> CleanRows
-    requires { ⌜ TapCounts (now counts) × Ready t × Below 4294967285 (t .stats) ⌝ }
+fn count_taps(t: CleanRows, mask: u16, wide: bool, counts: &[u16; 256]) -> CleanRows
+    requires { ⌜ TapCounts (now counts) × Ready t × Below 4294967285 (t .stats) × Fits wide mask ⌝ }
     ensures { λ r. ⌜ ((row : Row) → FreeTaps (t .busy) mask row → RowPassed row t r) ⌝ }
 {
     let old = t.stats;
-    let stats = tallies::judge_taps(old, true, t.active, mask, counts);
+    let stats = tallies::judge_taps(old, true, t.active, mask, wide, counts);
     let mut r = t;
     r.stats = stats;
     r
@@ -151,7 +151,7 @@ fn count_row(t: CleanRows, row: &[u8], counts: &[u16; 256]) -> CleanRows
     ensures { λ r. ⌜ RowPassed (now (row .entry)) t r ⌝ }
 {
     match taps::free_taps(row, t.busy) {
-        Taps::Mask(mask) => count_taps(t, mask, counts),
+        Taps::Mask(mask) => count_taps(t, mask, taps::is_wide(row.len()), counts),
         Taps::Other => count_cells(t, row),
     }
 }

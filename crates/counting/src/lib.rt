@@ -8,7 +8,7 @@ ghost use Prim.Native.Nat.{ℕ, _+_, _*_, _≤_, _<_};
 ghost use lib.ListN.{length, drop};
 ghost use Rattle.definitions.specs.Lines.{Row};
 ghost use Rattle.definitions.specs.Figures.{density as densityOf};
-ghost use Rattle.taps.specs.Taps.{FreeTaps, TapCounts};
+ghost use Rattle.taps.specs.Taps.{FreeTaps, Fits, TapCounts};
 ghost use Rattle.measures.specs.Rows.{rowsAt};
 ghost use Rattle.counting.specs.Counted.{Few, Counted, SomeCounted};
 
@@ -37,11 +37,11 @@ pub fn no_counting() -> Counting
 }
 
 // One row of taps more, all in columns of the phantom depth 0: it leaves the depths, and no turn of a loop branches on its cells.
-pub fn count_taps(c: Counting, mask: u8, counts: &[u16; 256]) -> Counting
-    requires { ⌜ (c .rows < 4194304) × Few c × TapCounts (now counts) ⌝ }
+pub fn count_taps(c: Counting, mask: u16, wide: bool, counts: &[u16; 256]) -> Counting
+    requires { ⌜ (c .rows < 4194304) × Few c × TapCounts (now counts) × Fits wide mask ⌝ }
     ensures { λ r. ⌜ ((row : Row) → FreeTaps (c .busy) mask row → (L : ℕ) (done : List (List Row)) (cur : List Row) → length row ≤ L → L ≤ 10 → Counted L c done cur → Counted L r done (cur ++ (row ∷ []))) ⌝ }
 {
-    let stats = tallies::count_taps(c.stats, mask, counts);
+    let stats = tallies::count_taps(c.stats, mask, wide, counts);
     let phantoms = c.phantoms;
     Counting {
         stats,
@@ -86,7 +86,7 @@ fn count_row(c: Counting, row: &[u8], counts: &[u16; 256]) -> Counting
     ensures { λ r. ⌜ ((L : ℕ) (done : List (List Row)) (cur : List Row) → length (now (row .entry)) ≤ L → L ≤ 10 → Counted L c done cur → Counted L r done (cur ++ (now (row .entry) ∷ []))) ⌝ }
 {
     match taps::free_taps(row, c.busy) {
-        Taps::Mask(mask) => count_taps(c, mask, counts),
+        Taps::Mask(mask) => count_taps(c, mask, taps::is_wide(row.len()), counts),
         Taps::Other => count_cells(c, row),
     }
 }

@@ -13,7 +13,7 @@ ghost use Rattle.definitions.specs.ReadBack.{readBack};
 ghost use Rattle.definitions.specs.Judged.{judgedRows};
 ghost use Rattle.definitions.specs.Entries.{judgedWork};
 ghost use Rattle.definitions.specs.Lines.{Row};
-ghost use Rattle.taps.specs.Taps.{tapLineMask, TapCounts};
+ghost use Rattle.taps.specs.Taps.{tapLineMask, Fits, TapCounts};
 ghost use Rattle.taps.specs.declared.Taps.the-variants.{Mask};
 ghost use Rattle.tallies.specs.Bounds.{Below};
 ghost use Rattle.judged.specs.Answers.{judgedAnswer, flaggedAnswer, answerBy};
@@ -100,13 +100,19 @@ fn process_timing_row(t: TimingStats, cells: &[u8], entry: u16) -> TimingStats
 }
 
 // One row of taps alone more, by its entry: no hold begins or ends there.
-fn process_timing_taps(t: TimingStats, mask: u8, entry: u16, counts: &[u16; 256]) -> TimingStats
-    requires { ⌜ TapCounts (now counts) × Below 4294967285 (t .stats) × (t .active ≤ 4294967285) ⌝ }
+fn process_timing_taps(
+    t: TimingStats,
+    mask: u16,
+    wide: bool,
+    entry: u16,
+    counts: &[u16; 256],
+) -> TimingStats
+    requires { ⌜ TapCounts (now counts) × Below 4294967285 (t .stats) × (t .active ≤ 4294967285) × Fits wide mask ⌝ }
     ensures { λ r. ⌜ ((row : Row) → tapLineMask row ≡ Mask mask → r ≡ timingTaps t entry row) ⌝ }
 {
     let judged = entry / 16384 == 1;
     let old = t.stats;
-    let stats = tallies::judge_taps(old, judged, t.active, mask, counts);
+    let stats = tallies::judge_taps(old, judged, t.active, mask, wide, counts);
     TimingStats {
         stats,
         active: t.active,
@@ -130,7 +136,13 @@ fn tally_timing_rows(data: &[u8], lanes: usize, work: &[u16]) -> ArrowStats
             let end = off + lanes;
             let entry = work[row];
             match taps::free_taps(&data[off..end], 0) {
-                Taps::Mask(mask) => t = process_timing_taps(t, mask, entry, &counts),
+                Taps::Mask(mask) => t = process_timing_taps(
+                    t,
+                    mask,
+                    taps::is_wide(lanes),
+                    entry,
+                    &counts,
+                ),
                 Taps::Other => t = process_timing_row(t, &data[off..end], entry),
             }
             row += 1;

@@ -106,7 +106,7 @@ pub extern "C" fn leaves_tap_sum(mask: u8, sum: &mut [u32; 11])
     ensures { λ _. ⌜ now (sum .exit) ≡ sumNumbers (unpack (maskCounts mask)) ⌝ }
 {
     let counts = taps::tap_mask_counts();
-    let s = taps::tap_sum(mask, &counts);
+    let s = taps::tap_sum(mask as u16, false, &counts);
     *sum = [
         s.arrows,
         s.left,

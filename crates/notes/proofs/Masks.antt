@@ -1,4 +1,4 @@
--- The lowest bit of a mask: rules of all masks of eight columns, each told by one list of values; and a row of taps, gone through by its mask.
+-- The lowest bit of a mask: rules of all masks of ten columns, each told by one list of values; and a row of taps, gone through by its mask.
 use mathlib.Core.Path.{_≡_, refl, ap, sym, _∙_, subst}
 use mathlib.Core.Bool.{Bool, true, false, cond, not, _||_}
 use mathlib.Core.List.{List, [], _∷_}
@@ -19,11 +19,10 @@ use Rattle.definitions.specs.Cells.{byteAt}
 use Rattle.definitions.specs.Notes.{effectAt}
 use Rattle.definitions.specs.Records.{fields}
 use Rattle.definitions.proofs.Lists.{any-default}
-use Rattle.taps.specs.Taps.{bit, tapMask, tapLineMask}
-use Rattle.taps.specs.declared.Taps.{Taps}
-use Rattle.taps.specs.declared.Taps.the-variants.{Mask, Other}
-use Rattle.taps.proofs.Masks.{not-other}
-use Rattle.taps.proofs.Free.{line-taps, tap-cell, free-byte}
+use Rattle.taps.specs.Taps.{bit, tapLineMask}
+use Rattle.taps.specs.declared.Taps.the-variants.{Mask}
+use Rattle.taps.proofs.Masks.{line-taps, line-width}
+use Rattle.taps.proofs.Free.{tap-cell, free-byte}
 use Rattle.taps.proofs.Tables.{upFrom, same-at}
 use Rattle.notes.specs.Masks.{LowOf}
 use Rattle.notes.specs.Writer.{noTail, FreeHeads}
@@ -34,39 +33,39 @@ use Rattle.notes.proofs.Rows.{Midrow, mid-start, mid-ready, mid-step}
 use Rattle.notes.proofs.Taps.{counting, tap-step, stored-past}
 
 abbrev column : ℕ → ℕ
-column m = trailingZeros 32 (bitOr m 128)
+column m = trailingZeros 32 (bitOr m 512)
 
 abbrev rest : ℕ → ℕ
 rest m = bitAnd m (m - 1)
 
-column-inside : (m : ℕ) → m < 256 → ltb (column m) 8 ≡ true
+column-inside : (m : ℕ) → m < 1024 → ltb (column m) 10 ≡ true
 unfolding trailingZeros
-column-inside m h = same-at (λ m. ltb (column m) 8) (λ m. true) 256 refl m h
+column-inside m h = same-at (λ m. ltb (column m) 10) (λ m. true) 1024 refl m h
 
-rest-less : (m : ℕ) → m < 256 → ltb (rest m) m ≡ not (eqb m 0)
-rest-less m h = same-at (λ m. ltb (rest m) m) (λ m. not (eqb m 0)) 256 refl m h
+rest-less : (m : ℕ) → m < 1024 → ltb (rest m) m ≡ not (eqb m 0)
+rest-less m h = same-at (λ m. ltb (rest m) m) (λ m. not (eqb m 0)) 1024 refl m h
 
-column-here : (m : ℕ) → m < 256 → bit (column m) m ≡ oneIf (not (eqb m 0))
+column-here : (m : ℕ) → m < 1024 → bit (column m) m ≡ oneIf (not (eqb m 0))
 unfolding trailingZeros
-column-here m h = same-at (λ m. bit (column m) m) (λ m. oneIf (not (eqb m 0))) 256 refl m h
+column-here m h = same-at (λ m. bit (column m) m) (λ m. oneIf (not (eqb m 0))) 1024 refl m h
 
-column-below : (m c : ℕ) → m < 256 → c < 8 → cond (ltb c (column m)) (bit c m) 0 ≡ 0
+column-below : (m c : ℕ) → m < 1024 → c < 10 → cond (ltb c (column m)) (bit c m) 0 ≡ 0
 unfolding trailingZeros
 column-below m c h k =
-    same-at (λ c. cond (ltb c (column m)) (bit c m) 0) (λ c. 0) 8
-    (same-at (λ m. upFrom (λ c. cond (ltb c (column m)) (bit c m) 0) 0 8) (λ m. upFrom (λ c. 0) 0 8) 256 refl m h) c k
+    same-at (λ c. cond (ltb c (column m)) (bit c m) 0) (λ c. 0) 10
+    (same-at (λ m. upFrom (λ c. cond (ltb c (column m)) (bit c m) 0) 0 10) (λ m. upFrom (λ c. 0) 0 10) 1024 refl m h) c k
 
-rest-bits : (m c : ℕ) → m < 256 → c < 8 → bit c (rest m) ≡ cond (leb c (column m)) 0 (bit c m)
+rest-bits : (m c : ℕ) → m < 1024 → c < 10 → bit c (rest m) ≡ cond (leb c (column m)) 0 (bit c m)
 unfolding trailingZeros
 rest-bits m c h k =
-    same-at (λ c. bit c (rest m)) (λ c. cond (leb c (column m)) 0 (bit c m)) 8
-    (same-at (λ m. upFrom (λ c. bit c (rest m)) 0 8) (λ m. upFrom (λ c. cond (leb c (column m)) 0 (bit c m)) 0 8) 256 refl m h) c k
+    same-at (λ c. bit c (rest m)) (λ c. cond (leb c (column m)) 0 (bit c m)) 10
+    (same-at (λ m. upFrom (λ c. bit c (rest m)) 0 10) (λ m. upFrom (λ c. cond (leb c (column m)) 0 (bit c m)) 0 10) 1024 refl m h) c k
 
-pub low-some : (m : ℕ) → m < 256 → (m ≡ 0 → ⊥) → LowOf m (column m) 49 (rest m)
+pub low-some : (m : ℕ) → m < 1024 → (m ≡ 0 → ⊥) → LowOf m (column m) 49 (rest m)
 low-some m h ne =
     let q : ltb (rest m) m ≡ true = rest-less m h ∙ rw (ne-eqb m 0 ne) in
     let less : rest m < m = ltb-true (rest m) m q in
-    let inside : column m < 8 = ltb-true (column m) 8 (column-inside m h) in
+    let inside : column m < 10 = ltb-true (column m) 10 (column-inside m h) in
     record {
       inside = inside;
       tells = rw (ne-eqb m 0 ne);
@@ -84,7 +83,7 @@ bit-none c = ap (λ n. n % 2) (zero-div (2 ^ c))
 
 pub low-none : (m : ℕ) → m ≡ 0 → LowOf m (column m) 48 0
 low-none m e =
-    let inside : column m < 8 = ltb-true (column m) 8 (column-inside m (omega (arith, e))) in
+    let inside : column m < 10 = ltb-true (column m) 10 (column-inside m (omega (arith, e))) in
     record {
       inside = inside;
       tells = rw (eq-eqb m 0 e);
@@ -118,22 +117,13 @@ module _ (l : List ℕ) (s : ChartNotesScratch) (l′ : List ℕ) (r : ChartNote
 
 -- ---- a row by its mask
 
-line-size : (r : Row) (m : ℕ) → tapLineMask r ≡ Mask m → (4 ≤ length r) × (length r ≤ 8)
-unfolding tapLineMask
-line-size r m e = go (eqb (length r) 4) (eqb (length r) 8) (eqb-true (length r) 4) (eqb-true (length r) 8) e
-  where
-    go : (x y : Bool) → (x ≡ true → length r ≡ 4) → (y ≡ true → length r ≡ 8) → cond (x || y) (tapMask r) Other ≡ Mask m → (4 ≤ length r) × (length r ≤ 8)
-    go true y f g q = let n = f refl in (omega arith, omega arith)
-    go false true f g q = let n = g refl in (omega arith, omega arith)
-    go false false f g q = not-other m q
-
 -- k records are written of a row, and m has the bits of the taps that are left
 pub record Taken (l : List ℕ) (s : ChartNotesScratch) (row : Row) (mask : ℕ) (l′ : List ℕ) (k m : ℕ) : Type 0 where
   pub at : ℕ
   pub mid : Midrow l s l′ (counting s k) at row
-  pub small : m < 256
-  pub low : (c : ℕ) → c < at → c < 8 → bit c m ≡ 0
-  pub high : (c : ℕ) → at ≤ c → c < 8 → bit c m ≡ bit c mask
+  pub small : m < 1024
+  pub low : (c : ℕ) → c < at → c < 10 → bit c m ≡ 0
+  pub high : (c : ℕ) → at ≤ c → c < 10 → bit c m ≡ bit c mask
 
 module _ (l : List ℕ) (s : ChartNotesScratch) (row : Row) (mask : ℕ) (R : Room s row l) (heads : FreeHeads (s .«hold_heads») row) (e : tapLineMask row ≡ Mask mask) where
   cell : (c : ℕ) → c < length row → getD row c 0 ≡ 48 + bit c mask
@@ -148,7 +138,7 @@ module _ (l : List ℕ) (s : ChartNotesScratch) (row : Row) (mask : ℕ) (R : Ro
             absurd (omega (arith, past, tap-cell row mask c (line-taps row mask e)))
       ]
 
-  pub taken-start : mask < 256 → Taken l s row mask l (s .count) mask
+  pub taken-start : mask < 1024 → Taken l s row mask l (s .count) mask
   taken-start h = record { at = 0; mid = mid-start l s row; small = h; low = λ c k b. absurd (omega arith); high = λ c k b. refl }
 
   module _ (l′ : List ℕ) (k m : ℕ) (T : Taken l s row mask l′ k m) where
@@ -158,7 +148,7 @@ module _ (l : List ℕ) (s : ChartNotesScratch) (row : Row) (mask : ℕ) (R : Ro
 
     -- there is room for one record more
     pub room-early : k ≤ s .count + 1 → k * 10 + 10 ≤ length l′
-    room-early h = omega (arith, T .mid .same, R .room, line-size row mask e .0)
+    room-early h = omega (arith, T .mid .same, R .room, line-width row mask e .0)
 
     module _ (t b r : ℕ) (L : LowOf m t b r) where
       module _ (ne : m ≡ 0 → ⊥) where
@@ -178,7 +168,7 @@ module _ (l : List ℕ) (s : ChartNotesScratch) (row : Row) (mask : ℕ) (R : Ro
             (mid-zeros l s l′ (counting s k) row (T .at) (t - T .at) (T .mid) (omega (arith, later, within t own))
             (λ c x y.
             let here : c < t = omega (arith, later) in
-            let inside : c < 8 = omega (arith, L .inside) in
+            let inside : c < 10 = omega (arith, L .inside) in
             cell c (omega (arith, within t own)) ∙ ap (λ n. 48 + n) (sym (T .high c x inside) ∙ L .below c here)))
 
         taken-some : (l″ : List ℕ) (k′ : ℕ) → l″ ≡ sets l′ (k * 10) (fields (s .«row_index») noTail t 0) → k′ ≡ k + oneIf (eqb b 49) → length l″ ≡ length l′ → Taken l s row mask l″ k′ r
@@ -216,5 +206,5 @@ module _ (l : List ℕ) (s : ChartNotesScratch) (row : Row) (mask : ℕ) (R : Ro
         (mid-zeros l s l′ (counting s k) row (T .at) (length row - T .at) (T .mid) (omega (arith, T .mid .inside))
         (λ c x y.
         let here : c < length row = omega (arith, T .mid .inside) in
-        let inside : c < 8 = omega (arith, line-size row mask e .1) in
+        let inside : c < 10 = omega (arith, line-width row mask e .1) in
         cell c here ∙ ap (λ n. 48 + n) (sym (T .high c x inside) ∙ ap (bit c) z ∙ bit-none c)))

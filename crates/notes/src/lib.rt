@@ -193,10 +193,10 @@ struct LowBit {
 }
 
 fn low_bit(mask: u32) -> LowBit
-    requires { ⌜ mask < 256 ⌝ }
+    requires { ⌜ mask < 1024 ⌝ }
     ensures { λ r. ⌜ LowOf mask (r .column) (r .byte) (r .rest) ⌝ }
 {
-    let column = u32::trailing_zeros(mask | 128) as usize;
+    let column = u32::trailing_zeros(mask | 512) as usize;
     if mask == 0 {
         return LowBit {
             column,
@@ -213,7 +213,7 @@ fn low_bit(mask: u32) -> LowBit
 
 // A row of taps alone in columns without an open head, by its mask, `finish_row` included. Two records are written whatever the mask is, and
 // more only where it has more taps, so that few rows branch on theirs.
-pub fn push_mask(s: ChartNotesScratch, row: &[u8], mask: u8, notes: &mut [u8]) -> ChartNotesScratch
+pub fn push_mask(s: ChartNotesScratch, row: &[u8], mask: u16, notes: &mut [u8]) -> ChartNotesScratch
     requires { ⌜ Room s (now row) (now notes) × FreeHeads (s .«hold_heads») (now row) × (tapLineMask (now row) ≡ Mask mask) ⌝ }
     ensures { λ r. ⌜ ((rows : List Row) → Written rows s (now (notes .entry)) → Written (rows ++ (now (row .entry) ∷ [])) r (now (notes .exit))) ⌝ }
     ensures { λ r. ⌜ r .«hold_heads» ≡ s .«hold_heads» ⌝ }

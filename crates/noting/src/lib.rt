@@ -30,7 +30,7 @@ pub fn no_noting() -> Noting
 }
 
 // One row of taps more, in columns that are free in both.
-pub fn note_taps(n: Noting, row: &[u8], mask: u8, slots: &mut [u8]) -> Noting
+pub fn note_taps(n: Noting, row: &[u8], mask: u16, slots: &mut [u8]) -> Noting
     requires { ⌜ RowReady n (now row) (now slots) × FreeTaps (bitOr (n .busy) (n .last .busy)) mask (now row) ⌝ }
     ensures { λ r. ⌜ ((L : ℕ) (done : List (List Row)) (cur : List Row) → length (now (row .entry)) ≤ L → NotedRows L n (now (slots .entry)) done cur → NotedRows L r (now (slots .exit)) done (cur ++ (now (row .entry) ∷ []))) ⌝ }
 {

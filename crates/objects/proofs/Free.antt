@@ -13,7 +13,8 @@ use Rattle.definitions.specs.Objects as objects
 use Rattle.taps.specs.Taps.{tapMask, FreeTaps, FreeAre}
 use Rattle.taps.specs.declared.Taps.the-variants.{Mask}
 use Rattle.taps.proofs.Masks.{parts}
-use Rattle.taps.proofs.Free.{Free, zero-cell, tap-there, free-cell, line-taps}
+use Rattle.taps.proofs.Masks.{line-taps}
+use Rattle.taps.proofs.Free.{Free, zero-cell, tap-there, free-cell}
 use Rattle.objects.specs.Rows.{Holds, RowDone}
 use Rattle.objects.specs.declared.Depths.{Depths}
 use Rattle.objects.proofs.Scan.{low-more}

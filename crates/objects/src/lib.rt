@@ -124,7 +124,7 @@ pub fn no_last() -> LastScan
 }
 
 // One row of taps more, all in columns of the depth 0: it is an object row where it has one, and leaves the depths.
-pub fn last_taps(s: LastScan, mask: u8) -> LastScan
+pub fn last_taps(s: LastScan, mask: u16) -> LastScan
     requires { ⌜ s .rows < 16777216 ⌝ }
     ensures { λ r. ⌜ ((row : Row) → FreeTaps (s .busy) mask row → (done : List (List Row)) (cur : List Row) → LastKept s done cur → LastKept r done (cur ++ (row ∷ []))) ⌝ }
 {

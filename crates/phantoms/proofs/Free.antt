@@ -11,7 +11,8 @@ use Rattle.definitions.specs.Cells.{cellOf, byteAt}
 use Rattle.definitions.specs.Tracker.{holdAt}
 use Rattle.definitions.specs.Correction.{phantomStep, phantomAfter, meetsPhantom, phantomMet, isOpening, isClosing}
 use Rattle.taps.specs.Taps.{FreeTaps, FreeAre}
-use Rattle.taps.proofs.Free.{Free, zero-cell, tap-there, free-cell, line-taps, taps-count}
+use Rattle.taps.proofs.Masks.{line-taps}
+use Rattle.taps.proofs.Free.{Free, zero-cell, tap-there, free-cell, taps-count}
 use Rattle.phantoms.specs.Phantoms.{Counts, RowCounted}
 use Rattle.phantoms.specs.declared.Phantoms.{Phantoms}
 use Rattle.phantoms.proofs.Columns.{column-same}

@@ -50,7 +50,7 @@ fn count_row(t: ArrowStats, row: &[u8], heads: u16, counts: &[u16; 256]) -> Arro
     ensures { λ r. ⌜ r ≡ addRow t (rowSum (keepMask heads 0 (now (row .entry)))) ⌝ }
 {
     match taps::tap_line_mask(row) {
-        Taps::Mask(mask) => tallies::count_taps(t, mask, counts),
+        Taps::Mask(mask) => tallies::count_taps(t, mask, taps::is_wide(row.len()), counts),
         Taps::Other => {
             if measures::is_all_zero(row) {
                 t

@@ -1,4 +1,4 @@
--- A judged row of taps alone: its arrows are those of a plain one, so the table has its sum.
+-- A judged row of taps alone: its arrows are those of a plain one, so its mask's counts are its sum.
 use mathlib.Core.Path.{_≡_, refl, ap, ap₂, sym, _∙_}
 use mathlib.Core.Bool.{Bool, true, false, _&&_}
 use mathlib.Core.List.{[], _∷_}
@@ -14,8 +14,8 @@ use Rattle.definitions.specs.Judged.{isJudgedArrow, onlyFakes, judgedSum}
 use Rattle.definitions.specs.declared.Cell.{Cell}
 use Rattle.taps.specs.Taps.{tapLineMask, bit, maskCounts, unpack}
 use Rattle.taps.specs.declared.Taps.the-variants.{Mask}
-use Rattle.taps.proofs.Masks.{tap-line-sum}
-use Rattle.taps.proofs.Free.{line-taps, tap-cell}
+use Rattle.taps.proofs.Masks.{line-taps, tap-line-sum}
+use Rattle.taps.proofs.Free.{tap-cell}
 use Rattle.tallies.proofs.Kept.{unjudged}
 
 -- tests that agree on a row's cells count the same

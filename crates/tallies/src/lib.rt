@@ -12,7 +12,7 @@ ghost use Rattle.definitions.specs.Tracker.{holdAt};
 ghost use Rattle.definitions.specs.Tally.{noStats, rowSum, rowSumBy, addSum, addRow};
 ghost use Rattle.definitions.specs.Correction.{keepHead, withSteps};
 ghost use Rattle.definitions.specs.Judged.{onlyFakes, judgedSum, judgeRow};
-ghost use Rattle.taps.specs.Taps.{tapLineMask, TapCounts};
+ghost use Rattle.taps.specs.Taps.{tapLineMask, Fits, TapCounts};
 ghost use Rattle.taps.specs.declared.Taps.the-variants.{Mask};
 ghost use Rattle.definitions.specs.Lines.{Row};
 ghost use Rattle.definitions.specs.declared.Cell.the-variants.{Lift};
@@ -239,12 +239,12 @@ pub fn count_line(t: ArrowStats, row: &[u8]) -> ArrowStats
     add_row_lent(t, s)
 }
 
-// The tally with one row of taps alone more, by the table.
-pub fn count_taps(t: ArrowStats, mask: u8, counts: &[u16; 256]) -> ArrowStats
-    requires { ⌜ TapCounts (now counts) × Below 4294967285 t ⌝ }
+// The tally with one row of taps alone more.
+pub fn count_taps(t: ArrowStats, mask: u16, wide: bool, counts: &[u16; 256]) -> ArrowStats
+    requires { ⌜ TapCounts (now counts) × Below 4294967285 t × Fits wide mask ⌝ }
     ensures { λ r. ⌜ ((row : Row) → tapLineMask row ≡ Mask mask → r ≡ addRow t (rowSum row)) ⌝ }
 {
-    let s = taps::tap_sum(mask, counts);
+    let s = taps::tap_sum(mask, wide, counts);
     add_row_lent(t, s)
 }
 
@@ -335,12 +335,12 @@ pub fn judged_sum(row: &[u8]) -> RowSum
     s
 }
 
-// What a row of taps alone adds up to, judged or not, by the table. On an unjudged row each tap is one fake.
-fn judged_taps(judged: bool, mask: u8, counts: &[u16; 256]) -> RowSum
-    requires { ⌜ TapCounts (now counts) ⌝ }
+// What a row of taps alone adds up to, judged or not. On an unjudged row each tap is one fake.
+fn judged_taps(judged: bool, mask: u16, wide: bool, counts: &[u16; 256]) -> RowSum
+    requires { ⌜ TapCounts (now counts) × Fits wide mask ⌝ }
     ensures { λ r. ⌜ Under 10 r × ((row : Row) → tapLineMask row ≡ Mask mask → r ≡ judgedSum judged row) ⌝ }
 {
-    let s = taps::tap_sum(mask, counts);
+    let s = taps::tap_sum(mask, wide, counts);
     if judged {
         return s;
     }
@@ -352,13 +352,14 @@ pub fn judge_taps(
     t: ArrowStats,
     judged: bool,
     held: u32,
-    mask: u8,
+    mask: u16,
+    wide: bool,
     counts: &[u16; 256],
 ) -> ArrowStats
-    requires { ⌜ TapCounts (now counts) × Below 4294967285 t × (held ≤ 4294967285) ⌝ }
+    requires { ⌜ TapCounts (now counts) × Below 4294967285 t × (held ≤ 4294967285) × Fits wide mask ⌝ }
     ensures { λ r. ⌜ ((row : Row) → tapLineMask row ≡ Mask mask → r ≡ judgeRow t judged held (judgedSum judged row)) ⌝ }
 {
-    let s = judged_taps(judged, mask, counts);
+    let s = judged_taps(judged, mask, wide, counts);
     add_judged_row(t, judged, held, s)
 }
 

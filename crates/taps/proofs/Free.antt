@@ -1,22 +1,20 @@
 -- A row whose taps stand in no column of `busy`: in each column is a `0`, or a `1` where `busy` has no bit.
 use mathlib.Core.Path.{_≡_, refl, ap, sym, _∙_, subst}
-use mathlib.Core.Bool.{Bool, true, false, cond, _||_}
+use mathlib.Core.Bool.{Bool, false}
 use mathlib.Core.List.{[], _∷_}
 use Prim.Native.Nat.{ℕ, zero, suc, _+_, _*_, _/_, _%_, _^_, _<_, _≤_, min, max}
 use native.Mathlib.Nat.{zero-div, mod-lt}
 use native.Mathlib.Omega.{arith}
 use lib.Bits.{bitAnd, bitOr, and-shr, and-step, or-shr, or-step}
-use lib.Dec.{eqb}
 use lib.ListN.{length, getD}
 use lib.Pow.{shr-shr}
 use Rattle.definitions.proofs.Lists.{any-default}
 use Rattle.definitions.specs.Lists.{count}
 use Rattle.definitions.specs.Lines.{Row}
 use Rattle.definitions.specs.Cells.{byteAt}
-use Rattle.taps.specs.Taps.{tapMask, tapLineMask, bit, FreeTaps}
-use Rattle.taps.specs.declared.Taps.{Taps}
-use Rattle.taps.specs.declared.Taps.the-variants.{Mask, Other}
-use Rattle.taps.proofs.Masks.{parts, not-other}
+use Rattle.taps.specs.Taps.{tapMask, bit, FreeTaps}
+use Rattle.taps.specs.declared.Taps.the-variants.{Mask}
+use Rattle.taps.proofs.Masks.{parts, line-taps}
 
 -- ---- bits
 
@@ -48,15 +46,6 @@ apart m busy e c one =
     omega arith
 
 -- ---- the cells of a row with a mask
-
--- a row of four or eight cells has the mask of its cells
-pub line-taps : (r : Row) (m : ℕ) → tapLineMask r ≡ Mask m → tapMask r ≡ Mask m
-unfolding tapLineMask
-line-taps r m e = go (eqb (length r) 4 || eqb (length r) 8) e
-  where
-    go : (t : Bool) → cond t (tapMask r) Other ≡ Mask m → tapMask r ≡ Mask m
-    go true q = q
-    go false q = not-other m q
 
 pub tap-cell : (r : Row) (m c : ℕ) → tapMask r ≡ Mask m → byteAt c r ≡ 48 + bit c m
 unfolding tapMask

@@ -1,20 +1,23 @@
 -- The masks of rows of taps alone, and that a mask's counts are its row's sum.
-use mathlib.Core.Path.{_≡_, refl, ap, ap₂, sym, _∙_}
-use mathlib.Core.Bool.{Bool, true, false, cond, _||_}
+use mathlib.Core.Path.{_≡_, refl, ap, ap₂, sym, subst, _∙_}
+use mathlib.Core.Bool.{Bool, true, false, cond, _||_, _&&_, not}
 use mathlib.Core.List.{List, [], _∷_, _++_}
 use Prim.Native.Nat.{ℕ, zero, suc, _+_, _*_, _-_, _/_, _%_, _^_, _<_, _≤_}
 use native.Mathlib.Nat.{pow-suc, pow-succ', mul-assoc}
+use native.Mathlib.Decide.{decLt}
 use native.Mathlib.Omega.{arith}
 use lib.Bits.{bitAnd, and-mask}
-use lib.Dec.{eqb}
-use lib.ListN.{length, take, drop, length-drop}
-use lib.Seq.{take-all, take-add, length-take-le}
-use borrow.Author.Tests.{eqb-true}
+use lib.Dec.{eqb, ltb}
+use lib.ListN.{length, take, drop, length-take, take-append-drop}
+use lib.Pow.{pow-lt}
+use lib.Seq.{take-add, length-take-le}
+use borrow.Author.Tests.{eqb-true, ne-eqb, ltb-true}
+use Rattle.definitions.proofs.Bools.{and-left, and-right}
 use Rattle.definitions.specs.Lines.{Row}
 use Rattle.definitions.specs.Cells.{cellOf}
 use Rattle.definitions.specs.Tally.{rowSum, rowSumBy}
 use Rattle.definitions.specs.declared.RowSum.{RowSum}
-use Rattle.taps.specs.Taps.{withBit, tapMask, tapLineMask, maskCounts, unpack}
+use Rattle.taps.specs.Taps.{withBit, tapMask, hasMask, tapLineMask, wideRow, Fits, Fives, maskCounts, unpack}
 use Rattle.taps.specs.declared.Taps.{Taps}
 use Rattle.taps.specs.declared.Taps.the-variants.{Mask, Other}
 use Rattle.taps.proofs.Tables.{upFrom, same-at}
@@ -52,6 +55,14 @@ mask-lt (b ∷ r) m e =
     let h : s .rest < 2 ^ length r = mask-lt r (s .rest) (s .after) in
     omega (arith, pow-suc 2 (length r))
 
+-- the same of a row of up to k cells
+pub mask-few : (k : ℕ) (r : Row) (m : ℕ) → length r ≤ k → tapMask r ≡ Mask m → m < 2 ^ k
+mask-few k r m h e =
+    elim (decLt (length r) k) [
+      | yes l ↦ omega (arith, mask-lt r m e, pow-lt l)
+      | no n ↦ let same : length r ≡ k = omega arith in subst (λ w. m < 2 ^ w) same (mask-lt r m e)
+    ]
+
 -- the row of a mask
 abbrev pub rowOf : ℕ → ℕ → Row
 rowOf zero m = []
@@ -66,43 +77,100 @@ row-back (b ∷ r) m e =
     let high : s .rest ≡ m / 2 = omega arith in
     ap₂ (λ (x : ℕ) (l : Row). x ∷ l) low (row-back r (s .rest) (s .after) ∙ ap (rowOf (length r)) high)
 
--- the sum of each mask's row, at each width up to 8, and what the mask's counts stand for
+-- the sum of each mask's row, at each width up to 10, and what the mask's counts stand for
 abbrev sums : ℕ → List RowSum
 sums w = upFrom (λ m. rowSum (rowOf w m)) 0 (2 ^ w)
 
 abbrev counted : ℕ → List RowSum
 counted w = upFrom (λ m. unpack (maskCounts m)) 0 (2 ^ w)
 
-tested : upFrom sums 0 9 ≡ upFrom counted 0 9
+tested : upFrom sums 0 11 ≡ upFrom counted 0 11
 unfolding rowSum rowSumBy cellOf maskCounts unpack
 tested = refl
 
 -- A row of taps alone adds up to what its mask's counts stand for.
-pub tap-row-sum : (r : Row) (m : ℕ) → length r ≤ 8 → tapMask r ≡ Mask m → rowSum r ≡ unpack (maskCounts m)
+tap-row-sum : (r : Row) (m : ℕ) → length r ≤ 10 → tapMask r ≡ Mask m → rowSum r ≡ unpack (maskCounts m)
 tap-row-sum r m h e =
     ap rowSum (row-back r m e)
     ∙ same-at (λ k. rowSum (rowOf (length r) k)) (λ k. unpack (maskCounts k)) (2 ^ length r)
-    (same-at sums counted 9 tested (length r) (omega arith)) m (mask-lt r m e)
+    (same-at sums counted 11 tested (length r) (omega arith)) m (mask-lt r m e)
 
--- every mask is that of a row of eight cells
-pub mask-row : (m : ℕ) → m < 256 → rowSum (rowOf 8 m) ≡ unpack (maskCounts m)
-mask-row m h = same-at (λ k. rowSum (rowOf 8 k)) (λ k. unpack (maskCounts k)) 256 (same-at sums counted 9 tested 8 (omega arith)) m h
+-- every mask is that of a row of ten cells
+pub mask-row : (m : ℕ) → m < 1024 → rowSum (rowOf 10 m) ≡ unpack (maskCounts m)
+mask-row m h = same-at (λ k. rowSum (rowOf 10 k)) (λ k. unpack (maskCounts k)) 1024 (same-at sums counted 11 tested 10 (omega arith)) m h
 
--- the same of the mask that a row of four or eight cells may have
-pub tap-line-sum : (r : Row) (m : ℕ) → tapLineMask r ≡ Mask m → rowSum r ≡ unpack (maskCounts m)
-unfolding tapLineMask
-tap-line-sum r m e = go (eqb (length r) 4) (eqb (length r) 8) (λ h. eqb-true (length r) 4 h) (λ h. eqb-true (length r) 8 h) e
+-- ---- Rows of the widths that have masks
+
+pub width : (n : ℕ) → hasMask n ≡ true → (4 ≤ n) × (n ≤ 10)
+width n e = go (eqb n 4) (eqb n 8) (eqb n 5) (eqb n 10) (eqb-true n 4) (eqb-true n 8) (eqb-true n 5) (eqb-true n 10) e
   where
-    go : (p q : Bool) → (p ≡ true → length r ≡ 4) → (q ≡ true → length r ≡ 8) → cond (p || q) (tapMask r) Other ≡ Mask m
-        → rowSum r ≡ unpack (maskCounts m)
-    go true q h k f = tap-row-sum r m (omega (arith, h refl)) f
-    go false true h k f = tap-row-sum r m (omega (arith, k refl)) f
-    go false false h k f = not-other m f
+    go : (p q s t : Bool) → (p ≡ true → n ≡ 4) → (q ≡ true → n ≡ 8) → (s ≡ true → n ≡ 5) → (t ≡ true → n ≡ 10) → (p || q || s || t) ≡ true
+        → (4 ≤ n) × (n ≤ 10)
+    go true q s t a b c d f = let k = a refl in (omega arith, omega arith)
+    go false true s t a b c d f = let k = b refl in (omega arith, omega arith)
+    go false false true t a b c d f = let k = c refl in (omega arith, omega arith)
+    go false false false true a b c d f = let k = d refl in (omega arith, omega arith)
+    go false false false false a b c d f = let z : _≡_ {A = ℕ} 0 1 = cc in absurd (omega arith)
 
--- a row of w cells, 4 or 8, has the mask of its first w
-pub line-mask : (w : ℕ) (r : Row) → length r ≡ w → (eqb w 4 || eqb w 8) ≡ true → tapMask (take w r) ≡ tapLineMask r
-unfolding tapLineMask
-line-mask w r h t = rw (take-all w r (omega arith), h, t)
+-- whether n cells are one or two fives
+abbrev inFives : ℕ → Bool
+inFives n = (ltb 4 n && ltb n 11) && eqb (n % 5) 0
+
+pub in-fives : (n : ℕ) → inFives n ≡ true → Fives n × (hasMask n ≡ true)
+in-fives n e =
+    let h = ltb-true n 11 (and-right (ltb 4 n) (ltb n 11) (and-left (ltb 4 n && ltb n 11) (eqb (n % 5) 0) e)) in
+    let z = eqb-true (n % 5) 0 (and-right (ltb 4 n && ltb n 11) (eqb (n % 5) 0) e) in
+    ((z, omega arith), rw e at (same-at (λ k. inFives k && hasMask k) inFives 11 refl n h))
+
+pub no-fives : (n : ℕ) → (n ≡ 4 → ⊥) → (n ≡ 8 → ⊥) → inFives n ≡ false → hasMask n ≡ false
+no-fives n four eight e =
+    elim (decLt n 11) [
+      | yes h ↦ same-at hasMask (λ k. eqb k 4 || eqb k 8 || inFives k) 11 refl n h ∙ rw (ne-eqb n 4 four, ne-eqb n 8 eight, e)
+      | no h ↦ rw (ne-eqb n 4 four, ne-eqb n 8 eight, ne-eqb n 5 (λ k. absurd (omega arith)), ne-eqb n 10 (λ k. absurd (omega arith)))
+    ]
+
+module _ (r : Row) where
+  -- a row of such a width has the mask of its cells
+  pub line-mask : hasMask (length r) ≡ true → tapMask r ≡ tapLineMask r
+  unfolding tapLineMask
+  line-mask t = rw t
+
+  pub line-other : hasMask (length r) ≡ false → Other ≡ tapLineMask r
+  unfolding tapLineMask
+  line-other t = rw t
+
+  module _ (m : ℕ) (e : tapLineMask r ≡ Mask m) where
+    line-told : (hasMask (length r) ≡ true) × (tapMask r ≡ Mask m)
+    unfolding tapLineMask
+    line-told = go (hasMask (length r)) refl e
+      where
+        go : (t : Bool) → hasMask (length r) ≡ t → cond t (tapMask r) Other ≡ Mask m → (hasMask (length r) ≡ true) × (tapMask r ≡ Mask m)
+        go true h q = (h, q)
+        go false h q = not-other m q
+
+    pub line-taps : tapMask r ≡ Mask m
+    line-taps = line-told .1
+
+    pub line-width : (4 ≤ length r) × (length r ≤ 10)
+    line-width = width (length r) (line-told .0)
+
+    pub tap-line-sum : rowSum r ≡ unpack (maskCounts m)
+    tap-line-sum = tap-row-sum r m (line-width .1) line-taps
+
+    -- the table has the masks of rows of four and eight
+    pub line-fits : Fits (wideRow (length r)) m
+    line-fits = (mask-few 10 r m (line-width .1) line-taps, λ w. mask-few 8 r m (short w) line-taps)
+      where
+        short : wideRow (length r) ≡ false → length r ≤ 8
+        short w = go (eqb (length r) 4) (eqb (length r) 8) (eqb-true (length r) 4) (eqb-true (length r) 8) w
+          where
+            go : (p q : Bool) → (p ≡ true → length r ≡ 4) → (q ≡ true → length r ≡ 8) → not (p || q) ≡ false → length r ≤ 8
+            go true q a b f = omega (arith, a refl)
+            go false true a b f = omega (arith, b refl)
+            go false false a b f = let z : _≡_ {A = ℕ} 0 1 = cc in absurd (omega arith)
+
+pub fits-at : (r : Row) (m L : ℕ) → length r ≡ L → tapLineMask r ≡ Mask m → Fits (wideRow L) m
+fits-at r m L h e = subst (λ n. Fits (wideRow n) m) h (line-fits r m e)
 
 -- ---- Two rows of taps, one after the other
 abbrev pub beside : ℕ → Taps → Taps → Taps
@@ -136,30 +204,54 @@ none : (t : Taps) → t ≡ beside 0 (Mask 0) t
 none (Mask m) = ap Mask (omega arith)
 none Other = refl
 
-mask-append : (r s : Row) → tapMask (r ++ s) ≡ beside (length r) (tapMask r) (tapMask s)
+pub mask-append : (r s : Row) → tapMask (r ++ s) ≡ beside (length r) (tapMask r) (tapMask s)
 unfolding tapMask
 mask-append [] s = none (tapMask s)
 mask-append (b ∷ r) s = ap (withBit b) (mask-append r s) ∙ more (length r) b (tapMask r) (tapMask s)
 
-module _ (r : Row) where
-  -- the four cells after the first four
-  rest-four : take 4 (take (length r - 4) (drop 4 r)) ≡ take 4 (drop 4 r)
-  rest-four = ap (take 4) (take-all (length r - 4) (drop 4 r) (omega (arith, length-drop 4 r)))
+-- the two masks that stand beside each other
+pub record Sides (w : ℕ) (t u : Taps) (m : ℕ) : Type 0 where
+  pub lo : ℕ
+  pub hi : ℕ
+  pub first : t ≡ Mask lo
+  pub second : u ≡ Mask hi
+  pub whole : m ≡ lo + 2 ^ w * hi
 
-  -- the mask of eight cells, of the first four and of the four after them
-  pub mask-eight : (t u : Taps) → 8 ≤ length r → tapMask (take 4 r) ≡ t → tapMask (take 4 (take (length r - 4) (drop 4 r))) ≡ u
-      → tapMask (take 8 r) ≡ beside 4 t u
-  mask-eight t u h e f =
-      ap tapMask (take-add 4 4 r) ∙ mask-append (take 4 r) (take 4 (drop 4 r))
-      ∙ rw (length-take-le 4 r (omega arith), e, ← rest-four, f)
+pub sides : (w : ℕ) (t u : Taps) (m : ℕ) → beside w t u ≡ Mask m → Sides w t u m
+sides w (Mask lo) (Mask hi) m e = let same : lo + 2 ^ w * hi ≡ m = cc in record { lo = lo; hi = hi; first = refl; second = refl; whole = sym same }
+sides w (Mask lo) Other m e = not-other m e
+sides w Other u m e = not-other m e
 
-  -- each of the two is below 16
-  pub mask-lt-low : (m : ℕ) → 8 ≤ length r → tapMask (take 4 r) ≡ Mask m → m < 16
-  mask-lt-low m h e = rw (length-take-le 4 r (omega arith)) at (mask-lt (take 4 r) m e)
+-- ---- Five cells more
 
-  pub mask-lt-high : (m : ℕ) → 8 ≤ length r → tapMask (take 4 (take (length r - 4) (drop 4 r))) ≡ Mask m → m < 16
-  mask-lt-high m h e =
-      rw (length-take-le 4 (drop 4 r) (omega (arith, length-drop 4 r))) at (mask-lt (take 4 (drop 4 r)) m (ap tapMask (sym rest-four) ∙ e))
+module _ (r : Row) (at : ℕ) (inside : at + 5 ≤ length r) where
+  five-more : tapMask (take (at + 5) r) ≡ beside at (tapMask (take at r)) (tapMask (take 5 (drop at r)))
+  five-more =
+      ap tapMask (take-add at 5 r)
+      ∙ mask-append (take at r) (take 5 (drop at r))
+      ∙ ap (λ n. beside n (tapMask (take at r)) (tapMask (take 5 (drop at r)))) (length-take-le at r (omega arith))
+
+  module _ (m : ℕ) (before : tapMask (take at r) ≡ Mask m) where
+    pub fives-next : (five : ℕ) → tapMask (take 5 (drop at r)) ≡ Mask five → tapMask (take (at + 5) r) ≡ Mask (m + 2 ^ at * five)
+    fives-next five e = five-more ∙ rw (before, e)
+
+    -- no mask of the five, none of the row
+    pub fives-other : tapMask (take 5 (drop at r)) ≡ Other → tapMask r ≡ Other
+    fives-other e =
+        ap tapMask (sym (take-append-drop (at + 5) r))
+        ∙ mask-append (take (at + 5) r) (drop (at + 5) r)
+        ∙ rw (five-more, before, e)
+
+-- where they stand in the mask
+pub five-at : (five at : ℕ) → five < 32 → at % 5 ≡ 0 → at ≤ 5 → (five * 2 ^ at % 65536 ≡ 2 ^ at * five) × (2 ^ at * five < 1024)
+five-at five at h e k =
+    elim (decLt at 1) [
+      | yes l ↦ let z : at ≡ 0 = omega arith in let p : 2 ^ at ≡ 1 = ap (λ n. 2 ^ n) z in rw p (omega arith, omega arith)
+      | no n ↦ let z : at ≡ 5 = omega arith in let p : 2 ^ at ≡ 32 = ap (λ n. 2 ^ n) z in rw p (omega arith, omega arith)
+    ]
+
+pub few-five : (r : Row) (at five : ℕ) → tapMask (take 5 (drop at r)) ≡ Mask five → five < 32
+few-five r at five e = mask-few 5 (take 5 (drop at r)) five (omega (arith, length-take 5 (drop at r))) e
 
 pub and-15 : (n : ℕ) → bitAnd n 15 ≡ n % 16
 and-15 n = and-mask n 4

@@ -1,20 +1,21 @@
--- Four cells at once, by their word: a byte but for its lowest bit is 48 where it is a `0` or a `1`.
+-- Up to eight cells at once, by their word: a byte but for its lowest bit is 48 where it is a `0` or a `1`.
 use mathlib.Core.Path.{_≡_, refl, ap, sym, _∙_}
 use mathlib.Core.Bool.{Bool, true, false, _||_}
-use mathlib.Core.List.{[], _∷_}
+use mathlib.Core.List.{[], _∷_, _++_}
 use Prim.Native.Nat.{ℕ, zero, suc, _+_, _*_, _-_, _/_, _%_, _^_, _<_, _≤_}
 use native.Mathlib.Omega.{arith}
 use borrow.Author.Tests.{eqb-true, eq-eqb}
-use lib.Bits.{bitAnd, and-block, and-le-l}
-use lib.Dec.{eqb}
-use lib.ListN.{length, getD, take}
+use lib.Bits.{bitAnd, and-block, and-le-l, and-le-r}
+use lib.Dec.{eqb, lit<}
+use lib.ListN.{length, getD, take, drop, length-append}
+use lib.Seq.{getD-drop, drop-drop}
 use Rattle.definitions.specs.Lines.{Row}
-use Rattle.lines.specs.Words.{halfAt}
-use Rattle.taps.specs.Taps.{withBit, tapMask}
+use Rattle.lines.specs.Words.{halfAt, wordOf, Bytes}
+use Rattle.taps.specs.Taps.{withBit, tapMask, zeroCells, spreadBits, spread, maskCounts}
 use Rattle.taps.specs.declared.Taps.{Taps}
 use Rattle.taps.specs.declared.Taps.the-variants.{Mask, Other}
 use Rattle.taps.proofs.Tables.{same-at}
-use Rattle.taps.proofs.Masks.{parts}
+use Rattle.taps.proofs.Masks.{Parts, parts, not-other, mask-few, beside, mask-append, Sides, sides}
 
 -- ---- a byte
 
@@ -40,115 +41,200 @@ with-bit zero m h = ap Mask (omega arith)
 with-bit (suc zero) m h = refl
 with-bit (suc (suc f)) m h = absurd (omega arith)
 
--- ---- four bytes
+told-byte : (b m : ℕ) → 48 ≤ b → b ≤ 49 → withBit b (Mask m) ≡ Mask ((b - 48) + 2 * m)
+told-byte b m low high =
+    let byte : b ≡ 48 + (b - 48) = omega arith in
+    ap (λ x. withBit x (Mask m)) byte ∙ with-bit (b - 48) m (omega arith)
 
-abbrev word : ℕ → ℕ → ℕ → ℕ → ℕ
-word a b c d = a + b * 256 + c * 65536 + d * 16777216
+-- ---- a word
 
-halved : (f n m : ℕ) → f ≤ 1 → m ≡ f + 2 * n → (m % 2 ≡ f) × (m / 2 ≡ n)
-halved f n m h e = (omega arith, omega arith)
+-- k bytes without their lowest bits
+abbrev evens : ℕ → ℕ
+evens zero = 0
+evens (suc k) = evens k * 256 + 254
 
--- the bits of four bytes that are 0 or 1, beside each other: tested for all sixteen
-pub gathered : (a b c d : ℕ) → a ≤ 1 → b ≤ 1 → c ≤ 1 → d ≤ 1 → word a b c d * 16909320 / 16777216 % 16 ≡ a + 2 * b + 4 * c + 8 * d
-gathered a b c d ha hb hc hd = go (a + 2 * b + 4 * c + 8 * d) refl
+and-next : (k w b : ℕ) → b < 256 → bitAnd (w * 256 + b) (evens (suc k)) ≡ bitAnd w (evens k) * 256 + bitAnd b 254
+and-next k w b h = and-block 8 w (evens k) b 254 h (lit< tt)
+
+-- some mask
+record Masked (l : Row) : Type 0 where
+  mask : ℕ
+  told : tapMask l ≡ Mask mask
+
+-- a word that passes is that of cells with a mask
+word-passed : (k : ℕ) (l : Row) → Bytes l → length l ≤ k → bitAnd (wordOf l) (evens k) ≡ wordOf (zeroCells (length l)) → Masked l
+unfolding tapMask wordOf
+word-passed k [] h n e = record { mask = 0; told = refl }
+word-passed zero (b ∷ l) h n e = absurd (omega arith)
+word-passed (suc k) (b ∷ l) h n e =
+    let next : bitAnd (wordOf l) (evens k) * 256 + bitAnd b 254 ≡ wordOf (zeroCells (length l)) * 256 + 48 = sym (and-next k (wordOf l) b (h .0)) ∙ e in
+    let low = and-le-r b 254 in
+    let here : bitAnd b 254 ≡ 48 = omega arith in
+    let p = passed b (h .0) here in
+    let rest = word-passed k l (h .1) (omega arith) (omega arith) in
+    record {
+      mask = (b - 48) + 2 * rest .mask;
+      told = ap (withBit b) (rest .told) ∙ told-byte b (rest .mask) (p .0) (p .1);
+    }
+
+-- and cells with a mask have a word that passes
+word-passes : (k : ℕ) (l : Row) (m : ℕ) → length l ≤ k → tapMask l ≡ Mask m → bitAnd (wordOf l) (evens k) ≡ wordOf (zeroCells (length l))
+unfolding tapMask wordOf
+word-passes zero [] m n e = refl
+word-passes (suc k) [] m n e = none k
   where
-    go : (m : ℕ) → m ≡ a + 2 * b + 4 * c + 8 * d → word a b c d * 16909320 / 16777216 % 16 ≡ m
-    go m e =
-        let inside : m < 16 = omega arith in
-        let first = halved a (b + 2 * c + 4 * d) m ha (omega arith) in
-        let second = halved b (c + 2 * d) (m / 2) hb (omega arith) in
-        let third = halved c d (m / 2 / 2) hc (omega arith) in
-        let fourth = halved d 0 (m / 2 / 2 / 2) hd (omega arith) in
-        let same : word a b c d ≡ word (m % 2) (m / 2 % 2) (m / 2 / 2 % 2) (m / 2 / 2 / 2 % 2) = sym (rw (first .0, second .0, third .0, fourth .0)) in
-        ap (λ w. w * 16909320 / 16777216 % 16) same
-        ∙ same-at (λ k. word (k % 2) (k / 2 % 2) (k / 2 / 2 % 2) (k / 2 / 2 / 2 % 2) * 16909320 / 16777216 % 16) (λ k. k) 16 refl m inside
+    none : (k : ℕ) → bitAnd 0 (evens (suc k)) ≡ 0
+    none zero = refl
+    none (suc k) = and-next (suc k) 0 0 (lit< tt) ∙ rw (none k)
+word-passes zero (b ∷ l) m n e = absurd (omega arith)
+word-passes (suc k) (b ∷ l) m n e =
+    let s = parts b (tapMask l) m e in
+    let here : bitAnd b 254 ≡ 48 = ap (λ x. bitAnd x 254) (s .byte) ∙ passes (s .first) (s .small) in
+    and-next k (wordOf l) b (omega (arith, s .byte, s .small)) ∙ rw (word-passes k l (s .rest) (omega arith) (s .after), here)
 
-and-word : (a b c d : ℕ) → a < 256 → b < 256 → c < 256 → bitAnd (word a b c d) 4278124286 ≡ word (bitAnd a 254) (bitAnd b 254) (bitAnd c 254) (bitAnd d 254)
-and-word a b c d ha hb hc =
-    let w : word a b c d ≡ ((d * 2 ^ 8 + c) * 2 ^ 8 + b) * 2 ^ 8 + a = omega arith in
-    let x = and-block 8 ((d * 2 ^ 8 + c) * 2 ^ 8 + b) 16711422 a 254 ha (omega arith) in
-    let y = and-block 8 (d * 2 ^ 8 + c) 65278 b 254 hb (omega arith) in
-    let z = and-block 8 d 254 c 254 hc (omega arith) in
-    ap (λ n. bitAnd n 4278124286) w ∙ omega (arith, x, y, z)
+-- its bytes are 48 and the bits of the mask
+spread-none : (k : ℕ) → spreadBits k 0 ≡ 0
+spread-none zero = refl
+spread-none (suc k) = rw (spread-none k)
 
-module _ (a b c d : ℕ) (ha : a < 256) (hb : b < 256) (hc : c < 256) (hd : d < 256) where
-  -- the word passes where each byte does
-  all-pass : bitAnd (word a b c d) 4278124286 ≡ 808464432 → (bitAnd a 254 ≡ 48) × (bitAnd b 254 ≡ 48) × (bitAnd c 254 ≡ 48) × (bitAnd d 254 ≡ 48)
-  all-pass e =
-      let s : word (bitAnd a 254) (bitAnd b 254) (bitAnd c 254) (bitAnd d 254) ≡ 808464432 = sym (and-word a b c d ha hb hc) ∙ e in
-      let p = and-le-l a 254 in
-      let q = and-le-l b 254 in
-      let r = and-le-l c 254 in
-      let t = and-le-l d 254 in
-      (omega arith, omega arith, omega arith, omega arith)
+word-bits : (k : ℕ) (l : Row) (m : ℕ) → length l ≤ k → tapMask l ≡ Mask m → wordOf l ≡ wordOf (zeroCells (length l)) + spreadBits k m
+unfolding tapMask wordOf
+word-bits k [] m n e = let w : 0 ≡ m = cc in omega (arith, ap (spreadBits k) (sym w) ∙ spread-none k)
+word-bits zero (b ∷ l) m n e = absurd (omega arith)
+word-bits (suc k) (b ∷ l) m n e =
+    let s = parts b (tapMask l) m e in
+    let low : m % 2 ≡ s .first = omega (arith, s .whole, s .small) in
+    let high : m / 2 ≡ s .rest = omega (arith, s .whole, s .small) in
+    let rest = word-bits k l (s .rest) (omega arith) (s .after) in
+    omega (arith, s .byte, low, rest, ap (spreadBits k) high)
 
-  four-mask : bitAnd (word a b c d) 4278124286 ≡ 808464432 → tapMask (a ∷ b ∷ c ∷ d ∷ []) ≡ Mask ((a - 48) + 2 * (b - 48) + 4 * (c - 48) + 8 * (d - 48))
-  unfolding tapMask
-  four-mask e =
-      let s = all-pass e in
-      let p = passed a ha (s .0) in
-      let q = passed b hb (s .1) in
-      let r = passed c hc (s .2) in
-      let t = passed d hd (s .3) in
-      let ea : a ≡ 48 + (a - 48) = omega arith in
-      let eb : b ≡ 48 + (b - 48) = omega arith in
-      let ec : c ≡ 48 + (c - 48) = omega arith in
-      let ed : d ≡ 48 + (d - 48) = omega arith in
-      ap (λ x. withBit a (withBit b (withBit c (withBit x (Mask 0))))) ed
-      ∙ ap (λ x. withBit a (withBit b (withBit c x))) (with-bit (d - 48) 0 (omega arith))
-      ∙ ap (λ x. withBit a (withBit b (withBit x (Mask ((d - 48) + 2 * 0))))) ec
-      ∙ ap (λ x. withBit a (withBit b x)) (with-bit (c - 48) ((d - 48) + 2 * 0) (omega arith))
-      ∙ ap (λ x. withBit a (withBit x (Mask ((c - 48) + 2 * ((d - 48) + 2 * 0))))) eb
-      ∙ ap (withBit a) (with-bit (b - 48) ((c - 48) + 2 * ((d - 48) + 2 * 0)) (omega arith))
-      ∙ ap (λ x. withBit x (Mask ((b - 48) + 2 * ((c - 48) + 2 * ((d - 48) + 2 * 0))))) ea
-      ∙ with-bit (a - 48) ((b - 48) + 2 * ((c - 48) + 2 * ((d - 48) + 2 * 0))) (omega arith)
-      ∙ ap Mask (omega arith)
+-- ---- four cells and those after them
 
-  four-none : (bitAnd (word a b c d) 4278124286 ≡ 808464432 → ⊥) → tapMask (a ∷ b ∷ c ∷ d ∷ []) ≡ Other
-  unfolding tapMask
-  four-none n = go (tapMask (a ∷ b ∷ c ∷ d ∷ [])) refl
+word-append : (a b : Row) → length a ≡ 4 → wordOf (a ++ b) ≡ wordOf a + wordOf b * 4294967296
+unfolding wordOf
+word-append [] b e = absurd (omega arith)
+word-append (p ∷ []) b e = absurd (omega arith)
+word-append (p ∷ q ∷ []) b e = absurd (omega arith)
+word-append (p ∷ q ∷ r ∷ []) b e = absurd (omega arith)
+word-append (p ∷ q ∷ r ∷ s ∷ []) b e = omega arith
+word-append (p ∷ q ∷ r ∷ s ∷ t ∷ a) b e = absurd (omega arith)
+
+zeros-append : (a b : Row) → length a ≡ 4 → wordOf (zeroCells (length (a ++ b))) ≡ 808464432 + wordOf (zeroCells (length b)) * 4294967296
+unfolding wordOf
+zeros-append [] b e = absurd (omega arith)
+zeros-append (p ∷ []) b e = absurd (omega arith)
+zeros-append (p ∷ q ∷ []) b e = absurd (omega arith)
+zeros-append (p ∷ q ∷ r ∷ []) b e = absurd (omega arith)
+zeros-append (p ∷ q ∷ r ∷ s ∷ []) b e = omega arith
+zeros-append (p ∷ q ∷ r ∷ s ∷ t ∷ a) b e = absurd (omega arith)
+
+zeros-four : (l : Row) → length l ≡ 4 → wordOf (zeroCells (length l)) ≡ 808464432
+unfolding wordOf
+zeros-four l h = ap (λ n. wordOf (zeroCells n)) h
+
+bytes-append : (a b : Row) → Bytes a → Bytes b → Bytes (a ++ b)
+bytes-append [] b x y = y
+bytes-append (p ∷ a) b x y = (x .0, bytes-append a b (x .1) y)
+
+-- the bits of two masks of four, beside each other: tested for all
+pub gathered : (lo hi : ℕ) → lo < 16 → hi < 16 → (spread lo + 16 * spread hi) * 16909320 / 16777216 % 256 ≡ lo + 16 * hi
+unfolding spread
+gathered lo hi h k =
+    let m = lo + 16 * hi in
+    let low : m % 16 ≡ lo = omega arith in
+    let high : m / 16 ≡ hi = omega arith in
+    rw (low, high) at
+    (same-at (λ n. (spread (n % 16) + 16 * spread (n / 16)) * 16909320 / 16777216 % 256) (λ n. n) 256 refl (lo + 16 * hi) (omega arith))
+
+-- a word that passes is no less than that of the zeros
+pub halves-pass : (first second zeros : ℕ) → first < 4294967296
+    → bitAnd (first + second * 4294967296) 18374403900871474942 ≡ 808464432 + zeros * 4294967296 → (808464432 ≤ first) × (zeros ≤ second)
+halves-pass first second zeros h e =
+    let turned : first + second * 4294967296 ≡ second * 2 ^ 32 + first = omega arith in
+    let parts = ap (λ w. bitAnd w 18374403900871474942) turned ∙ and-block 32 second 4278124286 first 4278124286 h (lit< tt) in
+    let low = and-le-l first 4278124286 in
+    let high = and-le-l second 4278124286 in
+    (omega (arith, e, parts, low, high), omega (arith, e, parts, low, high))
+
+module _ (a b : Row) (four : length a ≡ 4) (few : length b ≤ 4) where
+  short : length (a ++ b) ≤ 8
+  short = omega (arith, length-append a b)
+
+  -- where the word passes, its bits are the mask
+  pub cells-mask : Bytes a → Bytes b
+      → bitAnd (wordOf a + wordOf b * 4294967296) 18374403900871474942 ≡ 808464432 + wordOf (zeroCells (length b)) * 4294967296
+      → (r : ℕ) → ((lo hi : ℕ) → lo < 16 → hi < 16 → wordOf a - 808464432 + 16 * (wordOf b - wordOf (zeroCells (length b))) ≡ spread lo + 16 * spread hi → r ≡ lo + 16 * hi)
+      → Mask r ≡ tapMask (a ++ b)
+  unfolding spread
+  cells-mask x y e r g =
+      let k = word-passed 8 (a ++ b) (bytes-append a b x y) short (ap (λ w. bitAnd w 18374403900871474942) (word-append a b four) ∙ e ∙ sym (zeros-append a b four)) in
+      let s = sides 4 (tapMask a) (tapMask b) (k .mask) (sym (mask-append a b ∙ ap (λ n. beside n (tapMask a) (tapMask b)) four) ∙ k .told) in
+      let p = word-bits 4 a (s .lo) (omega arith) (s .first) in
+      let z = zeros-four a four in
+      let q = word-bits 4 b (s .hi) few (s .second) in
+      let same : r ≡ s .lo + 16 * s .hi = g (s .lo) (s .hi) (mask-few 4 a (s .lo) (omega arith) (s .first)) (mask-few 4 b (s .hi) few (s .second)) (omega (arith, p, z, q)) in
+      ap Mask (omega (arith, same, s .whole)) ∙ sym (k .told)
+
+  pub cells-other : (bitAnd (wordOf a + wordOf b * 4294967296) 18374403900871474942 ≡ 808464432 + wordOf (zeroCells (length b)) * 4294967296 → ⊥)
+      → Other ≡ tapMask (a ++ b)
+  cells-other n = go (tapMask (a ++ b)) refl
     where
-      go : (t : Taps) → tapMask (a ∷ b ∷ c ∷ d ∷ []) ≡ t → t ≡ Other
+      go : (t : Taps) → tapMask (a ++ b) ≡ t → Other ≡ t
       go Other e = refl
       go (Mask m) e =
-          let p = parts a (tapMask (b ∷ c ∷ d ∷ [])) m e in
-          let q = parts b (tapMask (c ∷ d ∷ [])) (p .rest) (p .after) in
-          let r = parts c (tapMask (d ∷ [])) (q .rest) (q .after) in
-          let t = parts d (tapMask []) (r .rest) (r .after) in
-          let x = ap (λ k. bitAnd k 254) (p .byte) ∙ passes (p .first) (p .small) in
-          let y = ap (λ k. bitAnd k 254) (q .byte) ∙ passes (q .first) (q .small) in
-          let z = ap (λ k. bitAnd k 254) (r .byte) ∙ passes (r .first) (r .small) in
-          let u = ap (λ k. bitAnd k 254) (t .byte) ∙ passes (t .first) (t .small) in
-          absurd (n (and-word a b c d ha hb hc ∙ omega (arith, x, y, z, u)))
+          absurd (n (ap (λ w. bitAnd w 18374403900871474942) (sym (word-append a b four)) ∙ word-passes 8 (a ++ b) m short e ∙ zeros-append a b four))
 
--- ---- the first four cells of a row
+-- ---- words of a row
 
-first-four : (r : Row) → 4 ≤ length r → take 4 r ≡ getD r 0 0 ∷ getD r 1 0 ∷ getD r 2 0 ∷ getD r 3 0 ∷ []
+pub bytes-take : (n : ℕ) (l : Row) → Bytes l → Bytes (take n l)
+bytes-take zero l h = tt
+bytes-take (suc n) [] h = tt
+bytes-take (suc n) (x ∷ l) h = (h .0, bytes-take n l (h .1))
+
+pub bytes-drop : (n : ℕ) (l : Row) → Bytes l → Bytes (drop n l)
+bytes-drop zero l h = h
+bytes-drop (suc n) [] h = tt
+bytes-drop (suc n) (x ∷ l) h = bytes-drop n l (h .1)
+
+first-four : (l : Row) → 4 ≤ length l → wordOf (take 4 l) ≡ getD l 0 0 + getD l 1 0 * 256 + getD l 2 0 * 65536 + getD l 3 0 * 16777216
+unfolding wordOf
 first-four [] h = absurd (omega arith)
 first-four (a ∷ []) h = absurd (omega arith)
 first-four (a ∷ b ∷ []) h = absurd (omega arith)
 first-four (a ∷ b ∷ c ∷ []) h = absurd (omega arith)
-first-four (a ∷ b ∷ c ∷ d ∷ r) h = refl
+first-four (a ∷ b ∷ c ∷ d ∷ l) h = omega arith
 
--- each is 48 and a bit, and these bits are the mask
-pub record Four (r : Row) : Type 0 where
-  pub first : (48 ≤ getD r 0 0) × (getD r 0 0 ≤ 49)
-  pub second : (48 ≤ getD r 1 0) × (getD r 1 0 ≤ 49)
-  pub third : (48 ≤ getD r 2 0) × (getD r 2 0 ≤ 49)
-  pub fourth : (48 ≤ getD r 3 0) × (getD r 3 0 ≤ 49)
-  pub mask : tapMask (take 4 r) ≡ Mask ((getD r 0 0 - 48) + 2 * (getD r 1 0 - 48) + 4 * (getD r 2 0 - 48) + 8 * (getD r 3 0 - 48))
+-- the four bytes from i on
+pub half-word : (r : Row) (i : ℕ) → 4 ≤ length (drop i r) → halfAt r i ≡ wordOf (take 4 (drop i r))
+half-word r i h =
+    let here : i + 0 ≡ i = omega arith in
+    let p : getD (drop i r) 0 0 ≡ getD r i 0 = getD-drop i r 0 0 ∙ ap (λ k. getD r k 0) here in
+    omega (arith, first-four (drop i r) h, p, getD-drop i r 1 0, getD-drop i r 2 0, getD-drop i r 3 0)
 
-module _ (r : Row) (long : 4 ≤ length r) (small : (k : ℕ) → getD r k 0 < 256) where
-  pub four-taps : bitAnd (halfAt r 0) 4278124286 ≡ 808464432 → Four r
-  four-taps e =
-      let s = all-pass (getD r 0 0) (getD r 1 0) (getD r 2 0) (getD r 3 0) (small 0) (small 1) (small 2) (small 3) e in
-      record {
-        first = passed (getD r 0 0) (small 0) (s .0);
-        second = passed (getD r 1 0) (small 1) (s .1);
-        third = passed (getD r 2 0) (small 2) (s .2);
-        fourth = passed (getD r 3 0) (small 3) (s .3);
-        mask = ap tapMask (first-four r long) ∙ four-mask (getD r 0 0) (getD r 1 0) (getD r 2 0) (getD r 3 0) (small 0) (small 1) (small 2) (small 3) e;
-      }
+one : (l : Row) → wordOf (take 1 l) ≡ getD l 0 0
+unfolding wordOf
+one [] = refl
+one (x ∷ l) = omega arith
 
-  pub four-other : (bitAnd (halfAt r 0) 4278124286 ≡ 808464432 → ⊥) → tapMask (take 4 r) ≡ Other
-  four-other n = ap tapMask (first-four r long) ∙ four-none (getD r 0 0) (getD r 1 0) (getD r 2 0) (getD r 3 0) (small 0) (small 1) (small 2) (small 3) n
+-- the byte after them
+pub one-word : (r : Row) (i : ℕ) → getD r (i + 4) 0 ≡ wordOf (take 1 (drop 4 (drop i r)))
+one-word r i =
+    let here : i + 4 + 0 ≡ i + 4 = omega arith in
+    sym (one (drop 4 (drop i r)) ∙ ap (λ (l : Row). getD l 0 0) (drop-drop 4 i r) ∙ getD-drop (i + 4) r 0 0 ∙ ap (λ k. getD r k 0) here)
+
+-- ---- counts without the table
+
+pub spread-le : (m : ℕ) → spread m ≤ 16843009
+unfolding spread
+spread-le m = omega arith
+
+pub spreads : (m : ℕ) → m < 1024 → bitAnd (m % 16 * 2113665) 16843009 ≡ spread m
+unfolding spread
+spreads m h = same-at (λ n. bitAnd (n % 16 * 2113665) 16843009) spread 1024 refl m h
+
+abbrev sumOf : ℕ → ℕ
+sumOf m = spread m + spread (m / 16) + spread (m / 256)
+
+pub bits-counted : (m : ℕ) → m < 1024 → sumOf m * 17043520 / 16777216 % 256 * 16 + sumOf m * 16843009 / 16777216 % 16 ≡ maskCounts m
+unfolding spread maskCounts
+bits-counted m h = same-at (λ n. sumOf n * 17043520 / 16777216 % 256 * 16 + sumOf n * 16843009 / 16777216 % 16) maskCounts 1024 refl m h

@@ -1,10 +1,10 @@
 -- Document 01, `TAP_MASK_COUNTS`: the mask of a row of `0` and `1` alone, and the counts that the table has for it.
-use mathlib.Core.Bool.{cond, _||_, not}
+use mathlib.Core.Bool.{Bool, false, cond, _||_, not}
 use mathlib.Core.Path.{_≡_}
 use mathlib.Core.List.{List, [], _∷_}
-use Prim.Native.Nat.{ℕ, zero, suc, _+_, _*_, _/_, _%_, _^_, _<_}
+use Prim.Native.Nat.{ℕ, zero, suc, _+_, _*_, _/_, _%_, _^_, _<_, _≤_}
 use lib.Dec.{eqb}
-use lib.ListN.{length, getD}
+use lib.ListN.{length, getD, replicate}
 use Rattle.definitions.specs.Lists.{sumColumns, oneIf}
 use Rattle.definitions.specs.Lines.{Row}
 use Rattle.definitions.specs.declared.RowSum.{RowSum}
@@ -21,14 +21,41 @@ unfoldable pub tapMask : Row → Taps
 tapMask [] = Mask 0
 tapMask (b ∷ r) = withBit b (tapMask r)
 
--- "Only 4 and 8 lanes use it."
+-- the widths of rows that have masks
+abbrev pub hasMask : ℕ → Bool
+hasMask n = eqb n 4 || eqb n 8 || eqb n 5 || eqb n 10
+
 unfoldable pub tapLineMask : Row → Taps
-tapLineMask r = cond (eqb (length r) 4 || eqb (length r) 8) (tapMask r) Other
+tapLineMask r = cond (hasMask (length r)) (tapMask r) Other
+
+-- "Only 4 and 8 lanes use it.": rows of other widths are counted without the table.
+abbrev pub wideRow : ℕ → Bool
+wideRow n = not (eqb n 4 || eqb n 8)
+
+-- A mask of up to ten columns, and of up to eight where the table is used.
+abbrev pub Fits : Bool → ℕ → Type 0
+Fits wide m = (m < 1024) × (wide ≡ false → m < 256)
+
+-- cells in fives, ten at most
+abbrev pub Fives : ℕ → Type 0
+Fives n = (n % 5 ≡ 0) × (n ≤ 10)
+
+-- n cells `0`
+abbrev pub zeroCells : ℕ → Row
+zeroCells n = replicate n 48
+
+-- The lowest k bits of a mask, each in a byte of its own.
+abbrev pub spreadBits : ℕ → ℕ → ℕ
+spreadBits zero m = 0
+spreadBits (suc k) m = m % 2 + 256 * spreadBits k (m / 2)
+
+unfoldable pub spread : ℕ → ℕ
+spread m = spreadBits 4 m
 
 abbrev pub bit : ℕ → ℕ → ℕ
 bit c m = m / 2 ^ c % 2
 
--- A row of four or eight cells has this mask, and no tap of it stands in a column of `busy`.
+-- A row has this mask, and no tap of it stands in a column of `busy`.
 pub record FreeTaps (busy m : ℕ) (r : Row) : Type 0 where
   pub mask : tapLineMask r ≡ Mask m
   pub free : (c : ℕ) → bit c m ≡ 1 → bit c busy ≡ 0
@@ -45,14 +72,14 @@ unlikeFrom n l c (suc k) = oneIf (not (eqb (getD l c 0) n)) + 2 * unlikeFrom n l
 unfoldable pub unlikeMask : ℕ → List ℕ → ℕ
 unlikeMask n l = unlikeFrom n l 0 10
 
--- the ones of a mask in the two columns of a direction
+-- the ones of a mask in the columns of a direction
 abbrev pub towards : ℕ → ℕ → ℕ
-towards d m = bit d m + bit (d + 4) m
+towards d m = bit d m + bit (d + 4) m + bit (d + 8) m
 
--- "ones of the mask in bits 0 to 3, then 2 bits for each direction from bit 4"
+-- "ones of the mask in bits 0 to 3, then 2 bits for each direction from bit 4", of up to ten columns
 unfoldable pub maskCounts : ℕ → ℕ
 maskCounts m =
-    sumColumns 8 (λ c. bit c m)
+    sumColumns 10 (λ c. bit c m)
     + (2 ^ 4 * towards 0 m + 2 ^ 6 * towards 1 m + 2 ^ 8 * towards 2 m + 2 ^ 10 * towards 3 m)
 
 -- a list that has each mask's counts at its number

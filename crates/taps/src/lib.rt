@@ -5,61 +5,104 @@ use counts::TAP_MASK_COUNTS;
 use definitions::RowSum;
 use lines::words;
 ghost use mathlib.Core.Path.{_≡_};
+ghost use mathlib.Core.List.{_++_};
 ghost use Prim.Native.Nat.{ℕ, _+_, _*_, _≤_, _<_};
-ghost use lib.ListN.{length, take};
-ghost use Rattle.taps.specs.Taps.{tapMask, tapLineMask, FreeTaps, unlikeMask, maskCounts, TapCounts, unpack};
+ghost use lib.ListN.{length, getD, take, drop};
+ghost use Rattle.definitions.specs.Lines.{Row};
+ghost use Rattle.lines.specs.Words.{halfAt, wordOf, Bytes};
+ghost use Rattle.taps.specs.Taps.{tapMask, tapLineMask, FreeTaps, Fives, spread, zeroCells, unlikeMask, wideRow, Fits, maskCounts, TapCounts, unpack};
 ghost use Rattle.taps.specs.declared.Taps;
 
 // A row of `0` and `1` alone as a mask, its first column in the lowest bit, or another row.
 pub enum Taps {
-    Mask(u8),
+    Mask(u16),
     Other,
 }
 
-// The lowest bits of four bytes that are 0 or 1 each, beside each other: the product has each of them in a place of its own.
-fn gather(x: u64) -> u8
-    requires { ⌜ x < 4294967296 ⌝ }
-    ensures { λ r. ⌜ ((a b c d : ℕ) → a ≤ 1 → b ≤ 1 → c ≤ 1 → d ≤ 1 → x ≡ a + b * 256 + c * 65536 + d * 16777216 → r ≡ a + 2 * b + 4 * c + 8 * d) × (r < 16) ⌝ }
+// A u8 as a u64.
+fn wide(x: u8) -> u64
+    ensures { λ r. ⌜ (r ≡ x) × (r < 256) ⌝ }
 {
-    (x * 0x0102_0408 / 0x100_0000 % 16) as u8
+    x as u64
 }
 
-// The mask of the first four cells, by one test of all: a byte but for its lowest bit is 48 where it is a `0` or a `1`.
-pub fn tap_mask4(row: &[u8]) -> Taps
-    requires { ⌜ 4 ≤ length (now row) ⌝ }
-    ensures { λ r. ⌜ r ≡ tapMask (take 4 (now (row .entry))) ⌝ }
+// Eight bits beside each other, out of four bytes with one of the first four in their lowest bit and one of the last four in their fifth: the
+// product has each of them in a place of its own.
+fn gather(x: u64) -> u16
+    requires { ⌜ x < 137438953472 ⌝ }
+    ensures { λ r. ⌜ ((lo hi : ℕ) → lo < 16 → hi < 16 → x ≡ spread lo + 16 * spread hi → r ≡ lo + 16 * hi) × (r < 256) ⌝ }
 {
-    let word = words::half_at(row, 0);
-    if word & 0xfefe_fefe == 0x3030_3030 {
-        Taps::Mask(gather(word - 0x3030_3030))
+    (x * 0x0102_0408 / 0x100_0000 % 256) as u16
+}
+
+// The mask of four cells and up to four after them, by one test of all: a byte but for its lowest bit is 48 where it is a `0` or a `1`. The
+// cells are handed over as words, and `zeros` is the second word where all its cells are `0`.
+fn tap_cells(first: u64, second: u64, zeros: u64) -> Taps
+    requires { ⌜ (first < 4294967296) × (second < 4294967296) × (zeros < 4294967296) ⌝ }
+    ensures { λ r. ⌜ ((a b : Row) → Bytes a → Bytes b → length a ≡ 4 → length b ≤ 4 → first ≡ wordOf a → second ≡ wordOf b → zeros ≡ wordOf (zeroCells (length b)) → r ≡ tapMask (a ++ b)) ⌝ }
+{
+    let word = first + second * 0x1_0000_0000;
+    if word & 0xfefe_fefe_fefe_fefe == 0x3030_3030 + zeros * 0x1_0000_0000 {
+        Taps::Mask(gather(first - 0x3030_3030 + 16 * (second - zeros)))
     } else {
         Taps::Other
     }
 }
 
-// The mask of the first eight cells, four at a time.
+// The mask of the first four cells.
+pub fn tap_mask4(row: &[u8]) -> Taps
+    requires { ⌜ 4 ≤ length (now row) ⌝ }
+    ensures { λ r. ⌜ r ≡ tapMask (take 4 (now (row .entry))) ⌝ }
+{
+    tap_cells(words::half_at(row, 0), 0, 0)
+}
+
+// The mask of the first eight cells.
 pub fn tap_mask8(row: &[u8]) -> Taps
     requires { ⌜ 8 ≤ length (now row) ⌝ }
     ensures { λ r. ⌜ r ≡ tapMask (take 8 (now (row .entry))) ⌝ }
 {
-    let Taps::Mask(lo) = tap_mask4(row) else {
-        return Taps::Other;
-    };
-    let Taps::Mask(hi) = tap_mask4(&row[4..]) else {
-        return Taps::Other;
-    };
-    Taps::Mask(lo + 16 * hi)
+    tap_cells(words::half_at(row, 0), words::half_at(row, 4), 0x3030_3030)
 }
 
-// The mask of a row of four or eight cells; no other width has masks.
+// The mask of five cells from `at` on.
+fn tap_mask5(row: &[u8], at: usize) -> Taps
+    requires { ⌜ at + 5 ≤ length (now row) ⌝ }
+    ensures { λ r. ⌜ r ≡ tapMask (take 5 (drop at (now (row .entry)))) ⌝ }
+{
+    tap_cells(words::half_at(row, at), wide(row[at + 4]), 0x30)
+}
+
+// The mask of a row of five or ten cells, five at a time.
+fn tap_fives(row: &[u8]) -> Taps
+    requires { ⌜ Fives (length (now row)) ⌝ }
+    ensures { λ r. ⌜ r ≡ tapMask (now (row .entry)) ⌝ }
+{
+    let mut mask: u16 = 0;
+    let mut at = 0;
+    while at < row.len() {
+        match tap_mask5(row, at) {
+            Taps::Mask(five) => mask += five << at,
+            Taps::Other => return Taps::Other,
+        }
+        at += 5;
+    }
+    Taps::Mask(mask)
+}
+
+// The mask of a row of four, five, eight or ten cells; no other width has masks.
 pub fn tap_line_mask(row: &[u8]) -> Taps
     ensures { λ r. ⌜ r ≡ tapLineMask (now (row .entry)) ⌝ }
 {
-    if row.len() == 4 {
+    let n = row.len();
+    if n == 4 {
         return tap_mask4(row);
     }
-    if row.len() == 8 {
+    if n == 8 {
         return tap_mask8(row);
+    }
+    if (4 < n) & (n < 11) & (n % 5 == 0) {
+        return tap_fives(row);
     }
     Taps::Other
 }
@@ -103,20 +146,49 @@ pub fn tap_mask_counts() -> [u16; 256]
     TAP_MASK_COUNTS
 }
 
-// The table's entry for a mask.
-fn tap_counts(mask: u8, counts: &[u16; 256]) -> u16
-    requires { ⌜ TapCounts (now counts) ⌝ }
+// Whether rows of so many cells are counted without the table: "Only 4 and 8 lanes use it."
+pub fn is_wide(columns: usize) -> bool
+    ensures { λ r. ⌜ r ≡ wideRow columns ⌝ }
+{
+    (columns != 4) & (columns != 8)
+}
+
+// The four lowest bits of a mask, each in a byte of its own.
+fn spread_bits(mask: u64) -> u64
+    requires { ⌜ mask < 1024 ⌝ }
+    ensures { λ r. ⌜ r ≡ spread mask ⌝ }
+{
+    mask % 16 * 0x20_4081 & 0x0101_0101
+}
+
+// The counts of a mask of ten columns as the table has those of eight: each byte of the sum has the ones of a direction, one product sets
+// them beside each other and the other adds them.
+fn bit_counts(mask: u16) -> u16
+    requires { ⌜ mask < 1024 ⌝ }
     ensures { λ r. ⌜ r ≡ maskCounts mask ⌝ }
 {
+    let m = mask as u64;
+    let t = spread_bits(m) + spread_bits(m / 16) + spread_bits(m / 256);
+    (t * 0x104_1040 / 0x100_0000 % 256 * 16 + t * 0x101_0101 / 0x100_0000 % 16) as u16
+}
+
+// A mask's counts: the table's entry, or without the table.
+fn tap_counts(mask: u16, wide: bool, counts: &[u16; 256]) -> u16
+    requires { ⌜ TapCounts (now counts) × Fits wide mask ⌝ }
+    ensures { λ r. ⌜ r ≡ maskCounts mask ⌝ }
+{
+    if wide {
+        return bit_counts(mask);
+    }
     counts[mask as usize]
 }
 
-// What a row of taps alone adds up to, by the table.
-pub fn tap_sum(mask: u8, counts: &[u16; 256]) -> RowSum
-    requires { ⌜ TapCounts (now counts) ⌝ }
+// What a row of taps alone adds up to.
+pub fn tap_sum(mask: u16, wide: bool, counts: &[u16; 256]) -> RowSum
+    requires { ⌜ TapCounts (now counts) × Fits wide mask ⌝ }
     ensures { λ r. ⌜ r ≡ unpack (maskCounts mask) ⌝ }
 {
-    let n = tap_counts(mask, counts) as u32;
+    let n = tap_counts(mask, wide, counts) as u32;
     RowSum {
         arrows: n & 15,
         left: (n >> 4) & 3,

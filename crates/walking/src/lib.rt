@@ -198,7 +198,7 @@ fn walk_taps(
         let end = at + lanes;
         match taps::free_taps(&text[at..end], c.busy | (n.busy | n.last.busy)) {
             Taps::Mask(mask) => {
-                c = counting::count_taps(c, mask, counts);
+                c = counting::count_taps(c, mask, taps::is_wide(lanes), counts);
                 n = noting::note_taps(n, &text[at..end], mask, slots);
             }
             Taps::Other => {

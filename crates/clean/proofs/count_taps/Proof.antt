@@ -8,7 +8,7 @@ use Rattle.clean.proofs.count_taps.Tie as tie
 judge-taps-requires : tie.Need-judge-taps-requires
 judge-taps-requires c κs =
     let start = c .before in
-    (start .pre .0, start .pre .2, le-trans (active-few _ (start .pre .1)) (omega arith))
+    (start .pre .0, start .pre .2, le-trans (active-few _ (start .pre .1)) (omega arith), start .pre .3)
 
 returns : tie.Need-returns
 returns c =

@@ -8,8 +8,8 @@ use Rattle.counting.proofs.count_taps.Tie as tie
 count-taps-requires : tie.Need-count-taps-requires
 count-taps-requires c κs = search needs
 
-add-t6 : tie.Need-add-t6
-add-t6 c = search needs
+add-t7 : tie.Need-add-t7
+add-t7 c = search needs
 
 returns : tie.Need-returns
 returns c row free =
@@ -17,4 +17,4 @@ returns c row free =
     λ L done cur w v x. counted-row L _ done cur x row w v _ _ _ (k .count-taps .ensures row (free .mask)) (free-row _ _ row _ free (x .free)) (x .free)
 
 pub count-taps-spec : {M : Type 1} → statement M
-count-taps-spec = tie.close (tie.spec count-taps-requires add-t6 returns)
+count-taps-spec = tie.close (tie.spec count-taps-requires add-t7 returns)

@@ -9,11 +9,12 @@ use borrow.Author.Needs.{needs}
 use lib.ListN.{length}
 use denote.Ref.{now}
 use Rattle.definitions.specs.ReadBack.{readBack}
+use Rattle.taps.proofs.Masks.{fits-at}
 use Rattle.tallies.specs.Bounds.{Below}
 use Rattle.tallies.proofs.Bounds.{below-more}
 use Rattle.judged.specs.Timing.{Timed}
 use Rattle.reader.proofs.BackRows.{row-within, bytes-short}
-use Rattle.judged.proofs.Tallying.{Tallying, tallying-start, tallying-active, tallying-room, tallying-passed, tallying-enough, tallying-row, tallying-taps, tallying-end}
+use Rattle.judged.proofs.Tallying.{Tallying, tallying-start, tallying-active, tallying-room, tallying-passed, tallying-enough, tallying-row, tallying-taps, tallying-end, bytes-long}
 use Rattle.judged.proofs.tally_timing_rows.Statement.{statement}
 use Rattle.judged.proofs.tally_timing_rows.Tie as tie
 
@@ -83,10 +84,20 @@ free-taps-requires c κs = search needs
 enum-known-mask : tie.Need-enum-known-mask Inv-loop μ-loop
 enum-known-mask c = search needs
 
+is-wide-requires : tie.Need-is-wide-requires Inv-loop μ-loop
+is-wide-requires c κs = search needs
+
 process-timing-taps-requires : tie.Need-process-timing-taps-requires Inv-loop μ-loop
 process-timing-taps-requires c κs =
-    let at = c .before .before .before .before .before .before .before .before .before .before in
-    (at .before .before .tap-mask-counts .ensures, so-few at .0, so-few at .1)
+    let known = c .before .before .before in
+    let row = known .before .before .before .before .before in
+    let at = row .before .before .before in
+    let free = known .before .before .free-taps .ensures _ (known .mask .given .1) in (
+      at .before .before .tap-mask-counts .ensures,
+      so-few at .0,
+      so-few at .1,
+      rw (c .before .is-wide .ensures) (fits-at _ _ _ (bytes-long _ _ _ (row-within _ _ _ _ (row .before .back-line .ensures) (row .if1 .taken))) (free .mask)),
+    )
 
 enum-told : tie.Need-enum-told Inv-loop μ-loop
 enum-told c = search needs
@@ -129,8 +140,8 @@ loop-again c =
           ⊎-elim
           (λ v.
           let free = c .before .free-taps .ensures _ (v .1 .given .1) in
-          rw (v .5)
-          (tallying-taps _ _ _ _ _ _ (at .loop .inv .1 J w) _ in-text (a .back-line .ensures) (row .if1 .taken) _ (start .pre .0 .1) w _ free _ (v .4 .ensures _ (free .mask))))
+          rw (v .6)
+          (tallying-taps _ _ _ _ _ _ (at .loop .inv .1 J w) _ in-text (a .back-line .ensures) (row .if1 .taken) _ (start .pre .0 .1) w _ free _ (v .5 .ensures _ (free .mask))))
           (λ v. rw (v .4)
           (tallying-row _ _ _ _ _ _ (at .loop .inv .1 J w) _ in-text (a .back-line .ensures) (row .if1 .taken) _ (start .pre .0 .1) w _ (v .3 .ensures)))
           (c .match .came),
@@ -165,6 +176,7 @@ tally-timing-rows-spec =
     part-free-taps-end
     free-taps-requires
     enum-known-mask
+    is-wide-requires
     process-timing-taps-requires
     enum-told
     sub-process-timing-row

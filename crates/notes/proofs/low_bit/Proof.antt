@@ -8,7 +8,7 @@ use Rattle.notes.proofs.low_bit.Statement.{statement}
 use Rattle.notes.proofs.low_bit.Tie as tie
 
 cast-column : tie.Need-cast-column
-cast-column c = omega (arith, trailing-le 32 (bitOr (c .args .mask) 128))
+cast-column c = omega (arith, trailing-le 32 (bitOr (c .args .mask) 512))
 
 returns : tie.Need-returns
 returns c = low-none _ (c .if1 .taken)

@@ -6,6 +6,7 @@ use native.Mathlib.Omega.{arith}
 use borrow.Author.Needs.{needs}
 use lib.Dec.{eqb}
 use Rattle.definitions.proofs.Lists.{one-le}
+use Rattle.taps.proofs.Masks.{line-fits}
 use Rattle.notes.specs.Written.{Room}
 use Rattle.notes.proofs.Masks.{Taken, taken-start, taken-next, taken-few, taken-end, room-early, room-late}
 use Rattle.notes.proofs.Rows.{row-written}
@@ -18,8 +19,8 @@ Inv-loop s row mask notes₀ hold-heads first count₀ left₀ notes count left 
 abbrev μ-loop : tie.MeasureT-loop
 μ-loop s row mask notes₀ hold-heads first count₀ left₀ notes count left = left
 
-mask-small : (c : tie.Start Inv-loop μ-loop) → c .args .mask < 256
-mask-small c = search needs
+mask-small : (c : tie.Start Inv-loop μ-loop) → c .args .mask < 1024
+mask-small c = line-fits _ _ (c .pre .2) .0
 
 low-bit-requires : tie.Need-low-bit-requires Inv-loop μ-loop
 low-bit-requires c κs =

@@ -2,7 +2,8 @@
 use mathlib.Core.Path.{ap, sym, _∙_}
 use denote.Ref.{now}
 use Rattle.definitions.specs.Tally.{rowSum, addRow}
-use Rattle.taps.proofs.Free.{line-taps}
+use Rattle.taps.specs.Taps.{Fits}
+use Rattle.taps.proofs.Masks.{line-taps, line-fits}
 use Rattle.tallies.proofs.Zeros.{zero-adds}
 use Rattle.recount.proofs.Taps.{taps-kept, zero-kept}
 use borrow.Author.Needs.{needs}
@@ -15,8 +16,16 @@ tap-line-mask-requires c κs = search needs
 enum-known-mask : tie.Need-enum-known-mask
 enum-known-mask c = search needs
 
+is-wide-requires : tie.Need-is-wide-requires
+is-wide-requires c κs = search needs
+
+fits : (c : tie.After-is-wide) → Fits (c .is-wide .result) (c .before .before .mask .given .0 .0)
+fits c =
+    let known = c .before .before in
+    rw (c .is-wide .ensures) (line-fits _ _ (sym (known .before .before .tap-line-mask .ensures) ∙ known .mask .given .1))
+
 count-taps-requires : tie.Need-count-taps-requires
-count-taps-requires c κs = search needs
+count-taps-requires c κs = let f = fits c in search needs
 
 enum-told : tie.Need-enum-told
 enum-told c = search needs
@@ -29,7 +38,7 @@ count-line-masked-requires c κs = search needs
 
 returns : tie.Need-returns
 returns c =
-    let known = c .before .before in
+    let known = c .before .before .before in
     let asked = known .before .before in
     let a = asked .before .before .args in
     let mask = sym (asked .tap-line-mask .ensures) ∙ known .mask .given .1 in
@@ -51,6 +60,7 @@ count-row-spec =
     (tie.spec
     tap-line-mask-requires
     enum-known-mask
+    is-wide-requires
     count-taps-requires
     enum-told
     is-all-zero-requires

@@ -1,4 +1,4 @@
--- `tallies::count_taps` meets its contract: the table's entry is the sum of every row that has this mask.
+-- `tallies::count_taps` meets its contract: the mask's counts are the sum of every row that has this mask.
 use mathlib.Core.Path.{sym, ap, _∙_}
 use native.Mathlib.Omega.{arith}
 use Rattle.definitions.specs.Tally.{addRow}
@@ -15,7 +15,7 @@ add-row-lent-requires : tie.Need-add-row-lent-requires
 add-row-lent-requires c κs =
     let start = c .before in
     let mask = start .args .mask in
-    (start .pre .1, rw (c .tap-sum .ensures, ← mask-row mask (search needs)) (under-row 10 (rowOf 8 mask) (omega arith)))
+    (start .pre .1, rw (c .tap-sum .ensures, ← mask-row mask (start .pre .2 .0)) (under-row 10 (rowOf 10 mask) (omega arith)))
 
 returns : tie.Need-returns
 returns c row e = c .add-row-lent .ensures ∙ ap (addRow _) (c .before .tap-sum .ensures ∙ sym (tap-line-sum row _ e))

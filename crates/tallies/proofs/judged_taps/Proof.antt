@@ -1,4 +1,4 @@
--- `tallies::judged_taps` meets its contract: the table has the sum of a row of taps, whose arrows are its only cells.
+-- `tallies::judged_taps` meets its contract: the mask's counts are the sum of a row of taps, whose arrows are its only cells.
 use mathlib.Core.Path.{ap, _∙_}
 use native.Mathlib.Omega.{arith}
 use Rattle.definitions.specs.Judged.{onlyFakes}
@@ -17,7 +17,7 @@ tap-sum-requires c κs = search needs
 under : (c : tie.After-tap-sum) → Under 10 (c .tap-sum .result)
 under c =
     let mask = c .before .args .mask in
-    rw (c .tap-sum .ensures, ← mask-row mask (search needs)) (under-row 10 (rowOf 8 mask) (omega arith))
+    rw (c .tap-sum .ensures, ← mask-row mask (c .before .pre .1 .0)) (under-row 10 (rowOf 10 mask) (omega arith))
 
 returns : tie.Need-returns
 returns c = (under (c .before), λ row e. rw (c .if1 .taken) (c .before .tap-sum .ensures ∙ taps-judged row _ e))

@@ -1,4 +1,4 @@
--- `taps::gather` meets its contract: the product has the four bits in places 24 to 27, and no two of its parts in one place.
+-- `taps::gather` meets its contract: the product has the eight bits in places 24 to 31, and no two of its parts in one place.
 use borrow.Author.Needs.{needs}
 use mathlib.Core.Path.{ap, _∙_}
 use Prim.Native.Nat.{_*_, _/_, _%_}
@@ -14,7 +14,7 @@ cast-result : tie.Need-cast-result
 cast-result c = search needs
 
 returns : tie.Need-returns
-returns c = (λ a b x y ha hb hx hy e. ap (λ w. w * 16909320 / 16777216 % 16) e ∙ gathered a b x y ha hb hx hy, omega arith)
+returns c = (λ lo hi h k e. ap (λ w. w * 16909320 / 16777216 % 256) e ∙ gathered lo hi h k, omega arith)
 
 pub gather-spec : {M : Type 1} → statement M
 gather-spec = tie.close (tie.spec mul-result cast-result returns)

@@ -1,46 +1,32 @@
--- `taps::tap_mask4` meets its contract: each byte of a word that passes is 48 and a bit of the mask.
+-- `taps::tap_mask4` meets its contract: four cells and no other.
 use borrow.Author.Needs.{needs}
-use mathlib.Core.Path.{sym, ap, _∙_}
-use Prim.Native.Nat.{_-_}
+use mathlib.Core.Path.{refl, ap, _∙_}
+use mathlib.Core.List.{[], append-nil}
 use native.Mathlib.Omega.{arith}
-use denote.Ref.{now}
-use lib.Bits.{bitAnd}
-use lib.ListN.{getD}
-use Rattle.taps.specs.declared.Taps.the-variants.{Mask}
-use Rattle.taps.proofs.Words.{Four, four-taps, four-other}
+use lib.ListN.{take}
+use lib.Seq.{length-take-le}
+use Rattle.lines.specs.Words.{wordOf}
+use Rattle.lines.proofs.RowWords.{bytes-of}
+use Rattle.taps.specs.Taps.{tapMask}
+use Rattle.taps.proofs.Words.{bytes-take, half-word}
 use Rattle.taps.proofs.tap_mask4.Statement.{statement}
 use Rattle.taps.proofs.tap_mask4.Tie as tie
-
--- each byte is 48 and a bit of the mask
-four : (c : tie.Then1) → Four (now (c .before .before .before .args .row))
-four c =
-    let known = c .before .before in
-    let row = now (known .before .args .row) in
-    four-taps row (known .before .pre) (λ k. known .shared-slice-known .given k .fits) (ap (λ w. bitAnd w 4278124286) (sym (c .before .half-at .ensures .0)) ∙ c .if1 .taken)
 
 half-at-requires : tie.Need-half-at-requires
 half-at-requires c κs = search needs
 
-sub-gather : tie.Need-sub-gather
-sub-gather c = let f = four c in omega (arith, c .before .half-at .ensures .0)
-
-gather-requires : tie.Need-gather-requires
-gather-requires c κs = omega (arith, c .before .half-at .ensures .1)
+tap-cells-requires : tie.Need-tap-cells-requires
+tap-cells-requires c κs = search needs
 
 returns : tie.Need-returns
+unfolding wordOf
 returns c =
-    let f = four (c .before) in
-    let half = c .before .before .half-at .ensures .0 in
-    let row = now (c .before .before .before .before .args .row) in
-    ap Mask (c .gather .ensures .0 (getD row 0 0 - 48) (getD row 1 0 - 48) (getD row 2 0 - 48) (getD row 3 0 - 48) (omega arith) (omega arith) (omega arith) (omega arith) (omega (arith, half)))
-    ∙ sym (f .mask)
-
-returns-2 : tie.Need-returns-2
-returns-2 c =
     let known = c .before .before in
-    let row = now (known .before .args .row) in
-    sym (four-other row (known .before .pre) (λ k. known .shared-slice-known .given k .fits)
-    (λ e. c .if1 .left (ap (λ w. bitAnd w 4278124286) (c .before .half-at .ensures .0) ∙ e)))
+    let row = known .before .args .row .now in
+    let bytes = bytes-of row (λ k. known .shared-slice-known .given k .fits) in
+    c .tap-cells .ensures (take 4 row) [] (bytes-take 4 row bytes) tt (length-take-le 4 row (known .before .pre)) (omega arith)
+    (c .before .half-at .ensures .0 ∙ half-word row 0 (known .before .pre)) refl refl
+    ∙ ap tapMask (append-nil (take 4 row))
 
 pub tap-mask4-spec : {M : Type 1} → statement M
-tap-mask4-spec = tie.close (tie.spec half-at-requires sub-gather gather-requires returns returns-2)
+tap-mask4-spec = tie.close (tie.spec half-at-requires tap-cells-requires returns)

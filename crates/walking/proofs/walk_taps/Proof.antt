@@ -8,6 +8,7 @@ use borrow.Author.Needs.{needs}
 use denote.Ref.{now}
 use lib.ListN.{length, take}
 use Rattle.definitions.specs.Lines.{Row}
+use Rattle.taps.proofs.Masks.{fits-at}
 use Rattle.taps.proofs.Free.{taps-left, taps-right}
 use Rattle.measures.proofs.RowsAt.{rows-length}
 use Rattle.measures.proofs.Powers.{next-at}
@@ -100,11 +101,15 @@ enum-known-mask : tie.Need-enum-known-mask Inv-loop μ-loop
 enum-known-mask c =
     search needs
 
+is-wide-requires : tie.Need-is-wide-requires Inv-loop μ-loop
+is-wide-requires c κs = search needs
+
 count-taps-requires : tie.Need-count-taps-requires Inv-loop μ-loop
 count-taps-requires c κs =
-    let w = walked (c .before .before .before .before .before .before .before .before) in
-    let few = count-few _ _ _ _ _ _ w (within (c .before .before .before .before .before .before .before)) in
-    (few .0, few .1, c .before .before .before .before .before .before .before .before .before .before .before .before .before .pre .0 .4)
+    let l = c .before .before .before .before .before .before .before .before in
+    let few = count-few _ _ _ _ _ _ (walked (l .before)) (within l) in
+    let free = c .before .before .before .before .free-taps .ensures _ (c .before .before .mask .given .1) in
+    (few .0, few .1, c .before .before .before .before .before .before .before .before .before .before .before .before .before .before .pre .0 .4, rw (c .is-wide .ensures) (fits-at _ _ _ (wide l) (free .mask)))
 
 sub-note-taps : tie.Need-sub-note-taps Inv-loop μ-loop
 sub-note-taps c =
@@ -112,17 +117,17 @@ sub-note-taps c =
 
 part-note-taps-start : tie.Need-part-note-taps-start Inv-loop μ-loop
 part-note-taps-start c =
-    omega (arith, room (c .before .before .before .before .before .before .before .before))
+    omega (arith, room (c .before .before .before .before .before .before .before .before .before))
 
 part-note-taps-end : tie.Need-part-note-taps-end Inv-loop μ-loop
 part-note-taps-end c =
-    omega (arith, room (c .before .before .before .before .before .before .before .before))
+    omega (arith, room (c .before .before .before .before .before .before .before .before .before))
 
 note-taps-requires : tie.Need-note-taps-requires Inv-loop μ-loop
 note-taps-requires c κs =
-    let free = c .before .before .before .before .before .before .free-taps .ensures _ (c .before .before .before .before .mask .given .1) in
-    let l = c .before .before .before .before .before .before .before .before .before .before in
-    (note-ready _ _ _ _ _ _ (walked (c .before .before .before .before .before .before .before .before .before .before .before)) (within l) _ (wide l) (c .before .before .before .before .before .before .before .before .before .before .before .before .before .before .before .before .pre .0 .1), taps-right (c .before .before .before .before .before .before .before .before .before .before .before .loop .c .busy) _ _ _ free)
+    let free = c .before .before .before .before .before .before .before .free-taps .ensures _ (c .before .before .before .before .before .mask .given .1) in
+    let l = c .before .before .before .before .before .before .before .before .before .before .before in
+    (note-ready _ _ _ _ _ _ (walked (c .before .before .before .before .before .before .before .before .before .before .before .before)) (within l) _ (wide l) (c .before .before .before .before .before .before .before .before .before .before .before .before .before .before .before .before .before .pre .0 .1), taps-right (c .before .before .before .before .before .before .before .before .before .before .before .before .loop .c .busy) _ _ _ free)
 
 enum-told : tie.Need-enum-told Inv-loop μ-loop
 enum-told c =
@@ -139,24 +144,24 @@ returns c =
 
 add-at-3 : tie.Need-add-at-3 Inv-loop μ-loop
 add-at-3 c =
-    omega (arith, end-fits (c .before .before .before .before .before .before .before .before .before .before .before .before .before))
+    omega (arith, end-fits (c .before .before .before .before .before .before .before .before .before .before .before .before .before .before))
 
 add-i : tie.Need-add-i Inv-loop μ-loop
 add-i c =
-    omega (arith, next-fits (c .before .before .before .before .before .before .before .before .before .before .before .before .before))
+    omega (arith, next-fits (c .before .before .before .before .before .before .before .before .before .before .before .before .before .before))
 
 loop-less : tie.Need-loop-less Inv-loop μ-loop
 loop-less c =
-    omega (arith, c .before .before .before .before .before .before .before .before .before .before .before .before .before .loop-test .taken)
+    omega (arith, c .before .before .before .before .before .before .before .before .before .before .before .before .before .before .loop-test .taken)
 
 loop-again : tie.Need-loop-again Inv-loop μ-loop
 loop-again c =
-    let l = c .before .before .before .before .before .before .before .before .before .before .before .before .before in
+    let l = c .before .before .before .before .before .before .before .before .before .before .before .before .before .before in
     let v = l .before .loop in
-    let s = c .before .before .before .before .before .before .before .before .before .before .before .before .before .before .before .before .before .before .before in
+    let s = c .before .before .before .before .before .before .before .before .before .before .before .before .before .before .before .before .before .before .before .before in
     let a = s .args in
     let ms = rowsOf (a .lanes) (a .rows) (now (a .text)) (a .start) in
-    let free = c .before .before .before .before .before .before .before .before .before .free-taps .ensures _ (c .before .before .before .before .before .before .before .mask .given .1) in
+    let free = c .before .before .before .before .before .before .before .before .before .before .free-taps .ensures _ (c .before .before .before .before .before .before .before .before .mask .given .1) in
     let more = row-more (a .lanes) (a .rows) (now (a .text)) (a .start) (s .pre .0 .2) (v .i) (v .at) (l .loop-test .taken) (v .inv .2) in
     let r = c .before .before .note-taps in (
       omega (arith, v .inv .0),
@@ -193,6 +198,7 @@ walk-taps-spec =
     part-free-taps-end
     free-taps-requires
     enum-known-mask
+    is-wide-requires
     count-taps-requires
     sub-note-taps
     part-note-taps-start
