@@ -1,8 +1,6 @@
 // The cells of a row, byte by byte: what a byte stands for and what it does.
 use definitions::Cell;
 use definitions::DepthEffect;
-use definitions::Kind;
-use definitions::NoteEffect;
 use lines::words;
 ghost use mathlib.Core.Path.{_≡_};
 ghost use mathlib.Core.List.{List};
@@ -13,7 +11,6 @@ ghost use Rattle.definitions.specs.Cells.{cellOf, isArrow};
 ghost use Rattle.definitions.specs.Figures.{isStep};
 ghost use Rattle.definitions.specs.Tracker.{holdAt};
 ghost use Rattle.definitions.specs.Objects.{objectAt};
-ghost use Rattle.definitions.specs.Notes.{effectAt};
 ghost use Rattle.lines.specs.Words.{wordOf, Bytes};
 
 // 1 where the test holds, else 0.
@@ -116,21 +113,5 @@ pub fn object_effect(b: u8) -> DepthEffect
         Cell::KeySound => DepthEffect::Blocks,
         Cell::LowerMine | Cell::LowerLift | Cell::LowerFake => DepthEffect::Nothing,
         Cell::Empty => DepthEffect::Nothing,
-    }
-}
-
-// What the byte does to the notes.
-pub fn note_effect(b: u8) -> NoteEffect
-    ensures { λ r. ⌜ r ≡ effectAt b ⌝ }
-{
-    match cell_of(b) {
-        Cell::Tap => NoteEffect::Single(Kind::Tap),
-        Cell::Hold => NoteEffect::Head(Kind::Hold),
-        Cell::Roll => NoteEffect::Head(Kind::Roll),
-        Cell::Tail => NoteEffect::Closes,
-        Cell::Mine | Cell::LowerMine => NoteEffect::Single(Kind::Mine),
-        Cell::Lift | Cell::LowerLift => NoteEffect::Single(Kind::Lift),
-        Cell::Fake | Cell::LowerFake => NoteEffect::Single(Kind::Fake),
-        Cell::KeySound | Cell::Empty => NoteEffect::Nothing,
     }
 }

@@ -102,7 +102,7 @@ pub fn minimize_chart_count_rows_notes(
     if densities.len() < (len + 1) / 2 + 1 {
         return ChartAnswer::Refused(3);
     }
-    let columns = measures::lanes_of(lanes);
+    let columns = reader::lanes_of(lanes);
     let rows = (len + 1) / (columns + 1);
     if beats.len() < rows {
         return ChartAnswer::Refused(4);

@@ -197,7 +197,7 @@ fn judge(data: &[u8], lanes: usize, all: bool, flags: &[u8], work: &mut [u16]) -
     if 16777215 < data.len() {
         return JudgedAnswer::Refused(1);
     }
-    let columns = measures::lanes_of(lanes);
+    let columns = reader::lanes_of(lanes);
     let rows = (data.len() + 1) / (columns + 1);
     if work.len() < rows {
         return JudgedAnswer::Refused(5);

@@ -78,7 +78,7 @@ pub fn process_chart_kept(
     if densities.len() < (len + 1) / 2 + 1 {
         return KeptAnswer::Refused(3);
     }
-    let columns = measures::lanes_of(lanes);
+    let columns = reader::lanes_of(lanes);
     let rows = (len + 1) / (columns + 1);
     if work.len() < rows {
         return KeptAnswer::Refused(5);

@@ -15,7 +15,7 @@ pub extern "C" fn leaves_is_all_zero(row: &[u8]) -> bool
 pub extern "C" fn leaves_lanes_of(lanes: usize) -> usize
     ensures { λ r. ⌜ r ≡ lanesOf lanes ⌝ }
 {
-    measures::lanes_of(lanes)
+    reader::lanes_of(lanes)
 }
 
 // Whether so many rows of `lanes` bytes stand `width` bytes apart in `len` bytes from `start` on.

@@ -77,10 +77,6 @@ in-text L =
     lines [] = refl
     lines (r ∷ rs) = rw (append-assoc, lines rs)
 
-pub text-append : (rs ss : List Row) → rowText (rs ++ ss) ≡ rowText rs ++ rowText ss
-text-append [] ss = refl
-text-append (r ∷ rs) ss = rw (text-append rs ss, append-assoc)
-
 -- back to back a row stands as it is
 unfoldable pub back-to-back : (L : ℕ) → Form joined L L
 back-to-back L =

@@ -1,6 +1,4 @@
 -- Laws of this crate's contracts, by topic.
-pub mod Lanes
-pub mod LineKinds
 pub mod ZeroRows
 pub mod RowsAt
 pub mod Powers

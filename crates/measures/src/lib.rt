@@ -1,57 +1,15 @@
-// What a line is, and document 01's minimising of a measure's rows in place: the names and the order are those of the Rust.
+// Document 01's minimising of a measure's rows in place: the names and the order are those of the Rust.
 ghost use mathlib.Core.Path.{_≡_};
 ghost use mathlib.Core.List.{List};
 ghost use Prim.Native.Nat.{_+_, _*_, _^_, _/_, _%_, _≤_, _<_};
 ghost use lib.ListN.{length, drop};
 ghost use lib.Seq.{paste};
-ghost use Rattle.definitions.specs.Lanes.{lanesOf};
-ghost use Rattle.definitions.specs.Lines.{Row, isRow, kindOf};
+ghost use Rattle.definitions.specs.Lines.{Row};
 ghost use Rattle.definitions.specs.Lists.{joined};
 ghost use Rattle.definitions.specs.Figures.{rowText};
 ghost use Rattle.definitions.specs.Reduction.{allZero, stride, reduce};
 ghost use Rattle.measures.specs.Rows.{rowsAt, compacted, Holds, Reduced};
-use definitions::LineKind;
 use lines::words;
-
-// The lane count in force.
-pub fn lanes_of(lanes: usize) -> usize
-    ensures { λ r. ⌜ r ≡ lanesOf lanes ⌝ }
-{
-    match lanes {
-        5 => 5,
-        8 => 8,
-        10 => 10,
-        _ => 4,
-    }
-}
-
-// Whether a line that is nothing else is a row.
-pub fn is_row(line: &[u8], lanes: usize) -> bool
-    ensures { λ r. ⌜ r ≡ isRow lanes (now (line .entry)) ⌝ }
-{
-    lanes <= line.len()
-}
-
-// What a line is whose leading blanks are off.
-pub fn line_kind(line: &[u8], lanes: usize) -> LineKind
-    ensures { λ r. ⌜ r ≡ kindOf lanes (now (line .entry)) ⌝ }
-{
-    if line.len() == 0 {
-        return LineKind::Passed;
-    }
-    match line[0] {
-        47 => LineKind::Passed,
-        44 => LineKind::Comma,
-        59 => LineKind::Semi,
-        _ => {
-            if is_row(line, lanes) {
-                LineKind::Row
-            } else {
-                LineKind::Passed
-            }
-        }
-    }
-}
 
 // Whether every byte of a row is `0`, byte by byte.
 fn are_all_zero(row: &[u8]) -> bool

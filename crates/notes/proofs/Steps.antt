@@ -16,7 +16,7 @@ use Rattle.definitions.specs.declared.Kind.{Kind}
 use Rattle.definitions.specs.declared.NoteEffect.{NoteEffect}
 use Rattle.definitions.specs.declared.NoteEffect.the-variants.{Nothing, Closes, Single, Head}
 use Rattle.notes.specs.Drafts.{State, plain, waiting, Draft, settle, stepCell}
-use Rattle.notes.specs.Writer.{noHead, dropped, draftBytes, FineState, Fine, Holds, Stored, Ready, HeadThere, HoldEnded, NotePushed, CellReady, CellNoted, afterCell, endAt, noteAt, endHead, invalidAfter, Stepped, OtherHeads}
+use Rattle.notes.specs.Writer.{noHead, dropped, draftBytes, FineState, Fine, Holds, Stored, Ready, HeadThere, HoldEnded, NotePushed, CellReady, CellNoted, afterCell, endAt, noteAt, endHead, invalidAfter, Stepped}
 use Rattle.notes.specs.declared.ChartNotesScratch.{ChartNotesScratch}
 use Rattle.notes.proofs.Stored.{stored-settle, stored-plain, stored-head}
 
@@ -52,16 +52,10 @@ step-nothing l s i c x e = record {
   row = refl;
 }
 
-pub others-set : (hs ks : List ℕ) (c x : ℕ) → ks ≡ set hs c x → OtherHeads hs c ks
-others-set hs ks c x e = record { size = ap length e ∙ length-set hs c x; others = λ k ne. ap (λ l. getD l k 0) e ∙ getD-set-other hs c k x 0 ne }
-
 -- a `0` touches no note
 pub zero-nothing : (b : ℕ) → b ≡ 48 → effectAt b ≡ Nothing
 unfolding effectAt cellOf
 zero-nothing b e = rw e
-
-pub ready-head : {l : List ℕ} {s : ChartNotesScratch} {c : ℕ} → Ready l s c → HeadThere l s c
-ready-head R = record { inside = R .inside; head = λ ne. omega (arith, R .head ne, R .room) }
 
 module _ (l : List ℕ) (s : ChartNotesScratch) (c : ℕ) (R : Ready l s c) (l′ : List ℕ) (r : ChartNotesScratch) where
   pub step-closes : (x : NoteEffect) → x ≡ Closes → HoldEnded l s c (s .«row_index») (s .«has_invalid») l′ r

@@ -158,11 +158,6 @@ CellNoted l head count row column x l′ head′ count′ invalid =
     (s : ChartNotesScratch) → getD (s .«hold_heads») column 0 ≡ head → s .count ≡ count → s .«row_index» ≡ row
     → Stepped l s l′ (afterCell s column head′ count′ invalid) 1 (stepCell row column x)
 
--- the open heads of other columns stay
-pub record OtherHeads (hs : List ℕ) (column : ℕ) (ks : List ℕ) : Type 0 where
-  pub size : length ks ≡ length hs
-  pub others : (c : ℕ) → (c ≡ column → ⊥) → getD ks c 0 ≡ getD hs c 0
-
 -- ---- the end
 
 -- some drafts are there

@@ -1,7 +1,6 @@
 // Typed notes: rows go in one by one, and the notes' records stand in a slice that the caller lends. One open head a column is kept in a
 // struct by value; a head's record stands in the slice from its row on, and a later cell of its column writes the tail or drops the record.
 use definitions::Kind;
-use definitions::NoteEffect;
 use records::NO_TAIL_ROW;
 use records::get_word;
 use records::kind_number;
@@ -18,8 +17,7 @@ ghost use lib.Seq.{sets};
 ghost use Rattle.definitions.specs.Lists.{oneIf};
 ghost use Rattle.definitions.specs.Lines.{Row};
 ghost use Rattle.definitions.specs.Records.{fields};
-ghost use Rattle.notes.specs.Drafts.{stepCell};
-ghost use Rattle.notes.specs.Writer.{HeadThere, HoldEnded, invalidAfter, Ready, NotePushed, noHead, noTail, FreeHeads, dropped, endAt, noteAt, CellReady, Stepped, OtherHeads, Closed, Compacted, SomeDrafts};
+ghost use Rattle.notes.specs.Writer.{HeadThere, HoldEnded, invalidAfter, noHead, noTail, FreeHeads, dropped, endAt, noteAt, CellReady, Closed, Compacted, SomeDrafts};
 ghost use Rattle.taps.specs.Taps.{tapLineMask};
 ghost use Rattle.taps.specs.declared.Taps.the-variants.{Mask};
 ghost use Rattle.notes.specs.Masks.{LowOf};
@@ -102,58 +100,6 @@ fn invalidate_hold(s: ChartNotesScratch, column: usize, notes: &mut [u8]) -> Cha
     out
 }
 
-// Drops the open head of a column and adds a record without a tail.
-fn push_note(s: ChartNotesScratch, column: usize, kind: Kind, notes: &mut [u8]) -> ChartNotesScratch
-    requires { ⌜ Ready (now notes) s column ⌝ }
-    ensures { λ r. ⌜ NotePushed (now (notes .entry)) s column kind noHead (now (notes .exit)) r ⌝ }
-{
-    let mut out = invalidate_hold(s, column, notes);
-    let k = out.count;
-    put_record(
-        notes,
-        k,
-        out.row_index,
-        NO_TAIL_ROW,
-        column as u8,
-        kind_number(kind),
-    );
-    out.count = k + 1;
-    out
-}
-
-// The same, and the record is the column's open head.
-fn push_head(s: ChartNotesScratch, column: usize, kind: Kind, notes: &mut [u8]) -> ChartNotesScratch
-    requires { ⌜ Ready (now notes) s column ⌝ }
-    ensures { λ r. ⌜ NotePushed (now (notes .entry)) s column kind (s .count) (now (notes .exit)) r ⌝ }
-{
-    let k = s.count;
-    let mut out = push_note(s, column, kind, notes);
-    out.hold_heads[column] = k as u32;
-    out
-}
-
-// One cell of the row that is being read.
-pub fn push_cell(
-    s: ChartNotesScratch,
-    column: usize,
-    cell: NoteEffect,
-    notes: &mut [u8],
-) -> ChartNotesScratch
-    requires { ⌜ Ready (now notes) s column ⌝ }
-    ensures { λ r. ⌜ Stepped (now (notes .entry)) s (now (notes .exit)) r 1 (stepCell (s .«row_index») column cell) ⌝ }
-    ensures { λ r. ⌜ OtherHeads (s .«hold_heads») column (r .«hold_heads») ⌝ }
-{
-    match cell {
-        NoteEffect::Nothing => s,
-        NoteEffect::Closes => {
-            let row = s.row_index;
-            end_hold(s, column, row, notes)
-        }
-        NoteEffect::Single(kind) => push_note(s, column, kind, notes),
-        NoteEffect::Head(kind) => push_head(s, column, kind, notes),
-    }
-}
-
 // A tap's record at the end of the records, and their number with it; where the cell is a `0` the next record is written over this one.
 fn push_tap(row: u32, count: usize, column: usize, b: u8, notes: &mut [u8]) -> usize
     requires { ⌜ (count * 10 + 10 ≤ length (now notes)) × (column < 10) × (count < 4294967295) ⌝ }
@@ -162,27 +108,6 @@ fn push_tap(row: u32, count: usize, column: usize, b: u8, notes: &mut [u8]) -> u
 {
     put_record(notes, count, row, NO_TAIL_ROW, column as u8, 0);
     count + cells::one_if(b == b'1') as usize
-}
-
-// A row of taps alone in columns without an open head, `finish_row` included. No turn of the loop branches on a cell.
-pub fn push_taps(s: ChartNotesScratch, row: &[u8], notes: &mut [u8]) -> ChartNotesScratch
-    requires { ⌜ Room s (now row) (now notes) × FreeHeads (s .«hold_heads») (now row) ⌝ }
-    ensures { λ r. ⌜ ((rows : List Row) → Written rows s (now (notes .entry)) → Written (rows ++ (now (row .entry) ∷ [])) r (now (notes .exit))) ⌝ }
-    ensures { λ r. ⌜ r .«hold_heads» ≡ s .«hold_heads» ⌝ }
-{
-    let hold_heads = s.hold_heads;
-    let mut count = s.count;
-    let mut column = 0;
-    while column < row.len() {
-        count = push_tap(s.row_index, count, column, row[column], notes);
-        column += 1;
-    }
-    ChartNotesScratch {
-        hold_heads,
-        count,
-        row_index: s.row_index + 1,
-        has_invalid: s.has_invalid,
-    }
 }
 
 // The lowest column of a mask, a `1`, and the rest of the mask; of an empty mask a `0` in some column.
@@ -235,24 +160,6 @@ pub fn push_mask(s: ChartNotesScratch, row: &[u8], mask: u16, notes: &mut [u8]) 
         row_index: s.row_index + 1,
         has_invalid: s.has_invalid,
     }
-}
-
-// One row, `finish_row` included. Most bytes of a chart are `0`, which touches no note: it is passed over before its effect is asked for.
-pub fn push_row(s: ChartNotesScratch, row: &[u8], notes: &mut [u8]) -> ChartNotesScratch
-    requires { ⌜ Room s (now row) (now notes) ⌝ }
-    ensures { λ r. ⌜ ((rows : List Row) → Written rows s (now (notes .entry)) → Written (rows ++ (now (row .entry) ∷ [])) r (now (notes .exit))) ⌝ }
-{
-    let mut out = s;
-    let mut column = 0;
-    while column < row.len() {
-        let b = row[column];
-        if b != b'0' {
-            out = push_cell(out, column, cells::note_effect(b), notes);
-        }
-        column += 1;
-    }
-    out.row_index = out.row_index + 1;
-    out
 }
 
 // Drops the heads that are still open.

@@ -1,4 +1,6 @@
 -- One line more, by its kind, of a chart and of minimised text read back.
+pub mod Lanes
+pub mod LineKinds
 pub mod Parts
 pub mod Plain
 pub mod Reading

@@ -13,7 +13,7 @@ use Rattle.definitions.specs.declared.LineKind.the-variants as line
 pub use Rattle.definitions.proofs.ChartRows.{trim-short}
 use Rattle.lines.specs.Lines.{firstLine}
 use Rattle.lines.proofs.Lines.{line-within}
-use Rattle.measures.proofs.LineKinds.{row-length}
+use Rattle.reader.proofs.LineKinds.{row-length}
 use Rattle.reader.specs.Reading.{LineRead}
 
 trim-drop : (l : List ℕ) → trim l ≡ drop (length l - length (trim l)) l

@@ -13,12 +13,12 @@ fn is_back_row(line: &[u8], lanes: usize) -> bool
     ensures { λ r. ⌜ r ≡ (isRow lanes (now (line .entry)) && not (beginsMark (now (line .entry)))) ⌝ }
 {
     if line.len() == 0 {
-        return measures::is_row(line, lanes);
+        return crate::is_row(line, lanes);
     }
     match line[0] {
         44 => false,
         59 => false,
-        _ => measures::is_row(line, lanes),
+        _ => crate::is_row(line, lanes),
     }
 }
 

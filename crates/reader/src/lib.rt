@@ -7,6 +7,8 @@ ghost use mathlib.Core.Path.{_≡_};
 ghost use mathlib.Core.Bool.{true};
 ghost use Prim.Native.Nat.{_+_, _≤_};
 ghost use lib.ListN.{length};
+ghost use Rattle.definitions.specs.Lanes.{lanesOf};
+ghost use Rattle.definitions.specs.Lines.{isRow, kindOf};
 ghost use Rattle.definitions.specs.Lists.{oneIf};
 ghost use Rattle.reader.specs.Reading.{LineWidth, LineRead, plainRow};
 
@@ -30,6 +32,46 @@ fn one_if(test: bool) -> usize
     if test { 1 } else { 0 }
 }
 
+// The lane count in force.
+pub fn lanes_of(lanes: usize) -> usize
+    ensures { λ r. ⌜ r ≡ lanesOf lanes ⌝ }
+{
+    match lanes {
+        5 => 5,
+        8 => 8,
+        10 => 10,
+        _ => 4,
+    }
+}
+
+// Whether a line that is nothing else is a row.
+pub fn is_row(line: &[u8], lanes: usize) -> bool
+    ensures { λ r. ⌜ r ≡ isRow lanes (now (line .entry)) ⌝ }
+{
+    lanes <= line.len()
+}
+
+// What a line is whose leading blanks are off.
+pub fn line_kind(line: &[u8], lanes: usize) -> LineKind
+    ensures { λ r. ⌜ r ≡ kindOf lanes (now (line .entry)) ⌝ }
+{
+    if line.len() == 0 {
+        return LineKind::Passed;
+    }
+    match line[0] {
+        47 => LineKind::Passed,
+        44 => LineKind::Comma,
+        59 => LineKind::Semi,
+        _ => {
+            if is_row(line, lanes) {
+                LineKind::Row
+            } else {
+                LineKind::Passed
+            }
+        }
+    }
+}
+
 // Any line, byte by byte.
 fn read_any_line(data: &[u8], off: usize, lanes: usize) -> ReadLine
     requires { ⌜ off ≤ length (now «data») ⌝ }
@@ -39,7 +81,7 @@ fn read_any_line(data: &[u8], off: usize, lanes: usize) -> ReadLine
     let line = lines::skip_ws(raw);
     let end = off + raw.len();
     ReadLine {
-        kind: measures::line_kind(line, lanes),
+        kind: line_kind(line, lanes),
         start: end - line.len(),
         next: end + 1,
     }

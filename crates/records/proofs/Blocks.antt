@@ -28,11 +28,6 @@ sets-left (v ∷ vs) x q m h =
     let e : length (set x m v) ≡ length x = length-set x m v in
     rw (set-append-left x q m v (omega arith)) (sets-left vs (set x m v) q (suc m) (omega arith))
 
--- one run of stores after another
-pub sets-append : (vs ws l : List ℕ) (m : ℕ) → sets l m (vs ++ ws) ≡ sets (sets l m vs) (m + length vs) ws
-sets-append [] ws l m = rw add-zero
-sets-append (v ∷ vs) ws l m = rw (add-suc, ← suc-add) (sets-append vs ws (set l m v) (suc m))
-
 -- stores over the whole of x
 pub sets-whole : (vs x : List ℕ) → length vs ≡ length x → sets x 0 vs ≡ vs
 sets-whole vs x h = sets-eq vs x 0 (omega arith) ∙ rw (zero-add, h, drop-length) (append-nil vs)

@@ -61,6 +61,6 @@ pub fn measure_densities(data: &[u8], lanes: usize, densities: &mut [u32]) -> Me
     if densities.len() < room {
         return MeasuresAnswer::Refused(3);
     }
-    let n = fill_densities(data, measures::lanes_of(lanes), densities);
+    let n = fill_densities(data, reader::lanes_of(lanes), densities);
     MeasuresAnswer::Measures(n)
 }

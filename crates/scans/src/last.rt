@@ -79,7 +79,7 @@ pub fn chart_last_beat_impl(data: &[u8], lanes: usize) -> LastBeat
     if 16777215 < data.len() {
         return LastBeat::Refused(1);
     }
-    let last = scan_last(data, measures::lanes_of(lanes));
+    let last = scan_last(data, reader::lanes_of(lanes));
     LastBeat::Beat {
         beat: beats::calc_last_beat(last),
         bits: beats::last_beat_bits(last),

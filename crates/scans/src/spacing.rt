@@ -114,6 +114,6 @@ pub fn equally_spaced_impl(data: &[u8], lanes: usize, spacing: &mut [u8]) -> Mea
     if spacing.len() < room {
         return MeasuresAnswer::Refused(3);
     }
-    let n = fill_spacing(data, measures::lanes_of(lanes), spacing);
+    let n = fill_spacing(data, reader::lanes_of(lanes), spacing);
     MeasuresAnswer::Measures(n)
 }

@@ -1,20 +1,23 @@
 -- A row whose taps stand in no column of `busy`: in each column is a `0`, or a `1` where `busy` has no bit.
 use mathlib.Core.Path.{_≡_, refl, ap, sym, _∙_, subst}
-use mathlib.Core.Bool.{Bool, false}
+use mathlib.Core.Bool.{Bool, true, false, cond}
 use mathlib.Core.List.{[], _∷_}
 use Prim.Native.Nat.{ℕ, zero, suc, _+_, _*_, _/_, _%_, _^_, _<_, _≤_, min, max}
 use native.Mathlib.Nat.{zero-div, mod-lt}
 use native.Mathlib.Omega.{arith}
 use lib.Bits.{bitAnd, bitOr, and-shr, and-step, or-shr, or-step}
+use lib.Dec.{eqb}
 use lib.ListN.{length, getD}
+use borrow.Author.Tests.{eqb-true, ne-eqb}
 use lib.Pow.{shr-shr}
 use Rattle.definitions.proofs.Lists.{any-default}
 use Rattle.definitions.specs.Lists.{count}
 use Rattle.definitions.specs.Lines.{Row}
 use Rattle.definitions.specs.Cells.{byteAt}
-use Rattle.taps.specs.Taps.{tapMask, bit, FreeTaps}
-use Rattle.taps.specs.declared.Taps.the-variants.{Mask}
-use Rattle.taps.proofs.Masks.{parts, line-taps}
+use Rattle.taps.specs.Taps.{tapMask, tapLineMask, bit, FreeTaps, freeOf, freeTaps}
+use Rattle.taps.specs.declared.Taps.{Taps}
+use Rattle.taps.specs.declared.Taps.the-variants.{Mask, Other}
+use Rattle.taps.proofs.Masks.{not-other, parts, line-taps}
 
 -- ---- bits
 
@@ -44,6 +47,38 @@ pub apart : (m busy : ℕ) → bitAnd m busy ≡ 0 → (c : ℕ) → bit c m ≡
 apart m busy e c one =
     let both : min (bit c m) (bit c busy) ≡ 0 = sym (bit-and m busy c) ∙ ap (bit c) e ∙ bit-none c in
     omega arith
+
+-- ---- a row is free of `busy`, or it is not
+
+pub free-mask : (busy m : ℕ) (r : Row) → tapLineMask r ≡ Mask m → bitAnd m busy ≡ 0 → Mask m ≡ freeTaps busy r
+unfolding freeTaps
+free-mask busy m r e h = sym (ap (freeOf busy) e ∙ ap (λ n. cond (eqb n 0) (Mask m) Other) h)
+
+pub free-busy : (busy m : ℕ) (r : Row) → tapLineMask r ≡ Mask m → (bitAnd m busy ≡ 0 → ⊥) → Other ≡ freeTaps busy r
+unfolding freeTaps
+free-busy busy m r e h = sym (ap (freeOf busy) e ∙ ap (λ (t : Bool). cond t (Mask m) Other) (ne-eqb (bitAnd m busy) 0 h))
+
+pub free-other : (busy : ℕ) (r : Row) → tapLineMask r ≡ Other → Other ≡ freeTaps busy r
+unfolding freeTaps
+free-other busy r e = sym (ap (freeOf busy) e)
+
+-- what a mask that was answered says
+pub free-told : {t : Taps} {busy m : ℕ} {r : Row} → t ≡ freeTaps busy r → t ≡ Mask m → FreeTaps busy m r
+unfolding freeTaps
+free-told {t} {busy} {m} {r} e g = go (tapLineMask r) refl (sym e ∙ g)
+  where
+    given : (n : ℕ) (p : Bool) → tapLineMask r ≡ Mask n → (p ≡ true → bitAnd n busy ≡ 0) → cond p (Mask n) Other ≡ Mask m → FreeTaps busy m r
+    given n false w h f = not-other m f
+    given n true w h f =
+        let same : n ≡ m = cc in
+        record {
+          mask = w ∙ ap Mask same;
+          free = λ k. rw same at (apart n busy (h refl) k);
+        }
+
+    go : (u : Taps) → tapLineMask r ≡ u → freeOf busy u ≡ Mask m → FreeTaps busy m r
+    go (Mask n) w f = given n (eqb (bitAnd n busy) 0) w (λ h. eqb-true (bitAnd n busy) 0 h) f
+    go Other w f = not-other m f
 
 -- ---- the cells of a row with a mask
 

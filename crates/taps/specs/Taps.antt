@@ -3,6 +3,7 @@ use mathlib.Core.Bool.{Bool, false, cond, _||_, not}
 use mathlib.Core.Path.{_≡_}
 use mathlib.Core.List.{List, [], _∷_}
 use Prim.Native.Nat.{ℕ, zero, suc, _+_, _*_, _/_, _%_, _^_, _<_, _≤_}
+use lib.Bits.{bitAnd}
 use lib.Dec.{eqb}
 use lib.ListN.{length, getD, replicate}
 use Rattle.definitions.specs.Lists.{sumColumns, oneIf}
@@ -59,6 +60,15 @@ bit c m = m / 2 ^ c % 2
 pub record FreeTaps (busy m : ℕ) (r : Row) : Type 0 where
   pub mask : tapLineMask r ≡ Mask m
   pub free : (c : ℕ) → bit c m ≡ 1 → bit c busy ≡ 0
+
+-- a mask that has no bit in common with `busy`
+abbrev pub freeOf : ℕ → Taps → Taps
+freeOf busy (Mask m) = cond (eqb (bitAnd m busy) 0) (Mask m) Other
+freeOf busy Other = Other
+
+-- The mask of a row that has one and no tap in a column of `busy`.
+unfoldable pub freeTaps : ℕ → Row → Taps
+freeTaps busy r = freeOf busy (tapLineMask r)
 
 -- of ten numbers, those whose place has no bit in `busy` are n
 abbrev pub FreeAre : ℕ → ℕ → List ℕ → Type 0

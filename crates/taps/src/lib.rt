@@ -10,7 +10,7 @@ ghost use Prim.Native.Nat.{ℕ, _+_, _*_, _≤_, _<_};
 ghost use lib.ListN.{length, getD, take, drop};
 ghost use Rattle.definitions.specs.Lines.{Row};
 ghost use Rattle.lines.specs.Words.{halfAt, wordOf, Bytes};
-ghost use Rattle.taps.specs.Taps.{tapMask, tapLineMask, FreeTaps, Fives, spread, zeroCells, unlikeMask, wideRow, Fits, maskCounts, TapCounts, unpack};
+ghost use Rattle.taps.specs.Taps.{tapMask, tapLineMask, freeTaps, Fives, spread, zeroCells, unlikeMask, wideRow, Fits, maskCounts, TapCounts, unpack};
 ghost use Rattle.taps.specs.declared.Taps;
 
 // A row of `0` and `1` alone as a mask, its first column in the lowest bit, or another row.
@@ -109,7 +109,7 @@ pub fn tap_line_mask(row: &[u8]) -> Taps
 
 // The mask of a row that has one and no tap in a column of `busy`; any other row is left to its cells.
 pub fn free_taps(row: &[u8], busy: u32) -> Taps
-    ensures { λ r. ⌜ ((m : ℕ) → r ≡ Taps.Mask m → FreeTaps busy m (now (row .entry))) ⌝ }
+    ensures { λ r. ⌜ r ≡ freeTaps busy (now (row .entry)) ⌝ }
 {
     match tap_line_mask(row) {
         Taps::Mask(mask) => {

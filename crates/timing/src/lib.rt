@@ -167,7 +167,7 @@ pub fn minimize_timing_rows(
     if text.len() < data.len() + 1 {
         return TimingAnswer::Refused(2);
     }
-    let l = measures::lanes_of(lanes);
+    let l = reader::lanes_of(lanes);
     let most = (data.len() + 1) / (l + 1);
     if beats.len() < most {
         return TimingAnswer::Refused(4);

@@ -5,7 +5,7 @@ use lib.ListN.{length}
 use denote.Ref.{now}
 use Rattle.definitions.specs.Lanes.{mostRows}
 use Rattle.definitions.specs.Entries.{mainNumber}
-use Rattle.measures.proofs.Lanes.{lanes-at-least, lanes-at-most, of-lanes}
+use Rattle.reader.proofs.Lanes.{lanes-at-least, lanes-at-most, of-lanes}
 use Rattle.chart.proofs.Answering.{main-refused, main-accepted, notes-of-lanes, notes-few}
 use borrow.Author.Needs.{needs}
 use Rattle.chart.proofs.minimize_chart_count_rows_notes.Statement.{statement}

@@ -6,7 +6,7 @@ use borrow.Author.Tests.{lt-ltb, le-ltb}
 use Rattle.definitions.specs.Lanes.{mostRows}
 use Rattle.definitions.specs.Refusals.{leaves}
 use Rattle.definitions.specs.Entries.{judgedNumber, judgedWork}
-use Rattle.measures.proofs.Lanes.{lanes-at-most}
+use Rattle.reader.proofs.Lanes.{lanes-at-most}
 use Rattle.judged.specs.Answers.{answerBy}
 use Rattle.judged.specs.declared.JudgedAnswer.the-variants.{Tally}
 use Rattle.judged.proofs.judge.Statement.{statement}

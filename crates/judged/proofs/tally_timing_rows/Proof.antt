@@ -8,6 +8,7 @@ use native.Mathlib.Omega.{arith}
 use borrow.Author.Needs.{needs}
 use lib.ListN.{length}
 use denote.Ref.{now}
+use Rattle.taps.proofs.Free.{free-told}
 use Rattle.definitions.specs.ReadBack.{readBack}
 use Rattle.taps.proofs.Masks.{fits-at}
 use Rattle.tallies.specs.Bounds.{Below}
@@ -92,7 +93,7 @@ process-timing-taps-requires c κs =
     let known = c .before .before .before in
     let row = known .before .before .before .before .before in
     let at = row .before .before .before in
-    let free = known .before .before .free-taps .ensures _ (known .mask .given .1) in (
+    let free = free-told (known .before .before .free-taps .ensures) (known .mask .given .1) in (
       at .before .before .tap-mask-counts .ensures,
       so-few at .0,
       so-few at .1,
@@ -139,7 +140,7 @@ loop-again c =
       λ J w.
           ⊎-elim
           (λ v.
-          let free = c .before .free-taps .ensures _ (v .1 .given .1) in
+          let free = free-told (c .before .free-taps .ensures) (v .1 .given .1) in
           rw (v .6)
           (tallying-taps _ _ _ _ _ _ (at .loop .inv .1 J w) _ in-text (a .back-line .ensures) (row .if1 .taken) _ (start .pre .0 .1) w _ free _ (v .5 .ensures _ (free .mask))))
           (λ v. rw (v .4)

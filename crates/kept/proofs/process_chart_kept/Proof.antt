@@ -5,7 +5,7 @@ use lib.ListN.{length}
 use denote.Ref.{now}
 use Rattle.definitions.specs.Lanes.{mostRows}
 use Rattle.definitions.specs.Entries.{keptNumber}
-use Rattle.measures.proofs.Lanes.{lanes-at-least, lanes-at-most, of-lanes}
+use Rattle.reader.proofs.Lanes.{lanes-at-least, lanes-at-most, of-lanes}
 use Rattle.kept.proofs.Answering.{kept-refused, kept-accepted}
 use borrow.Author.Needs.{needs}
 use Rattle.kept.proofs.process_chart_kept.Statement.{statement}

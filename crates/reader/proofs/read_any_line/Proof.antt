@@ -11,7 +11,7 @@ use Rattle.reader.proofs.read_any_line.Reads as reads
 use Rattle.reader.proofs.read_any_line.Lts as lts
 use Rattle.lines.proofs.next_line.Reads as next-line-reads
 use Rattle.lines.proofs.skip_ws.Reads as skip-ws-reads
-use Rattle.measures.proofs.line_kind.Reads as line-kind-reads
+use Rattle.reader.proofs.line_kind.Reads as line-kind-reads
 
 next-line-requires : tie.Need-next-line-requires
 next-line-requires c κs = search needs

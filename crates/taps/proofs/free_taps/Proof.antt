@@ -1,9 +1,10 @@
--- `taps::free_taps` meets its contract: a mask and `busy` without a common bit.
+-- `taps::free_taps` meets its contract: the row's mask, if it and `busy` have no common bit.
 use borrow.Author.Needs.{needs}
-use mathlib.Core.Path.{_≡_, sym, ap, _∙_}
+use mathlib.Core.Path.{_≡_, sym, _∙_}
+use denote.Ref.{now}
+use Rattle.taps.specs.Taps.{tapLineMask}
 use Rattle.taps.specs.declared.Taps.the-variants.{Mask}
-use Rattle.taps.proofs.Masks.{not-other}
-use Rattle.taps.proofs.Free.{apart}
+use Rattle.taps.proofs.Free.{free-mask, free-busy, free-other}
 use Rattle.taps.proofs.free_taps.Statement.{statement}
 use Rattle.taps.proofs.free_taps.Tie as tie
 
@@ -19,21 +20,18 @@ cast-if1 c = search needs
 enum-told : tie.Need-enum-told
 enum-told c = search needs
 
+-- the row has the mask that was told
+masked : (c : tie.After-mask) → tapLineMask (now (c .before .before .before .before .args .row)) ≡ Mask (c .mask .given .0 .0)
+masked c = sym (c .before .before .tap-line-mask .ensures) ∙ c .mask .given .1
+
 returns : tie.Need-returns
-returns c m e =
-    let known = c .before .before in
-    let mask = known .mask .given .0 .0 in
-    let same : mask ≡ m = cc in
-    record {
-      mask = sym (known .before .before .tap-line-mask .ensures) ∙ known .mask .given .1 ∙ ap Mask same;
-      free = λ k. rw same at (apart mask _ (c .if1 .taken) k);
-    }
+returns c = free-mask _ _ _ (masked (c .before .before)) (c .if1 .taken)
 
 returns-2 : tie.Need-returns-2
-returns-2 c m e = not-other m e
+returns-2 c = free-busy _ _ _ (masked (c .before .before)) (c .if1 .left)
 
 returns-3 : tie.Need-returns-3
-returns-3 c m e = not-other m e
+returns-3 c = free-other _ _ (sym (c .before .before .tap-line-mask .ensures) ∙ c .enum-told .given .1)
 
 pub free-taps-spec : {M : Type 1} → statement M
 free-taps-spec =

@@ -7,7 +7,7 @@ use lib.ListN.{length}
 use denote.Ref.{now}
 use Rattle.definitions.specs.Lanes.{mostRows}
 use Rattle.definitions.specs.Entries.{timingNumber}
-use Rattle.measures.proofs.Lanes.{lanes-at-least, lanes-at-most, of-lanes}
+use Rattle.reader.proofs.Lanes.{lanes-at-least, lanes-at-most, of-lanes}
 use Rattle.timing.proofs.Keeping.{all-text, all-beats}
 use Rattle.timing.proofs.Answering.{timing-refused, timing-accepted}
 use Rattle.timing.proofs.minimize_timing_rows.Statement.{statement}

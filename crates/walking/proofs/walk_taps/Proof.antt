@@ -9,7 +9,7 @@ use denote.Ref.{now}
 use lib.ListN.{length, take}
 use Rattle.definitions.specs.Lines.{Row}
 use Rattle.taps.proofs.Masks.{fits-at}
-use Rattle.taps.proofs.Free.{taps-left, taps-right}
+use Rattle.taps.proofs.Free.{free-told, taps-left, taps-right}
 use Rattle.measures.proofs.RowsAt.{rows-length}
 use Rattle.measures.proofs.Powers.{next-at}
 use Rattle.counting.specs.Counted.{Counted}
@@ -108,7 +108,7 @@ count-taps-requires : tie.Need-count-taps-requires Inv-loop μ-loop
 count-taps-requires c κs =
     let l = c .before .before .before .before .before .before .before .before in
     let few = count-few _ _ _ _ _ _ (walked (l .before)) (within l) in
-    let free = c .before .before .before .before .free-taps .ensures _ (c .before .before .mask .given .1) in
+    let free = free-told (c .before .before .before .before .free-taps .ensures) (c .before .before .mask .given .1) in
     (few .0, few .1, c .before .before .before .before .before .before .before .before .before .before .before .before .before .before .pre .0 .4, rw (c .is-wide .ensures) (fits-at _ _ _ (wide l) (free .mask)))
 
 sub-note-taps : tie.Need-sub-note-taps Inv-loop μ-loop
@@ -125,7 +125,7 @@ part-note-taps-end c =
 
 note-taps-requires : tie.Need-note-taps-requires Inv-loop μ-loop
 note-taps-requires c κs =
-    let free = c .before .before .before .before .before .before .before .free-taps .ensures _ (c .before .before .before .before .before .mask .given .1) in
+    let free = free-told (c .before .before .before .before .before .before .before .free-taps .ensures) (c .before .before .before .before .before .mask .given .1) in
     let l = c .before .before .before .before .before .before .before .before .before .before .before in
     (note-ready _ _ _ _ _ _ (walked (c .before .before .before .before .before .before .before .before .before .before .before .before)) (within l) _ (wide l) (c .before .before .before .before .before .before .before .before .before .before .before .before .before .before .before .before .before .pre .0 .1), taps-right (c .before .before .before .before .before .before .before .before .before .before .before .before .loop .c .busy) _ _ _ free)
 
@@ -161,7 +161,7 @@ loop-again c =
     let s = c .before .before .before .before .before .before .before .before .before .before .before .before .before .before .before .before .before .before .before .before in
     let a = s .args in
     let ms = rowsOf (a .lanes) (a .rows) (now (a .text)) (a .start) in
-    let free = c .before .before .before .before .before .before .before .before .before .before .free-taps .ensures _ (c .before .before .before .before .before .before .before .before .mask .given .1) in
+    let free = free-told (c .before .before .before .before .before .before .before .before .before .before .free-taps .ensures) (c .before .before .before .before .before .before .before .before .mask .given .1) in
     let more = row-more (a .lanes) (a .rows) (now (a .text)) (a .start) (s .pre .0 .2) (v .i) (v .at) (l .loop-test .taken) (v .inv .2) in
     let r = c .before .before .note-taps in (
       omega (arith, v .inv .0),

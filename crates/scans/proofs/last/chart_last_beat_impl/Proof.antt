@@ -8,7 +8,7 @@ use Rattle.definitions.specs.Beats.{rowToBeat}
 use Rattle.definitions.specs.Objects.{place48, last48, lastBeat}
 use Rattle.definitions.specs.Entries.{lastNumber}
 use Rattle.beats.specs.Places.{placeOf}
-use Rattle.measures.proofs.Lanes.{lanes-at-least, lanes-at-most}
+use Rattle.reader.proofs.Lanes.{lanes-at-least, lanes-at-most}
 use Rattle.scans.specs.Answers.{lastAnswer}
 use Rattle.scans.specs.declared.LastBeat.the-variants.{Beat}
 use Rattle.scans.proofs.Looking.{looked-48}

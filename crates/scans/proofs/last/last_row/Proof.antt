@@ -1,5 +1,6 @@
 -- `scans::last::last_row` meets its contract.
 use borrow.Author.Needs.{needs}
+use Rattle.taps.proofs.Free.{free-told}
 use Rattle.scans.proofs.last.last_row.Statement.{statement}
 use Rattle.scans.proofs.last.last_row.Tie as tie
 
@@ -21,7 +22,7 @@ last-cells-requires c κs = search needs
 returns : tie.Need-returns
 returns c =
     let known = c .before .before in
-    c .last-taps .ensures _ (known .before .before .free-taps .ensures _ (known .mask .given .1))
+    c .last-taps .ensures _ (free-told (known .before .before .free-taps .ensures) (known .mask .given .1))
 
 returns-2 : tie.Need-returns-2
 returns-2 c = search needs

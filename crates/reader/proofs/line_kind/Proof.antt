@@ -1,4 +1,4 @@
--- `measures::line_kind` meets its contract, arm by arm. Assumes nothing.
+-- `reader::line_kind` meets its contract, arm by arm. Assumes nothing.
 use Prim.Native.Nat.{ℕ}
 use mathlib.Core.Path.{_≡_, sym, ap, _∙_}
 use borrow.Author.Needs.{needs}
@@ -6,9 +6,9 @@ use borrow.Author.Tests.{ne-eqb}
 use denote.Ref.{now}
 use lib.ListN.{getD}
 use Rattle.definitions.specs.Lines.{isRow, kindOf}
-use Rattle.measures.proofs.LineKinds.{kindBy, kind-first, kind-none}
-use Rattle.measures.proofs.line_kind.Statement.{statement}
-use Rattle.measures.proofs.line_kind.Tie as tie
+use Rattle.reader.proofs.LineKinds.{kindBy, kind-first, kind-none}
+use Rattle.reader.proofs.line_kind.Statement.{statement}
+use Rattle.reader.proofs.line_kind.Tie as tie
 
 first : (c : tie.Else1)
     → kindOf (c .before .before .args .lanes) (now (c .before .before .args .line))

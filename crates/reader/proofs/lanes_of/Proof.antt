@@ -1,9 +1,9 @@
--- `measures::lanes_of` meets its contract, arm by arm. Assumes nothing.
+-- `reader::lanes_of` meets its contract, arm by arm. Assumes nothing.
 use mathlib.Core.Path.{sym, ap}
 use borrow.Author.Tests.{ne-eqb}
 use Rattle.definitions.specs.Lanes.{lanesOf}
-use Rattle.measures.proofs.lanes_of.Statement.{statement}
-use Rattle.measures.proofs.lanes_of.Tie as tie
+use Rattle.reader.proofs.lanes_of.Statement.{statement}
+use Rattle.reader.proofs.lanes_of.Tie as tie
 
 returns : tie.Need-returns
 unfolding lanesOf
