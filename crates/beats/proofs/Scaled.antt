@@ -7,11 +7,12 @@ use native.Mathlib.Omega.{arith}
 use lib.Dec.{lit<, lit≤}
 use lib.Ieee.{binary64, ofInt, round, mul, div, add}
 use lib.Ieee.Scale.{round-same}
+use Rattle.definitions.specs.Sizes.{rowsBound}
 use Rattle.definitions.specs.Beats.{f64, beat, whole, lastRow}
 use Rattle.beats.proofs.Values.{mul-at, div-at, of-whole}
 
 -- 4 × r / n is the fraction, rounded
-quarter : (r n : ℕ) → 0 < n → r ≤ 4194304 → n ≤ 4194304 → div binary64 (mul binary64 (f64 4) (f64 r)) (f64 n) ≡ round binary64 false (4 * r) n
+quarter : (r n : ℕ) → 0 < n → r ≤ rowsBound → n ≤ rowsBound → div binary64 (mul binary64 (f64 4) (f64 r)) (f64 n) ≡ round binary64 false (4 * r) n
 unfolding ofInt
 quarter r n P R N =
     let big : 4 * r ≤ 2 ^ 53 = omega arith in
@@ -21,15 +22,15 @@ quarter r n P R N =
     ∙ div-at binary64 (f64 (4 * r)) (f64 n) (4 * r) 1 n 1 (lit< tt) (lit< tt) P (of-whole binary64 (4 * r) big) (of-whole binary64 n (le-trans N (lit≤ tt)))
     ∙ ap₂ (round binary64 false) (mul-one (4 * r)) (one-mul n)
 
-pub last-scaled : (m k r n : ℕ) → 0 < k → r < n → k * n ≤ 4194304 → lastRow m (k * r) (k * n) ≡ lastRow m r n
+pub last-scaled : (m k r n : ℕ) → 0 < k → r < n → k * n ≤ rowsBound → lastRow m (k * r) (k * n) ≡ lastRow m r n
 unfolding lastRow beat
 last-scaled m k r n K R N =
     let below : k * r ≤ k * n = mul-le-mul-left k (le-of-lt R) in
     let once : n ≤ k * n = le-trans (le-of-eq (sym (one-mul n))) (mul-le-mul-right n K) in
     let some : 0 < n = omega arith in
-    let n-few : n ≤ 4194304 = omega arith in
-    let r-few : r ≤ 4194304 = omega arith in
-    let kr-few : k * r ≤ 4194304 = omega arith in
+    let n-few : n ≤ rowsBound = omega arith in
+    let r-few : r ≤ rowsBound = omega arith in
+    let kr-few : k * r ≤ rowsBound = omega arith in
     ap (λ q. whole (mul binary64 (add binary64 (mul binary64 (f64 m) (f64 4)) q) (f64 48)))
     (quarter (k * r) (k * n) (mul-pos K some) kr-few N
     ∙ round-same binary64 false (4 * (k * r)) (k * n) (4 * r) n (mul-pos K some) some (same k r n)

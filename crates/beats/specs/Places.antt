@@ -2,6 +2,7 @@
 use mathlib.Core.Path.{_≡_}
 use mathlib.Core.Option.{Option, none, some}
 use Prim.Native.Nat.{ℕ, _≤_, _<_}
+use Rattle.definitions.specs.Sizes.{measuresBound, rowsBound}
 use Rattle.definitions.specs.Objects.{Place}
 use Rattle.beats.specs.declared.LastObject.{LastObject}
 use Rattle.beats.specs.declared.LastObject.the-variants.{Nothing, At}
@@ -10,8 +11,8 @@ use Rattle.beats.specs.declared.LastObject.the-variants.{Nothing, At}
 -- 5 bytes or more, and the end of a measure 2.
 pub record Inside (m r n : ℕ) : Type 0 where
   pub row : r < n
-  pub rows : n < 4194304
-  pub measure : m ≤ 8388608
+  pub rows : n < rowsBound
+  pub measure : m ≤ measuresBound
 
 -- the place that a last object row stands for
 abbrev pub placeOf : LastObject → Option Place

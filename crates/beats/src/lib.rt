@@ -8,6 +8,7 @@ ghost use Prim.Native.Nat.{ℕ, _+_, _*_, _^_, _<_, _≤_};
 ghost use lib.ListN.{length, take, drop};
 ghost use lib.Ieee.{binary32, binary64, round, toBits};
 ghost use lib.Ieee.Exact.{HasValue};
+ghost use Rattle.definitions.specs.Sizes.{measuresBound, rowsBound};
 ghost use Rattle.definitions.specs.Beats.{step, rowBeat, rowBeats, whole, lastRow, rowToBeat};
 ghost use Rattle.definitions.specs.Objects.{place48};
 ghost use Rattle.beats.specs.Places.{Inside, placeOf, Placed};
@@ -24,7 +25,7 @@ const COARSE: f32 = 4.76837158203125e-7;
 
 // The step 4 / n, an f32, in units of 2^-43.
 fn step_units(n: u32) -> u64
-    requires { ⌜ (0 < n) × (n < 4194304) ⌝ }
+    requires { ⌜ (0 < n) × (n < rowsBound) ⌝ }
     ensures { λ s. ⌜ (HasValue (step n) false s (2 ^ 43)) × (s * n < 2 ^ 46) ⌝ }
 {
     let x: f32 = 4.0 / (n as f32);
@@ -42,7 +43,7 @@ fn rounded(x: u64, unit: f32) -> f32
 // r × s + 4 × m, with s in units of 2^-43, worked out exactly and rounded once. From m = 4 on the exact number takes up to
 // 69 binary digits. A float keeps 24, so after the 25th it is enough to know whether any digit is not 0: one more digit says so.
 fn mul_add(r: u32, s: u64, m: u32) -> f32
-    requires { ⌜ (r * s < 2 ^ 46) × (m ≤ 8388608) ⌝ }
+    requires { ⌜ (r * s < 2 ^ 46) × (m ≤ measuresBound) ⌝ }
     ensures { λ b. ⌜ b ≡ round binary32 false (r * s + 4 * m * 2 ^ 43) (2 ^ 43) ⌝ }
 {
     let p = (r as u64) * s;
@@ -68,7 +69,7 @@ pub fn row_beat(m: u32, r: u32, n: u32) -> f32
 
 // The step 4 / n.
 fn step_of(n: u32) -> f32
-    requires { ⌜ n < 4194304 ⌝ }
+    requires { ⌜ n < rowsBound ⌝ }
     ensures { λ b. ⌜ b ≡ step n ⌝ }
 {
     4.0 / (n as f32)
@@ -84,7 +85,7 @@ fn steps_beat(k: u32, step: f32) -> f32
 
 // The beats of a measure whose rows are an even part of 4 beats: row r stands `midx` × `rows` + r steps after beat 0.
 fn append_steps(beats: &mut [f32], at: usize, midx: u32, rows: u32)
-    requires { ⌜ (at + rows ≤ length (now beats)) × (rows < 4194304) × (midx * rows + rows ≤ 16777216) × EvenStep rows ⌝ }
+    requires { ⌜ (at + rows ≤ length (now beats)) × (rows < rowsBound) × (midx * rows + rows ≤ 16777216) × EvenStep rows ⌝ }
     ensures { λ _. ⌜ now (beats .exit) ≡ (take at (now (beats .entry)) ++ rowBeats midx rows 0 rows) ++ drop (at + rows) (now (beats .entry)) ⌝ }
 {
     let step = step_of(rows);
@@ -98,7 +99,7 @@ fn append_steps(beats: &mut [f32], at: usize, midx: u32, rows: u32)
 
 // The beats of any measure's rows, by the step in units of 2^-43.
 fn append_rounded(beats: &mut [f32], at: usize, midx: u32, rows: u32, s: u64)
-    requires { ⌜ (at + rows ≤ length (now beats)) × (midx ≤ 8388608) × (HasValue (step rows) false s (2 ^ 43)) × (s * rows < 2 ^ 46) ⌝ }
+    requires { ⌜ (at + rows ≤ length (now beats)) × (midx ≤ measuresBound) × (HasValue (step rows) false s (2 ^ 43)) × (s * rows < 2 ^ 46) ⌝ }
     ensures { λ _. ⌜ now (beats .exit) ≡ (take at (now (beats .entry)) ++ rowBeats midx rows 0 rows) ++ drop (at + rows) (now (beats .entry)) ⌝ }
 {
     let mut r: u32 = 0;
@@ -111,7 +112,7 @@ fn append_rounded(beats: &mut [f32], at: usize, midx: u32, rows: u32, s: u64)
 // The beats of the rows of measure `midx`, written from place `at` on. The step is worked out once a measure. Where its rows, as most do,
 // divide 4 beats evenly and their numbers are floats exactly, each beat is one product.
 pub fn append_row_beats(beats: &mut [f32], at: usize, midx: u32, rows: u32)
-    requires { ⌜ (at + rows ≤ length (now beats)) × (rows < 4194304) × (midx ≤ 8388608) ⌝ }
+    requires { ⌜ (at + rows ≤ length (now beats)) × (rows < rowsBound) × (midx ≤ measuresBound) ⌝ }
     ensures { λ _. ⌜ now (beats .exit) ≡ (take at (now (beats .entry)) ++ rowBeats midx rows 0 rows) ++ drop (at + rows) (now (beats .entry)) ⌝ }
 {
     if rows == 0 {

@@ -6,6 +6,7 @@ use native.Mathlib.Omega.{arith}
 use borrow.Author.Tests.{le-ltb}
 use lib.Ieee.{Float}
 use lib.ListN.{length}
+use Rattle.definitions.specs.Sizes.{mostBytes}
 use Rattle.definitions.specs.Lanes.{lanesOf, mostRows}
 use Rattle.definitions.specs.Entries.{mainNumber, measuresNumber}
 
@@ -20,7 +21,7 @@ unfolding mainNumber mostRows lanesOf
 main-accepted text out densities beats work notes h o d b w n =
     let few : mostRows 4 (length text) ≤ 819 = rows-most (length text) h in
     rw (
-      le-ltb 16777215 (length text) (omega arith),
+      le-ltb mostBytes (length text) (omega arith),
       le-ltb (length out) (length text + 1) (omega arith),
       le-ltb (length densities) ((length text + 1) / 2 + 1) (omega arith),
       le-ltb (length beats) (mostRows 4 (length text)) (omega arith),
@@ -31,4 +32,4 @@ main-accepted text out densities beats work notes h o d b w n =
 pub spacing-accepted : (text spacing : List ℕ) → length text ≤ 4095 → length spacing ≡ 2049 → measuresNumber 4 text spacing ≡ 0
 unfolding measuresNumber
 spacing-accepted text spacing h s =
-    rw (le-ltb 16777215 (length text) (omega arith), le-ltb (length spacing) ((length text + 1) / 2 + 1) (omega arith))
+    rw (le-ltb mostBytes (length text) (omega arith), le-ltb (length spacing) ((length text + 1) / 2 + 1) (omega arith))

@@ -14,7 +14,7 @@ use Rattle.definitions.specs.Records.{records}
 use Rattle.definitions.specs.Entries.{measureCount}
 use Rattle.definitions.specs.WriterMakes.{ReadsBack, WriterMakes}
 use Rattle.definitions.specs.declared.Note.{Note}
-use Rattle.measures.proofs.Blocks.{joined-append}
+use Rattle.reduction.proofs.Blocks.{joined-append}
 use Rattle.definitions.proofs.WriterMakes.{writer-makes}
 use Rattle.scans.proofs.Raw.{densities-count, spacings-count}
 use Rattle.sheet.specs.Sheet.{measureLines, noteLine, recordLines, sheetOf}

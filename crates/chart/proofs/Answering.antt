@@ -8,6 +8,7 @@ use native.Mathlib.Omega.{arith}
 use lib.Dec.{ltb, eqb·suc-zero}
 use lib.Ieee.{Float, binary64, toBits}
 use lib.ListN.{length, take}
+use Rattle.definitions.specs.Sizes.{mostBytes}
 use Rattle.definitions.specs.Lists.{joined, padded}
 use Rattle.definitions.specs.Lanes.{lanesOf, mostRows}
 use Rattle.definitions.specs.Refusals.{leaves}
@@ -23,18 +24,18 @@ use Rattle.definitions.specs.ReadBack.{mainTally}
 use Rattle.definitions.specs.Entries.{mainNumber, mainText, mainDensities, mainBeats, mainWork, mainNotes}
 use Rattle.definitions.specs.declared.ArrowStats.{ArrowStats}
 use Rattle.beats.specs.Places.{placeOf, Placed}
-use Rattle.keeping.proofs.Answering.{own-part}
-use Rattle.notes.specs.Written.{Written, SomeRows, Finished}
+use Rattle.kept_pass.proofs.Answering.{own-part}
+use Rattle.row_notes.specs.Written.{Written, SomeRows, Finished}
 use Rattle.reader.specs.BackReading.{rowsBack}
 use Rattle.reader.proofs.BackReading.{back-trimmed}
 use Rattle.slices.specs.Zeroed.{zeroed}
 use Rattle.slices.proofs.Zeroed.{zeroed-answer}
 use Rattle.chart.specs.declared.ChartFigures.{ChartFigures}
-use Rattle.charting.specs.declared.ChartPass.{ChartPass}
+use Rattle.chart_pass.specs.declared.ChartPass.{ChartPass}
 use Rattle.chart.specs.declared.ChartAnswer.{ChartAnswer}
 use Rattle.chart.specs.declared.ChartAnswer.the-variants.{Refused, Chart}
 use Rattle.chart.specs.Answers.{chartFigures, chartAnswer}
-use Rattle.charting.specs.Pass.{ChartAll}
+use Rattle.chart_pass.specs.ChartPass.{ChartAll}
 
 module _ (L : ℕ) (data-text : List ℕ) (p : ChartPass) (text densities : List ℕ) (beats : List Float) (slots : List ℕ) (x : ChartAll L data-text p text densities beats slots) where
   pub all-beats : (n : ℕ) → length beats ≡ n → mostRows L (length data-text) ≤ n → zeroed (f32 0) (p .pass .counting .rows) beats ≡ padded (f32 0) n (beatsOf L data-text)
@@ -92,7 +93,7 @@ unfolding mostRows
 notes-of-lanes room len e h = ap (λ n. ltb room (10 * n * ((len + 1) / (n + 1)))) (sym e) ∙ h
 
 -- that many bytes are less than 2^31
-pub notes-few : (l len : ℕ) → l ≤ 10 → len ≤ 16777215 → 10 * l * ((len + 1) / (l + 1)) ≤ 1677721600
+pub notes-few : (l len : ℕ) → l ≤ 10 → len ≤ mostBytes → 10 * l * ((len + 1) / (l + 1)) ≤ 1677721600
 notes-few l len h w =
     let x = (len + 1) / (l + 1) in
     let wide : 10 * l ≤ 100 = omega arith in

@@ -4,6 +4,7 @@ ghost use mathlib.Core.Path.{_≡_};
 ghost use mathlib.Core.List.{[]};
 ghost use Prim.Native.Nat.{_+_, _*_, _/_, _≤_};
 ghost use lib.ListN.{length};
+ghost use Rattle.definitions.specs.Sizes.{mostBytes};
 ghost use Rattle.definitions.specs.Lists.{padded};
 ghost use Rattle.definitions.specs.Lanes.{mostRows};
 ghost use Rattle.definitions.specs.Figures.{minimisedText, densities as densitiesOf};
@@ -40,7 +41,7 @@ fn chart_figures(
     work: &mut [u16],
     slots: &mut [u8],
 ) -> ChartFigures
-    requires { ⌜ (4 ≤ lanes) × (lanes ≤ 10) × (length (now «data») ≤ 16777215) ⌝ }
+    requires { ⌜ (4 ≤ lanes) × (lanes ≤ 10) × (length (now «data») ≤ mostBytes) ⌝ }
     requires { ⌜ (length (now «data») + 1 ≤ length (now text)) × ((length (now «data») + 1) / 2 + 1 ≤ length (now densities)) × (mostRows lanes (length (now «data»)) ≤ length (now beats)) × (10 * lanes * mostRows lanes (length (now «data»)) ≤ length (now slots)) ⌝ }
     requires { ⌜ mostRows lanes (length (now «data»)) ≤ length (now work) ⌝ }
     ensures { λ r. ⌜ r ≡ chartFigures lanes (now («data» .entry)) ⌝ }
@@ -50,17 +51,24 @@ fn chart_figures(
     ensures { λ _. ⌜ now (work .exit) ≡ padded 0 (length (now (work .entry))) [] ⌝ }
     ensures { λ _. ⌜ now (slots .exit) ≡ padded 0 (length (now (slots .entry))) (records (notesOf lanes (now («data» .entry)))) ⌝ }
 {
-    let p = charting::read_chart(data, lanes, text, densities, beats, slots);
+    let p = chart_pass::read_chart(data, lanes, text, densities, beats, slots);
     let out = p.pass.out;
     let measures = p.pass.midx + 1;
     let rows = p.pass.counting.rows;
     let stats = p.pass.counting.stats;
     let depths = p.pass.counting.phantoms;
-    let corrected = recount::corrected_stats(stats, depths, &text[0..out], lanes, true, work);
+    let corrected = corrected_tally::corrected_stats(
+        stats,
+        depths,
+        &text[0..out],
+        lanes,
+        true,
+        work,
+    );
     let noting = p.noting;
     let scan = noting.last;
     let last = scan.found;
-    let count = notes::finish(noting.scratch, slots);
+    let count = row_notes::finish(noting.scratch, slots);
     slices::zero_u8(text, out);
     slices::zero_u32(densities, measures);
     slices::zero_f32(beats, rows as usize);
@@ -93,7 +101,7 @@ pub fn minimize_chart_count_rows_notes(
     ensures { λ _. ⌜ now (slots .exit) ≡ mainNotes lanes (now («data» .entry)) (now (text .entry)) (now (densities .entry)) (now (beats .entry)) (now (work .entry)) (now (slots .entry)) ⌝ }
 {
     let len = data.len();
-    if 16777215 < len {
+    if definitions::MOST_BYTES < len {
         return ChartAnswer::Refused(1);
     }
     if text.len() < len + 1 {

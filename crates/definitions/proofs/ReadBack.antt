@@ -6,6 +6,7 @@ use native.Mathlib.Nat.{div-div-eq-div-mul, div-add-mod', mod-eq-of-lt, mul-div-
 use native.Mathlib.Omega.{arith}
 use lib.ListN.{length, getD}
 use borrow.Author.Tests.{lt-ltb, lt-leb, eq-eqb}
+use Rattle.definitions.specs.Sizes.{rowNumbersBound}
 use Rattle.definitions.specs.Lists.{joined}
 use Rattle.definitions.specs.Records.{word, kindNumber, tailNumber, fields, encode, records, noteOf, readNote}
 use Rattle.definitions.specs.declared.Kind.{Kind}
@@ -40,20 +41,20 @@ unfolding word fields
 word-tail r t c k h = bytes4-back t h
 
 -- a note that the writer makes is what its fields give
-note-back : (r c : ℕ) (k : Kind) (t : Tail) → c < 10 → r < 16777216 → TailMade r k t
+note-back : (r c : ℕ) (k : Kind) (t : Tail) → c < 10 → r < rowNumbersBound → TailMade r k t
     → noteOf r (tailNumber t) c (kindNumber k) ≡ Found (record { row = r; tail = t; column = c; kind = k })
 unfolding noteOf
-note-back r c Tap Without p q m = simp (lt-leb 10 c p, lt-leb 16777216 r q)
+note-back r c Tap Without p q m = simp (lt-leb 10 c p, lt-leb rowNumbersBound r q)
 note-back r c Tap (Row j) p q m = absurd m
 note-back r c Hold Without p q m = absurd m
-note-back r c Hold (Row j) p q m = simp (lt-leb 10 c p, lt-leb 16777216 r q, lt-ltb r j (m .0), lt-ltb j 16777216 (m .1))
+note-back r c Hold (Row j) p q m = simp (lt-leb 10 c p, lt-leb rowNumbersBound r q, lt-ltb r j (m .0), lt-ltb j rowNumbersBound (m .1))
 note-back r c Roll Without p q m = absurd m
-note-back r c Roll (Row j) p q m = simp (lt-leb 10 c p, lt-leb 16777216 r q, lt-ltb r j (m .0), lt-ltb j 16777216 (m .1))
-note-back r c Mine Without p q m = simp (lt-leb 10 c p, lt-leb 16777216 r q)
+note-back r c Roll (Row j) p q m = simp (lt-leb 10 c p, lt-leb rowNumbersBound r q, lt-ltb r j (m .0), lt-ltb j rowNumbersBound (m .1))
+note-back r c Mine Without p q m = simp (lt-leb 10 c p, lt-leb rowNumbersBound r q)
 note-back r c Mine (Row j) p q m = absurd m
-note-back r c Lift Without p q m = simp (lt-leb 10 c p, lt-leb 16777216 r q)
+note-back r c Lift Without p q m = simp (lt-leb 10 c p, lt-leb rowNumbersBound r q)
 note-back r c Lift (Row j) p q m = absurd m
-note-back r c Fake Without p q m = simp (lt-leb 10 c p, lt-leb 16777216 r q)
+note-back r c Fake Without p q m = simp (lt-leb 10 c p, lt-leb rowNumbersBound r q)
 note-back r c Fake (Row j) p q m = absurd m
 
 tail-small : (r : ℕ) (k : Kind) (t : Tail) → TailMade r k t → tailNumber t < 4294967296

@@ -6,6 +6,7 @@ use Prim.Native.Nat.{ℕ, zero, suc, _+_, _≤_, _<_}
 use native.Mathlib.Nat.{div-le-self}
 use native.Mathlib.Omega.{arith}
 use lib.ListN.{length, getD, getElem?}
+use Rattle.definitions.specs.Sizes.{mostBytes, rowNumbersBound}
 use Rattle.definitions.specs.Lists.{joined}
 use Rattle.definitions.specs.Lanes.{lanesOf, mostRows}
 use Rattle.definitions.specs.Lines.{Row}
@@ -45,7 +46,7 @@ abbrev Proper : NoteEffect → Type 0
 Proper Nothing = Unit {0}
 Proper Closes = Unit {0}
 Proper (Single k) = (i : ℕ) → TailMade i k tail.Without
-Proper (Head k) = (i j : ℕ) → (i < j) × (j < 16777216) → TailMade i k (tail.Row j)
+Proper (Head k) = (i j : ℕ) → (i < j) × (j < rowNumbersBound) → TailMade i k (tail.Row j)
 
 proper : (x : Cell) → Proper (effectOf x)
 proper cell.Empty = tt
@@ -65,7 +66,7 @@ proper-at : (b : ℕ) → Proper (effectAt b)
 unfolding effectAt
 proper-at b = proper (cellOf b)
 
-made-cell : (x : NoteEffect) → Proper x → (i c : ℕ) → i < 16777216 → c < 10 → (t : Option ℕ) → ((j : ℕ) → t ≡ some j → (i < j) × (j < 16777216))
+made-cell : (x : NoteEffect) → Proper x → (i c : ℕ) → i < rowNumbersBound → c < 10 → (t : Option ℕ) → ((j : ℕ) → t ≡ some j → (i < j) × (j < rowNumbersBound))
     → All Made (cellNotes x i c t)
 made-cell Nothing p i c hi hc t h = no-more
 made-cell Closes p i c hi hc t h = no-more
@@ -73,7 +74,7 @@ made-cell (Single k) p i c hi hc t h = one (record { column = hc; kind = kind-be
 made-cell (Head k) p i c hi hc none h = no-more
 made-cell (Head k) p i c hi hc (some j) h = one (record { column = hc; kind = kind-below k; row = hi; tail = p i j (h j refl) }) no-more
 
-made-row : (i c : ℕ) (bs : Row) (rs : List Row) → i + suc (length rs) ≤ 16777216 → c + length bs ≤ 10 → All Made (rowNotes i c bs rs)
+made-row : (i c : ℕ) (bs : Row) (rs : List Row) → i + suc (length rs) ≤ rowNumbersBound → c + length bs ≤ 10 → All Made (rowNotes i c bs rs)
 made-row i c [] rs h w = no-more
 made-row i c (b ∷ bs) rs h w =
     all-append
@@ -81,17 +82,17 @@ made-row i c (b ∷ bs) rs h w =
     (made-row i (suc c) bs rs h (omega arith))
 
 -- the notes of rows of at most ten cells, numbered below 16,777,216
-made-notes : (i : ℕ) (rs : List Row) → i + length rs ≤ 16777216 → All (λ r. length r ≤ 10) rs → All Made (notesFrom i rs)
+made-notes : (i : ℕ) (rs : List Row) → i + length rs ≤ rowNumbersBound → All (λ r. length r ≤ 10) rs → All Made (notesFrom i rs)
 made-notes i [] h no-more = no-more
 made-notes i (r ∷ rs) h (one g w) =
     all-append (made-row i zero r rs h (omega arith)) (made-notes (suc i) rs (omega arith) w)
 
 -- a text that is accepted has rows of at most ten cells, and few enough of them
-module _ (L : ℕ) (some-lane : 1 ≤ L) (ten-lanes : L ≤ 10) (text : List ℕ) (short : length text ≤ 16777215) where
+module _ (L : ℕ) (some-lane : 1 ≤ L) (ten-lanes : L ≤ 10) (text : List ℕ) (short : length text ≤ mostBytes) where
   narrow : All (λ r. length r ≤ 10) (joined (minimised L text))
   narrow = all-map (λ r x. omega (arith, x .size)) (all-joined (minimised-rows L text some-lane))
 
-  few : length (joined (minimised L text)) ≤ 16777216
+  few : length (joined (minimised L text)) ≤ rowNumbersBound
   unfolding mostRows
   few = omega (arith, minimised-rows-few L text some-lane, div-le-self (length text + 1) (L + 1))
 

@@ -1,5 +1,6 @@
 -- Document 01 written down, in its order: a reader who believes these files, and the examples at their end, needs no other.
 pub mod Lists
+pub mod Sizes
 pub mod Lanes
 pub mod Refusals
 pub mod Lines

@@ -4,6 +4,7 @@ use mathlib.Core.List.{List, [], _∷_, _++_, map}
 use Prim.Native.Nat.{ℕ, _+_, _*_, _/_, _%_}
 use lib.Dec.{eqb, ltb, leb}
 use lib.ListN.{length, getD}
+use Rattle.definitions.specs.Sizes.{rowNumbersBound}
 use Rattle.definitions.specs.Lists.{joined}
 use Rattle.definitions.specs.declared.Kind.{Kind}
 use Rattle.definitions.specs.declared.Kind.the-variants.{Tap, Hold, Roll, Mine, Lift, Fake}
@@ -57,14 +58,14 @@ plainOf row tail column kind =
 abbrev pub heldOf : ℕ → ℕ → ℕ → Kind → ReadNote
 heldOf row tail column kind =
     cond (ltb row tail)
-    (cond (ltb tail 16777216) (Found (record { row = row; tail = Row tail; column = column; kind = kind })) (Refused 8))
+    (cond (ltb tail rowNumbersBound) (Found (record { row = row; tail = Row tail; column = column; kind = kind })) (Refused 8))
     (Refused 8)
 
 -- of any fields
 unfoldable pub noteOf : ℕ → ℕ → ℕ → ℕ → ReadNote
 noteOf row tail column kind =
     cond (leb 10 column) (Refused 8)
-    (cond (leb 16777216 row) (Refused 8)
+    (cond (leb rowNumbersBound row) (Refused 8)
     (cond (eqb kind 0) (plainOf row tail column Tap)
     (cond (eqb kind 1) (heldOf row tail column Hold)
     (cond (eqb kind 2) (heldOf row tail column Roll)

@@ -5,6 +5,7 @@ use mathlib.Core.List.{List, [], _∷_}
 use Prim.Native.Nat.{ℕ, _+_, _*_, _/_}
 use lib.Dec.{eqb, ltb}
 use lib.ListN.{length}
+use Rattle.definitions.specs.Sizes.{mostBytes}
 use Rattle.definitions.specs.Lists.{padded}
 use Rattle.definitions.specs.Lanes.{mostRows}
 
@@ -19,7 +20,7 @@ check n t = record { number = n; holds = t }
 
 -- "1: len is over 16,777,215."
 abbrev pub longText : ℕ → Check
-longText len = check 1 (ltb 16777215 len)
+longText len = check 1 (ltb mostBytes len)
 
 -- "2: the text slice (bytes) is shorter than len + 1."
 abbrev pub shortText : ℕ → ℕ → Check

@@ -5,6 +5,7 @@ use mathlib.Core.List.{List}
 use mathlib.Core.Option.{some}
 use Prim.Native.Nat.{ℕ, _≤_, _<_}
 use lib.ListN.{length, getElem?}
+use Rattle.definitions.specs.Sizes.{mostBytes, rowNumbersBound}
 use Rattle.definitions.specs.Lanes.{lanesOf}
 use Rattle.definitions.specs.Notes.{notes}
 use Rattle.definitions.specs.Records.{kindNumber, records, readNote}
@@ -21,9 +22,9 @@ abbrev pub TailMade : ℕ → Kind → Tail → Type 0
 TailMade r Tap Without = Unit {0}
 TailMade r Tap (Row j) = ⊥
 TailMade r Hold Without = ⊥
-TailMade r Hold (Row j) = (r < j) × (j < 16777216)
+TailMade r Hold (Row j) = (r < j) × (j < rowNumbersBound)
 TailMade r Roll Without = ⊥
-TailMade r Roll (Row j) = (r < j) × (j < 16777216)
+TailMade r Roll (Row j) = (r < j) × (j < rowNumbersBound)
 TailMade r Mine Without = Unit {0}
 TailMade r Mine (Row j) = ⊥
 TailMade r Lift Without = Unit {0}
@@ -36,7 +37,7 @@ TailMade r Fake (Row j) = ⊥
 pub record Made (n : Note) : Type 0 where
   pub column : n .column < 10
   pub kind : kindNumber (n .kind) < 6
-  pub row : n .row < 16777216
+  pub row : n .row < rowNumbersBound
   pub tail : TailMade (n .row) (n .kind) (n .tail)
 
 -- Record k of these notes keeps the limits and is read back as note k: by `readNote`, and from outside by the number 0 and the note's places.
@@ -51,4 +52,4 @@ pub record ReadsBack (ns : List Note) (k : ℕ) : Type 0 where
 -- For every lane number and every text that no call refuses for its length, this holds of each record of its notes.
 unfoldable pub WriterMakes : Type 0
 WriterMakes =
-    (lanes : ℕ) (text : List ℕ) → length text ≤ 16777215 → (k : ℕ) → k < length (notes (lanesOf lanes) text) → ReadsBack (notes (lanesOf lanes) text) k
+    (lanes : ℕ) (text : List ℕ) → length text ≤ mostBytes → (k : ℕ) → k < length (notes (lanesOf lanes) text) → ReadsBack (notes (lanesOf lanes) text) k

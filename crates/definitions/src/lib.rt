@@ -1,5 +1,17 @@
 // The types that document 01 speaks of. The definitions over them are in specs/, in document 01's order, and their laws in proofs/.
 
+// The longest text that is accepted, in bytes.
+pub const MOST_BYTES: usize = 16777215;
+
+// Numbers of rows and tail rows stay below this.
+pub const ROW_NUMBERS_BOUND: u32 = 16777216;
+
+// The rows of a text that is accepted are fewer than this.
+pub const ROWS_BOUND: u32 = 4194304;
+
+// The number of its last measure is at most this.
+pub const MEASURES_BOUND: u32 = 8388608;
+
 // What a line is to the reader: passed over, the end of a measure, the end of the reading, or a row.
 pub enum LineKind {
     Passed,

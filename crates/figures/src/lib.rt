@@ -2,8 +2,8 @@
 use definitions::ArrowStats;
 use definitions::Note;
 use definitions::Tail;
-use records::NO_TAIL_ROW;
-use records::kind_number;
+use note_records::NO_TAIL_ROW;
+use note_records::kind_number;
 ghost use mathlib.Core.Path.{_≡_};
 ghost use Rattle.definitions.specs.Entries.{figures as figuresOf, noTally, tallyFigures, noteFigures};
 ghost use Rattle.definitions.specs.Lists.{oneIf};
@@ -76,7 +76,7 @@ pub fn without_tally(
 ) -> [u64; 32]
     ensures { λ r. ⌜ r ≡ figuresOf bytes measures rows 0 «last_bits» (oneIf heads) «last_row» noTally ⌝ }
 {
-    let none = tallies::no_stats();
+    let none = row_tally::no_stats();
     figures_of(bytes, measures, rows, 0, last_bits, heads, last_row, none)
 }
 

@@ -24,18 +24,18 @@ use Rattle.holds.proofs.Opens.{opens, opens-start, opens-most}
 use Rattle.holds.proofs.Heads.{kept-heads}
 use Rattle.holds.proofs.Tails.{none-ends}
 use Rattle.holds.proofs.Passed.{free-keeps}
-use Rattle.tallies.proofs.Taps.{taps-heads}
+use Rattle.row_tally.proofs.Taps.{taps-heads}
 use Rattle.taps.specs.Taps.{FreeTaps}
 use Rattle.reader.specs.declared.BackLine.{BackLine}
 use Rattle.reader.specs.BackReading.{BackRead, BackReading}
 use Rattle.reader.proofs.BackReading.{back-start, back-row, back-passed, back-end, back-trimmed}
-use Rattle.tallies.specs.Bounds.{Below}
-use Rattle.tallies.specs.Kept.{keepMask}
-use Rattle.tallies.proofs.Bounds.{below-more, below-none, below-judged-line}
-use Rattle.tallies.proofs.Kept.{keep-mask, keep-length, keep-whole}
-use Rattle.tallies.proofs.Rows.{judge-snoc}
+use Rattle.row_tally.specs.Bounds.{Below}
+use Rattle.row_tally.specs.Kept.{keepMask}
+use Rattle.row_tally.proofs.Bounds.{below-more, below-none, below-judged-line}
+use Rattle.row_tally.proofs.Kept.{keep-mask, keep-length, keep-whole}
+use Rattle.row_tally.proofs.Rows.{judge-snoc}
 use Rattle.judged.specs.declared.TimingStats.{TimingStats}
-use Rattle.judged.specs.Timing.{headsOf, endsOf, isJudged, timingSum, newHolds, noTiming, timingRow, timingTaps, Timed}
+use Rattle.judged.specs.Timing.{headsOf, endsOf, isJudged, timingSum, newHolds, noTiming, timingRow, timingTaps, WorkEntries}
 use Rattle.reader.proofs.BackRows.{rows-short, bytesAt, bytes-are, row-room, row-wide, row-here, row-inside}
 
 -- a row within the text has all its bytes
@@ -102,7 +102,7 @@ module _ (J : ℕ → Bool) (L : ℕ) (text : List ℕ) (off row : ℕ) (t : Tim
     pub tallying-room : r .row ≡ true → (room : ℕ) → mostRows L (length text) ≤ room → row < room
     tallying-room e room w = rw (← x .size) (row-room L text off r h l (x .rows) (x .reading) e room w)
 
-    module _ (e : r .row ≡ true) (work : List ℕ) (m : L ≤ 10) (w : Timed J (readBack L text) work) where
+    module _ (e : r .row ≡ true) (work : List ℕ) (m : L ≤ 10) (w : WorkEntries J (readBack L text) work) where
       abbrev all : List Row
       all = readBack L text
 

@@ -17,7 +17,7 @@ use Rattle.reader.specs.declared.BackLine.{BackLine}
 use Rattle.reader.specs.BackReading.{BackRead, BackReading}
 use Rattle.reader.proofs.BackReading.{back-start, back-row, back-passed, back-end, back-trimmed}
 use Rattle.slices.specs.Zeroed.{zeroed}
-use Rattle.judged.specs.Timing.{Timed}
+use Rattle.judged.specs.Timing.{WorkEntries}
 use Rattle.reader.proofs.BackRows.{bytesAt, bytes-are, row-room}
 
 -- J says which rows are judged.
@@ -41,7 +41,7 @@ module _ (J : ℕ → Bool) (L : ℕ) (text : List ℕ) (off row : ℕ) (t : Tra
   pub tracking-reached : Reached row t work
   tracking-reached = record { judging = J; rows = x .rows; size = x .size; tracks = x .tracks }
 
-  pub tracking-end : length text < off → Timed J (readBack L text) work
+  pub tracking-end : length text < off → WorkEntries J (readBack L text) work
   tracking-end h =
       record {
         tracker = t;

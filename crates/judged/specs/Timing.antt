@@ -9,7 +9,7 @@ use Rattle.definitions.specs.Judged.{judgedAt, judgedSum, judgeRow}
 use Rattle.definitions.specs.declared.RowSum.{RowSum}
 use Rattle.holds.specs.Tracks.{TracksJudged}
 use Rattle.holds.specs.declared.Tracker.{Tracker}
-use Rattle.tallies.specs.Kept.{keepMask}
+use Rattle.row_tally.specs.Kept.{keepMask}
 use Rattle.judged.specs.declared.TimingStats.{TimingStats}
 
 -- which rows are judged: all, or by the flags
@@ -54,11 +54,11 @@ timingTaps t entry cells =
     }
 
 -- The work slice has the entries of these rows, where J says which are judged.
-pub record Timed (J : ℕ → Bool) (rows : List Row) (work : List ℕ) : Type 0 where
+pub record WorkEntries (J : ℕ → Bool) (rows : List Row) (work : List ℕ) : Type 0 where
   pub tracker : Tracker
   pub tracks : TracksJudged J rows tracker work
 
 -- whichever rows are judged
-pub record SomeTimed (rows : List Row) (work : List ℕ) : Type 0 where
+pub record SomeWorkEntries (rows : List Row) (work : List ℕ) : Type 0 where
   pub judging : ℕ → Bool
-  pub timed : Timed judging rows work
+  pub timed : WorkEntries judging rows work

@@ -1,12 +1,13 @@
 // Judged tallies, over rows read by `parse_minimized_rows`. One definition serves both calls: which rows are judged is a test.
-use clean::CleanTally;
 use definitions::ArrowStats;
+use judged_pass::CleanTally;
 use taps::Taps;
 ghost use mathlib.Core.Path.{_≡_};
 ghost use mathlib.Core.Bool.{Bool};
 ghost use mathlib.Core.List.{[]};
 ghost use Prim.Native.Nat.{ℕ, _+_, _≤_};
 ghost use lib.ListN.{length};
+ghost use Rattle.definitions.specs.Sizes.{countBound, mostBytes};
 ghost use Rattle.definitions.specs.Lists.{padded};
 ghost use Rattle.definitions.specs.Lanes.{mostRows};
 ghost use Rattle.definitions.specs.ReadBack.{readBack};
@@ -15,9 +16,9 @@ ghost use Rattle.definitions.specs.Entries.{judgedWork};
 ghost use Rattle.definitions.specs.Lines.{Row};
 ghost use Rattle.taps.specs.Taps.{tapLineMask, Fits, TapCounts};
 ghost use Rattle.taps.specs.declared.Taps.the-variants.{Mask};
-ghost use Rattle.tallies.specs.Bounds.{Below};
+ghost use Rattle.row_tally.specs.Bounds.{Below};
 ghost use Rattle.judged.specs.Answers.{judgedAnswer, flaggedAnswer, answerBy};
-ghost use Rattle.judged.specs.Timing.{judgedBy, endsOf, newHolds, noTiming, timingRow, timingTaps, Timed, SomeTimed};
+ghost use Rattle.judged.specs.Timing.{judgedBy, endsOf, newHolds, noTiming, timingRow, timingTaps, WorkEntries, SomeWorkEntries};
 
 // The tally, or the refusal's number.
 pub enum JudgedAnswer {
@@ -47,8 +48,8 @@ fn is_judged(all: bool, flags: &[u8], i: usize) -> bool
 // The entry of each row in the work slice, as the Rust's `TimingRow`: its paired heads, how many holds of judged heads end there, and whether
 // it is judged. `busy` has the columns with an open head: a row of taps in other columns leaves the tracker as it is.
 fn track_timing_rows(data: &[u8], lanes: usize, all: bool, flags: &[u8], work: &mut [u16])
-    requires { ⌜ (length (now «data») ≤ 16777215) × (lanes ≤ 10) × (mostRows lanes (length (now «data»)) ≤ length (now work)) ⌝ }
-    ensures { λ _. ⌜ Timed (judgedBy all (now (flags .entry))) (readBack lanes (now («data» .entry))) (now (work .exit)) ⌝ }
+    requires { ⌜ (length (now «data») ≤ mostBytes) × (lanes ≤ 10) × (mostRows lanes (length (now «data»)) ≤ length (now work)) ⌝ }
+    ensures { λ _. ⌜ WorkEntries (judgedBy all (now (flags .entry))) (readBack lanes (now («data» .entry))) (now (work .exit)) ⌝ }
 {
     slices::zero_u16(&mut *work, 0);
     let mut t = holds::no_tracker();
@@ -78,21 +79,21 @@ fn track_timing_rows(data: &[u8], lanes: usize, all: bool, flags: &[u8], work: &
 fn no_timing() -> TimingStats
     ensures { λ r. ⌜ r ≡ noTiming ⌝ }
 {
-    let stats = tallies::no_stats();
+    let stats = row_tally::no_stats();
     TimingStats { stats, active: 0 }
 }
 
 // One row more, by its entry. A tail's hold is open through the tail's row; an unjudged row's sum has no head.
 fn process_timing_row(t: TimingStats, cells: &[u8], entry: u16) -> TimingStats
-    requires { ⌜ (length (now cells) ≤ 10) × Below 4294967285 (t .stats) × (t .active ≤ 4294967285) ⌝ }
+    requires { ⌜ (length (now cells) ≤ 10) × Below countBound (t .stats) × (t .active ≤ countBound) ⌝ }
     requires { ⌜ endsOf entry ≤ t .active + newHolds entry (now cells) ⌝ }
     ensures { λ r. ⌜ r ≡ timingRow t entry (now (cells .entry)) ⌝ }
 {
     let judged = entry / 16384 == 1;
     let ends = (entry / 1024 % 16) as u32;
-    let sum = tallies::judged_sum_masked(judged, cells, entry % 1024);
+    let sum = row_tally::judged_sum_masked(judged, cells, entry % 1024);
     let old = t.stats;
-    let stats = tallies::add_judged_row(old, judged, t.active, sum);
+    let stats = row_tally::add_judged_row(old, judged, t.active, sum);
     TimingStats {
         stats,
         active: t.active + (sum.holds + sum.rolls) - ends,
@@ -107,12 +108,12 @@ fn process_timing_taps(
     entry: u16,
     counts: &[u16; 256],
 ) -> TimingStats
-    requires { ⌜ TapCounts (now counts) × Below 4294967285 (t .stats) × (t .active ≤ 4294967285) × Fits wide mask ⌝ }
+    requires { ⌜ TapCounts (now counts) × Below countBound (t .stats) × (t .active ≤ countBound) × Fits wide mask ⌝ }
     ensures { λ r. ⌜ ((row : Row) → tapLineMask row ≡ Mask mask → r ≡ timingTaps t entry row) ⌝ }
 {
     let judged = entry / 16384 == 1;
     let old = t.stats;
-    let stats = tallies::judge_taps(old, judged, t.active, mask, wide, counts);
+    let stats = row_tally::judge_taps(old, judged, t.active, mask, wide, counts);
     TimingStats {
         stats,
         active: t.active,
@@ -121,9 +122,9 @@ fn process_timing_taps(
 
 // The rows again, each with its entry.
 fn tally_timing_rows(data: &[u8], lanes: usize, work: &[u16]) -> ArrowStats
-    requires { ⌜ (length (now «data») ≤ 16777215) × (lanes ≤ 10) × (mostRows lanes (length (now «data»)) ≤ length (now work)) ⌝ }
-    requires { ⌜ SomeTimed (readBack lanes (now «data»)) (now work) ⌝ }
-    ensures { λ r. ⌜ ((J : ℕ → Bool) → Timed J (readBack lanes (now («data» .entry))) (now (work .entry)) → r ≡ judgedRows lanes J (readBack lanes (now («data» .entry)))) ⌝ }
+    requires { ⌜ (length (now «data») ≤ mostBytes) × (lanes ≤ 10) × (mostRows lanes (length (now «data»)) ≤ length (now work)) ⌝ }
+    requires { ⌜ SomeWorkEntries (readBack lanes (now «data»)) (now work) ⌝ }
+    ensures { λ r. ⌜ ((J : ℕ → Bool) → WorkEntries J (readBack lanes (now («data» .entry))) (now (work .entry)) → r ≡ judgedRows lanes J (readBack lanes (now («data» .entry)))) ⌝ }
 {
     let counts = taps::tap_mask_counts();
     let mut t = no_timing();
@@ -154,7 +155,7 @@ fn tally_timing_rows(data: &[u8], lanes: usize, work: &[u16]) -> ArrowStats
 
 // The judged tally of an accepted text by the two loops, through the work slice, which is left 0 throughout.
 fn judge_rows(data: &[u8], lanes: usize, all: bool, flags: &[u8], work: &mut [u16]) -> ArrowStats
-    requires { ⌜ (length (now «data») ≤ 16777215) × (lanes ≤ 10) × (mostRows lanes (length (now «data»)) ≤ length (now work)) ⌝ }
+    requires { ⌜ (length (now «data») ≤ mostBytes) × (lanes ≤ 10) × (mostRows lanes (length (now «data»)) ≤ length (now work)) ⌝ }
     ensures { λ r. ⌜ r ≡ judgedRows lanes (judgedBy all (now (flags .entry))) (readBack lanes (now («data» .entry))) ⌝ }
     ensures { λ _. ⌜ now (work .exit) ≡ padded 0 (length (now (work .entry))) [] ⌝ }
 {
@@ -173,12 +174,12 @@ fn judge_accepted(
     flags: &[u8],
     work: &mut [u16],
 ) -> ArrowStats
-    requires { ⌜ (length (now «data») ≤ 16777215) × (lanes ≤ 10) × (mostRows lanes (length (now «data»)) ≤ length (now work)) ⌝ }
+    requires { ⌜ (length (now «data») ≤ mostBytes) × (lanes ≤ 10) × (mostRows lanes (length (now «data»)) ≤ length (now work)) ⌝ }
     ensures { λ r. ⌜ r ≡ judgedRows lanes (judgedBy all (now (flags .entry))) (readBack lanes (now («data» .entry))) ⌝ }
     ensures { λ _. ⌜ now (work .exit) ≡ padded 0 (length (now (work .entry))) [] ⌝ }
 {
     if all {
-        match clean::judge_clean(data, lanes) {
+        match judged_pass::judge_clean(data, lanes) {
             CleanTally::Tally(stats) => {
                 slices::zero_u16(&mut *work, 0);
                 return stats;
@@ -194,7 +195,7 @@ fn judge(data: &[u8], lanes: usize, all: bool, flags: &[u8], work: &mut [u16]) -
     ensures { λ r. ⌜ r ≡ answerBy (judgedBy all (now (flags .entry))) lanes (now («data» .entry)) (now (work .entry)) ⌝ }
     ensures { λ _. ⌜ now (work .exit) ≡ judgedWork lanes (now («data» .entry)) (now (work .entry)) ⌝ }
 {
-    if 16777215 < data.len() {
+    if definitions::MOST_BYTES < data.len() {
         return JudgedAnswer::Refused(1);
     }
     let columns = reader::lanes_of(lanes);

@@ -14,19 +14,19 @@ use Rattle.definitions.specs.Correction.{corrected}
 use Rattle.definitions.specs.ReadBack.{keptTally}
 use Rattle.definitions.specs.Entries.{keptNumber, keptText, keptDensities, keptWork}
 use Rattle.definitions.specs.declared.ArrowStats.{ArrowStats}
-use Rattle.keeping.specs.declared.Pass.{Pass}
-use Rattle.keeping.specs.Pass.{KeptAll}
-use Rattle.keeping.proofs.Answering.{own-part}
+use Rattle.kept_pass.specs.declared.KeptPass.{KeptPass}
+use Rattle.kept_pass.specs.KeptPass.{KeptAll}
+use Rattle.kept_pass.proofs.Answering.{own-part}
 use Rattle.reader.specs.BackReading.{rowsBack}
-use Rattle.recount.proofs.OwnRows.{own-rows}
+use Rattle.corrected_tally.proofs.OwnRows.{own-rows}
 use Rattle.kept.specs.declared.KeptFigures.{KeptFigures}
 use Rattle.kept.specs.declared.KeptAnswer.{KeptAnswer}
 use Rattle.kept.specs.declared.KeptAnswer.the-variants.{Refused, Kept}
-use Rattle.kept.specs.Answers.{keptFigures, keptAnswer}
+use Rattle.kept.specs.Answers.{keptChartFigures, keptAnswer}
 
-pub all-figures : (L : ℕ) (data-text : List ℕ) (p : Pass) (text densities : List ℕ) → KeptAll L data-text p text densities → (stats : ArrowStats) → 1 ≤ L → stats ≡ corrected L (joined (minimised L data-text)) (rowsBack false L (take (p .out - 0) text))
-    → record { bytes = p .out; measures = p .midx + 1; rows = p .counting .rows; stats = stats } ≡ keptFigures L data-text
-unfolding keptFigures keptTally
+pub all-figures : (L : ℕ) (data-text : List ℕ) (p : KeptPass) (text densities : List ℕ) → KeptAll L data-text p text densities → (stats : ArrowStats) → 1 ≤ L → stats ≡ corrected L (joined (minimised L data-text)) (rowsBack false L (take (p .out - 0) text))
+    → record { bytes = p .out; measures = p .midx + 1; rows = p .counting .rows; stats = stats } ≡ keptChartFigures L data-text
+unfolding keptChartFigures keptTally
 all-figures L data-text p text densities x stats w e = made (x .out) (x .midx) (x .rows) (e ∙ ap (corrected L (joined (minimised L data-text))) (ap (rowsBack false L) (own-part L data-text p text densities x) ∙ own-rows L data-text w))
   where
     made : {a b c d f g : ℕ} {s t : ArrowStats} → a ≡ b → c ≡ d → f ≡ g → s ≡ t
@@ -49,7 +49,7 @@ module _ (lanes : ℕ) (text out densities₀ work : List ℕ) where
 
   -- accepted, it answers the figures of the lane count in force, with zeros past each answer
   pub kept-accepted : keptNumber lanes text out densities₀ work ≡ 0 → {L : ℕ} → L ≡ lanesOf lanes → {f : KeptFigures} {t d w : List ℕ}
-      → (f ≡ keptFigures L text)
+      → (f ≡ keptChartFigures L text)
       × ((t ≡ padded 0 (length out) (minimisedText L text))
       × ((d ≡ padded 0 (length densities₀) (densitiesOf L text)) × (w ≡ padded 0 (length work) [])))
       → Call (Kept f) t d w

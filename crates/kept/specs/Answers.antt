@@ -10,8 +10,8 @@ use Rattle.kept.specs.declared.KeptFigures.{KeptFigures}
 use Rattle.kept.specs.declared.KeptAnswer.{KeptAnswer}
 use Rattle.kept.specs.declared.KeptAnswer.the-variants.{Refused, Kept}
 
-unfoldable pub keptFigures : ℕ → List ℕ → KeptFigures
-keptFigures L text =
+unfoldable pub keptChartFigures : ℕ → List ℕ → KeptFigures
+keptChartFigures L text =
     record {
       bytes = length (minimisedText L text);
       measures = measureCount L text;
@@ -25,4 +25,4 @@ refusedOrKept zero f = Kept f
 refusedOrKept (suc k) f = Refused (suc k)
 
 unfoldable pub keptAnswer : ℕ → List ℕ → List ℕ → List ℕ → List ℕ → KeptAnswer
-keptAnswer lanes text out densities work = refusedOrKept (keptNumber lanes text out densities work) (keptFigures (lanesOf lanes) text)
+keptAnswer lanes text out densities work = refusedOrKept (keptNumber lanes text out densities work) (keptChartFigures (lanesOf lanes) text)

@@ -4,11 +4,12 @@ ghost use mathlib.Core.Path.{_≡_};
 ghost use mathlib.Core.List.{[]};
 ghost use Prim.Native.Nat.{_+_, _/_, _≤_};
 ghost use lib.ListN.{length};
+ghost use Rattle.definitions.specs.Sizes.{mostBytes};
 ghost use Rattle.definitions.specs.Lists.{padded};
 ghost use Rattle.definitions.specs.Lanes.{mostRows};
 ghost use Rattle.definitions.specs.Figures.{minimisedText, densities as densitiesOf};
 ghost use Rattle.definitions.specs.Entries.{keptText, keptDensities, keptWork};
-ghost use Rattle.kept.specs.Answers.{keptFigures, keptAnswer};
+ghost use Rattle.kept.specs.Answers.{keptChartFigures, keptAnswer};
 
 // What the kept-row call answers: bytes of the minimised text, measures, minimised rows, and the tally.
 pub struct KeptFigures {
@@ -31,20 +32,27 @@ fn keep_figures(
     densities: &mut [u32],
     work: &mut [u16],
 ) -> KeptFigures
-    requires { ⌜ (4 ≤ lanes) × (lanes ≤ 10) × (length (now «data») ≤ 16777215) ⌝ }
+    requires { ⌜ (4 ≤ lanes) × (lanes ≤ 10) × (length (now «data») ≤ mostBytes) ⌝ }
     requires { ⌜ (length (now «data») + 1 ≤ length (now text)) × ((length (now «data») + 1) / 2 + 1 ≤ length (now densities)) × (mostRows lanes (length (now «data»)) ≤ length (now work)) ⌝ }
-    ensures { λ r. ⌜ r ≡ keptFigures lanes (now («data» .entry)) ⌝ }
+    ensures { λ r. ⌜ r ≡ keptChartFigures lanes (now («data» .entry)) ⌝ }
     ensures { λ _. ⌜ now (text .exit) ≡ padded 0 (length (now (text .entry))) (minimisedText lanes (now («data» .entry))) ⌝ }
     ensures { λ _. ⌜ now (densities .exit) ≡ padded 0 (length (now (densities .entry))) (densitiesOf lanes (now («data» .entry))) ⌝ }
     ensures { λ _. ⌜ now (work .exit) ≡ padded 0 (length (now (work .entry))) [] ⌝ }
 {
-    let p = keeping::keep_chart(data, lanes, text, densities);
+    let p = kept_pass::keep_chart(data, lanes, text, densities);
     let out = p.out;
     let measures = p.midx + 1;
     let rows = p.counting.rows;
     let stats = p.counting.stats;
     let depths = p.counting.phantoms;
-    let corrected = recount::corrected_stats(stats, depths, &text[0..out], lanes, false, work);
+    let corrected = corrected_tally::corrected_stats(
+        stats,
+        depths,
+        &text[0..out],
+        lanes,
+        false,
+        work,
+    );
     slices::zero_u8(text, out);
     slices::zero_u32(densities, measures);
     KeptFigures {
@@ -69,7 +77,7 @@ pub fn process_chart_kept(
     ensures { λ _. ⌜ now (work .exit) ≡ keptWork lanes (now («data» .entry)) (now (text .entry)) (now (densities .entry)) (now (work .entry)) ⌝ }
 {
     let len = data.len();
-    if 16777215 < len {
+    if definitions::MOST_BYTES < len {
         return KeptAnswer::Refused(1);
     }
     if text.len() < len + 1 {

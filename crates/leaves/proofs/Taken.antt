@@ -9,12 +9,13 @@ use native.Mathlib.Omega.{arith}
 use native.Mathlib.Decide.{decLt}
 use lib.Dec.{eqb, leb, ltb}
 use borrow.Author.Tests.{ltb-true, leb-true, leb-false, eqb-true, le-leb, lt-leb, eq-eqb, ne-eqb}
+use Rattle.definitions.specs.Sizes.{measuresBound, rowsBound}
 use Rattle.definitions.proofs.Bools.{and-left, and-right}
 use Rattle.definitions.specs.Reduction.{stride}
 use Rattle.beats.specs.Places.{Inside}
-use Rattle.measures.specs.Rows.{rowsAt}
-use Rattle.measures.proofs.Powers.{power-pos}
-use Rattle.measures.proofs.Compaction.{power-fits}
+use Rattle.reduction.specs.Rows.{rowsAt}
+use Rattle.reduction.proofs.Powers.{power-pos}
+use Rattle.reduction.proofs.Compaction.{power-fits}
 use Rattle.leaves.specs.Answers.{rowsStand, blocksStand, measureTaken, rowTaken, beatsTaken, lastPlace, lastTaken}
 
 -- an answer by a test that passed, and by one that failed
@@ -72,9 +73,9 @@ power-over shift n p f h = ne-eqb (n % 2 ^ shift) 0 (λ d. omega (arith, power-f
 
 -- ---- Beats
 
-pub measure-limits : (m n : ℕ) → measureTaken m n ≡ true → (m ≤ 8388608) × (n < 4194304)
+pub measure-limits : (m n : ℕ) → measureTaken m n ≡ true → (m ≤ measuresBound) × (n < rowsBound)
 unfolding measureTaken
-measure-limits m n e = (leb-true m 8388608 (and-left (leb m 8388608) (ltb n 4194304) e), ltb-true n 4194304 (and-right (leb m 8388608) (ltb n 4194304) e))
+measure-limits m n e = (leb-true m measuresBound (and-left (leb m measuresBound) (ltb n rowsBound) e), ltb-true n rowsBound (and-right (leb m measuresBound) (ltb n rowsBound) e))
 
 pub row-inside : (m r n : ℕ) → rowTaken m r n ≡ true → Inside m r n
 unfolding rowTaken
@@ -82,7 +83,7 @@ row-inside m r n e =
     let limits = measure-limits m n (and-right (ltb r n) (measureTaken m n) e) in
     record { row = ltb-true r n (and-left (ltb r n) (measureTaken m n) e); rows = limits .1; measure = limits .0 }
 
-pub beats-room : (len at m n : ℕ) → beatsTaken len at m n ≡ true → (at + n ≤ len) × (n < 4194304) × (m ≤ 8388608)
+pub beats-room : (len at m n : ℕ) → beatsTaken len at m n ≡ true → (at + n ≤ len) × (n < rowsBound) × (m ≤ measuresBound)
 unfolding beatsTaken
 beats-room len at m n e =
     let limits = measure-limits m n (and-right (leb (at + n) len) (measureTaken m n) e) in

@@ -7,6 +7,7 @@ use Prim.Native.Nat.{ℕ, _+_, _*_, _/_, _%_, _^_}
 use lib.Dec.{eqb, leb, ltb}
 use lib.ListN.{length, take, drop}
 use lib.Ieee.{Float, binary64, toBits}
+use Rattle.definitions.specs.Sizes.{measuresBound, rowsBound}
 use Rattle.definitions.specs.Lines.{Row}
 use Rattle.definitions.specs.Reduction.{stride}
 use Rattle.definitions.specs.Beats.{rowBeat, rowBeats, rowToBeat}
@@ -21,7 +22,7 @@ use Rattle.lines.specs.declared.Found.the-variants as found
 use Rattle.taps.specs.Taps.{tapMask}
 use Rattle.taps.specs.declared.Taps.{Taps}
 use Rattle.taps.specs.declared.Taps.the-variants.{Mask, Other}
-use Rattle.measures.specs.Rows.{rowsAt, compacted}
+use Rattle.reduction.specs.Rows.{rowsAt, compacted}
 
 -- the largest number of 64 bits: no place, stride or count of rows
 abbrev pub noAnswer : ℕ
@@ -105,7 +106,7 @@ compactedText text start n shift w = cond (blocksStand (length text) start n shi
 
 -- measure m and a number n of rows, within the limits of an accepted text
 unfoldable pub measureTaken : ℕ → ℕ → Bool
-measureTaken m n = leb m 8388608 && ltb n 4194304
+measureTaken m n = leb m measuresBound && ltb n rowsBound
 
 -- row r of the n rows of measure m
 unfoldable pub rowTaken : ℕ → ℕ → ℕ → Bool

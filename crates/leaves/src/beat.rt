@@ -7,10 +7,10 @@ ghost use Rattle.leaves.specs.Answers.{measureTaken, rowTaken, beatNumbe
 fn measure_taken(m: u32, n: u32) -> bool
     ensures { λ r. ⌜ r ≡ measureTaken m n ⌝ }
 {
-    if 8388608 < m {
+    if definitions::MEASURES_BOUND < m {
         return false;
     }
-    n < 4194304
+    n < definitions::ROWS_BOUND
 }
 
 fn row_taken(m: u32, r: u32, n: u32) -> bool

@@ -8,7 +8,7 @@ ghost use Rattle.leaves.specs.Answers.{rowsStand, strideNumber, blocksSt
 pub extern "C" fn leaves_is_all_zero(row: &[u8]) -> bool
     ensures { λ r. ⌜ r ≡ allZero (now (row .entry)) ⌝ }
 {
-    measures::is_all_zero(row)
+    reduction::is_all_zero(row)
 }
 
 #[no_mangle]
@@ -46,7 +46,7 @@ pub extern "C" fn leaves_stride(
     ensures { λ r. ⌜ r ≡ strideNumber (now (text .entry)) start rows width lanes ⌝ }
 {
     if rows_stand(text.len(), start, rows, width, lanes) {
-        return 1 << measures::measure_reduce_shift(text, start, rows, width, lanes);
+        return 1 << reduction::measure_reduce_shift(text, start, rows, width, lanes);
     }
     0xffff_ffff_ffff_ffff
 }
@@ -80,7 +80,7 @@ pub extern "C" fn leaves_compact_output_rows(
     ensures { λ _. ⌜ now (text .exit) ≡ compactedText (now (text .entry)) start rows shift width ⌝ }
 {
     if blocks_stand(text.len(), start, rows, shift, width) {
-        return measures::compact_output_rows(text, start, rows, shift, width);
+        return reduction::compact_output_rows(text, start, rows, shift, width);
     }
     0xffff_ffff_ffff_ffff
 }

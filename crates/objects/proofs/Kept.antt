@@ -7,6 +7,7 @@ use Prim.Native.Nat.{ℕ, suc, _+_, _≤_, _<_}
 use native.Mathlib.Nat.{add-zero, zero-add, add-suc, suc-add}
 use native.Mathlib.Omega.{arith}
 use lib.ListN.{length, length-append}
+use Rattle.definitions.specs.Sizes.{measuresBound, rowsBound}
 use Rattle.definitions.specs.Lists.{joined, onlyIf}
 use Rattle.definitions.specs.Lines.{Row}
 use Rattle.definitions.specs.Reduction.{allZero}
@@ -199,7 +200,7 @@ module _ (s : LastScan) (done : List (List Row)) (cur : List Row) (x : LastKept 
         free = x .free;
       }
 
-  pub kept-at : (r : ℕ) → s .row ≡ At r → s .rows < 4194304 → s .midx ≤ 8388608
+  pub kept-at : (r : ℕ) → s .row ≡ At r → s .rows < rowsBound → s .midx ≤ measuresBound
       → LastKept (record { depths = s .depths; busy = s .busy; found = last.At (s .midx) r (s .rows); row = Nothing; rows = 0; midx = s .midx + 1 }) (done ++ (cur ∷ [])) []
   kept-at r e f g =
       let inside : r < length cur = x .inside r (ap rowOf e) in

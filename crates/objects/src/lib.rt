@@ -6,6 +6,7 @@ ghost use mathlib.Core.Bool.{true};
 ghost use mathlib.Core.List.{List, [], _∷_, _++_};
 ghost use Prim.Native.Nat.{_≤_, _<_};
 ghost use lib.ListN.{length};
+ghost use Rattle.definitions.specs.Sizes.{measuresBound, rowNumbersBound, rowsBound};
 ghost use Rattle.definitions.specs.Lines.{Row};
 ghost use Rattle.definitions.specs.Reduction.{allZero};
 ghost use Rattle.taps.specs.Taps.{FreeTaps, FreeAre};
@@ -125,7 +126,7 @@ pub fn no_last() -> LastScan
 
 // One row of taps more, all in columns of the depth 0: it is an object row where it has one, and leaves the depths.
 pub fn last_taps(s: LastScan, mask: u16) -> LastScan
-    requires { ⌜ s .rows < 16777216 ⌝ }
+    requires { ⌜ s .rows < rowNumbersBound ⌝ }
     ensures { λ r. ⌜ ((row : Row) → FreeTaps (s .busy) mask row → (done : List (List Row)) (cur : List Row) → LastKept s done cur → LastKept r done (cur ++ (row ∷ []))) ⌝ }
 {
     let depths = s.depths;
@@ -153,7 +154,7 @@ pub fn last_taps(s: LastScan, mask: u16) -> LastScan
 
 // One row more that is all zero: it is no object row and changes no depth.
 pub fn last_zero(s: LastScan) -> LastScan
-    requires { ⌜ s .rows < 16777216 ⌝ }
+    requires { ⌜ s .rows < rowNumbersBound ⌝ }
     ensures { λ r. ⌜ ((row : Row) → allZero row ≡ true → (done : List (List Row)) (cur : List Row) → LastKept s done cur → LastKept r done (cur ++ (row ∷ []))) ⌝ }
 {
     let mut t = s;
@@ -163,7 +164,7 @@ pub fn last_zero(s: LastScan) -> LastScan
 
 // One row more, of which the object row's test says this; a column without its bit in `busy` has the depth 0 after it.
 pub fn last_seen(s: LastScan, o: Objects, busy: u32) -> LastScan
-    requires { ⌜ s .rows < 16777216 ⌝ }
+    requires { ⌜ s .rows < rowNumbersBound ⌝ }
     ensures { λ r. ⌜ ((row : Row) → RowDone row (s .depths) o → FreeAre busy 0 (o .depths .depths) → (done : List (List Row)) (cur : List Row) → LastKept s done cur → LastKept r done (cur ++ (row ∷ []))) ⌝ }
 {
     let found = s.found;
@@ -191,7 +192,7 @@ pub fn last_seen(s: LastScan, o: Objects, busy: u32) -> LastScan
 
 // The open measure ends.
 pub fn last_measure(s: LastScan) -> LastScan
-    requires { ⌜ (s .rows < 4194304) × (s .midx ≤ 8388608) ⌝ }
+    requires { ⌜ (s .rows < rowsBound) × (s .midx ≤ measuresBound) ⌝ }
     ensures { λ r. ⌜ ((done : List (List Row)) (cur : List Row) → LastKept s done cur → LastKept r (done ++ (cur ∷ [])) []) ⌝ }
 {
     let depths = s.depths;

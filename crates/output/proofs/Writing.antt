@@ -12,11 +12,11 @@ use Rattle.definitions.specs.Lines.{Row}
 use Rattle.definitions.specs.Figures.{rowText, textOf}
 use Rattle.definitions.specs.Reduction.{reduce}
 use Rattle.definitions.proofs.Lists.{none, one, all-append}
-use Rattle.measures.specs.Rows.{placed, Holds, Reduced}
-use Rattle.measures.proofs.Placed.{placed-front, placed-past}
-use Rattle.measures.proofs.Blocks.{joined-append}
-use Rattle.measures.proofs.Multiples.{reduce-all}
-use Rattle.measures.proofs.Forms.{Form, form-length, form-holds, form-after}
+use Rattle.reduction.specs.Rows.{placed, Holds, Reduced}
+use Rattle.reduction.proofs.Placed.{placed-front, placed-past}
+use Rattle.reduction.proofs.Blocks.{joined-append}
+use Rattle.reduction.proofs.Multiples.{reduce-all}
+use Rattle.reduction.proofs.Forms.{Form, form-length, form-holds, form-after}
 use Rattle.output.specs.Wrote.{doneText, Wrote}
 
 -- a whole source pasted is placed

@@ -3,7 +3,7 @@ ghost use mathlib.Core.Path.{_≡_};
 ghost use mathlib.Core.List.{_++_, _∷_, []};
 ghost use Prim.Native.Nat.{_+_, _≤_};
 ghost use lib.ListN.{length, take, drop};
-ghost use Rattle.measures.specs.Rows.{placed};
+ghost use Rattle.reduction.specs.Rows.{placed};
 
 // Four bytes of the row, all read before one is written, so that they are moved as one.
 fn put_four(text: &mut [u8], at: usize, row: &[u8], from: usize)

@@ -6,7 +6,7 @@ use figures::note_figures;
 use figures::without_tally;
 use judged::JudgedAnswer;
 use kept::KeptAnswer;
-use records::read_note;
+use note_records::read_note;
 use scans::LastBeat;
 use scans::MeasuresAnswer;
 use timing::TimingAnswer;

@@ -5,6 +5,7 @@ ghost use mathlib.Core.Bool.{true};
 ghost use mathlib.Core.List.{List, []};
 ghost use Prim.Native.Nat.{ℕ, _-_, _≤_, _<_};
 ghost use lib.ListN.{length};
+ghost use Rattle.definitions.specs.Sizes.{countBound};
 ghost use Rattle.definitions.specs.Lists.{someColumn};
 ghost use Rattle.definitions.specs.Lines.{Row};
 ghost use Rattle.definitions.specs.Correction.{corrects};
@@ -81,7 +82,7 @@ pub fn phantom_cell(b: u8, depth: u32) -> PhantomCell
 
 // One row more.
 pub fn phantom_row(p: Phantoms, row: &[u8]) -> Phantoms
-    requires { ⌜ (length (now row) ≤ 10) × Low 4294967285 p ⌝ }
+    requires { ⌜ (length (now row) ≤ 10) × Low countBound p ⌝ }
     ensures { λ r. ⌜ RowCounted (now (row .entry)) p r ⌝ }
 {
     let mut depths = p.depths;

@@ -10,6 +10,7 @@ use native.Mathlib.Omega.{arith}
 use borrow.Author.Tests.{eqb-true, eqb-false}
 use lib.Pow.{pow-pos}
 use lib.ListN.{length}
+use Rattle.definitions.specs.Sizes.{rowsBound}
 use Rattle.definitions.specs.Lists.{onlyIf}
 use Rattle.definitions.specs.Lines.{Row}
 use Rattle.definitions.specs.Measures.{chart}
@@ -23,7 +24,7 @@ use Rattle.definitions.proofs.Reduction.{stride-is}
 use Rattle.definitions.proofs.Thinned.{Thinned, none as thin-none, keep, leave, reduce-thin}
 use Rattle.beats.proofs.Scaled.{last-scaled}
 use Rattle.objects.proofs.Zeros.{zero-after, zero-object}
-use Rattle.measures.proofs.Strides.{stride-divides}
+use Rattle.reduction.proofs.Strides.{stride-divides}
 use Rattle.scans.proofs.Strides.{reduce-length}
 
 thin-depths : (D : Depths) {s t : List Row} → Thinned s t → afterRows D s ≡ afterRows D t
@@ -131,13 +132,13 @@ last-each (next x (next y h)) = last-each (next y h)
 
 -- The last beat in 48ths from the last raw object row, which lies in its measure.
 pub last-raw : (L : ℕ) (text : List ℕ) (o : Option Place) → o ≡ lastOf (objectsFrom (λ c. 0) 0 (chart L text))
-    → ((p : Place) → o ≡ some p → (p .r < p .n) × (p .n ≤ 4194304)) → place48 o ≡ last48 L text
+    → ((p : Place) → o ≡ some p → (p .r < p .n) × (p .n ≤ rowsBound)) → place48 o ≡ last48 L text
 unfolding last48 lastObject minimised
 last-raw L text o e h = go o h (subst (λ x. LastScaled x (lastOf (objectsFrom (λ c. 0) 0 (map reduce (chart L text))))) (sym e) (last-each (scaled-all (λ c. 0) 0 (chart L text))))
   where
-    go : (o : Option Place) → ((p : Place) → o ≡ some p → (p .r < p .n) × (p .n ≤ 4194304)) → {u : Option Place} → LastScaled o u → place48 o ≡ place48 u
+    go : (o : Option Place) → ((p : Place) → o ≡ some p → (p .r < p .n) × (p .n ≤ rowsBound)) → {u : Option Place} → LastScaled o u → place48 o ≡ place48 u
     go none f neither = refl
     go (some p) f (both {q = q} x) =
         let w = f p refl in
         let inside : q .r < q .n = lt-of-mul-lt-mul-left (x .by) (subst (λ y. y .r < y .n) (x .is) (w .0)) in
-        ap (λ y. lastRow (y .m) (y .r) (y .n)) (x .is) ∙ last-scaled (q .m) (x .by) (q .r) (q .n) (x .some) inside (subst (λ y. y .n ≤ 4194304) (x .is) (w .1))
+        ap (λ y. lastRow (y .m) (y .r) (y .n)) (x .is) ∙ last-scaled (q .m) (x .by) (q .r) (q .n) (x .some) inside (subst (λ y. y .n ≤ rowsBound) (x .is) (w .1))

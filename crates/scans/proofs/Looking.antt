@@ -5,6 +5,7 @@ use mathlib.Core.Option.{some}
 use Prim.Native.Nat.{ℕ, _+_, _*_, _≤_, _<_}
 use native.Mathlib.Omega.{arith}
 use lib.ListN.{length}
+use Rattle.definitions.specs.Sizes.{rowsBound}
 use Rattle.definitions.specs.Lists.{joined}
 use Rattle.definitions.specs.Lines.{Row}
 use Rattle.definitions.specs.Measures.{chart}
@@ -44,7 +45,7 @@ looked-last s t L text f x =
 pub looked-48 : (L : ℕ) (text : List ℕ) (o : LastObject) → Placed o → placeOf o ≡ lastOf (objectsFrom (λ c. 0) 0 (chart L text)) → place48 (placeOf o) ≡ last48 L text
 looked-48 L text o p e = last-raw L text (placeOf o) e (bounds o p)
   where
-    bounds : (o : LastObject) → Placed o → (q : Place) → placeOf o ≡ some q → (q .r < q .n) × (q .n ≤ 4194304)
+    bounds : (o : LastObject) → Placed o → (q : Place) → placeOf o ≡ some q → (q .r < q .n) × (q .n ≤ rowsBound)
     bounds last.Nothing p q e = let z : _≡_ {A = ℕ} 0 1 = cc in absurd (omega arith)
     bounds (last.At m r n) p q e =
         let i = p .inside m r n refl in

@@ -8,6 +8,7 @@ use borrow.Author.Tests.{le-leb, eq-eqb, ne-eqb}
 use lib.Dec.{leb}
 use lib.Count.{trailingZeros}
 use lib.ListN.{length, length-append}
+use Rattle.definitions.specs.Sizes.{rowNumbersBound}
 use Rattle.definitions.specs.Lists.{oneIf}
 use Rattle.definitions.specs.Lines.{Row}
 use Rattle.definitions.specs.Measures.{chart}
@@ -66,7 +67,7 @@ spaced-none s [] x h = refl
 spaced-none s (r ∷ cur) x h = absurd (omega (arith, x .rows))
 
 -- with rows it is, where as many have a step as stay
-module _ (s : MeasureSpacing) (cur : List Row) (x : Spaces s cur) (some : 0 < s .rows) (few : s .rows ≤ 16777216) (t : ℕ) (q : t ≡ min (s .shift) (trailingZeros 64 (s .rows))) where
+module _ (s : MeasureSpacing) (cur : List Row) (x : Spaces s cur) (some : 0 < s .rows) (few : s .rows ≤ rowNumbersBound) (t : ℕ) (q : t ≡ min (s .shift) (trailingZeros 64 (s .rows))) where
   kept : s .rows / 2 ^ t ≡ length (reduce cur)
   kept =
       let a : 0 < length cur = omega (arith, x .rows) in

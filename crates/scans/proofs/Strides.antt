@@ -15,10 +15,10 @@ use Rattle.definitions.specs.Lists.{onlyIf}
 use Rattle.definitions.specs.Lines.{Row}
 use Rattle.definitions.specs.Reduction.{allZero, multiple, offZero, atMultiples, allows, stride, reduce}
 use Rattle.definitions.proofs.Reduction.{stride-is, even-multiple, odd-multiple}
-use Rattle.measures.proofs.Blocks.{multiples-length}
-use Rattle.measures.proofs.Strides.{stride-divides}
-use Rattle.measures.proofs.RowsAt.{rows-length}
-use Rattle.measures.specs.Rows.{rowsAt}
+use Rattle.reduction.proofs.Blocks.{multiples-length}
+use Rattle.reduction.proofs.Strides.{stride-divides}
+use Rattle.reduction.proofs.RowsAt.{rows-length}
+use Rattle.reduction.specs.Rows.{rowsAt}
 
 -- 2 ^ k divides n where k is at most the number of n's trailing zeros
 pub divides-trailing : (w k n : ℕ) → k ≤ w → multiple (2 ^ k) n ≡ leb k (trailingZeros w n)

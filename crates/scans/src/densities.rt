@@ -4,6 +4,7 @@ use definitions::LineKind;
 ghost use mathlib.Core.Path.{_≡_};
 ghost use Prim.Native.Nat.{_+_, _/_, _≤_};
 ghost use lib.ListN.{length};
+ghost use Rattle.definitions.specs.Sizes.{mostBytes};
 ghost use Rattle.definitions.specs.Lists.{padded};
 ghost use Rattle.definitions.specs.Figures.{densities as densitiesOf};
 ghost use Rattle.definitions.specs.Entries.{densitiesLeft};
@@ -11,7 +12,7 @@ ghost use Rattle.scans.specs.Answers.{measuresAnswer};
 
 // The densities of an accepted text, with zeros after them.
 fn fill_densities(data: &[u8], lanes: usize, densities: &mut [u32]) -> usize
-    requires { ⌜ length (now «data») ≤ 16777215 ⌝ }
+    requires { ⌜ length (now «data») ≤ mostBytes ⌝ }
     requires { ⌜ (length (now «data») + 1) / 2 + 1 ≤ length (now densities) ⌝ }
     requires { ⌜ (4 ≤ lanes) × (lanes ≤ 10) ⌝ }
     ensures { λ r. ⌜ r ≡ length (densitiesOf lanes (now («data» .entry))) ⌝ }
@@ -54,7 +55,7 @@ pub fn measure_densities(data: &[u8], lanes: usize, densities: &mut [u32]) -> Me
     ensures { λ r. ⌜ r ≡ measuresAnswer lanes (now («data» .entry)) (now (densities .entry)) ⌝ }
     ensures { λ _. ⌜ now (densities .exit) ≡ densitiesLeft lanes (now («data» .entry)) (now (densities .entry)) ⌝ }
 {
-    if 16777215 < data.len() {
+    if definitions::MOST_BYTES < data.len() {
         return MeasuresAnswer::Refused(1);
     }
     let room = (data.len() + 1) / 2 + 1;

@@ -8,6 +8,7 @@ ghost use mathlib.Core.Path.{_≡_};
 ghost use mathlib.Core.List.{List, [], _∷_, _++_};
 ghost use Prim.Native.Nat.{_≤_, _<_};
 ghost use lib.ListN.{length};
+ghost use Rattle.definitions.specs.Sizes.{mostBytes, rowNumbersBound};
 ghost use Rattle.definitions.specs.Lines.{Row};
 ghost use Rattle.definitions.specs.Measures.{chart};
 ghost use Rattle.definitions.specs.Objects.{objectsFrom, lastOf};
@@ -18,10 +19,10 @@ ghost use Rattle.scans.specs.Answers.{lastAnswer};
 
 // One row more, by its cells.
 fn last_cells(s: LastScan, cells: &[u8]) -> LastScan
-    requires { ⌜ (length (now cells) ≤ 10) × (s .rows < 16777216) × Low 4294967294 (s .depths) ⌝ }
+    requires { ⌜ (length (now cells) ≤ 10) × (s .rows < rowNumbersBound) × Low 4294967294 (s .depths) ⌝ }
     ensures { λ r. ⌜ ((done : List (List Row)) (cur : List Row) → LastKept s done cur → LastKept r done (cur ++ (now (cells .entry) ∷ []))) ⌝ }
 {
-    if measures::is_all_zero(cells) {
+    if reduction::is_all_zero(cells) {
         return objects::last_zero(s);
     }
     let o = objects::row_has_object(cells, s.depths);
@@ -31,7 +32,7 @@ fn last_cells(s: LastScan, cells: &[u8]) -> LastScan
 
 // One row more.
 fn last_row(s: LastScan, cells: &[u8]) -> LastScan
-    requires { ⌜ (length (now cells) ≤ 10) × (s .rows < 16777216) × Low 4294967294 (s .depths) ⌝ }
+    requires { ⌜ (length (now cells) ≤ 10) × (s .rows < rowNumbersBound) × Low 4294967294 (s .depths) ⌝ }
     ensures { λ r. ⌜ ((done : List (List Row)) (cur : List Row) → LastKept s done cur → LastKept r done (cur ++ (now (cells .entry) ∷ []))) ⌝ }
 {
     match taps::free_taps(cells, s.busy) {
@@ -42,7 +43,7 @@ fn last_row(s: LastScan, cells: &[u8]) -> LastScan
 
 // The last object row of an accepted text, among its raw rows.
 fn scan_last(data: &[u8], lanes: usize) -> LastObject
-    requires { ⌜ (length (now «data») ≤ 16777215) × (4 ≤ lanes) × (lanes ≤ 10) ⌝ }
+    requires { ⌜ (length (now «data») ≤ mostBytes) × (4 ≤ lanes) × (lanes ≤ 10) ⌝ }
     ensures { λ r. ⌜ (Placed r) × (placeOf r ≡ lastOf (objectsFrom (λ c. 0) 0 (chart lanes (now («data» .entry))))) ⌝ }
 {
     let width = reader::line_width(data, lanes);
@@ -76,7 +77,7 @@ fn scan_last(data: &[u8], lanes: usize) -> LastObject
 pub fn chart_last_beat_impl(data: &[u8], lanes: usize) -> LastBeat
     ensures { λ r. ⌜ r ≡ lastAnswer lanes (now («data» .entry)) ⌝ }
 {
-    if 16777215 < data.len() {
+    if definitions::MOST_BYTES < data.len() {
         return LastBeat::Refused(1);
     }
     let last = scan_last(data, reader::lanes_of(lanes));

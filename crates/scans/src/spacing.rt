@@ -6,6 +6,7 @@ ghost use mathlib.Core.Path.{_≡_};
 ghost use mathlib.Core.List.{List, [], _∷_, _++_};
 ghost use Prim.Native.Nat.{_+_, _/_, _≤_, _<_};
 ghost use lib.ListN.{length};
+ghost use Rattle.definitions.specs.Sizes.{mostBytes, rowNumbersBound};
 ghost use Rattle.definitions.specs.Lists.{oneIf, padded};
 ghost use Rattle.definitions.specs.Lines.{Row};
 ghost use Rattle.definitions.specs.Reduction.{reduce};
@@ -26,12 +27,12 @@ fn no_spacing() -> MeasureSpacing
 
 // The open measure with one row more.
 fn spacing_row(s: MeasureSpacing, row: &[u8]) -> MeasureSpacing
-    requires { ⌜ (s .rows < 16777216) × (s .steps < 16777216) ⌝ }
+    requires { ⌜ (s .rows < rowNumbersBound) × (s .steps < rowNumbersBound) ⌝ }
     ensures { λ r. ⌜ ((cur : List Row) → Spaces s cur → Spaces r (cur ++ (now (row .entry) ∷ []))) ⌝ }
 {
     let rows = s.rows;
     let steps = s.steps + cells::one_if(cells::row_has_note(row));
-    if measures::is_all_zero(row) {
+    if reduction::is_all_zero(row) {
         return MeasureSpacing {
             rows: rows + 1,
             steps,
@@ -47,7 +48,7 @@ fn spacing_row(s: MeasureSpacing, row: &[u8]) -> MeasureSpacing
 
 // Whether the measure's minimised rows all have a 1, 2 or 4, as 1 or 0: as many rows have one as stay.
 fn is_spaced(s: MeasureSpacing) -> u8
-    requires { ⌜ s .rows ≤ 16777216 ⌝ }
+    requires { ⌜ s .rows ≤ rowNumbersBound ⌝ }
     ensures { λ r. ⌜ ((cur : List Row) → Spaces s cur → r ≡ oneIf (spacingOf (reduce cur))) ⌝ }
 {
     let rows = s.rows;
@@ -64,7 +65,7 @@ fn is_spaced(s: MeasureSpacing) -> u8
 
 // The spacing of an accepted text, with zeros after it.
 fn fill_spacing(data: &[u8], lanes: usize, spacing: &mut [u8]) -> usize
-    requires { ⌜ length (now «data») ≤ 16777215 ⌝ }
+    requires { ⌜ length (now «data») ≤ mostBytes ⌝ }
     requires { ⌜ (length (now «data») + 1) / 2 + 1 ≤ length (now spacing) ⌝ }
     requires { ⌜ (4 ≤ lanes) × (lanes ≤ 10) ⌝ }
     ensures { λ r. ⌜ r ≡ length (spacings lanes (now («data» .entry))) ⌝ }
@@ -107,7 +108,7 @@ pub fn equally_spaced_impl(data: &[u8], lanes: usize, spacing: &mut [u8]) -> Mea
     ensures { λ r. ⌜ r ≡ measuresAnswer lanes (now («data» .entry)) (now (spacing .entry)) ⌝ }
     ensures { λ _. ⌜ now (spacing .exit) ≡ spacingsLeft lanes (now («data» .entry)) (now (spacing .entry)) ⌝ }
 {
-    if 16777215 < data.len() {
+    if definitions::MOST_BYTES < data.len() {
         return MeasuresAnswer::Refused(1);
     }
     let room = (data.len() + 1) / 2 + 1;

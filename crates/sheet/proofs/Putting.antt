@@ -11,8 +11,8 @@ use lib.Dec.{ltb}
 use lib.ListN.{length, getD, length-append, take-append-drop}
 use Rattle.definitions.specs.Records.{kindNumber, readNote}
 use Rattle.definitions.specs.declared.Note.{Note}
-use Rattle.measures.specs.Rows.{placed}
-use Rattle.measures.proofs.Placed.{placed-front, placed-past, placed-length}
+use Rattle.reduction.specs.Rows.{placed}
+use Rattle.reduction.proofs.Placed.{placed-front, placed-past, placed-length}
 use Rattle.sheet.specs.Sheet.{ascii, digits, field, figureLine, measureLine, tailField, noteLine, recordLine, measureLines, recordLines, headLines, sheetOf}
 use Rattle.sheet.specs.declared.SheetFigures.{SheetFigures}
 use Rattle.sheet.specs.Put.{Put}

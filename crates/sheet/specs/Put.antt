@@ -3,7 +3,7 @@ use mathlib.Core.Path.{_≡_}
 use mathlib.Core.List.{List}
 use Prim.Native.Nat.{ℕ, _+_, _≤_}
 use lib.ListN.{length}
-use Rattle.measures.specs.Rows.{placed}
+use Rattle.reduction.specs.Rows.{placed}
 
 pub record Put (at : ℕ) (bytes before : List ℕ) (next : ℕ) (after : List ℕ) : Type 0 where
   pub next-place : next ≡ at + length bytes

@@ -2,9 +2,9 @@
 use definitions::Note;
 use definitions::ReadNote;
 use definitions::Tail;
+use note_records::kind_number;
+use note_records::read_note;
 use output::put_row;
-use records::kind_number;
-use records::read_note;
 ghost use mathlib.Core.Path.{_≡_};
 ghost use mathlib.Core.List.{_∷_, []};
 ghost use Prim.Native.Nat.{_+_, _*_, _<_, _≤_};

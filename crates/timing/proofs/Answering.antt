@@ -11,10 +11,10 @@ use Rattle.definitions.specs.Refusals.{leaves}
 use Rattle.definitions.specs.Beats.{f32, beats as beatsOf}
 use Rattle.definitions.specs.TimingRows.{timingRows}
 use Rattle.definitions.specs.Entries.{timingNumber, timingText, timingBeats}
-use Rattle.timing.specs.declared.Pass.{Pass}
+use Rattle.timing.specs.declared.TimingPass.{TimingPass}
 use Rattle.timing.specs.declared.TimingAnswer.{TimingAnswer}
 use Rattle.timing.specs.declared.TimingAnswer.the-variants.{Refused, Rows}
-use Rattle.timing.specs.Pass.{TimedAll}
+use Rattle.timing.specs.TimingPass.{TimedAll}
 use Rattle.timing.specs.Answers.{timingAnswer}
 use Rattle.timing.proofs.Keeping.{all-bytes}
 
@@ -30,7 +30,7 @@ module _ (lanes : ℕ) (text out : List ℕ) (beats₀ : List Float) where
   timing-refused k e = let same = eqb·suc-zero k in (rw e, (rw (e, same), rw (e, same)))
 
   -- accepted, it answers what the pass holds
-  pub timing-accepted : timingNumber lanes text out beats₀ ≡ 0 → {L : ℕ} → L ≡ lanesOf lanes → {p : Pass} {t₁ : List ℕ} {b₁ : List Float} → TimedAll L text p t₁ b₁
+  pub timing-accepted : timingNumber lanes text out beats₀ ≡ 0 → {L : ℕ} → L ≡ lanesOf lanes → {p : TimingPass} {t₁ : List ℕ} {b₁ : List Float} → TimedAll L text p t₁ b₁
       → {t : List ℕ} {b : List Float} → t ≡ padded 0 (length out) (timingRows (lanesOf lanes) text) → b ≡ padded (f32 0) (length beats₀) (beatsOf (lanesOf lanes) text)
       → Call (Rows (p .out) (p .kept) (p .heads)) t b
   unfolding timingAnswer timingText timingBeats leaves

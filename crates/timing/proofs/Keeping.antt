@@ -19,16 +19,16 @@ use Rattle.reader.proofs.Passes.{Over, Few}
 use Rattle.reader.proofs.Minimising.{Reduced}
 use Rattle.slices.specs.Zeroed.{zeroed}
 use Rattle.slices.proofs.Zeroed.{zeroed-answer}
-use Rattle.timing.specs.declared.Pass.{Pass}
-use Rattle.timing.specs.Pass.{Timed, TimedAll}
+use Rattle.timing.specs.declared.TimingPass.{TimingPass}
+use Rattle.timing.specs.TimingPass.{Timed, TimedAll}
 
 -- the pass counts rows and measures, which are few
-pub record Small (L : ℕ) (p : Pass) (len : ℕ) : Type 0 where
+pub record Small (L : ℕ) (p : TimingPass) (len : ℕ) : Type 0 where
   pub rows : p .kept + p .rows ≤ mostRows L len
   pub fifth : 5 * (p .kept + p .rows) ≤ len + 1
   pub midx : 2 * p .midx ≤ len + 1
 
-pub timed-small : (L : ℕ) (p : Pass) (text : List ℕ) (beats : List Float) (len : ℕ) (done : List (List Row)) (cur : List Row) → Few L len done cur → Timed L p text beats done cur → Small L p len
+pub timed-small : (L : ℕ) (p : TimingPass) (text : List ℕ) (beats : List Float) (len : ℕ) (done : List (List Row)) (cur : List Row) → Few L len done cur → Timed L p text beats done cur → Small L p len
 timed-small L p text beats len done cur f x =
     record {
       rows = omega (arith, f .rows, x .rows, x .kept);
@@ -37,13 +37,13 @@ timed-small L p text beats len done cur f x =
     }
 
 -- a row of L bytes is one row more
-pub timed-more : (L : ℕ) (p q : Pass) (text after : List ℕ) (beats : List Float) (row : Row) → length row ≡ L
+pub timed-more : (L : ℕ) (p q : TimingPass) (text after : List ℕ) (beats : List Float) (row : Row) → length row ≡ L
     → ((beats : List Float) (done : List (List Row)) (cur : List Row) → Timed (length row) p text beats done cur → Timed (length row) q after beats done (cur ++ (row ∷ [])))
     → (done : List (List Row)) (cur : List Row) → Timed L p text beats done cur → Timed L q after beats done (cur ++ (row ∷ []))
 timed-more L p q text after beats row w f done cur = subst (λ n. Timed n p text beats done cur → Timed n q after beats done (cur ++ (row ∷ []))) w (f beats done cur)
 
 -- The last measure ended too: all of the chart's.
-pub timed-all : (L : ℕ) (p q : Pass) (data-text text after : List ℕ) (beats beats₁ : List Float) → Over L data-text (Reduced (Timed L p text beats))
+pub timed-all : (L : ℕ) (p q : TimingPass) (data-text text after : List ℕ) (beats beats₁ : List Float) → Over L data-text (Reduced (Timed L p text beats))
     → ((done : List (List Row)) (cur : List Row) → Timed L p text beats done cur → Timed L q after beats₁ (done ++ (reduce cur ∷ [])) [])
     → q .out ≤ length after → q .kept ≤ length beats₁ → TimedAll L data-text q after beats₁
 unfolding timingRows timingHeads minimised measureBeats beatsOf
@@ -61,7 +61,7 @@ timed-all L p q data-text text after beats beats₁ x f fits room =
       heads = k .heads;
     }
 
-module _ (L : ℕ) (data-text : List ℕ) (p : Pass) (text : List ℕ) (beats : List Float) (x : TimedAll L data-text p text beats) where
+module _ (L : ℕ) (data-text : List ℕ) (p : TimingPass) (text : List ℕ) (beats : List Float) (x : TimedAll L data-text p text beats) where
   pub all-bytes : p .out ≡ length (timingRows L data-text)
   all-bytes = sym (length-take-le (p .out) text (x .text-room)) ∙ ap length (x .text-is)
 

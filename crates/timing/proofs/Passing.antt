@@ -18,14 +18,14 @@ use Rattle.definitions.specs.Beats.{rowBeats}
 use Rattle.definitions.specs.TimingRows.{hasHead}
 use Rattle.definitions.proofs.Lists.{joined-snoc}
 use Rattle.beats.proofs.Beats.{beats-appended}
-use Rattle.measures.specs.Rows.{placed, Holds, Reduced}
-use Rattle.measures.proofs.Blocks.{joined-append}
-use Rattle.measures.proofs.Forms.{back-to-back, form-length}
+use Rattle.reduction.specs.Rows.{placed, Holds, Reduced}
+use Rattle.reduction.proofs.Blocks.{joined-append}
+use Rattle.reduction.proofs.Forms.{back-to-back, form-length}
 use Rattle.output.specs.Wrote.{Wrote}
 use Rattle.output.proofs.Writing.{wrote-start, wrote-row, wrote-holds, wrote-reduced, wrote-sep}
-use Rattle.measures.proofs.Shorter.{reduce-short}
-use Rattle.timing.specs.declared.Pass.{Pass}
-use Rattle.timing.specs.Pass.{Timed, SomeTimed}
+use Rattle.reduction.proofs.Shorter.{reduce-short}
+use Rattle.timing.specs.declared.TimingPass.{TimingPass}
+use Rattle.timing.specs.TimingPass.{Timed, SomeTimed}
 
 -- one byte more is looked at: n says whether it is a head
 pub head-more : (s : List ℕ) (i : ℕ) (has n : Bool) → i < length s → n ≡ isOpening (holdAt (getD s i 0))
@@ -43,7 +43,7 @@ head-measure done m = rw (joined-snoc done m, joined-append (joined done) m) (he
 pub timed-start : (L : ℕ) (text : List ℕ) (beats : List Float) → Timed L (record { start = 0; out = 0; kept = 0; rows = 0; midx = 0; heads = false }) text beats [] []
 timed-start L text beats = record { wrote = wrote-start (back-to-back L) [] text; kept = refl; rows = refl; midx = refl; beats-are = refl; heads = refl }
 
-pub timed-row : (p : Pass) (text : List ℕ) (row : Row) → p .out + length row ≤ length text → (after : List ℕ) → after ≡ placed (p .out) row text
+pub timed-row : (p : TimingPass) (text : List ℕ) (row : Row) → p .out + length row ≤ length text → (after : List ℕ) → after ≡ placed (p .out) row text
     → (beats : List Float) (done : List (List Row)) (cur : List Row) → Timed (length row) p text beats done cur
     → Timed (length row) (record { start = p .start; out = p .out + length row; kept = p .kept; rows = p .rows + 1; midx = p .midx; heads = p .heads }) after beats done (cur ++ (row ∷ []))
 unfolding back-to-back
@@ -60,10 +60,10 @@ timed-row p text row room after e beats done cur x =
     }
 
 -- where the open measure's rows end
-pub timed-size : (L : ℕ) (p : Pass) (text : List ℕ) (beats : List Float) → SomeTimed L p text beats → p .start + p .rows * L ≡ p .out
+pub timed-size : (L : ℕ) (p : TimingPass) (text : List ℕ) (beats : List Float) → SomeTimed L p text beats → p .start + p .rows * L ≡ p .out
 timed-size L p text beats s = sym (s .timed .wrote .size ∙ ap (λ n. p .start + n * L) (sym (s .timed .rows)))
 
-module _ (L : ℕ) (p : Pass) (text after : List ℕ) (beats : List Float) (kept : ℕ) (fits : p .out ≤ length text)
+module _ (L : ℕ) (p : TimingPass) (text after : List ℕ) (beats : List Float) (kept : ℕ) (fits : p .out ≤ length text)
     (red : (rs : List Row) → Holds joined L (p .rows) (p .start) rs text → Reduced joined (p .start) rs text kept after) where
   module _ (done : List (List Row)) (cur : List Row) (x : Timed L p text beats done cur) where
     reduced : Reduced joined (p .start) cur text kept after

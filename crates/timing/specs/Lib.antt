@@ -1,3 +1,3 @@
 -- What the contracts of the timing rows cite, beside the definitions.
-pub mod Pass
+pub mod TimingPass
 pub mod Answers

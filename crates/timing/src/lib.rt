@@ -6,6 +6,7 @@ ghost use mathlib.Core.List.{List, [], _∷_, _++_};
 ghost use Prim.Native.Nat.{ℕ, _+_, _≤_, _<_};
 ghost use lib.Ieee.{Float};
 ghost use lib.ListN.{length};
+ghost use Rattle.definitions.specs.Sizes.{measuresBound, mostBytes, rowsBound};
 ghost use Rattle.definitions.specs.Lanes.{mostRows};
 ghost use Rattle.definitions.specs.Lines.{Row};
 ghost use Rattle.definitions.specs.Tracker.{holdAt};
@@ -13,12 +14,12 @@ ghost use Rattle.definitions.specs.Correction.{isOpening};
 ghost use Rattle.definitions.specs.Reduction.{reduce};
 ghost use Rattle.definitions.specs.TimingRows.{hasHead};
 ghost use Rattle.definitions.specs.Entries.{timingText, timingBeats};
-ghost use Rattle.timing.specs.Pass.{Timed, SomeTimed, TimedAll};
+ghost use Rattle.timing.specs.TimingPass.{Timed, SomeTimed, TimedAll};
 ghost use Rattle.timing.specs.Answers.{timingAnswer};
 
 // Where the open measure begins, how many bytes are written, the rows of the measures that have ended, those of the open one and its number,
 // and whether a measure that has ended has a 2 or 4.
-pub struct Pass {
+pub struct TimingPass {
     pub start: usize,
     pub out: usize,
     pub kept: usize,
@@ -62,10 +63,10 @@ fn has_head(bytes: &[u8]) -> bool
 }
 
 // Before the first line.
-fn no_pass() -> Pass
+fn no_pass() -> TimingPass
     ensures { λ r. ⌜ ((L : ℕ) (text : List ℕ) (beats : List Float) → Timed L r text beats [] []) × (r .out ≡ 0) ⌝ }
 {
-    Pass {
+    TimingPass {
         start: 0,
         out: 0,
         kept: 0,
@@ -76,14 +77,14 @@ fn no_pass() -> Pass
 }
 
 // One row more of the open measure.
-fn pass_row(p: Pass, text: &mut [u8], row: &[u8]) -> Pass
-    requires { ⌜ (p .out + length (now row) ≤ length (now text)) × (p .rows < 4194304) ⌝ }
+fn pass_row(p: TimingPass, text: &mut [u8], row: &[u8]) -> TimingPass
+    requires { ⌜ (p .out + length (now row) ≤ length (now text)) × (p .rows < rowsBound) ⌝ }
     ensures { λ r. ⌜ ((beats : List Float) (done : List (List Row)) (cur : List Row) → Timed (length (now (row .entry))) p (now (text .entry)) beats done cur → Timed (length (now (row .entry))) r (now (text .exit)) beats done (cur ++ (now (row .entry) ∷ []))) ⌝ }
     ensures { λ r. ⌜ r .out ≡ p .out + length (now (row .entry)) ⌝ }
 {
     let at = p.out;
     output::put_row(text, at, row);
-    Pass {
+    TimingPass {
         start: p.start,
         out: at + row.len(),
         kept: p.kept,
@@ -94,8 +95,8 @@ fn pass_row(p: Pass, text: &mut [u8], row: &[u8]) -> Pass
 }
 
 // The open measure ends: its rows are minimised in place, and the beats of those that are kept are written.
-fn finish_timing_rows(p: Pass, text: &mut [u8], beats: &mut [f32], lanes: usize) -> Pass
-    requires { ⌜ (0 < lanes) × (p .out ≤ length (now text)) × (p .rows < 4194304) × (p .midx ≤ 8388608) × SomeTimed lanes p (now text) (now beats) ⌝ }
+fn finish_timing_rows(p: TimingPass, text: &mut [u8], beats: &mut [f32], lanes: usize) -> TimingPass
+    requires { ⌜ (0 < lanes) × (p .out ≤ length (now text)) × (p .rows < rowsBound) × (p .midx ≤ measuresBound) × SomeTimed lanes p (now text) (now beats) ⌝ }
     requires { ⌜ p .kept + p .rows ≤ length (now beats) ⌝ }
     ensures { λ r. ⌜ ((done : List (List Row)) (cur : List Row) → Timed lanes p (now (text .entry)) (now (beats .entry)) done cur → Timed lanes r (now (text .exit)) (now (beats .exit)) (done ++ (reduce cur ∷ [])) []) ⌝ }
     ensures { λ r. ⌜ (r .out ≤ p .out) × (r .kept ≤ p .kept + p .rows) ⌝ }
@@ -104,11 +105,11 @@ fn finish_timing_rows(p: Pass, text: &mut [u8], beats: &mut [f32], lanes: usize)
     let rows = p.rows;
     let at = p.kept;
     let midx = p.midx;
-    let kept = measures::reduce_rows(text, start, rows, lanes);
+    let kept = reduction::reduce_rows(text, start, rows, lanes);
     let end = start + kept * lanes;
     beats::append_row_beats(beats, at, midx, kept as u32);
     let found = has_head(&text[start..end]);
-    Pass {
+    TimingPass {
         start: end,
         out: end,
         kept: at + kept,
@@ -119,8 +120,8 @@ fn finish_timing_rows(p: Pass, text: &mut [u8], beats: &mut [f32], lanes: usize)
 }
 
 // The whole text, its last measure too.
-fn pass_chart(data: &[u8], lanes: usize, text: &mut [u8], beats: &mut [f32]) -> Pass
-    requires { ⌜ (4 ≤ lanes) × (length (now «data») ≤ 16777215) × (lanes ≤ 10) ⌝ }
+fn pass_chart(data: &[u8], lanes: usize, text: &mut [u8], beats: &mut [f32]) -> TimingPass
+    requires { ⌜ (4 ≤ lanes) × (length (now «data») ≤ mostBytes) × (lanes ≤ 10) ⌝ }
     requires { ⌜ (length (now «data») + 1 ≤ length (now text)) × (mostRows lanes (length (now «data»)) ≤ length (now beats)) ⌝ }
     ensures { λ r. ⌜ TimedAll lanes (now («data» .entry)) r (now (text .exit)) (now (beats .exit)) ⌝ }
 {
@@ -161,7 +162,7 @@ pub fn minimize_timing_rows(
     ensures { λ _. ⌜ now (text .exit) ≡ timingText lanes (now («data» .entry)) (now (text .entry)) (now (beats .entry)) ⌝ }
     ensures { λ _. ⌜ now (beats .exit) ≡ timingBeats lanes (now («data» .entry)) (now (text .entry)) (now (beats .entry)) ⌝ }
 {
-    if 16777215 < data.len() {
+    if definitions::MOST_BYTES < data.len() {
         return TimingAnswer::Refused(1);
     }
     if text.len() < data.len() + 1 {

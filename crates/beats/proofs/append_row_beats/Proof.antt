@@ -4,6 +4,7 @@ use Prim.Native.Nat.{ℕ, _*_, _≤_}
 use native.Mathlib.Nat.{le-trans, mul-le-mul-left, mul-le-mul-right}
 use native.Mathlib.Omega.{arith}
 use lib.Seq.{paste, paste-zero}
+use Rattle.definitions.specs.Sizes.{measuresBound, rowsBound}
 use Rattle.definitions.specs.Beats.{rowBeats}
 use Rattle.beats.proofs.Beats.{beats-all}
 use borrow.Author.Needs.{needs}
@@ -19,8 +20,8 @@ returns c =
     ∙ beats-all (a .beats .now) (a .at) (a .midx) (a .rows)
 
 -- the rows of all measures before, at most
-rows-before : (m n : ℕ) → m ≤ 8388608 → n ≤ 4194304 → m * n ≤ 35184372088832
-rows-before m n h k = le-trans (mul-le-mul-right n h) (le-trans (mul-le-mul-left 8388608 k) (omega arith))
+rows-before : (m n : ℕ) → m ≤ measuresBound → n ≤ rowsBound → m * n ≤ 35184372088832
+rows-before m n h k = le-trans (mul-le-mul-right n h) (le-trans (mul-le-mul-left measuresBound k) (omega arith))
 
 step-units-requires : tie.Need-step-units-requires
 step-units-requires c κs = search needs

@@ -7,7 +7,7 @@ use lib.ListN.{length}
 use Rattle.definitions.specs.Lists.{padded}
 use Rattle.definitions.specs.Notes.{notes}
 use Rattle.definitions.specs.Records.{records}
-use Rattle.keeping.proofs.Answering.{all-room, all-text, all-densities, all-recount, none-off}
+use Rattle.kept_pass.proofs.Answering.{all-room, all-text, all-densities, all-recount, none-off}
 use Rattle.chart.proofs.Answering.{all-beats, rows-small, some-rows, found-placed, found-48, all-notes, note-count, all-figures}
 use borrow.Author.Needs.{needs}
 use Rattle.chart.proofs.chart_figures.Statement.{statement}

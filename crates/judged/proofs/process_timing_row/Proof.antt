@@ -4,9 +4,9 @@ use mathlib.Core.Path.{_≡_}
 use native.Mathlib.Omega.{arith}
 use borrow.Author.Needs.{needs}
 use denote.Ref.{now}
-use Rattle.tallies.specs.Bounds.{Under}
-use Rattle.tallies.proofs.Bounds.{under-judged}
-use Rattle.tallies.proofs.Kept.{keep-length}
+use Rattle.row_tally.specs.Bounds.{Under}
+use Rattle.row_tally.proofs.Bounds.{under-judged}
+use Rattle.row_tally.proofs.Kept.{keep-length}
 use Rattle.judged.specs.Timing.{timingSum, newHolds, timingRow}
 use Rattle.judged.proofs.process_timing_row.Statement.{statement}
 use Rattle.judged.proofs.process_timing_row.Tie as tie

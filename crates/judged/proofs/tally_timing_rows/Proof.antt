@@ -8,12 +8,13 @@ use native.Mathlib.Omega.{arith}
 use borrow.Author.Needs.{needs}
 use lib.ListN.{length}
 use denote.Ref.{now}
+use Rattle.definitions.specs.Sizes.{countBound}
 use Rattle.taps.proofs.Free.{free-told}
 use Rattle.definitions.specs.ReadBack.{readBack}
 use Rattle.taps.proofs.Masks.{fits-at}
-use Rattle.tallies.specs.Bounds.{Below}
-use Rattle.tallies.proofs.Bounds.{below-more}
-use Rattle.judged.specs.Timing.{Timed}
+use Rattle.row_tally.specs.Bounds.{Below}
+use Rattle.row_tally.proofs.Bounds.{below-more}
+use Rattle.judged.specs.Timing.{WorkEntries}
 use Rattle.reader.proofs.BackRows.{row-within, bytes-short}
 use Rattle.judged.proofs.Tallying.{Tallying, tallying-start, tallying-active, tallying-room, tallying-passed, tallying-enough, tallying-row, tallying-taps, tallying-end, bytes-long}
 use Rattle.judged.proofs.tally_timing_rows.Statement.{statement}
@@ -21,7 +22,7 @@ use Rattle.judged.proofs.tally_timing_rows.Tie as tie
 
 abbrev Inv-loop : tie.InvT-loop
 Inv-loop «data» lanes work counts t₀ off₀ row₀ t off row =
-    (off ≤ length «data» + 1) × ((J : ℕ → Bool) → Timed J (readBack lanes «data») work → Tallying J lanes «data» off row t)
+    (off ≤ length «data» + 1) × ((J : ℕ → Bool) → WorkEntries J (readBack lanes «data») work → Tallying J lanes «data» off row t)
 
 abbrev μ-loop : tie.MeasureT-loop
 μ-loop «data» lanes work counts t₀ off₀ row₀ t off row = length «data» + 1 - off
@@ -42,12 +43,12 @@ entry-room c =
     (at .before .before .before .before .before .pre .0 .2)
 
 -- the tally so far may have a row more
-so-few : (c : tie.At-loop Inv-loop μ-loop) → Below 4294967285 (c .loop .t .stats) × (c .loop .t .active ≤ 4294967285)
+so-few : (c : tie.At-loop Inv-loop μ-loop) → Below countBound (c .loop .t .stats) × (c .loop .t .active ≤ countBound)
 so-few c =
     let start = c .before .before .before .before .before in
     let x = so-far c in
-    let few : 10 * c .loop .row ≤ 4294967285 = omega (arith, x .reading .few, x .size, c .loop .inv .0, start .pre .0 .0) in
-    (below-more (10 * c .loop .row) 4294967285 _ few (x .below), le-trans (tallying-active _ _ _ _ _ _ x (start .pre .0 .1)) few)
+    let few : 10 * c .loop .row ≤ countBound = omega (arith, x .reading .few, x .size, c .loop .inv .0, start .pre .0 .0) in
+    (below-more (10 * c .loop .row) countBound _ few (x .below), le-trans (tallying-active _ _ _ _ _ _ x (start .pre .0 .1)) few)
 
 tap-mask-counts-requires : tie.Need-tap-mask-counts-requires Inv-loop μ-loop
 tap-mask-counts-requires c κs = search needs

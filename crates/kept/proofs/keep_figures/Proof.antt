@@ -4,7 +4,7 @@ use Prim.Native.Nat.{_-_}
 use native.Mathlib.Omega.{arith}
 use denote.Ref.{now}
 use lib.ListN.{length}
-use Rattle.keeping.proofs.Answering.{all-room, all-text, all-densities, all-recount, none-off}
+use Rattle.kept_pass.proofs.Answering.{all-room, all-text, all-densities, all-recount, none-off}
 use Rattle.kept.proofs.Answering.{all-figures}
 use borrow.Author.Needs.{needs}
 use Rattle.kept.proofs.keep_figures.Statement.{statement}

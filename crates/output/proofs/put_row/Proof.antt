@@ -5,7 +5,7 @@ use native.Mathlib.Omega.{arith}
 use denote.Ref.{now}
 use lib.ListN.{take, drop}
 use lib.Seq.{take-all}
-use Rattle.measures.specs.Rows.{placed}
+use Rattle.reduction.specs.Rows.{placed}
 use Rattle.output.proofs.Writing.{eight-placed}
 use borrow.Author.Needs.{needs}
 use Rattle.output.proofs.put_row.Statement.{statement}

@@ -32,7 +32,7 @@ same-length-3 : tie.Need-same-length-3
 same-length-3 c = search needs
 
 returns : tie.Need-returns
-unfolding keptAnswer keptFigures answered.keptFigures
+unfolding keptAnswer keptFigures answered.keptChartFigures
 returns c =
     let r = c .before .before .before .before .before .before .before .before .before .process-chart-kept .ensures in
     let t = refused-told kept-told _ _ _ (r .0) (c .before .number .given .1) in
@@ -48,7 +48,7 @@ same-length-6 : tie.Need-same-length-6
 same-length-6 c = search needs
 
 returns-2 : tie.Need-returns-2
-unfolding keptAnswer keptFigures answered.keptFigures
+unfolding keptAnswer keptFigures answered.keptChartFigures
 returns-2 c =
     let r = c .before .before .before .before .before .before .before .before .before .before .before .before .process-chart-kept .ensures in
     let t = accepted-told kept-told _ _ _ (r .0) (c .before .before .before .before .k .given .1) in

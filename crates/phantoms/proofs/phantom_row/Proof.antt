@@ -3,6 +3,7 @@ use Prim.Native.Nat.{_-_, _<_}
 use native.Mathlib.Omega.{arith}
 use borrow.Author.Needs.{needs}
 use lib.ListN.{length}
+use Rattle.definitions.specs.Sizes.{countBound}
 use Rattle.phantoms.proofs.Loop.{Passed, passed-start, passed-next, passed-end, one-head, one-tail}
 use Rattle.phantoms.proofs.phantom_row.Statement.{statement}
 use Rattle.phantoms.proofs.phantom_row.Tie as tie
@@ -38,7 +39,7 @@ phantom-cell-requires c κs =
     let start = c .before .before .before .before .before in
     let at = c .before .before .loop in
     let column : at .i < 10 = omega (arith, start .pre .0) in
-    omega (arith, at .inv .low 4294967285 (start .pre .1) .depths (at .i) column)
+    omega (arith, at .inv .low countBound (start .pre .1) .depths (at .i) column)
 
 mul-depths : tie.Need-mul-depths Inv-loop μ-loop
 mul-depths c = omega (arith, c .before .before .before .before .before .before .pre .0)
@@ -49,13 +50,13 @@ array-write-depths c = omega (arith, c .before .before .before .before .before .
 add-heads : tie.Need-add-heads Inv-loop μ-loop
 add-heads c =
     let at = c .before .before .before .before .loop in
-    let low = at .inv .low 4294967285 (c .before .before .before .before .before .before .before .pre .1) in
+    let low = at .inv .low countBound (c .before .before .before .before .before .before .before .pre .1) in
     omega (arith, inside (c .before), low .heads, one-head _ _ _ (c .before .phantom-cell .ensures))
 
 add-tails : tie.Need-add-tails Inv-loop μ-loop
 add-tails c =
     let at = c .before .before .before .before .before .loop in
-    let low = at .inv .low 4294967285 (c .before .before .before .before .before .before .before .before .pre .1) in
+    let low = at .inv .low countBound (c .before .before .before .before .before .before .before .before .pre .1) in
     omega (arith, inside (c .before .before), low .tails, one-tail _ _ _ (c .before .before .phantom-cell .ensures))
 
 add-i : tie.Need-add-i Inv-loop μ-loop

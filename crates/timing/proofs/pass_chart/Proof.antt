@@ -8,7 +8,7 @@ use denote.Ref.{now}
 use lib.ListN.{length}
 use Rattle.reader.proofs.Passes.{Over, RowPart, row-part, pass-semi, pass-end}
 use Rattle.reader.proofs.Minimising.{Reduced, Minimising, minimising-start, minimising-few, minimising-room, minimising-passed, row-room, minimising-comma, minimising-row}
-use Rattle.timing.specs.Pass.{Timed}
+use Rattle.timing.specs.TimingPass.{Timed}
 use Rattle.timing.proofs.Keeping.{Small, timed-small, timed-more, timed-all}
 use Rattle.timing.proofs.pass_chart.Statement.{statement}
 use Rattle.timing.proofs.pass_chart.Tie as tie

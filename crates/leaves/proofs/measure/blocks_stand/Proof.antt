@@ -5,8 +5,8 @@ use Prim.Native.Nat.{ℕ, _*_, _^_, _%_, _<_}
 use native.Mathlib.Omega.{arith}
 use borrow.Author.Tests.{lt-ltb, eq-eqb, ne-eqb}
 use Rattle.definitions.proofs.Bools.{and-false}
-use Rattle.measures.proofs.Compaction.{shifted-one}
-use Rattle.measures.proofs.Powers.{power-pos}
+use Rattle.reduction.proofs.Compaction.{shifted-one}
+use Rattle.reduction.proofs.Powers.{power-pos}
 use Rattle.leaves.specs.Answers.{blocksStand}
 use Rattle.leaves.proofs.Taken.{power-over}
 use Rattle.leaves.proofs.measure.blocks_stand.Statement.{statement}

@@ -3,7 +3,7 @@ use borrow.Author.Needs.{needs}
 use mathlib.Core.Path.{refl, sym, _∙_}
 use denote.Ref.{now}
 use lib.ListN.{drop}
-use Rattle.measures.proofs.Compaction.{shifted-one}
+use Rattle.reduction.proofs.Compaction.{shifted-one}
 use Rattle.leaves.specs.Answers.{strideNumber}
 use Rattle.leaves.proofs.Taken.{passed, failed, rows-stand, stride-fits}
 use Rattle.leaves.proofs.measure.leaves_stride.Statement.{statement}

@@ -1,0 +1,2 @@
+-- What the contracts of the main call's pass cite, beside the definitions.
+pub mod ChartPass

@@ -1,2 +1,0 @@
--- What the contracts of the main call's pass cite, beside the definitions.
-pub mod Pass

@@ -1,0 +1,3 @@
+-- What the contracts of the clean pass cite, beside the definitions.
+pub mod Clean
+pub mod JudgedPass

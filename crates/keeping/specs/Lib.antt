@@ -1,2 +1,0 @@
--- What the contracts of the kept-row pass cite, beside the definitions.
-pub mod Pass

@@ -1,0 +1,135 @@
+// What a whole-chart pass counts of the minimised rows, one row after the other: the tally, the phantom depths and the open measure's density.
+use definitions::ArrowStats;
+use phantoms::Phantoms;
+use taps::Taps;
+ghost use mathlib.Core.Path.{_≡_};
+ghost use mathlib.Core.List.{List, [], _∷_, _++_};
+ghost use Prim.Native.Nat.{ℕ, _+_, _*_, _≤_, _<_};
+ghost use lib.ListN.{length, drop};
+ghost use Rattle.definitions.specs.Sizes.{rowsBound};
+ghost use Rattle.definitions.specs.Lines.{Row};
+ghost use Rattle.definitions.specs.Figures.{density as densityOf};
+ghost use Rattle.taps.specs.Taps.{FreeTaps, Fits, TapCounts};
+ghost use Rattle.reduction.specs.Rows.{rowsAt};
+ghost use Rattle.measure_tally.specs.Counted.{Few, Counted, SomeCounted};
+
+// `rows` counts all minimised rows so far, `before` the steps of the measures that have ended: those of the open one are its density.
+// A column without its bit in `busy` has the phantom depth 0.
+pub struct Counting {
+    pub stats: ArrowStats,
+    pub phantoms: Phantoms,
+    pub rows: u32,
+    pub before: u32,
+    pub busy: u32,
+}
+
+pub fn no_counting() -> Counting
+    ensures { λ r. ⌜ ((L : ℕ) → L ≤ 10 → Counted L r [] []) ⌝ }
+{
+    let stats = row_tally::no_stats();
+    let phantoms = phantoms::no_phantoms();
+    Counting {
+        stats,
+        phantoms,
+        rows: 0,
+        before: 0,
+        busy: 0,
+    }
+}
+
+// One row of taps more, all in columns of the phantom depth 0: it leaves the depths, and no turn of a loop branches on its cells.
+pub fn count_taps(c: Counting, mask: u16, wide: bool, counts: &[u16; 256]) -> Counting
+    requires { ⌜ (c .rows < rowsBound) × Few c × TapCounts (now counts) × Fits wide mask ⌝ }
+    ensures { λ r. ⌜ ((row : Row) → FreeTaps (c .busy) mask row → (L : ℕ) (done : List (List Row)) (cur : List Row) → length row ≤ L → L ≤ 10 → Counted L c done cur → Counted L r done (cur ++ (row ∷ []))) ⌝ }
+{
+    let stats = row_tally::count_taps(c.stats, mask, wide, counts);
+    let phantoms = c.phantoms;
+    Counting {
+        stats,
+        phantoms,
+        rows: c.rows + 1,
+        before: c.before,
+        busy: c.busy,
+    }
+}
+
+// One row more, by its cells. A row that is all zero is counted as a row, and changes nothing else.
+fn count_cells(c: Counting, row: &[u8]) -> Counting
+    requires { ⌜ (length (now row) ≤ 10) × (c .rows < rowsBound) × Few c ⌝ }
+    ensures { λ r. ⌜ ((L : ℕ) (done : List (List Row)) (cur : List Row) → length (now (row .entry)) ≤ L → L ≤ 10 → Counted L c done cur → Counted L r done (cur ++ (now (row .entry) ∷ []))) ⌝ }
+{
+    if reduction::is_all_zero(row) {
+        let stats = c.stats;
+        let phantoms = c.phantoms;
+        return Counting {
+            stats,
+            phantoms,
+            rows: c.rows + 1,
+            before: c.before,
+            busy: c.busy,
+        };
+    }
+    let stats = row_tally::count_line(c.stats, row);
+    let phantoms = phantoms::phantom_row(c.phantoms, row);
+    let depths = phantoms.depths;
+    Counting {
+        stats,
+        phantoms,
+        rows: c.rows + 1,
+        before: c.before,
+        busy: taps::unlike(&depths, 0),
+    }
+}
+
+// One row more.
+fn count_row(c: Counting, row: &[u8], counts: &[u16; 256]) -> Counting
+    requires { ⌜ (length (now row) ≤ 10) × (c .rows < rowsBound) × Few c × TapCounts (now counts) ⌝ }
+    ensures { λ r. ⌜ ((L : ℕ) (done : List (List Row)) (cur : List Row) → length (now (row .entry)) ≤ L → L ≤ 10 → Counted L c done cur → Counted L r done (cur ++ (now (row .entry) ∷ []))) ⌝ }
+{
+    match taps::free_taps(row, c.busy) {
+        Taps::Mask(mask) => count_taps(c, mask, taps::is_wide(row.len()), counts),
+        Taps::Other => count_cells(c, row),
+    }
+}
+
+// The open measure ends.
+pub fn count_measure(c: Counting) -> Counting
+    ensures { λ r. ⌜ ((L : ℕ) (done : List (List Row)) (cur : List Row) → Counted L c done cur → Counted L r (done ++ (cur ∷ [])) []) ⌝ }
+{
+    let stats = c.stats;
+    let phantoms = c.phantoms;
+    Counting {
+        stats,
+        phantoms,
+        rows: c.rows,
+        before: c.stats.total_steps,
+        busy: c.busy,
+    }
+}
+
+// The density of the open measure.
+pub fn density(c: Counting) -> u32
+    requires { ⌜ c .before ≤ c .stats .«total_steps» ⌝ }
+    ensures { λ r. ⌜ ((L : ℕ) (done : List (List Row)) (cur : List Row) → Counted L c done cur → r ≡ densityOf cur) ⌝ }
+{
+    c.stats.total_steps - c.before
+}
+
+// The rows of a measure that stand in a text from `start` on, each with a newline byte after it.
+pub fn count_rows(old: Counting, text: &[u8], start: usize, rows: usize, lanes: usize) -> Counting
+    requires { ⌜ (0 < lanes) × (lanes ≤ 10) × (start + rows * (lanes + 1) ≤ length (now text)) ⌝ }
+    requires { ⌜ (old .rows + rows < rowsBound) × SomeCounted lanes old ⌝ }
+    ensures { λ r. ⌜ ((done : List (List Row)) → Counted lanes old done [] → Counted lanes r done (rowsAt (lanes + 1) lanes rows (drop start (now (text .entry))))) ⌝ }
+{
+    let counts = taps::tap_mask_counts();
+    let mut c = old;
+    let mut i = 0;
+    let mut at = start;
+    while i < rows {
+        let end = at + lanes;
+        c = count_row(c, &text[at..end], &counts);
+        at = end + 1;
+        i += 1;
+    }
+    c
+}
