@@ -25,12 +25,20 @@ fn no_spacing() -> MeasureSpacing
     }
 }
 
-// The open measure with one row more.
+// The open measure with one row more. Where the stride is 1 for good and some row is no step, no row can make the measure spaced again, and
+// none is looked at.
 fn spacing_row(s: MeasureSpacing, row: &[u8]) -> MeasureSpacing
     requires { ⌜ (s .rows < rowNumbersBound) × (s .steps < rowNumbersBound) ⌝ }
     ensures { λ r. ⌜ ((cur : List Row) → Spaces s cur → Spaces r (cur ++ (now (row .entry) ∷ []))) ⌝ }
 {
     let rows = s.rows;
+    if (s.shift == 0) & ((s.steps as usize) != rows) {
+        return MeasureSpacing {
+            rows: rows + 1,
+            steps: s.steps,
+            shift: 0,
+        };
+    }
     let steps = s.steps + cells::one_if(cells::row_has_note(row));
     if reduction::is_all_zero(row) {
         return MeasureSpacing {
