@@ -5,8 +5,8 @@ use Prim.Native.Nat.{ℕ, suc, _+_, _*_, _≤_, _<_}
 use native.Mathlib.Nat.{add-zero, zero-mul, add-mul, one-mul}
 use native.Mathlib.Numerals.{add-one}
 use native.Mathlib.Omega.{arith}
-use lib.ListN.{length, take, drop, getD, set, length-append, length-drop}
-use lib.Seq.{paste, set-split, take-length, length-take-le, drop-cons, set-at, getD-drop, take-add, take-all}
+use lib.ListN.{length, take, drop, getD, set, length-append}
+use lib.Seq.{paste, set-split, take-length, length-take-le, drop-cons, set-at}
 use Rattle.definitions.specs.Lists.{joined}
 use Rattle.definitions.specs.Lines.{Row}
 use Rattle.definitions.specs.Figures.{rowText, textOf}
@@ -37,46 +37,6 @@ placed-byte d at s b h =
 
 pub first-byte : (d : List ℕ) (at b : ℕ) → at < length d → set d at b ≡ placed at (b ∷ []) d
 first-byte d at b h = set-split d at b h ∙ ap (λ n. take at d ++ (b ∷ drop n d)) (sym (add-one at))
-
--- bytes after placed bytes
-pub placed-after : (d : List ℕ) (at : ℕ) (s u : List ℕ) → at + length s ≤ length d → placed (at + length s) u (placed at s d) ≡ placed at (s ++ u) d
-placed-after d at s u h =
-    ap₂ (λ x y. x ++ (u ++ y)) (placed-front at s d (omega arith)) (placed-past at s d (at + length s + length u) (omega arith) (omega arith))
-    ∙ append-assoc (take at d) s (u ++ drop (at + length s + length u) d)
-    ∙ ap (λ l. take at d ++ l) (sym (append-assoc s u (drop (at + length s + length u) d)) ∙ ap (λ n. (s ++ u) ++ drop n d) place)
-  where
-    place : at + length s + length u ≡ at + length (s ++ u)
-    place = rw length-append (omega arith)
-
--- four bytes, one after the other, are those of the source
-pub four-placed : (d : List ℕ) (at : ℕ) (r : List ℕ) (from : ℕ) → from + 4 ≤ length r → at + 4 ≤ length d
-    → set (set (set (set d at (getD r from 0)) (at + 1) (getD r (from + 1) 0)) (at + 2) (getD r (from + 2) 0)) (at + 3) (getD r (from + 3) 0) ≡ placed at (take 4 (drop from r)) d
-four-placed d at r from h k =
-    ap (λ l. set (set (set l (at + 1) (getD r (from + 1) 0)) (at + 2) (getD r (from + 2) 0)) (at + 3) (getD r (from + 3) 0)) (first-byte d at (getD r from 0) (omega arith))
-    ∙ ap (λ l. set (set l (at + 2) (getD r (from + 2) 0)) (at + 3) (getD r (from + 3) 0)) (placed-byte d at (getD r from 0 ∷ []) (getD r (from + 1) 0) (omega arith))
-    ∙ ap (λ l. set l (at + 3) (getD r (from + 3) 0)) (placed-byte d at (getD r from 0 ∷ getD r (from + 1) 0 ∷ []) (getD r (from + 2) 0) (omega arith))
-    ∙ placed-byte d at (getD r from 0 ∷ getD r (from + 1) 0 ∷ getD r (from + 2) 0 ∷ []) (getD r (from + 3) 0) (omega arith)
-    ∙ ap (λ l. placed at l d) (sym source)
-  where
-    four : (l : List ℕ) → 4 ≤ length l → take 4 l ≡ getD l 0 0 ∷ getD l 1 0 ∷ getD l 2 0 ∷ getD l 3 0 ∷ []
-    four [] z = absurd (omega arith)
-    four (a ∷ []) z = absurd (omega arith)
-    four (a ∷ b ∷ []) z = absurd (omega arith)
-    four (a ∷ b ∷ c ∷ []) z = absurd (omega arith)
-    four (a ∷ b ∷ c ∷ e ∷ l) z = refl
-
-    source : take 4 (drop from r) ≡ getD r from 0 ∷ getD r (from + 1) 0 ∷ getD r (from + 2) 0 ∷ getD r (from + 3) 0 ∷ []
-    source =
-        four (drop from r) (rw length-drop (omega arith))
-        ∙ rw (getD-drop from r 0, getD-drop from r 1, getD-drop from r 2, getD-drop from r 3, add-zero)
-
--- a row of eight bytes, its first four and the four after them
-pub eight-placed : (d : List ℕ) (at : ℕ) (r : List ℕ) → length r ≡ 8 → at + 8 ≤ length d → placed (at + 4) (take 4 (drop 4 r)) (placed at (take 4 r) d) ≡ placed at r d
-eight-placed d at r e h =
-    let four : length (take 4 r) ≡ 4 = length-take-le 4 r (omega arith) in
-    ap (λ n. placed (at + n) (take 4 (drop 4 r)) (placed at (take 4 r) d)) (sym four)
-    ∙ placed-after d at (take 4 r) (take 4 (drop 4 r)) (omega arith)
-    ∙ ap (λ l. placed at l d) (sym (take-add 4 4 r) ∙ take-all 8 r (omega arith))
 
 -- measures run together, one more
 done-snoc : (form : List Row → List ℕ) (sep : List ℕ) (done : List (List Row)) (m : List Row) → doneText form sep (done ++ (m ∷ [])) ≡ doneText form sep done ++ (form m ++ sep)

@@ -2,13 +2,14 @@
 ghost use mathlib.Core.Path.{_≡_};
 ghost use mathlib.Core.List.{_++_, _∷_, []};
 ghost use Prim.Native.Nat.{_+_, _≤_};
-ghost use lib.ListN.{length, take, drop};
+ghost use lib.ListN.{length, drop};
+ghost use lib.Seq.{paste};
 ghost use Rattle.reduction.specs.Rows.{placed};
 
 // Four bytes of the row, all read before one is written, so that they are moved as one.
 fn put_four(text: &mut [u8], at: usize, row: &[u8], from: usize)
     requires { ⌜ (from + 4 ≤ length (now row)) × (at + 4 ≤ length (now text)) ⌝ }
-    ensures { λ _. ⌜ now (text .exit) ≡ placed at (take 4 (drop from (now (row .entry)))) (now (text .entry)) ⌝ }
+    ensures { λ _. ⌜ now (text .exit) ≡ paste (now (text .entry)) at (drop from (now (row .entry))) 4 ⌝ }
 {
     let a = row[from];
     let b = row[from + 1];
@@ -32,21 +33,22 @@ fn put_bytes(text: &mut [u8], at: usize, row: &[u8])
     }
 }
 
-// The row's bytes from `at` on: by fours where it has four or eight.
+// The row's bytes from `at` on: four at a time where it has four to twelve, the last four always, so that fours may overlap.
 pub fn put_row(text: &mut [u8], at: usize, row: &[u8])
     requires { ⌜ at + length (now row) ≤ length (now text) ⌝ }
     ensures { λ _. ⌜ now (text .exit) ≡ placed at (now (row .entry)) (now (text .entry)) ⌝ }
 {
-    if row.len() == 4 {
-        put_four(text, at, row, 0);
+    let n = row.len();
+    if (n < 4) | (12 < n) {
+        put_bytes(text, at, row);
         return;
     }
-    if row.len() == 8 {
-        put_four(text, at, row, 0);
+    put_four(text, at, row, 0);
+    if 8 < n {
         put_four(text, at + 4, row, 4);
-        return;
     }
-    put_bytes(text, at, row);
+    let last = n - 4;
+    put_four(text, at + last, row, last);
 }
 
 // The row's bytes and byte 10.

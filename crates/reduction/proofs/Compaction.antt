@@ -5,6 +5,7 @@ use mathlib.Core.List.{List, _++_, append-nil}
 use Prim.Native.Nat.{ℕ, zero, suc, _+_, _*_, _^_, _%_, _/_, _≤_, _<_}
 use native.Mathlib.Nat.{
   mul-assoc,
+  add-mul,
   one-mul,
   mul-one,
   mul-le-mul-left,
@@ -34,15 +35,17 @@ use Rattle.reduction.proofs.Blocks.{multiples-apart, apart-length, apar
 -- The first `row` of the kept rows stand at their new places, and the rest of the text is as it was.
 pub record Moved (text₀ : List ℕ) (start rows step kept w : ℕ) (text : List ℕ) (row : ℕ) : Type 0 where
   pub unit : 0 < step
+  pub apart : 1 < step
+  pub first : 0 < row
   pub count : rows ≡ kept * step
   pub room : start + rows * w ≤ length text₀
   pub most : row ≤ kept
   pub contents : text ≡ placed start (joined (rowsAt (step * w) w row (drop start text₀))) text₀
 
-pub moved-start : (text₀ : List ℕ) (start rows step kept w : ℕ) → 0 < step → rows ≡ kept * step → 0 < rows → start + rows * w ≤ length text₀
+pub moved-start : (text₀ : List ℕ) (start rows step kept w : ℕ) → 1 < step → rows ≡ kept * step → 0 < rows → start + rows * w ≤ length text₀
     → Moved text₀ start rows step kept w text₀ 1
 moved-start text₀ start rows step kept w u e p h =
-    record { unit = u; count = e; room = h; most = some kept e; contents = sym same }
+    record { unit = omega arith; apart = u; first = omega arith; count = e; room = h; most = some kept e; contents = sym same }
   where
     some : (k : ℕ) → rows ≡ k * step → 1 ≤ k
     some zero q = let none : rows ≡ 0 = q ∙ zero-mul step in absurd (omega arith)
@@ -61,15 +64,18 @@ module _ {text₀ : List ℕ} {start rows step kept w : ℕ} {text : List ℕ} {
       let more : row * step + step ≤ rows = rw (m .count) (row-end row kept step h) in
       omega (arith, m .unit)
 
-  -- it stands at its new place or past it
-  moved-back : start + row * w ≤ start + row * step * w
-  moved-back = omega (arith, mul-le-mul-right {m = row} {n = row * step} w (le-mul-of-pos-right row (m .unit)))
+  -- its new place lies before it
+  moved-back : start + row * w + w ≤ start + row * step * w
+  moved-back =
+      let twice : row * 2 ≤ row * step = mul-le-mul-left {m = 2} {n = step} row (m .apart) in
+      let more : row + 1 ≤ row * step = omega (arith, m .first) in
+      omega (arith, mul-le-mul-right {m = row + 1} {n = row * step} w more, add-mul row 1 w)
 
   -- and lies within the text
   moved-fits : start + row * step * w + w ≤ length text₀
   moved-fits = omega (arith, m .room, row-end (row * step) rows w moved-row)
 
-  pub moved-next : (row * step < rows) × (start + row * w ≤ start + row * step * w) × (start + row * step * w + w ≤ length text₀)
+  pub moved-next : (row * step < rows) × (start + row * w + w ≤ start + row * step * w) × (start + row * step * w + w ≤ length text₀)
   moved-next = (moved-row, moved-back, moved-fits)
 
 module _ {text₀ : List ℕ} {start rows step kept w : ℕ} {text : List ℕ} {row : ℕ} (m : Moved text₀ start rows step kept w text row) where
@@ -95,6 +101,8 @@ pub moved-step : {text₀ : List ℕ} {start rows step kept w : ℕ} {text : Lis
 moved-step {text₀} {start} {rows} {step} {kept} {w} {text} {row} m h after e =
     record {
       unit = m .unit;
+      apart = m .apart;
+      first = omega arith;
       count = m .count;
       room = m .room;
       most = omega arith;
@@ -102,7 +110,7 @@ moved-step {text₀} {start} {rows} {step} {kept} {w} {text} {row} m h after e =
           e
           ∙ ap (λ (x : List ℕ). paste x (start + row * w) (drop (start + row * step * w) x) w) (m .contents)
           ∙ ap (λ (k : ℕ). paste (placed start bytes text₀) (start + k) (drop (start + row * step * w) (placed start bytes text₀)) w) (sym len)
-          ∙ placed-more start bytes text₀ (start + row * step * w) w (rw len (moved-back m h)) (moved-fits m h)
+          ∙ placed-more start bytes text₀ (start + row * step * w) w (rw len (omega (arith, moved-back m h))) (moved-fits m h)
           ∙ ap (λ (l : List ℕ). placed start (bytes ++ take w l) text₀) source
           ∙ ap (λ (b : List ℕ). placed start b text₀) (sym (apart-more (step * w) w row (drop start text₀)));
     }

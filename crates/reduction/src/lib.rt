@@ -84,8 +84,23 @@ pub fn measure_reduce_shift(
     shift
 }
 
-// The `width` bytes of a row moved to an earlier place, which they may overlap.
-fn move_row(text: &mut [u8], from: usize, to: usize, width: usize)
+// Four bytes moved to another place, all read before one is written, so that they are moved as one.
+fn move_four(text: &mut [u8], from: usize, to: usize)
+    requires { ⌜ (from + 4 ≤ length (now text)) × (to + 4 ≤ length (now text)) ⌝ }
+    ensures { λ _. ⌜ now (text .exit) ≡ paste (now (text .entry)) to (drop from (now (text .entry))) 4 ⌝ }
+{
+    let a = text[from];
+    let b = text[from + 1];
+    let c = text[from + 2];
+    let d = text[from + 3];
+    text[to] = a;
+    text[to + 1] = b;
+    text[to + 2] = c;
+    text[to + 3] = d;
+}
+
+// The `width` bytes of a row moved to an earlier place, one by one.
+fn move_bytes(text: &mut [u8], from: usize, to: usize, width: usize)
     requires { ⌜ (to ≤ from) × (from + width ≤ length (now text)) ⌝ }
     ensures { λ _. ⌜ now (text .exit) ≡ paste (now (text .entry)) to (drop from (now (text .entry))) width ⌝ }
 {
@@ -94,6 +109,24 @@ fn move_row(text: &mut [u8], from: usize, to: usize, width: usize)
         text[to + i] = text[from + i];
         i += 1;
     }
+}
+
+// The `width` bytes of a row moved to a place before it: four at a time where it has four to twelve, the last four always, so that fours may
+// overlap.
+fn move_row(text: &mut [u8], from: usize, to: usize, width: usize)
+    requires { ⌜ (to + width ≤ from) × (from + width ≤ length (now text)) ⌝ }
+    ensures { λ _. ⌜ now (text .exit) ≡ paste (now (text .entry)) to (drop from (now (text .entry))) width ⌝ }
+{
+    if (width < 4) | (12 < width) {
+        move_bytes(text, from, to, width);
+        return;
+    }
+    move_four(text, from, to);
+    if 8 < width {
+        move_four(text, from + 4, to + 4);
+    }
+    let last = width - 4;
+    move_four(text, from + last, to + last);
 }
 
 // The rows at the multiples of the stride moved together, each with its `width` bytes. Returns how many they are. What stands past them is

@@ -1,7 +1,7 @@
 -- `output::put_four` meets its contract.
 use native.Mathlib.Omega.{arith}
 use lib.ListN.{length-set}
-use Rattle.output.proofs.Writing.{four-placed}
+use Rattle.reduction.proofs.Moves.{four-pasted}
 use borrow.Author.Needs.{needs}
 use Rattle.output.proofs.put_four.Statement.{statement}
 use Rattle.output.proofs.put_four.Tie as tie
@@ -54,7 +54,7 @@ same-length c = search needs
 returns : tie.Need-returns
 returns c =
     let start = c .before .before .before .before in
-    four-placed (start .args .text .now) (start .args .at) (start .args .row .now) (start .args .from) (start .pre .0) (start .pre .1)
+    four-pasted (start .args .text .now) (start .args .at) (start .args .row .now) (start .args .from) (start .pre .0) (start .pre .1)
 
 pub put-four-spec : {M : Type 1} → statement M
 put-four-spec =

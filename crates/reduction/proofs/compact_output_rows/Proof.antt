@@ -5,7 +5,7 @@ use native.Mathlib.Omega.{arith}
 use native.Mathlib.Nat.{div-one, div-le-self}
 use denote.Ref.{now}
 use Rattle.reduction.specs.Rows.{compacted}
-use Rattle.reduction.proofs.Powers.{power-pos}
+use Rattle.definitions.proofs.Reduction.{below-power}
 use Rattle.reduction.proofs.Compaction.{
   Moved,
   moved-start,
@@ -50,7 +50,7 @@ loop-holds c =
     let a = c .before .before .args in
     let e = shifted-one (a .shift) (shift-fits (c .before .before)) in
     let start = c .before .before .pre in
-    (e, moved-start _ _ _ _ _ _ (rw e (power-pos (a .shift))) (kept-times (a .rows) (a .shift) _ e (start .0 .1)) (start .0 .0) (start .1))
+    (e, moved-start _ _ _ _ _ _ (rw e (omega (arith, below-power (a .shift), c .if1 .left))) (kept-times (a .rows) (a .shift) _ e (start .0 .1)) (start .0 .0) (start .1))
 
 mul-move-row : tie.Need-mul-move-row Inv-loop μ-loop
 mul-move-row c = omega (arith, moved-next (c .before .before .loop .inv .1) (c .before .loop-test .taken), c .before .before .before .before .before .fits .rows)

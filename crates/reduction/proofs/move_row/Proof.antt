@@ -1,61 +1,132 @@
--- `reduction::move_row` meets its contract: the first `i` bytes are moved, and what the loop has still to read is as it was. Assumes nothing.
-use Prim.Native.Nat.{ℕ, _≤_, _<_, _-_, _+_}
+-- `reduction::move_row` meets its contract: the last four bytes follow on those before them or overlap them, and all are read as they stood.
+use mathlib.Core.Path.{_≡_, ap, _∙_}
+use mathlib.Core.Logic.{⊎-elim}
 use mathlib.Core.List.{List}
-use denote.Ref.{now}
-use mathlib.Core.Path.{_≡_, refl, _∙_, ap}
+use Prim.Native.Nat.{ℕ, _+_, _-_, _≤_}
 use native.Mathlib.Omega.{arith}
-use lib.ListN.{length, drop, set, getD, length-set}
-use lib.Seq.{paste, paste-zero}
-use Rattle.reduction.proofs.Moves.{move-turn}
+use denote.Ref.{now}
+use lib.ListN.{length, drop, length-drop}
+use lib.Seq.{paste, length-paste}
+use borrow.Author.Needs.{needs}
+use Rattle.reduction.proofs.Moves.{Front, front-of, front-four, front-eight, front-size, front-last, source-stays}
+use Rattle.reduction.proofs.ZeroRows.{between}
 use Rattle.reduction.proofs.move_row.Statement.{statement}
 use Rattle.reduction.proofs.move_row.Tie as tie
 
-abbrev Inv-loop : tie.InvT-loop
-Inv-loop text₀ from to width i₀ text i = (i ≤ width) × (length text ≡ length text₀) × (text ≡ paste text₀ to (drop from text₀) i)
+move-bytes-requires : tie.Need-move-bytes-requires
+move-bytes-requires c κs = (omega arith, omega arith)
 
-abbrev μ-loop : tie.MeasureT-loop
-μ-loop text₀ from to width i₀ text i = width - i
+same-length : tie.Need-same-length
+same-length c = search needs
 
-loop-holds : tie.Need-loop-holds Inv-loop μ-loop
-loop-holds c = (omega arith, refl, let a = c .args in paste-zero (now (a .text)) (a .to) (drop (a .from) (now (a .text))))
+returns : tie.Need-returns
+returns c = search needs
 
-add-text : tie.Need-add-text Inv-loop μ-loop
-add-text c = omega arith
+few : (c : tie.Else1) → (4 ≤ c .before .before .args .width) × (c .before .before .args .width ≤ 12)
+few c = between (c .before .before .args .width) (c .if1 .left)
 
-slice-read-text : tie.Need-slice-read-text Inv-loop μ-loop
-slice-read-text c = omega arith
+move-four-requires : tie.Need-move-four-requires
+move-four-requires c κs = (omega (arith, few (c .before)), omega (arith, few (c .before)))
 
-add-text-2 : tie.Need-add-text-2 Inv-loop μ-loop
-add-text-2 c = omega arith
+add-move-four : tie.Need-add-move-four
+add-move-four c = search needs
 
-slice-write-text : tie.Need-slice-write-text Inv-loop μ-loop
-slice-write-text c = omega arith
+add-move-four-2 : tie.Need-add-move-four-2
+add-move-four-2 c = search needs
 
-add-i : tie.Need-add-i Inv-loop μ-loop
-add-i c = omega arith
+move-four-requires-2 : tie.Need-move-four-requires-2
+move-four-requires-2 c κs = search needs
 
-loop-less : tie.Need-loop-less Inv-loop μ-loop
-loop-less c = omega arith
+sub-last : tie.Need-sub-last
+sub-last c = few (c .before .before .before .before .before) .0
 
-loop-again : tie.Need-loop-again Inv-loop μ-loop
-loop-again c =
-    let a = c .before .before .before .args in
-    let l = c .before .before .loop in
-    let room : a .from + l .i < length (now (a .text)) = omega arith in (
-      omega arith,
-      simp length-set (omega arith),
-      ap (λ (t : List ℕ). set t (a .to + l .i) (getD t (a .from + l .i) 0)) (l .inv .2) ∙ move-turn (now (a .text)) (a .from) (a .to) (l .i) (omega arith) room,
-    )
+add-move-four-3 : tie.Need-add-move-four-3
+add-move-four-3 c = search needs
 
-same-length : tie.Need-same-length Inv-loop μ-loop
-same-length c = omega arith
+add-move-four-4 : tie.Need-add-move-four-4
+add-move-four-4 c = search needs
 
-returns : tie.Need-returns Inv-loop μ-loop
-returns c =
-    let a = c .before .before .args in
-    let all : c .before .loop .i ≡ a .width = omega arith in
-    c .before .loop .inv .2 ∙ ap (paste (now (a .text)) (a .to) (drop (a .from) (now (a .text)))) all
+module _ (c : tie.Joined2) where
+  abbrev four : tie.After-move-four
+  four = c .before .before .before
+
+  abbrev text : List ℕ
+  text = now (four .before .before .before .before .args .text)
+
+  abbrev from : ℕ
+  from = four .before .before .before .before .args .from
+
+  abbrev to : ℕ
+  to = four .before .before .before .before .args .to
+
+  abbrev width : ℕ
+  width = four .before .before .before .before .args .width
+
+  range : (4 ≤ width) × (width ≤ 12)
+  range = few (four .before .before)
+
+  apart : (to + width ≤ from) × (from + width ≤ length text)
+  apart = four .before .before .before .before .pre
+
+  hs : width ≤ length (drop from text)
+  hs = rw length-drop (omega (arith, apart))
+
+  hd : to + width ≤ length text
+  hd = omega (arith, apart)
+
+  -- what stands before the last four
+  before-last : Front text to (drop from text) width (c .if2 .text)
+  before-last =
+      ⊎-elim
+      (λ w.
+      front-of text to (drop from text) width hs hd
+      (w .5
+      ∙ w .2 .ensures
+      ∙ ap (λ (t : List ℕ). paste t (to + 4) (drop (from + 4) t) 4) (four .move-four .ensures)
+      ∙ ap (λ (l : List ℕ). paste (paste text to (drop from text) 4) (to + 4) l 4) (source-stays text from to 4 4 (omega (arith, range, apart)) (omega (arith, range, apart))))
+      (front-eight text to (drop from text) width hs hd (w .0 .taken) (range .1)))
+      (λ w. front-of text to (drop from text) width hs hd (w .1 ∙ four .move-four .ensures) (front-four text to (drop from text) width hs hd (range .0) (w .0 .left)))
+      (c .if2 .came)
+
+  size : length (c .if2 .text) ≡ length text
+  size = front-size text to (drop from text) width hs hd before-last
+
+  -- and with them
+  with-last : paste (c .if2 .text) (to + (width - 4)) (drop (from + (width - 4)) (c .if2 .text)) 4 ≡ paste text to (drop from text) width
+  with-last =
+      ap (λ (l : List ℕ). paste (c .if2 .text) (to + (width - 4)) l 4) source
+      ∙ front-last text to (drop from text) width hs hd before-last (range .0)
+    where
+      source : drop (from + (width - 4)) (c .if2 .text) ≡ drop (width - 4) (drop from text)
+      source =
+          ap (drop (from + (width - 4))) (before-last .is)
+          ∙ source-stays text from to (before-last .bytes) (width - 4) (omega (arith, before-last .within, apart)) (omega (arith, before-last .within, apart))
+
+move-four-requires-3 : tie.Need-move-four-requires-3
+move-four-requires-3 c κs = (omega (arith, size (c .before), range (c .before), apart (c .before)), omega (arith, size (c .before), range (c .before), apart (c .before)))
+
+returns-2 : tie.Need-returns-2
+returns-2 c = c .before .before .move-four3 .ensures ∙ with-last (c .before .before .before .before)
+
+same-length-2 : tie.Need-same-length-2
+same-length-2 c =
+    let at = c .before .before .before .before in
+    ap length (returns-2 c) ∙ length-paste (text at) (to at) (drop (from at) (text at)) (width at) (hd at) (hs at)
 
 pub move-row-spec : {M : Type 1} → statement M
 move-row-spec =
-    tie.close (tie.spec Inv-loop μ-loop loop-holds add-text slice-read-text add-text-2 slice-write-text add-i loop-less loop-again same-length returns)
+    tie.close
+    (tie.spec
+    move-bytes-requires
+    same-length
+    returns
+    move-four-requires
+    add-move-four
+    add-move-four-2
+    move-four-requires-2
+    sub-last
+    add-move-four-3
+    add-move-four-4
+    move-four-requires-3
+    same-length-2
+    returns-2)
