@@ -1,7 +1,7 @@
 //! The calls over buffers that are kept from one chart to the next.
 
 use crate::figures::{ArrowStats, Figures, count, place};
-use crate::{Lengths, NOTE_BYTES, Notes, Refusal, lent};
+use crate::{Lengths, NOTE_BYTES, Notes, Refusal, large_pages, lent};
 use std::cell::Cell;
 use std::mem;
 
@@ -99,6 +99,7 @@ fn part<T: Clone + Default>(buffer: &mut Vec<T>, len: usize) -> &mut [T] {
         let grown = len.max(2 * buffer.len());
         *buffer = Vec::new();
         *buffer = vec![T::default(); grown];
+        large_pages::advise(buffer);
     }
     &mut buffer[..len]
 }

@@ -20,6 +20,7 @@
 
 mod buffers;
 mod figures;
+mod large_pages;
 mod lengths;
 pub mod lent;
 mod note;
