@@ -23,12 +23,13 @@ fn mark_heads(text: &[u8], lanes: usize, trim: bool, work: &mut [u16])
     requires { ⌜ Room trim lanes (now text) (now work) × ((i : ℕ) → getD (now work) i 0 ≡ 0) ⌝ }
     ensures { λ _. ⌜ Heads (rowsBack trim lanes (now (text .entry))) (now (work .exit)) ⌝ }
 {
+    let width = reader::back::back_width(text, lanes, trim);
     let mut t = holds::no_tracker();
     let mut busy: u32 = 0;
     let mut off = 0;
     let mut row: u32 = 0;
     while off <= text.len() {
-        let line = reader::back::back_line(text, off, lanes, trim);
+        let line = reader::back::back_line(text, off, lanes, width, trim);
         let next = line.next;
         if line.row {
             let end = off + lanes;
@@ -67,12 +68,13 @@ fn count_kept(text: &[u8], lanes: usize, trim: bool, work: &[u16]) -> ArrowStats
     requires { ⌜ Room trim lanes (now text) (now work) × Heads (rowsBack trim lanes (now text)) (now work) ⌝ }
     ensures { λ r. ⌜ r ≡ tally (pairedOnly (rowsBack trim lanes (now (text .entry)))) ⌝ }
 {
+    let width = reader::back::back_width(text, lanes, trim);
     let counts = taps::tap_mask_counts();
     let mut stats = row_tally::no_stats();
     let mut off = 0;
     let mut i = 0;
     while off <= text.len() {
-        let line = reader::back::back_line(text, off, lanes, trim);
+        let line = reader::back::back_line(text, off, lanes, width, trim);
         let next = line.next;
         if line.row {
             let end = off + lanes;

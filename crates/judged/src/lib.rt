@@ -48,16 +48,17 @@ fn is_judged(all: bool, flags: &[u8], i: usize) -> bool
 // The entry of each row in the work slice, as the Rust's `TimingRow`: its paired heads, how many holds of judged heads end there, and whether
 // it is judged. `busy` has the columns with an open head: a row of taps in other columns leaves the tracker as it is.
 fn track_timing_rows(data: &[u8], lanes: usize, all: bool, flags: &[u8], work: &mut [u16])
-    requires { ⌜ (length (now «data») ≤ mostBytes) × (lanes ≤ 10) × (mostRows lanes (length (now «data»)) ≤ length (now work)) ⌝ }
+    requires { ⌜ (length (now «data») ≤ mostBytes) × (4 ≤ lanes) × (lanes ≤ 10) × (mostRows lanes (length (now «data»)) ≤ length (now work)) ⌝ }
     ensures { λ _. ⌜ WorkEntries (judgedBy all (now (flags .entry))) (readBack lanes (now («data» .entry))) (now (work .exit)) ⌝ }
 {
+    let width = reader::back::back_width(data, lanes, true);
     slices::zero_u16(&mut *work, 0);
     let mut t = holds::no_tracker();
     let mut busy: u32 = 0;
     let mut off = 0;
     let mut row: u32 = 0;
     while off <= data.len() {
-        let line = reader::back::back_line(data, off, lanes, true);
+        let line = reader::back::back_line(data, off, lanes, width, true);
         let next = line.next;
         if line.row {
             let end = off + lanes;
@@ -122,16 +123,17 @@ fn process_timing_taps(
 
 // The rows again, each with its entry.
 fn tally_timing_rows(data: &[u8], lanes: usize, work: &[u16]) -> ArrowStats
-    requires { ⌜ (length (now «data») ≤ mostBytes) × (lanes ≤ 10) × (mostRows lanes (length (now «data»)) ≤ length (now work)) ⌝ }
+    requires { ⌜ (length (now «data») ≤ mostBytes) × (4 ≤ lanes) × (lanes ≤ 10) × (mostRows lanes (length (now «data»)) ≤ length (now work)) ⌝ }
     requires { ⌜ SomeWorkEntries (readBack lanes (now «data»)) (now work) ⌝ }
     ensures { λ r. ⌜ ((J : ℕ → Bool) → WorkEntries J (readBack lanes (now («data» .entry))) (now (work .entry)) → r ≡ judgedRows lanes J (readBack lanes (now («data» .entry)))) ⌝ }
 {
+    let width = reader::back::back_width(data, lanes, true);
     let counts = taps::tap_mask_counts();
     let mut t = no_timing();
     let mut off = 0;
     let mut row = 0;
     while off <= data.len() {
-        let line = reader::back::back_line(data, off, lanes, true);
+        let line = reader::back::back_line(data, off, lanes, width, true);
         let next = line.next;
         if line.row {
             let end = off + lanes;
@@ -155,7 +157,7 @@ fn tally_timing_rows(data: &[u8], lanes: usize, work: &[u16]) -> ArrowStats
 
 // The judged tally of an accepted text by the two loops, through the work slice, which is left 0 throughout.
 fn judge_rows(data: &[u8], lanes: usize, all: bool, flags: &[u8], work: &mut [u16]) -> ArrowStats
-    requires { ⌜ (length (now «data») ≤ mostBytes) × (lanes ≤ 10) × (mostRows lanes (length (now «data»)) ≤ length (now work)) ⌝ }
+    requires { ⌜ (length (now «data») ≤ mostBytes) × (4 ≤ lanes) × (lanes ≤ 10) × (mostRows lanes (length (now «data»)) ≤ length (now work)) ⌝ }
     ensures { λ r. ⌜ r ≡ judgedRows lanes (judgedBy all (now (flags .entry))) (readBack lanes (now («data» .entry))) ⌝ }
     ensures { λ _. ⌜ now (work .exit) ≡ padded 0 (length (now (work .entry))) [] ⌝ }
 {
@@ -174,7 +176,7 @@ fn judge_accepted(
     flags: &[u8],
     work: &mut [u16],
 ) -> ArrowStats
-    requires { ⌜ (length (now «data») ≤ mostBytes) × (lanes ≤ 10) × (mostRows lanes (length (now «data»)) ≤ length (now work)) ⌝ }
+    requires { ⌜ (length (now «data») ≤ mostBytes) × (4 ≤ lanes) × (lanes ≤ 10) × (mostRows lanes (length (now «data»)) ≤ length (now work)) ⌝ }
     ensures { λ r. ⌜ r ≡ judgedRows lanes (judgedBy all (now (flags .entry))) (readBack lanes (now («data» .entry))) ⌝ }
     ensures { λ _. ⌜ now (work .exit) ≡ padded 0 (length (now (work .entry))) [] ⌝ }
 {

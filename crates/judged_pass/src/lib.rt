@@ -159,14 +159,15 @@ fn count_row(t: CleanRows, row: &[u8], counts: &[u16; 256]) -> CleanRows
 
 // The judged tally of a text's rows, every row judged: an answer is given only where they are clean.
 pub fn judge_clean(data: &[u8], lanes: usize) -> CleanTally
-    requires { ⌜ (length (now «data») ≤ mostBytes) × (lanes ≤ 10) ⌝ }
+    requires { ⌜ (length (now «data») ≤ mostBytes) × (4 ≤ lanes) × (lanes ≤ 10) ⌝ }
     ensures { λ r. ⌜ ((s : ArrowStats) → r ≡ CleanTally.Tally s → CleanJudged lanes (readBack lanes (now («data» .entry))) s) ⌝ }
 {
     let counts = taps::tap_mask_counts();
     let mut t = no_rows();
+    let width = reader::back::back_width(data, lanes, true);
     let mut off = 0;
     while off <= data.len() {
-        let line = reader::back::back_line(data, off, lanes, true);
+        let line = reader::back::back_line(data, off, lanes, width, true);
         let next = line.next;
         if line.row {
             let end = off + lanes;

@@ -47,13 +47,27 @@ trim-less (b ∷ []) = go (eqb b 13)
     go false = omega arith
 trim-less (b ∷ b' ∷ s) = omega (arith, trim-less (b' ∷ s))
 
-by-front : (trim : Bool) (l : List ℕ) → trimmedBy trim l ≡ take (length (trimmedBy trim l)) l
+pub by-front : (trim : Bool) (l : List ℕ) → trimmedBy trim l ≡ take (length (trimmedBy trim l)) l
 by-front true l = trim-front l
 by-front false l = sym (take-all-is l)
   where
     take-all-is : (l : List ℕ) → take (length l) l ≡ l
     take-all-is [] = refl
     take-all-is (x ∷ l) = ap (λ r. x ∷ r) (take-all-is l)
+
+-- and at most one byte is off
+trim-most : (l : List ℕ) → length l ≤ length (trimCr l) + 1
+trim-most [] = omega arith
+trim-most (b ∷ []) = go (eqb b 13)
+  where
+    go : (t : Bool) → 1 ≤ length (cond t [] (b ∷ [])) + 1
+    go true = omega arith
+    go false = omega arith
+trim-most (b ∷ b' ∷ s) = omega (arith, trim-most (b' ∷ s))
+
+pub by-most : (trim : Bool) (l : List ℕ) → length l ≤ length (trimmedBy trim l) + 1
+by-most true l = trim-most l
+by-most false l = omega arith
 
 by-less : (trim : Bool) (l : List ℕ) → length (trimmedBy trim l) ≤ length l
 by-less true l = trim-less l

@@ -1,55 +1,130 @@
 -- A plain row: its line begins with no blank, `,`, `;` or `/` and has at least L bytes. Laws of a part of a text that begins with it, and of the
 -- text where that part stands.
-use mathlib.Core.Path.{_≡_, refl, ap, sym, _∙_, subst}
-use mathlib.Core.Bool.{Bool, true, false, cond, _||_}
+use mathlib.Core.Path.{_≡_, refl, ap, sym, _∙_}
+use mathlib.Core.Logic.{_⊎_, inl, inr, ⊎-elim}
+use mathlib.Core.Bool.{Bool, true, false, cond, _&&_, not}
 use mathlib.Core.List.{List, [], _∷_}
-use Prim.Native.Nat.{ℕ, zero, suc, _+_, _-_, _*_, _/_, _≤_, _<_}
-use native.Mathlib.Decide.{decLt}
-use native.Mathlib.Nat.{add-zero, zero-add, suc-add}
+use Prim.Native.Nat.{ℕ, zero, suc, _+_, _-_, _≤_, _<_}
+use native.Mathlib.Nat.{zero-add, suc-add}
 use native.Mathlib.Omega.{arith}
-use borrow.Author.Tests.{eqb-false, eq-eqb, ne-eqb, le-leb}
-use lib.Dec.{eqb}
+use borrow.Author.Tests.{eqb-true, eqb-false, eq-eqb, ne-eqb, ltb-true, leb-true, le-leb, not-true}
+use lib.Dec.{eqb, ltb, leb}
 use lib.ListN.{length, getD, take, drop, length-drop}
-use lib.Seq.{drop-cons, getD-take, length-take-le}
-use Rattle.definitions.specs.Lists.{among}
+use lib.Seq.{getD-take, length-take-le}
 use Rattle.definitions.specs.Lines.{isBlank, trim, isRow, kindOf}
 use Rattle.definitions.specs.declared.LineKind.the-variants as line
+use Rattle.definitions.proofs.Bools.{and-left, and-right, and-false}
 use Rattle.lines.specs.Lines.{firstLine}
-use Rattle.lines.specs.Words.{firstIn, halfAt, wordOf, Bytes}
-use Rattle.reader.specs.Reading.{LineWidth, LineRead, plainRow}
-use Rattle.reader.proofs.Parts.{line-read}
+use Rattle.lines.specs.Words.{firstIn}
+use Rattle.reader.specs.Reading.{LineRead, justRow, nearRow, plainRow}
+use Rattle.reader.proofs.Parts.{line-front, line-read}
 
--- a place among n bytes is at most n
-pub place-few : (b n : ℕ) (s : List ℕ) → firstIn b (take n s) ≤ n
+-- ---- where the first line ends, told by the first newline among eight bytes
+
+-- the first line ends at the first newline
+line-place : (s : List ℕ) → length (firstLine s) ≡ firstIn 10 s
+unfolding firstLine firstIn
+line-place [] = refl
+line-place (x ∷ s) = go (eqb x 10) (line-place s)
+  where
+    go : (t : Bool) → length (firstLine s) ≡ firstIn 10 s → length (cond t [] (x ∷ firstLine s)) ≡ cond t 0 (suc (firstIn 10 s))
+    go true h = refl
+    go false h = ap suc h
+
+-- it is no further on than any newline
+place-most : (b : ℕ) (s : List ℕ) (k : ℕ) → k < length s → getD s k 0 ≡ b → firstIn b s ≤ k
 unfolding firstIn
-place-few b zero s = omega arith
-place-few b (suc n) [] = omega arith
-place-few b (suc n) (x ∷ s) = go (eqb x b) (place-few b n s)
+place-most b [] k h e = absurd (omega arith)
+place-most b (x ∷ s) zero h e = rw (eq-eqb x b e) (omega arith)
+place-most b (x ∷ s) (suc k) h e = go (eqb x b) (place-most b s k (omega arith) e)
   where
-    go : (t : Bool) → firstIn b (take n s) ≤ n → cond t 0 (suc (firstIn b (take n s))) ≤ suc n
-    go true h = omega arith
-    go false h = omega arith
+    go : (t : Bool) → firstIn b s ≤ k → cond t 0 (suc (firstIn b s)) ≤ suc k
+    go true l = omega arith
+    go false l = omega arith
 
--- None of the first k bytes is a newline: the line has them, and then what the line from there on has.
-line-past : (k n m : ℕ) (s : List ℕ) → k ≤ firstIn 10 (take n s) → firstLine (drop k s) ≡ take m (drop k s) → firstLine s ≡ take (k + m) s
-unfolding firstIn firstLine
-line-past zero n m s h e = rw zero-add e
-line-past (suc k) n m [] h e = rw suc-add
-line-past (suc k) zero m (x ∷ s) h e = absurd (omega arith)
-line-past (suc k) (suc n) m (x ∷ s) h e = rw suc-add (go (eqb x 10) h (λ l. line-past k n m s l e))
+-- among the first n bytes it has the same place, or it is none of them
+place-near : (b n : ℕ) (s : List ℕ) → (firstIn b (take n s) ≡ firstIn b s) ⊎ ((n ≤ firstIn b (take n s)) × (n ≤ firstIn b s))
+unfolding firstIn
+place-near b zero s = inr (omega arith, omega arith)
+place-near b (suc n) [] = inl refl
+place-near b (suc n) (x ∷ s) = go (eqb x b) (place-near b n s)
   where
-    go : (t : Bool) → suc k ≤ cond t 0 (suc (firstIn 10 (take n s))) → (k ≤ firstIn 10 (take n s) → firstLine s ≡ take (k + m) s) → cond t [] (x ∷ firstLine s) ≡ x ∷ take (k + m) s
-    go true l ih = absurd (omega arith)
-    go false l ih = ap (λ p. x ∷ p) (ih (omega arith))
+    go : (t : Bool) → (firstIn b (take n s) ≡ firstIn b s) ⊎ ((n ≤ firstIn b (take n s)) × (n ≤ firstIn b s))
+        → (cond t 0 (suc (firstIn b (take n s))) ≡ cond t 0 (suc (firstIn b s))) ⊎ ((suc n ≤ cond t 0 (suc (firstIn b (take n s)))) × (suc n ≤ cond t 0 (suc (firstIn b s))))
+    go true h = inl refl
+    go false h = ⊎-elim (λ e. inl (ap suc e)) (λ f. inr (omega (arith, f .0), omega (arith, f .1))) h
 
--- a newline at k
-ends-here : (k : ℕ) (s : List ℕ) → k < length s → getD s k 0 ≡ 10 → firstLine (drop k s) ≡ take 0 (drop k s)
-unfolding firstLine
-ends-here k s h e = rw (drop-cons s k 0) (simp (eq-eqb (getD s k 0) 10 e))
+-- past k bytes that are none it is k further on
+place-past : (b k : ℕ) (s : List ℕ) → k ≤ length s → ((i : ℕ) → i < k → getD s i 0 ≡ b → ⊥) → firstIn b s ≡ k + firstIn b (drop k s)
+unfolding firstIn
+place-past b zero s h f = sym (zero-add (firstIn b s))
+place-past b (suc k) [] h f = absurd (omega arith)
+place-past b (suc k) (x ∷ s) h f =
+    rw (ne-eqb x b (f 0 (omega arith)), suc-add) (ap suc (place-past b k s (omega arith) (λ i l. f (suc i) (omega arith))))
 
--- none of the first L bytes is a newline and the next one is: they are the line
-pub line-just : (L n : ℕ) (s : List ℕ) → L < length s → L ≤ firstIn 10 (take n s) → getD s L 0 ≡ 10 → firstLine s ≡ take L s
-line-just L n s h near e = line-past L n 0 s near (ends-here L s h e) ∙ ap (λ k. take k s) (add-zero L)
+same-test : (a b c d : ℕ) → (a ≡ b → c ≡ d) → (c ≡ d → a ≡ b) → eqb a b ≡ eqb c d
+same-test a b c d f g = go (eqb a b) refl
+  where
+    go : (t : Bool) → eqb a b ≡ t → t ≡ eqb c d
+    go true e = sym (eq-eqb c d (f (eqb-true a b e)))
+    go false e = sym (ne-eqb c d (λ q. eqb-false a b e (g q)))
+
+-- none of four bytes
+four-other : (s : List ℕ) (b : ℕ) → (getD s 0 0 ≡ b → ⊥) → (getD s 1 0 ≡ b → ⊥) → (getD s 2 0 ≡ b → ⊥) → (getD s 3 0 ≡ b → ⊥)
+    → (k : ℕ) → k < 4 → getD s k 0 ≡ b → ⊥
+four-other s b p q r t zero h = p
+four-other s b p q r t (suc zero) h = q
+four-other s b p q r t (suc (suc zero)) h = r
+four-other s b p q r t (suc (suc (suc zero))) h = t
+four-other s b p q r t (suc (suc (suc (suc k)))) h = absurd (omega arith)
+
+module _ (s : List ℕ) (m : ℕ) (long : 12 ≤ length s) (low : 4 ≤ m) (high : m ≤ 11) where
+  -- no line of m bytes where one of the first four is a newline
+  early : (k : ℕ) → k < 4 → eqb (getD s k 0) 10 ≡ true → eqb (length (firstLine s)) m ≡ false
+  early k h e =
+      let near : firstIn 10 s ≤ k = place-most 10 s k (omega arith) (eqb-true (getD s k 0) 10 e) in
+      rw line-place (ne-eqb (firstIn 10 s) m (λ q. omega arith))
+
+  -- else it ends where the newline is the first of the eight bytes
+  look : ((k : ℕ) → k < 4 → getD s k 0 ≡ 10 → ⊥) → eqb (firstIn 10 (take 8 (drop (m - 7) s))) (m - (m - 7)) ≡ eqb (length (firstLine s)) m
+  look other =
+      let rest = drop (m - 7) s in
+      let near = firstIn 10 (take 8 rest) in
+      let at : firstIn 10 s ≡ m - 7 + firstIn 10 rest = place-past 10 (m - 7) s (omega arith) (λ k h. other k (omega arith)) in
+      rw line-place (told near (firstIn 10 rest) (firstIn 10 s) at (place-near 10 8 rest))
+    where
+      told : (near far all : ℕ) → all ≡ m - 7 + far → (near ≡ far) ⊎ ((8 ≤ near) × (8 ≤ far)) → eqb near (m - (m - 7)) ≡ eqb all m
+      told near far all e h =
+          same-test near (m - (m - 7)) all m (λ q. ⊎-elim (λ p. omega arith) (λ f. absurd (omega (arith, f .0))) h)
+          (λ q. ⊎-elim (λ p. omega arith) (λ f. absurd (omega (arith, f .1))) h)
+
+-- a test more that fails only where the whole does
+one-more : (x y a : Bool) → (a ≡ true → y ≡ false) → (a ≡ false → x ≡ y) → (x && not a) ≡ y
+one-more x y true f g = and-false x ∙ sym (f refl)
+one-more true y false f g = g refl
+one-more false y false f g = g refl
+
+-- a test that both have
+both : (x y p : Bool) → (p ≡ true → x ≡ y) → (x && p) ≡ (y && p)
+both x y true f = ap (λ t. t && true) (f refl)
+both x y false f = and-false x ∙ sym (and-false y)
+
+-- What `is_just_row` tests.
+pub just-told : (s : List ℕ) (m : ℕ) → 12 ≤ length s → 4 ≤ m → m ≤ 11
+    → (((((eqb (firstIn 10 (take 8 (drop (m - 7) s))) (m - (m - 7)) && not (eqb (getD s 1 0) 10)) && not (eqb (getD s 2 0) 10)) && not (eqb (getD s 3 0) 10)) && ltb 47 (getD s 0 0)) && not (eqb (getD s 0 0) 59))
+    ≡ justRow m s
+just-told s m long low high =
+    let y = eqb (length (firstLine s)) m in
+    let past = ltb 47 (getD s 0 0) in
+    ap (λ t. t && not (eqb (getD s 0 0) 59))
+    (both _ y past (λ p.
+    let first : 47 < getD s 0 0 = ltb-true 47 (getD s 0 0) p in
+    one-more _ y (eqb (getD s 3 0) 10) (early s m long low high 3 (omega arith)) (λ c.
+    one-more _ y (eqb (getD s 2 0) 10) (early s m long low high 2 (omega arith)) (λ b.
+    one-more _ y (eqb (getD s 1 0) 10) (early s m long low high 1 (omega arith)) (λ a.
+    look s m long low high (four-other s 10 (λ e. omega arith) (eqb-false _ 10 a) (eqb-false _ 10 b) (eqb-false _ 10 c)))))))
+
+-- ---- such a line is a row
 
 -- a line that begins with a byte past `/` loses nothing at its front
 bare : (l : List ℕ) → 47 < getD l 0 0 → l ≡ trim l
@@ -76,6 +151,27 @@ plain-line L m part h w some found low semi =
     let at : m - m ≡ 0 = omega arith in
     rw (n, zero-add, at) at read
 
+-- What it says where it is so: the line's length and its first byte.
+pub near-just : (m : ℕ) (part : List ℕ) → nearRow m part ≡ true
+    → (12 ≤ length part) × (firstLine part ≡ take m part) × (47 < getD part 0 0) × (getD part 0 0 ≡ 59 → ⊥)
+near-just m part e =
+    let wide = leb 12 (length part) in
+    let just = eqb (length (firstLine part)) m in
+    let past = ltb 47 (getD part 0 0) in
+    let semi = eqb (getD part 0 0) 59 in
+    let all = and-right wide ((just && past) && not semi) e in
+    let two = and-left (just && past) (not semi) all in (
+      leb-true 12 (length part) (and-left wide ((just && past) && not semi) e),
+      line-front part ∙ ap (λ k. take k part) (eqb-true (length (firstLine part)) m (and-left just past two)),
+      ltb-true 47 (getD part 0 0) (and-right just past two),
+      eqb-false (getD part 0 0) 59 (not-true semi (and-right (just && past) (not semi) all)),
+    )
+
+pub near-row : (L m : ℕ) (part : List ℕ) → L ≤ m → 4 ≤ m → m ≤ 11 → nearRow m part ≡ true → LineRead L part 0 (plainRow 0 m)
+near-row L m part w low high e =
+    let told = near-just m part e in
+    plain-line L m part (omega (arith, told .0)) w (omega arith) (told .1) (told .2) (told .3)
+
 -- The line that a part of the text begins with, at its place in the text.
 pub added-back : (L m : ℕ) (text : List ℕ) (off : ℕ) → off ≤ length text → LineRead L (drop off text) 0 (plainRow 0 m) → LineRead L text off (plainRow off (off + m))
 added-back L m text off h x =
@@ -87,90 +183,3 @@ added-back L m text off h x =
       row = x .row;
       room = λ e. (omega (arith, x .room e .0), omega (arith, x .room e .0));
     }
-
--- ---- a row that is told by its first four bytes, its last four and the two in its middle
-
--- none of the first n bytes is a newline
-first-other : (n : ℕ) (xs : List ℕ) → n ≤ length xs → ((k : ℕ) → k < n → getD xs k 0 ≡ 10 → ⊥) → n ≤ firstIn 10 xs
-unfolding firstIn
-first-other zero xs h f = omega arith
-first-other (suc n) [] h f = absurd (omega arith)
-first-other (suc n) (x ∷ xs) h f =
-    rw (ne-eqb x 10 (f 0 (omega arith))) (omega (arith, first-other n xs (omega arith) (λ k b. f (suc k) (omega arith))))
-
-pub just-row : (L m : ℕ) (part : List ℕ) → m < length part → L ≤ m → 0 < m → ((k : ℕ) → k < m → getD part k 0 ≡ 10 → ⊥)
-    → 47 < getD part 0 0 → (getD part 0 0 ≡ 59 → ⊥) → getD part m 0 ≡ 10 → LineRead L part 0 (plainRow 0 m)
-just-row L m part h w some other low semi newline =
-    let size : length (take m part) ≡ m = length-take-le m part (omega arith) in
-    let near : m ≤ firstIn 10 (take m part) = first-other m (take m part) (omega arith) (λ k b. rw (getD-take m part k 0 b) (other k b)) in
-    plain-line L m part h w some (line-just m m part h near newline) low semi
-
--- four bytes at i and four at j
-abbrev pub ends : List ℕ → ℕ → ℕ → List ℕ
-ends s i j =
-    getD s i 0 ∷ getD s (i + 1) 0 ∷ getD s (i + 2) 0 ∷ getD s (i + 3) 0 ∷ getD s j 0 ∷ getD s (j + 1) 0 ∷ getD s (j + 2) 0 ∷ getD s (j + 3) 0 ∷ []
-
-pub ends-word : (s : List ℕ) (i j : ℕ) → wordOf (ends s i j) ≡ halfAt s i + halfAt s j * 4294967296
-unfolding wordOf
-ends-word s i j = omega arith
-
-pub ends-bytes : (s : List ℕ) (i j : ℕ) → ((k : ℕ) → getD s k 0 < 256) → Bytes (ends s i j)
-ends-bytes s i j h = (h i, (h (i + 1), (h (i + 2), (h (i + 3), (h j, (h (j + 1), (h (j + 2), (h (j + 3), tt))))))))
-
-neither : (x y : Bool) → (x || y) ≡ false → (x ≡ false) × (y ≡ false)
-neither true y e = let z : _≡_ {A = ℕ} 0 1 = cc in absurd (omega arith)
-neither false y e = (refl, e)
-
-other-byte : (x : ℕ) → eqb 10 x ≡ false → x ≡ 10 → ⊥
-other-byte x e q = eqb-false 10 x e (sym q)
-
-four-other : (s : List ℕ) (i : ℕ) → (getD s i 0 ≡ 10 → ⊥) → (getD s (i + 1) 0 ≡ 10 → ⊥) → (getD s (i + 2) 0 ≡ 10 → ⊥) → (getD s (i + 3) 0 ≡ 10 → ⊥)
-    → (k : ℕ) → k < 4 → getD s (i + k) 0 ≡ 10 → ⊥
-four-other s i a b c d zero h = rw add-zero a
-four-other s i a b c d (suc zero) h = b
-four-other s i a b c d (suc (suc zero)) h = c
-four-other s i a b c d (suc (suc (suc zero))) h = d
-four-other s i a b c d (suc (suc (suc (suc k)))) h = absurd (omega arith)
-
-pub ends-other : (s : List ℕ) (i j : ℕ) → among 10 (ends s i j) ≡ false → ((k : ℕ) → k < 4 → getD s (i + k) 0 ≡ 10 → ⊥) × ((k : ℕ) → k < 4 → getD s (j + k) 0 ≡ 10 → ⊥)
-ends-other s i j e =
-    let a = neither (eqb 10 (getD s i 0)) _ e in
-    let b = neither (eqb 10 (getD s (i + 1) 0)) _ (a .1) in
-    let c = neither (eqb 10 (getD s (i + 2) 0)) _ (b .1) in
-    let d = neither (eqb 10 (getD s (i + 3) 0)) _ (c .1) in
-    let f = neither (eqb 10 (getD s j 0)) _ (d .1) in
-    let g = neither (eqb 10 (getD s (j + 1) 0)) _ (f .1) in
-    let h = neither (eqb 10 (getD s (j + 2) 0)) _ (g .1) in
-    let k = neither (eqb 10 (getD s (j + 3) 0)) _ (h .1) in (
-      four-other s i (other-byte _ (a .0)) (other-byte _ (b .0)) (other-byte _ (c .0)) (other-byte _ (d .0)),
-      four-other s j (other-byte _ (f .0)) (other-byte _ (g .0)) (other-byte _ (h .0)) (other-byte _ (k .0)),
-    )
-
--- all cells of a row of up to ten
-cells-other : (s : List ℕ) (L : ℕ) → 4 ≤ L → L ≤ 10 → among 10 (ends s 0 (L - 4)) ≡ false
-    → (getD s (L / 2 - 1) 0 ≡ 10 → ⊥) → (getD s (L / 2) 0 ≡ 10 → ⊥) → (k : ℕ) → k < L → getD s k 0 ≡ 10 → ⊥
-cells-other s L low high e left right k h =
-    let f = ends-other s 0 (L - 4) e in
-    elim (decLt k 4) [
-      | yes b ↦ rw zero-add at (f .0 k b)
-      | no n ↦
-          elim (decLt k (L - 4)) [
-            | no w ↦
-                let place : L - 4 + (k - (L - 4)) ≡ k = omega arith in
-                subst (λ p. getD s p 0 ≡ 10 → ⊥) place (f .1 (k - (L - 4)) (omega arith))
-            | yes w ↦
-                elim (decLt k (L / 2)) [
-                  | yes u ↦ let place : L / 2 - 1 ≡ k = omega arith in subst (λ p. getD s p 0 ≡ 10 → ⊥) place left
-                  | no u ↦ let place : L / 2 ≡ k = omega arith in subst (λ p. getD s p 0 ≡ 10 → ⊥) place right
-                ]
-          ]
-    ]
-
--- and of its line, which has at most one byte more
-pub all-other : (s : List ℕ) (L m : ℕ) → 4 ≤ L → L ≤ 10 → LineWidth L m → among 10 (ends s 0 (L - 4)) ≡ false
-    → (getD s (L / 2 - 1) 0 ≡ 10 → ⊥) → (getD s (L / 2) 0 ≡ 10 → ⊥) → (getD s (m - 1) 0 ≡ 10 → ⊥) → (k : ℕ) → k < m → getD s k 0 ≡ 10 → ⊥
-all-other s L m low high w e left right last k h =
-    elim (decLt k L) [
-      | yes b ↦ cells-other s L low high e left right k b
-      | no n ↦ let place : m - 1 ≡ k = omega (arith, w .0, w .1) in subst (λ p. getD s p 0 ≡ 10 → ⊥) place last
-    ]

@@ -1,14 +1,16 @@
 -- Minimised text read back as a loop over its lines meets it.
 use mathlib.Core.Path.{_≡_}
-use mathlib.Core.Bool.{Bool, true, false}
+use mathlib.Core.Bool.{Bool, true, false, _&&_, not}
 use mathlib.Core.List.{List, [], _∷_, _++_}
-use Prim.Native.Nat.{ℕ, _+_, _*_, _≤_}
-use lib.ListN.{length, take, drop}
+use Prim.Native.Nat.{ℕ, _+_, _-_, _*_, _≤_}
+use lib.Dec.{eqb}
+use lib.ListN.{length, getD, take, drop}
 use Rattle.definitions.specs.Lists.{onlyIf}
 use Rattle.definitions.specs.Lines.{Row, cut}
 use Rattle.definitions.specs.ReadBack.{trimCr, backRow}
 use Rattle.lines.specs.Lines.{firstLine, linesFrom}
 use Rattle.reader.specs.declared.BackLine.{BackLine}
+use Rattle.reader.specs.Reading.{nearRow}
 
 -- a line as it counts: without one byte 13 at its end, or as it is
 abbrev pub trimmedBy : Bool → List ℕ → List ℕ
@@ -30,9 +32,13 @@ pub record BackRead (trim : Bool) (L : ℕ) (text : List ℕ) (off : ℕ) (r : B
   pub row : backRow L (trimmedBy trim (firstLine (drop off text))) ≡ onlyIf (r .row) (take L (drop off text) ∷ [])
   pub room : r .row ≡ true → off + L + 1 ≤ r .next
 
--- a row that is all of its line
-abbrev pub plainBack : ℕ → ℕ → BackLine
-plainBack off L = record { row = true; next = off + L + 1 }
+-- Whether a text begins with a row of so many bytes, as `nearRow` tells it, whose last cell is no byte 13.
+abbrev pub plainRowBack : ℕ → ℕ → List ℕ → Bool
+plainRowBack L width s = nearRow width s && not (eqb (getD s (L - 1) 0) 13)
+
+-- a row of a line that ends at `end`
+abbrev pub plainBack : ℕ → BackLine
+plainBack end = record { row = true; next = end + 1 }
 
 -- Before the line at `off` these rows were read back.
 pub record BackReading (trim : Bool) (L : ℕ) (text : List ℕ) (off : ℕ) (rows : List Row) : Type 0 where

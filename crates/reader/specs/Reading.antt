@@ -1,8 +1,10 @@
 -- A text as a loop over its lines meets it: the line at a place, and what has been read before it.
 use mathlib.Core.Path.{_≡_}
+use mathlib.Core.Bool.{Bool, _&&_, not}
 use mathlib.Core.List.{List, [], _∷_, _++_}
 use Prim.Native.Nat.{ℕ, _+_, _*_, _≤_}
-use lib.ListN.{length, take, drop}
+use lib.Dec.{eqb, leb, ltb}
+use lib.ListN.{length, getD, take, drop}
 use Rattle.definitions.specs.Lists.{joined}
 use Rattle.definitions.specs.Lines.{Row, lineKind, lineRow}
 use Rattle.definitions.specs.Measures.{measures, chart}
@@ -23,6 +25,13 @@ pub record LineRead (L : ℕ) (text : List ℕ) (off : ℕ) (r : ReadLine) : Typ
   pub comma : r .kind ≡ line.Comma → off + 2 ≤ r .next
   pub row : r .kind ≡ line.Row → take L (drop (r .start) text) ≡ lineRow L (firstLine (drop off text))
   pub room : r .kind ≡ line.Row → (off + L + 1 ≤ r .next) × (r .start + L + 1 ≤ r .next)
+
+-- Whether a text begins with a line of so many bytes whose first is past `/` and no `;`, and the same with twelve bytes to look at.
+abbrev pub justRow : ℕ → List ℕ → Bool
+justRow width s = (eqb (length (firstLine s)) width && ltb 47 (getD s 0 0)) && not (eqb (getD s 0 0) 59)
+
+abbrev pub nearRow : ℕ → List ℕ → Bool
+nearRow width s = leb 12 (length s) && justRow width s
 
 -- a row that begins where its line does, of a line that ends at `end`
 abbrev pub plainRow : ℕ → ℕ → ReadLine

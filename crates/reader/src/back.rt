@@ -1,11 +1,12 @@
 // Reading minimised text back, as `parse_minimized_rows` does: by lines, with no blanks stripped, no comment known and no end at `;`.
 ghost use mathlib.Core.Path.{_≡_};
-ghost use mathlib.Core.Bool.{Bool, true, _&&_, not};
+ghost use mathlib.Core.Bool.{_&&_, not};
 ghost use Prim.Native.Nat.{_+_, _≤_};
 ghost use lib.ListN.{length};
 ghost use Rattle.definitions.specs.Lines.{isRow};
 ghost use Rattle.definitions.specs.ReadBack.{beginsMark};
-ghost use Rattle.reader.specs.BackReading.{BackRead, plainBack};
+ghost use Rattle.reader.specs.Reading.{LineWidth};
+ghost use Rattle.reader.specs.BackReading.{BackRead, plainRowBack};
 use crate::BackLine;
 
 // Whether a line is long enough and begins with no `,` or `;`.
@@ -20,23 +21,6 @@ fn is_back_row(line: &[u8], lanes: usize) -> bool
         59 => false,
         _ => crate::is_row(line, lanes),
     }
-}
-
-// Whether a text that goes on as `part` does begins with a row of just `lanes` bytes: no newline among them and one after them, no `,` or `;`
-// first and no byte 13 last. It may say no of such a row: of one longer than a word always.
-fn is_plain_row(part: &[u8], lanes: usize) -> bool
-    requires { ⌜ 10 ≤ length (now part) ⌝ }
-    ensures { λ r. ⌜ (r ≡ true → (trim : Bool) → BackRead trim lanes (now (part .entry)) 0 (plainBack 0 lanes)) ⌝ }
-{
-    if lines::near_newline(part, 0) < lanes {
-        return false;
-    }
-    if lanes == 0 {
-        return false;
-    }
-    let first = part[0];
-    let last = part[lanes - 1];
-    (first != b',') & (first != b';') & (last != 13) & (part[lanes] == 10)
 }
 
 // Any line.
@@ -58,21 +42,37 @@ fn any_back_line(text: &[u8], off: usize, lanes: usize, trim: bool) -> BackLine
     }
 }
 
+// Whether a text that goes on as `part` does begins with a row of `width` bytes, as `is_near_row` tells it, whose last cell is no byte 13.
+fn is_plain_row(part: &[u8], lanes: usize, width: usize) -> bool
+    requires { ⌜ (4 ≤ lanes) × (lanes ≤ 10) × LineWidth lanes width ⌝ }
+    ensures { λ r. ⌜ r ≡ plainRowBack lanes width (now (part .entry)) ⌝ }
+{
+    if part.len() < 12 {
+        return false;
+    }
+    crate::is_just_row(part, width) & (part[lanes - 1] != 13)
+}
+
 // The line at `off`. With `trim` one byte 13 at its end does not count, as in `parse_minimized_rows`; without it the line is taken as it is.
-// A plain row, as most lines are, is told by one look.
-pub fn back_line(text: &[u8], off: usize, lanes: usize, trim: bool) -> BackLine
-    requires { ⌜ off ≤ length (now text) ⌝ }
+// A row of `width` bytes, as most lines are, is told by the look that `read_line` has, which the compiler writes into the caller's loop.
+pub fn back_line(text: &[u8], off: usize, lanes: usize, width: usize, trim: bool) -> BackLine
+    requires { ⌜ (off ≤ length (now text)) × (4 ≤ lanes) × (lanes ≤ 10) × LineWidth lanes width ⌝ }
     ensures { λ r. ⌜ BackRead trim lanes (now (text .entry)) off r ⌝ }
 {
-    let part = &text[off..];
-    if part.len() < 10 {
-        return any_back_line(text, off, lanes, trim);
-    }
-    if is_plain_row(part, lanes) {
+    if is_plain_row(&text[off..], lanes, width) {
         return BackLine {
             row: true,
-            next: off + lanes + 1,
+            next: off + width + 1,
         };
     }
     any_back_line(text, off, lanes, trim)
+}
+
+// How many bytes the line of a row of minimised text has, as its first line tells it: what `line_width` is for a chart.
+pub fn back_width(text: &[u8], lanes: usize, trim: bool) -> usize
+    requires { ⌜ lanes ≤ 10 ⌝ }
+    ensures { λ r. ⌜ LineWidth lanes r ⌝ }
+{
+    let line = any_back_line(text, 0, lanes, trim);
+    crate::width_by(text, lanes, line.next)
 }

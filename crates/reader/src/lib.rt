@@ -2,15 +2,13 @@
 pub mod back;
 
 use definitions::LineKind;
-use lines::words;
 ghost use mathlib.Core.Path.{_≡_};
-ghost use mathlib.Core.Bool.{true};
-ghost use Prim.Native.Nat.{_+_, _≤_};
+ghost use Prim.Native.Nat.{_+_, _-_, _≤_};
 ghost use lib.ListN.{length};
 ghost use Rattle.definitions.specs.Lanes.{lanesOf};
 ghost use Rattle.definitions.specs.Lines.{isRow, kindOf};
 ghost use Rattle.definitions.specs.Lists.{oneIf};
-ghost use Rattle.reader.specs.Reading.{LineWidth, LineRead, plainRow};
+ghost use Rattle.reader.specs.Reading.{LineWidth, LineRead, justRow, nearRow};
 
 // A line that was read: its row, where it is one, begins at `start`, and the next line at `next`.
 pub struct ReadLine {
@@ -87,34 +85,39 @@ fn read_any_line(data: &[u8], off: usize, lanes: usize) -> ReadLine
     }
 }
 
-// Whether a text that goes on as `part` does begins with a row of `width` bytes, with nothing before it and byte 10 right after it. `width` is
-// that of the row's cells, or one more where a byte 13 follows them. No newline is among the first four cells, the last four and the two in
-// their middle, which are all of up to ten, and none is the line's last byte. The tests are joined without a branch.
-fn is_just_row(part: &[u8], lanes: usize, width: usize) -> bool
-    requires { ⌜ (12 ≤ length (now part)) × (4 ≤ lanes) × (lanes ≤ 10) × LineWidth lanes width ⌝ }
-    ensures { λ r. ⌜ (r ≡ true → LineRead lanes (now (part .entry)) 0 (plainRow 0 width)) ⌝ }
+// Where eight bytes begin that have all of a line of up to seven bytes, or the last seven of a longer one, and the newline after it.
+fn look_from(width: usize) -> usize
+    ensures { λ r. ⌜ r ≡ width - 7 ⌝ }
 {
-    let word = words::half_at(part, 0) + words::half_at(part, lanes - 4) * 0x1_0000_0000;
+    if width < 7 { 0 } else { width - 7 }
+}
+
+// Whether a text that goes on as `part` does begins with a row of `width` bytes, with nothing before it and byte 10 right after it. `width` is
+// that of the row's cells, or one more where a byte 13 follows them. Of the eight bytes from `look_from` on that byte 10 is the first newline,
+// and before them are at most four bytes, none of which is one. The tests are joined without a branch.
+fn is_just_row(part: &[u8], width: usize) -> bool
+    requires { ⌜ (12 ≤ length (now part)) × (4 ≤ width) × (width ≤ 11) ⌝ }
+    ensures { λ r. ⌜ r ≡ justRow width (now (part .entry)) ⌝ }
+{
+    let from = look_from(width);
     let first = part[0];
-    let mid = lanes / 2;
-    !words::has_byte(word, 10)
-        & (part[mid - 1] != 10)
-        & (part[mid] != 10)
-        & (part[width - 1] != 10)
+    (lines::near_newline(part, from) == width - from)
+        & (part[1] != 10)
+        & (part[2] != 10)
+        & (part[3] != 10)
         & (b'/' < first)
         & (first != b';')
-        & (part[width] == 10)
 }
 
 // The same, and no near the text's end.
-fn is_near_row(part: &[u8], lanes: usize, width: usize) -> bool
-    requires { ⌜ (4 ≤ lanes) × (lanes ≤ 10) × LineWidth lanes width ⌝ }
-    ensures { λ r. ⌜ (r ≡ true → LineRead lanes (now (part .entry)) 0 (plainRow 0 width)) ⌝ }
+fn is_near_row(part: &[u8], width: usize) -> bool
+    requires { ⌜ (4 ≤ width) × (width ≤ 11) ⌝ }
+    ensures { λ r. ⌜ r ≡ nearRow width (now (part .entry)) ⌝ }
 {
     if part.len() < 12 {
         return false;
     }
-    is_just_row(part, lanes, width)
+    is_just_row(part, width)
 }
 
 // The line at `off`, which is within the text or just past its last newline. A row of `width` bytes, as most lines are, is told by one look,
@@ -123,7 +126,7 @@ pub fn read_line(data: &[u8], off: usize, lanes: usize, width: usize) -> ReadLin
     requires { ⌜ (off ≤ length (now «data»)) × (4 ≤ lanes) × (lanes ≤ 10) × LineWidth lanes width ⌝ }
     ensures { λ r. ⌜ LineRead lanes (now («data» .entry)) off r ⌝ }
 {
-    if is_near_row(&data[off..], lanes, width) {
+    if is_near_row(&data[off..], width) {
         return ReadLine {
             kind: LineKind::Row,
             start: off,
@@ -133,16 +136,24 @@ pub fn read_line(data: &[u8], off: usize, lanes: usize, width: usize) -> ReadLin
     read_any_line(data, off, lanes)
 }
 
-// How many bytes the line of a row has, as the first line of the text tells it: one more than its cells where that line ends with byte 13.
-// Where other lines end otherwise, reading them takes longer, and nothing else changes.
+// How many bytes the line of a row has where the text's first line ends before `next`: one more than its cells where byte 13 is its last.
+fn width_by(data: &[u8], lanes: usize, next: usize) -> usize
+    requires { ⌜ (lanes ≤ 10) × (1 ≤ next) × (next ≤ length (now «data») + 1) ⌝ }
+    ensures { λ r. ⌜ LineWidth lanes r ⌝ }
+{
+    let end = next - 1;
+    if end == 0 {
+        return lanes;
+    }
+    lanes + one_if(data[end - 1] == 13)
+}
+
+// How many bytes the line of a row has, as the first line of the text tells it. Where other lines end otherwise, reading them takes longer,
+// and nothing else changes.
 pub fn line_width(data: &[u8], lanes: usize) -> usize
     requires { ⌜ lanes ≤ 10 ⌝ }
     ensures { λ r. ⌜ LineWidth lanes r ⌝ }
 {
     let line = read_any_line(data, 0, lanes);
-    let end = line.next - 1;
-    if end == 0 {
-        return lanes;
-    }
-    lanes + one_if(data[end - 1] == 13)
+    width_by(data, lanes, line.next)
 }

@@ -14,14 +14,14 @@ use Rattle.corrected_tally.proofs.count_kept.Statement.{statement}
 use Rattle.corrected_tally.proofs.count_kept.Tie as tie
 
 abbrev Inv-loop : tie.InvT-loop
-Inv-loop text lanes trim work counts stats₀ off₀ i₀ stats off i = (off ≤ length text + 1) × Counting trim lanes text off i stats
+Inv-loop text lanes trim work width counts stats₀ off₀ i₀ stats off i = (off ≤ length text + 1) × Counting trim lanes text off i stats
 
 abbrev μ-loop : tie.MeasureT-loop
-μ-loop text lanes trim work counts stats₀ off₀ i₀ stats off i = length text + 1 - off
+μ-loop text lanes trim work width counts stats₀ off₀ i₀ stats off i = length text + 1 - off
 
 -- a row's bytes stand in the text
 row-room : (c : tie.Then1 Inv-loop μ-loop) →
-    let args = c .before .before .before .before .before .before .before .before .args in
+    let args = c .before .before .before .before .before .before .before .before .before .args in
     c .before .before .before .loop .off + args .lanes ≤ length (now (args .text))
 row-room c =
     let line = c .before .back-line .ensures in
@@ -29,19 +29,22 @@ row-room c =
 
 -- its entry stands in the work slice
 entry-inside : (c : tie.Then1 Inv-loop μ-loop) →
-    let args = c .before .before .before .before .before .before .before .before .args in
+    let args = c .before .before .before .before .before .before .before .before .before .args in
     c .before .before .before .loop .i < length (now (args .work))
 entry-inside c =
-    let start = c .before .before .before .before .before .before .before .before in
+    let start = c .before .before .before .before .before .before .before .before .before in
     let at = c .before .before .before .loop in
     omega (arith, start .pre .0 .room, at .inv .1 .size, row-inside _ _ _ _ _ (c .before .before .loop-test .taken) (c .before .back-line .ensures) _ (at .inv .1 .reading) (c .if1 .taken))
 
 -- its number is small
 row-few : (c : tie.Then1 Inv-loop μ-loop) → 5 * c .before .before .before .loop .i ≤ 16777217
 row-few c =
-    let start = c .before .before .before .before .before .before .before .before in
+    let start = c .before .before .before .before .before .before .before .before .before in
     let at = c .before .before .before .loop in
     omega (arith, start .pre .0 .short, at .inv .0, at .inv .1 .size, rows-few _ _ _ _ _ (start .pre .0 .least) (at .inv .1 .reading))
+
+back-width-requires : tie.Need-back-width-requires Inv-loop μ-loop
+back-width-requires c κs = search needs
 
 tap-mask-counts-requires : tie.Need-tap-mask-counts-requires Inv-loop μ-loop
 tap-mask-counts-requires c κs = search needs
@@ -77,7 +80,7 @@ count-row-requires : tie.Need-count-row-requires Inv-loop μ-loop
 count-row-requires c κs =
     let here = c .before .before .before in
     let at = here .before .before .before in
-    let start = at .before .before .before .before .before in
+    let start = at .before .before .before .before .before .before in
     (rw length-take (omega (arith, start .pre .0 .most)), at .before .before .tap-mask-counts .ensures, below-more (10 * at .loop .i) countBound (at .loop .stats) (omega (arith, row-few here)) (at .loop .inv .1 .low))
 
 add-i : tie.Need-add-i Inv-loop μ-loop
@@ -91,7 +94,7 @@ loop-less c =
 loop-again : tie.Need-loop-again Inv-loop μ-loop
 loop-again c =
     let here = c .before .before .before .before in
-    let start = here .before .before .before .before .before .before .before .before in
+    let start = here .before .before .before .before .before .before .before .before .before in
     let at = here .before .before .before .loop in
     let line = here .before .back-line .ensures in
     let bytes = ap (λ n. take n (drop (at .off) (now (start .args .text)))) (add-sub-cancel-left (at .off) (start .args .lanes)) in (
@@ -118,6 +121,7 @@ count-kept-spec =
     (tie.spec
     Inv-loop
     μ-loop
+    back-width-requires
     tap-mask-counts-requires
     no-stats-requires
     loop-holds

@@ -19,15 +19,15 @@ use Rattle.corrected_tally.proofs.mark_heads.Statement.{statement}
 use Rattle.corrected_tally.proofs.mark_heads.Tie as tie
 
 abbrev Inv-loop : tie.InvT-loop
-Inv-loop text lanes trim work₀ t₀ busy₀ off₀ row₀ work t busy off row =
+Inv-loop text lanes trim work₀ width t₀ busy₀ off₀ row₀ work t busy off row =
     (off ≤ length text + 1) × (length work ≡ length work₀) × Marking trim lanes text off row t work × FreeAre busy 0 (t .depths)
 
 abbrev μ-loop : tie.MeasureT-loop
-μ-loop text lanes trim work₀ t₀ busy₀ off₀ row₀ work t busy off row = length text + 1 - off
+μ-loop text lanes trim work₀ width t₀ busy₀ off₀ row₀ work t busy off row = length text + 1 - off
 
 -- a row's bytes stand in the text
 row-room : (c : tie.Then1 Inv-loop μ-loop) →
-    let args = c .before .before .before .before .before .before .before .args in
+    let args = c .before .before .before .before .before .before .before .before .args in
     c .before .before .before .loop .off + args .lanes ≤ length (now (args .text))
 row-room c =
     let line = c .before .back-line .ensures in
@@ -35,19 +35,22 @@ row-room c =
 
 -- its entry stands in the work slice
 entry-inside : (c : tie.Then1 Inv-loop μ-loop) →
-    let args = c .before .before .before .before .before .before .before .args in
+    let args = c .before .before .before .before .before .before .before .before .args in
     c .before .before .before .loop .row < length (now (args .work))
 entry-inside c =
-    let start = c .before .before .before .before .before .before .before in
+    let start = c .before .before .before .before .before .before .before .before in
     let at = c .before .before .before .loop in
     omega (arith, start .pre .0 .room, at .inv .2 .size, row-inside _ _ _ _ _ (c .before .before .loop-test .taken) (c .before .back-line .ensures) _ (at .inv .2 .reading) (c .if1 .taken))
+
+back-width-requires : tie.Need-back-width-requires Inv-loop μ-loop
+back-width-requires c κs = search needs
 
 no-tracker-requires : tie.Need-no-tracker-requires Inv-loop μ-loop
 no-tracker-requires c κs = search needs
 
 loop-holds : tie.Need-loop-holds Inv-loop μ-loop
 loop-holds c =
-    let start = c .before .before .before in
+    let start = c .before .before .before .before in
     (omega arith, refl, marking-start _ _ _ _ _ (c .no-tracker .ensures) (start .pre .1), λ k h e. sym (stack-length _ k) ∙ ap length (c .no-tracker .ensures k h))
 
 back-line-requires : tie.Need-back-line-requires Inv-loop μ-loop
@@ -91,7 +94,7 @@ part-track-row-end c = row-room (c .before .before .before .before)
 track-row-requires : tie.Need-track-row-requires Inv-loop μ-loop
 track-row-requires c κs =
     let here = c .before .before .before .before .before .before in
-    let start = here .before .before .before .before .before .before .before in
+    let start = here .before .before .before .before .before .before .before .before in
     let at = here .before .before .before .loop in
     (rw length-take (omega (arith, start .pre .0 .most)), omega (arith, at .inv .1, entry-inside here), marking-reached _ _ _ _ _ _ _ (at .inv .2))
 
@@ -101,7 +104,7 @@ unlike-requires c κs = search needs
 add-row : tie.Need-add-row Inv-loop μ-loop
 add-row c =
     let here = c .before .before .before in
-    let start = here .before .before .before .before .before .before .before in
+    let start = here .before .before .before .before .before .before .before .before in
     let at = here .before .before .before .loop in
     omega (arith, start .pre .0 .short, at .inv .0, at .inv .2 .size, rows-few _ _ _ _ _ (start .pre .0 .least) (at .inv .2 .reading))
 
@@ -113,7 +116,7 @@ loop-less c =
 loop-again : tie.Need-loop-again Inv-loop μ-loop
 loop-again c =
     let here = c .before .before .before in
-    let args = here .before .before .before .before .before .before .before .args in
+    let args = here .before .before .before .before .before .before .before .before .args in
     let at = here .before .before .before .loop in
     let line = here .before .back-line .ensures in
     let bytes = ap (λ n. take n (drop (at .off) (now (args .text)))) (add-sub-cancel-left (at .off) (args .lanes)) in
@@ -150,6 +153,7 @@ mark-heads-spec =
     (tie.spec
     Inv-loop
     μ-loop
+    back-width-requires
     no-tracker-requires
     loop-holds
     back-line-requires

@@ -6,7 +6,7 @@ use borrow.Author.Tests.{lt-ltb, le-ltb}
 use Rattle.definitions.specs.Lanes.{mostRows}
 use Rattle.definitions.specs.Refusals.{leaves}
 use Rattle.definitions.specs.Entries.{judgedNumber, judgedWork}
-use Rattle.reader.proofs.Lanes.{lanes-at-most}
+use Rattle.reader.proofs.Lanes.{lanes-at-least, lanes-at-most}
 use Rattle.judged.specs.Answers.{answerBy}
 use Rattle.judged.specs.declared.JudgedAnswer.the-variants.{Tally}
 use Rattle.judged.proofs.judge.Statement.{statement}
@@ -39,7 +39,7 @@ judge-accepted-requires : tie.Need-judge-accepted-requires
 unfolding mostRows
 judge-accepted-requires c κs =
     let e = c .before .before .lanes-of .ensures in
-    (c .before .before .before .if1 .left, rw e (lanes-at-most _), c .before .if2 .left)
+    (c .before .before .before .if1 .left, rw e (lanes-at-least _), rw e (lanes-at-most _), c .before .if2 .left)
 
 same-length : tie.Need-same-length
 same-length c = search needs

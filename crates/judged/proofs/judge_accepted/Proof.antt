@@ -4,7 +4,7 @@ use Rattle.judged.proofs.judge_accepted.Statement.{statement}
 use Rattle.judged.proofs.judge_accepted.Tie as tie
 
 judge-clean-requires : tie.Need-judge-clean-requires
-judge-clean-requires c κs = let start = c .before .before .before .before in (start .pre .0, start .pre .1)
+judge-clean-requires c κs = let start = c .before .before .before .before in (start .pre .0, start .pre .1, start .pre .2)
 
 enum-known-stats : tie.Need-enum-known-stats
 enum-known-stats c = search needs

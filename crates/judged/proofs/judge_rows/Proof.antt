@@ -14,7 +14,7 @@ tally-timing-rows-requires : tie.Need-tally-timing-rows-requires
 tally-timing-rows-requires c κs =
     let track = c .before .before .before in
     let start = track .before .before .before .before .before in (
-      (start .pre .0, start .pre .1, omega (arith, start .pre .2, track .track-timing-rows .kept .1 .1 .1 .1 .0)),
+      (start .pre .0, start .pre .1, start .pre .2, omega (arith, start .pre .3, track .track-timing-rows .kept .1 .1 .1 .1 .0)),
       record { judging = _; timed = track .track-timing-rows .ensures },
     )
 

@@ -21,34 +21,37 @@ use Rattle.judged.proofs.tally_timing_rows.Statement.{statement}
 use Rattle.judged.proofs.tally_timing_rows.Tie as tie
 
 abbrev Inv-loop : tie.InvT-loop
-Inv-loop «data» lanes work counts t₀ off₀ row₀ t off row =
+Inv-loop «data» lanes work width counts t₀ off₀ row₀ t off row =
     (off ≤ length «data» + 1) × ((J : ℕ → Bool) → WorkEntries J (readBack lanes «data») work → Tallying J lanes «data» off row t)
 
 abbrev μ-loop : tie.MeasureT-loop
-μ-loop «data» lanes work counts t₀ off₀ row₀ t off row = length «data» + 1 - off
+μ-loop «data» lanes work width counts t₀ off₀ row₀ t off row = length «data» + 1 - off
 
 -- the tally so far, with the rows that some test judges
 so-far : (c : tie.At-loop Inv-loop μ-loop) →
-    let start = c .before .before .before .before .before in
+    let start = c .before .before .before .before .before .before in
     Tallying (start .pre .1 .judging) (start .args .lanes) (now (start .args .«data»)) (c .loop .off) (c .loop .row) (c .loop .t)
-so-far c = let some = c .before .before .before .before .before .pre .1 in c .loop .inv .1 (some .judging) (some .timed)
+so-far c = let some = c .before .before .before .before .before .before .pre .1 in c .loop .inv .1 (some .judging) (some .timed)
 
 -- the row's entry stands in the work slice
 entry-room : (c : tie.Then1 Inv-loop μ-loop) →
     let at = c .before .before .before in
-    at .loop .row < length (now (at .before .before .before .before .before .args .work))
+    at .loop .row < length (now (at .before .before .before .before .before .before .args .work))
 entry-room c =
     let at = c .before .before .before in
     tallying-room _ _ _ _ _ _ (so-far at) _ (c .before .before .loop-test .taken) (c .before .back-line .ensures) (c .if1 .taken) _
-    (at .before .before .before .before .before .pre .0 .2)
+    (at .before .before .before .before .before .before .pre .0 .3)
 
 -- the tally so far may have a row more
 so-few : (c : tie.At-loop Inv-loop μ-loop) → Below countBound (c .loop .t .stats) × (c .loop .t .active ≤ countBound)
 so-few c =
-    let start = c .before .before .before .before .before in
+    let start = c .before .before .before .before .before .before in
     let x = so-far c in
     let few : 10 * c .loop .row ≤ countBound = omega (arith, x .reading .few, x .size, c .loop .inv .0, start .pre .0 .0) in
-    (below-more (10 * c .loop .row) countBound _ few (x .below), le-trans (tallying-active _ _ _ _ _ _ x (start .pre .0 .1)) few)
+    (below-more (10 * c .loop .row) countBound _ few (x .below), le-trans (tallying-active _ _ _ _ _ _ x (start .pre .0 .2)) few)
+
+back-width-requires : tie.Need-back-width-requires Inv-loop μ-loop
+back-width-requires c κs = search needs
 
 tap-mask-counts-requires : tie.Need-tap-mask-counts-requires Inv-loop μ-loop
 tap-mask-counts-requires c κs = search needs
@@ -119,9 +122,9 @@ process-timing-row-requires : tie.Need-process-timing-row-requires Inv-loop μ-l
 process-timing-row-requires c κs =
     let row = c .before .before .before .before .before .before in
     let at = row .before .before .before in
-    let start = at .before .before .before .before .before in (
-      (bytes-short _ _ _ (start .pre .0 .1), so-few at .0, so-few at .1),
-      tallying-enough _ _ _ _ _ _ (so-far at) _ (row .before .before .loop-test .taken) (row .before .back-line .ensures) (row .if1 .taken) _ (start .pre .0 .1) (start .pre .1 .timed),
+    let start = at .before .before .before .before .before .before in (
+      (bytes-short _ _ _ (start .pre .0 .2), so-few at .0, so-few at .1),
+      tallying-enough _ _ _ _ _ _ (so-far at) _ (row .before .before .loop-test .taken) (row .before .back-line .ensures) (row .if1 .taken) _ (start .pre .0 .2) (start .pre .1 .timed),
     )
 
 add-row : tie.Need-add-row Inv-loop μ-loop
@@ -136,16 +139,16 @@ loop-again c =
     let a = row .before in
     let at = a .before .before in
     let in-text = a .before .loop-test .taken in
-    let start = at .before .before .before .before .before in (
+    let start = at .before .before .before .before .before .before in (
       a .back-line .ensures .within,
       λ J w.
           ⊎-elim
           (λ v.
           let free = free-told (c .before .free-taps .ensures) (v .1 .given .1) in
           rw (v .6)
-          (tallying-taps _ _ _ _ _ _ (at .loop .inv .1 J w) _ in-text (a .back-line .ensures) (row .if1 .taken) _ (start .pre .0 .1) w _ free _ (v .5 .ensures _ (free .mask))))
+          (tallying-taps _ _ _ _ _ _ (at .loop .inv .1 J w) _ in-text (a .back-line .ensures) (row .if1 .taken) _ (start .pre .0 .2) w _ free _ (v .5 .ensures _ (free .mask))))
           (λ v. rw (v .4)
-          (tallying-row _ _ _ _ _ _ (at .loop .inv .1 J w) _ in-text (a .back-line .ensures) (row .if1 .taken) _ (start .pre .0 .1) w _ (v .3 .ensures)))
+          (tallying-row _ _ _ _ _ _ (at .loop .inv .1 J w) _ in-text (a .back-line .ensures) (row .if1 .taken) _ (start .pre .0 .2) w _ (v .3 .ensures)))
           (c .match .came),
     )
 
@@ -166,6 +169,7 @@ tally-timing-rows-spec =
     (tie.spec
     Inv-loop
     μ-loop
+    back-width-requires
     tap-mask-counts-requires
     no-timing-requires
     loop-holds

@@ -18,14 +18,14 @@ use Rattle.judged.proofs.track_timing_rows.Statement.{statement}
 use Rattle.judged.proofs.track_timing_rows.Tie as tie
 
 abbrev Inv-loop : tie.InvT-loop
-Inv-loop «data» lanes all flags work₀ t₀ busy₀ off₀ row₀ work t busy off row =
+Inv-loop «data» lanes all flags work₀ width t₀ busy₀ off₀ row₀ work t busy off row =
     (off ≤ length «data» + 1)
     × (length work ≡ length work₀)
     × Tracking (judgedBy all flags) lanes «data» off row t work
     × FreeAre busy 0 (t .depths)
 
 abbrev μ-loop : tie.MeasureT-loop
-μ-loop «data» lanes all flags work₀ t₀ busy₀ off₀ row₀ work t busy off row = length «data» + 1 - off
+μ-loop «data» lanes all flags work₀ width t₀ busy₀ off₀ row₀ work t busy off row = length «data» + 1 - off
 
 -- a row's entry stands in the work slice
 row-room : (c : tie.Then1 Inv-loop μ-loop) → let at = c .before .before .before in at .loop .row < length (at .loop .work)
@@ -33,13 +33,16 @@ row-room c =
     let at = c .before .before .before in
     let zeroed = at .before .before .before .before in
     tracking-room _ _ _ _ _ _ _ (at .loop .inv .2) _ (c .before .before .loop-test .taken) (c .before .back-line .ensures) (c .if1 .taken)
-    (omega (arith, zeroed .before .before .before .before .before .pre .2, zeroed .zero-u16 .kept .0))
+    (omega (arith, zeroed .before .before .before .before .before .before .pre .3, zeroed .zero-u16 .kept .0))
 
 -- its bytes stand in the text
 part-end : (c : tie.Then1 Inv-loop μ-loop) → let at = c .before .before .before in
-    let start = at .before .before .before .before .before .before .before .before .before in
+    let start = at .before .before .before .before .before .before .before .before .before .before in
     at .loop .off + start .args .lanes ≤ length (now (start .args .«data»))
 part-end c = row-within _ _ _ _ (c .before .back-line .ensures) (c .if1 .taken)
+
+back-width-requires : tie.Need-back-width-requires Inv-loop μ-loop
+back-width-requires c κs = search needs
 
 zero-u16-requires : tie.Need-zero-u16-requires Inv-loop μ-loop
 zero-u16-requires c κs = search needs
@@ -50,7 +53,7 @@ no-tracker-requires c κs = search needs
 loop-holds : tie.Need-loop-holds Inv-loop μ-loop
 loop-holds c =
     let zeroed = c .before .before .before in
-    let a = zeroed .before .before .before .before .before .args in
+    let a = zeroed .before .before .before .before .before .before .args in
     let none = c .no-tracker .ensures in
     (omega arith, refl, tracking-start _ _ _ _ (now (a .work)) _ none (zeroed .zero-u16 .ensures), λ k h e. sym (stack-length _ k) ∙ ap length (none k h))
 
@@ -100,8 +103,8 @@ track-judged-row-requires : tie.Need-track-judged-row-requires Inv-loop μ-loop
 track-judged-row-requires c κs =
     let row = c .before .before .before .before .before .before .before in
     let at = row .before .before .before in
-    let start = at .before .before .before .before .before .before .before .before .before in
-    (bytes-short _ _ _ (start .pre .1), row-room row, tracking-reached _ _ _ _ _ _ _ (at .loop .inv .2))
+    let start = at .before .before .before .before .before .before .before .before .before .before in
+    (bytes-short _ _ _ (start .pre .2), row-room row, tracking-reached _ _ _ _ _ _ _ (at .loop .inv .2))
 
 unlike-requires : tie.Need-unlike-requires Inv-loop μ-loop
 unlike-requires c κs = search needs
@@ -156,6 +159,7 @@ track-timing-rows-spec =
     (tie.spec
     Inv-loop
     μ-loop
+    back-width-requires
     zero-u16-requires
     no-tracker-requires
     loop-holds

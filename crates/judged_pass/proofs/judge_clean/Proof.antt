@@ -11,10 +11,10 @@ use Rattle.judged_pass.proofs.judge_clean.Statement.{statement}
 use Rattle.judged_pass.proofs.judge_clean.Tie as tie
 
 abbrev Inv-loop : tie.InvT-loop
-Inv-loop «data» lanes counts t₀ off₀ t off = (off ≤ length «data» + 1) × Passes lanes «data» off t
+Inv-loop «data» lanes counts width t₀ off₀ t off = (off ≤ length «data» + 1) × Passes lanes «data» off t
 
 abbrev μ-loop : tie.MeasureT-loop
-μ-loop «data» lanes counts t₀ off₀ t off = length «data» + 1 - off
+μ-loop «data» lanes counts width t₀ off₀ t off = length «data» + 1 - off
 
 tap-mask-counts-requires : tie.Need-tap-mask-counts-requires Inv-loop μ-loop
 tap-mask-counts-requires c κs = search needs
@@ -22,8 +22,11 @@ tap-mask-counts-requires c κs = search needs
 no-rows-requires : tie.Need-no-rows-requires Inv-loop μ-loop
 no-rows-requires c κs = search needs
 
+back-width-requires : tie.Need-back-width-requires Inv-loop μ-loop
+back-width-requires c κs = search needs
+
 loop-holds : tie.Need-loop-holds Inv-loop μ-loop
-loop-holds c = let none = c .no-rows .ensures in (omega arith, passes-start _ _ _ (none .0) (none .1) (none .2))
+loop-holds c = let none = c .before .no-rows .ensures in (omega arith, passes-start _ _ _ (none .0) (none .1) (none .2))
 
 back-line-requires : tie.Need-back-line-requires Inv-loop μ-loop
 back-line-requires c κs = search needs
@@ -43,9 +46,9 @@ part-count-row-end c = row-within _ _ _ _ (c .before .back-line .ensures) (c .if
 count-row-requires : tie.Need-count-row-requires Inv-loop μ-loop
 count-row-requires c κs =
     let at = c .before .before .before .before .before in
-    let start = at .before .before .before .before in (
-      bytes-short _ _ _ (start .pre .1),
-      at .before .before .tap-mask-counts .ensures,
+    let start = at .before .before .before .before .before in (
+      bytes-short _ _ _ (start .pre .2),
+      at .before .before .before .tap-mask-counts .ensures,
       at .loop .inv .1 .ready,
       passes-few _ _ _ _ (at .loop .inv .1) (omega (arith, at .loop .inv .0, start .pre .0)),
     )
@@ -61,9 +64,9 @@ loop-again c =
     let row = c .before .before .before .before in
     let a = row .before in
     let at = a .before .before in
-    let start = at .before .before .before .before in (
+    let start = at .before .before .before .before .before in (
       a .back-line .ensures .within,
-      passes-row _ _ _ _ (at .loop .inv .1) _ (a .before .loop-test .taken) (a .back-line .ensures) (row .if1 .taken) (start .pre .1) _
+      passes-row _ _ _ _ (at .loop .inv .1) _ (a .before .loop-test .taken) (a .back-line .ensures) (row .if1 .taken) (start .pre .2) _
           (c .before .count-row .ensures) (not-false _ (c .if2 .left)),
     )
 
@@ -92,6 +95,7 @@ judge-clean-spec =
     μ-loop
     tap-mask-counts-requires
     no-rows-requires
+    back-width-requires
     loop-holds
     back-line-requires
     add-end

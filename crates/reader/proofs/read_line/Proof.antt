@@ -1,8 +1,10 @@
 -- `reader::read_line` meets its contract: a row that one look tells is read as any line is.
+use mathlib.Core.Path.{sym, _∙_}
+use native.Mathlib.Omega.{arith}
 use borrow.Author.Needs.{needs}
 use denote.Ref.{now}
 use Rattle.lines.proofs.Trims.{part-all}
-use Rattle.reader.proofs.Plain.{added-back}
+use Rattle.reader.proofs.Plain.{near-row, added-back}
 use Rattle.reader.proofs.read_line.Statement.{statement}
 use Rattle.reader.proofs.read_line.Tie as tie
 
@@ -29,7 +31,9 @@ returns c =
     let look = c .before in
     let start = look .before .before .before in
     let a = start .args in
-    added-back (a .lanes) (a .width) (now (a .«data»)) (a .off) (start .pre .0) (rw part-all at (look .is-near-row .ensures (c .if1 .taken)))
+    let near = rw part-all at (sym (look .is-near-row .ensures) ∙ c .if1 .taken) in
+    added-back (a .lanes) (a .width) (now (a .«data»)) (a .off) (start .pre .0)
+    (near-row (a .lanes) (a .width) _ (start .pre .3 .0) (omega (arith, start .pre)) (omega (arith, start .pre)) near)
 
 read-any-line-requires : tie.Need-read-any-line-requires
 read-any-line-requires c κs = search needs
