@@ -16,7 +16,8 @@ use Rattle.definitions.specs.declared.LineKind.the-variants as line
 use Rattle.definitions.proofs.Bools.{and-left, and-right, and-false}
 use Rattle.lines.specs.Lines.{firstLine}
 use Rattle.lines.specs.Words.{firstIn}
-use Rattle.reader.specs.Reading.{LineRead, justRow, nearRow, plainRow}
+use Rattle.reader.specs.declared.ReadLine.{ReadLine}
+use Rattle.reader.specs.Reading.{LineRead, justRow, nearRow}
 use Rattle.reader.proofs.Parts.{line-front, line-read}
 
 -- ---- where the first line ends, told by the first newline among eight bytes
@@ -139,6 +140,10 @@ unfolding kindOf isRow
 bare-row L [] w h n = absurd (omega arith)
 bare-row L (b ∷ l) w h n =
     simp (ne-eqb b 47 (omega arith), ne-eqb b 44 (omega arith), ne-eqb b 59 n, le-leb L (length (b ∷ l)) w)
+
+-- a row that begins where its line does, of a line that ends at `end`
+abbrev plainRow : ℕ → ℕ → ReadLine
+plainRow off end = record { kind = line.Row; start = off; next = end + 1 }
 
 -- a line of m bytes
 plain-line : (L m : ℕ) (part : List ℕ) → m < length part → L ≤ m → 0 < m → firstLine part ≡ take m part

@@ -13,10 +13,10 @@ use lib.Seq.{getD-take, length-take-le}
 use Rattle.definitions.specs.Lines.{isRow}
 use Rattle.definitions.specs.ReadBack.{beginsMark}
 use Rattle.definitions.proofs.Bools.{and-left, and-right}
-use Rattle.lines.specs.Lines.{firstLine}
 use Rattle.lines.proofs.Trims.{trim-cr-none}
 use Rattle.reader.specs.Reading.{LineWidth, nearRow}
-use Rattle.reader.specs.BackReading.{trimmedBy, BackRead, plainRowBack, plainBack}
+use Rattle.reader.specs.declared.BackLine.{BackLine}
+use Rattle.reader.specs.BackReading.{trimmedBy, BackRead, plainRowBack}
 use Rattle.reader.proofs.Plain.{near-just}
 use Rattle.reader.proofs.BackReading.{by-front, by-most, mark-first, unmarked, back-read}
 
@@ -47,6 +47,10 @@ by-wide trim L l some w cr =
 -- what counts of a line begins as the line does
 by-first : (trim : Bool) (l : List ℕ) → 0 < length (trimmedBy trim l) → getD (trimmedBy trim l) 0 0 ≡ getD l 0 0
 by-first trim l h = ap (λ k. getD k 0 0) (by-front trim l) ∙ getD-take (length (trimmedBy trim l)) l 0 0 h
+
+-- a row of a line that ends at `end`
+abbrev plainBack : ℕ → BackLine
+plainBack end = record { row = true; next = end + 1 }
 
 pub plain-back : (L m : ℕ) (part : List ℕ) → 4 ≤ L → L ≤ 10 → LineWidth L m → plainRowBack L m part ≡ true → (trim : Bool) → BackRead trim L part 0 (plainBack m)
 plain-back L m part low high w e trim =

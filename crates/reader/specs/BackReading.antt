@@ -36,10 +36,6 @@ pub record BackRead (trim : Bool) (L : ℕ) (text : List ℕ) (off : ℕ) (r : B
 abbrev pub plainRowBack : ℕ → ℕ → List ℕ → Bool
 plainRowBack L width s = nearRow width s && not (eqb (getD s (L - 1) 0) 13)
 
--- a row of a line that ends at `end`
-abbrev pub plainBack : ℕ → BackLine
-plainBack end = record { row = true; next = end + 1 }
-
 -- Before the line at `off` these rows were read back.
 pub record BackReading (trim : Bool) (L : ℕ) (text : List ℕ) (off : ℕ) (rows : List Row) : Type 0 where
   pub rows-are : rowsBack trim L text ≡ rows ++ backRowsBy trim L (linesFrom text off)

@@ -33,10 +33,6 @@ justRow width s = (eqb (length (firstLine s)) width && ltb 47 (getD s 0 0)) && n
 abbrev pub nearRow : ℕ → List ℕ → Bool
 nearRow width s = leb 12 (length s) && justRow width s
 
--- a row that begins where its line does, of a line that ends at `end`
-abbrev pub plainRow : ℕ → ℕ → ReadLine
-plainRow off end = record { kind = line.Row; start = off; next = end + 1 }
-
 -- rows put before the first of some measures
 abbrev pub addFirst : List Row → List (List Row) → List (List Row)
 addFirst rs [] = rs ∷ []
