@@ -61,7 +61,7 @@ rest-bits m c h k =
     same-at (λ c. bit c (rest m)) (λ c. cond (leb c (column m)) 0 (bit c m)) 10
     (same-at (λ m. upFrom (λ c. bit c (rest m)) 0 10) (λ m. upFrom (λ c. cond (leb c (column m)) 0 (bit c m)) 0 10) 1024 refl m h) c k
 
-pub low-some : (m : ℕ) → m < 1024 → (m ≡ 0 → ⊥) → LowOf m (column m) 49 (rest m)
+pub low-some : (m : ℕ) → m < 1024 → (m ≡ 0 → ⊥) → LowOf m (column m) true (rest m)
 low-some m h ne =
     let q : ltb (rest m) m ≡ true = rest-less m h ∙ rw (ne-eqb m 0 ne) in
     let less : rest m < m = ltb-true (rest m) m q in
@@ -81,7 +81,7 @@ low-some m h ne =
 bit-none : (c : ℕ) → bit c 0 ≡ 0
 bit-none c = ap (λ n. n % 2) (zero-div (2 ^ c))
 
-pub low-none : (m : ℕ) → m ≡ 0 → LowOf m (column m) 48 0
+pub low-none : (m : ℕ) → m ≡ 0 → LowOf m (column m) false 0
 low-none m e =
     let inside : column m < 10 = ltb-true (column m) 10 (column-inside m (omega (arith, e))) in
     record {
@@ -150,7 +150,7 @@ module _ (l : List ℕ) (s : ChartNotesScratch) (row : Row) (mask : ℕ) (R : Ro
     pub room-early : k ≤ s .count + 1 → k * 10 + 10 ≤ length l′
     room-early h = omega (arith, T .mid .same, R .room, line-width row mask e .0)
 
-    module _ (t b r : ℕ) (L : LowOf m t b r) where
+    module _ (t : ℕ) (b : Bool) (r : ℕ) (L : LowOf m t b r) where
       module _ (ne : m ≡ 0 → ⊥) where
         later : T .at ≤ t
         later = elim (decLt t (T .at)) [ yes h ↦ absurd (omega (arith, T .low t h (L .inside), L .here ne)) | no n ↦ omega arith ]
@@ -171,12 +171,12 @@ module _ (l : List ℕ) (s : ChartNotesScratch) (row : Row) (mask : ℕ) (R : Ro
             let inside : c < 10 = omega (arith, L .inside) in
             cell c (omega (arith, within t own)) ∙ ap (λ n. 48 + n) (sym (T .high c x inside) ∙ L .below c here)))
 
-        taken-some : (l″ : List ℕ) (k′ : ℕ) → l″ ≡ sets l′ (k * 10) (fields (s .«row_index») noTail t 0) → k′ ≡ k + oneIf (eqb b 49) → length l″ ≡ length l′ → Taken l s row mask l″ k′ r
+        taken-some : (l″ : List ℕ) (k′ : ℕ) → l″ ≡ sets l′ (k * 10) (fields (s .«row_index») noTail t 0) → k′ ≡ k + oneIf b → length l″ ≡ length l′ → Taken l s row mask l″ k′ r
         taken-some l″ k′ el ek es =
             let h : t < length row = within t own in
             let tap : getD row t 0 ≡ 49 = cell t h ∙ ap (λ n. 48 + n) own in
-            let one : b ≡ 49 = L .tells ∙ rw (ne-eqb m 0 ne) in
-            let counted : k′ ≡ k + oneIf (eqb (getD row t 0) 49) = ek ∙ ap (λ n. k + oneIf (eqb n 49)) (one ∙ sym tap) in
+            let one : b ≡ eqb (getD row t 0) 49 = L .tells ∙ rw (ne-eqb m 0 ne, tap) in
+            let counted : k′ ≡ k + oneIf (eqb (getD row t 0) 49) = ek ∙ ap (λ z. k + oneIf z) one in
             record {
               at = t + 1;
               mid = mid-step l s l′ (counting s k) t row there l″ (counting s k′) (effectAt (getD row t 0)) refl h es
@@ -186,15 +186,15 @@ module _ (l : List ℕ) (s : ChartNotesScratch) (row : Row) (mask : ℕ) (R : Ro
               high = λ c x y. L .high c y (omega arith) ∙ T .high c (omega (arith, later)) y;
             }
 
-      taken-none : m ≡ 0 → (l″ : List ℕ) (k′ : ℕ) → l″ ≡ sets l′ (k * 10) (fields (s .«row_index») noTail t 0) → k′ ≡ k + oneIf (eqb b 49) → Taken l s row mask l″ k′ r
+      taken-none : m ≡ 0 → (l″ : List ℕ) (k′ : ℕ) → l″ ≡ sets l′ (k * 10) (fields (s .«row_index») noTail t 0) → k′ ≡ k + oneIf b → Taken l s row mask l″ k′ r
       taken-none z l″ k′ el ek =
-          let zero-byte : b ≡ 48 = L .tells ∙ rw (eq-eqb m 0 z) in
-          let same : k′ ≡ k = ek ∙ rw (zero-byte, add-zero) in
+          let none : b ≡ false = L .tells ∙ rw (eq-eqb m 0 z) in
+          let same : k′ ≡ k = ek ∙ rw (none, add-zero) in
           let left : r ≡ m = L .none z ∙ sym z in
           rw (same, left, el) (record { at = T .at; mid = mid-past l s l′ (counting s k) row (T .at) (fields (s .«row_index») noTail t 0) (T .mid); small = T .small; low = T .low; high = T .high })
 
       -- one record more
-      pub taken-next : (l″ : List ℕ) (k′ : ℕ) → l″ ≡ sets l′ (k * 10) (fields (s .«row_index») noTail t 0) → k′ ≡ k + oneIf (eqb b 49) → length l″ ≡ length l′ → Taken l s row mask l″ k′ r
+      pub taken-next : (l″ : List ℕ) (k′ : ℕ) → l″ ≡ sets l′ (k * 10) (fields (s .«row_index») noTail t 0) → k′ ≡ k + oneIf b → length l″ ≡ length l′ → Taken l s row mask l″ k′ r
       taken-next l″ k′ el ek es =
           elim (ℕ-discrete m 0) [ yes z ↦ taken-none z l″ k′ el ek | no ne ↦ taken-some ne l″ k′ el ek es ]
 

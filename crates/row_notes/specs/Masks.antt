@@ -1,14 +1,13 @@
 -- The lowest bit of a mask of ten columns, and the rest of the mask.
 use mathlib.Core.Path.{_≡_}
-use mathlib.Core.Bool.{not}
-use Prim.Native.Nat.{ℕ, _+_, _<_, _≤_}
+use mathlib.Core.Bool.{Bool, not}
+use Prim.Native.Nat.{ℕ, _<_, _≤_}
 use lib.Dec.{eqb}
-use Rattle.definitions.specs.Lists.{oneIf}
 use Rattle.taps.specs.Taps.{bit}
 
-pub record LowOf (m column byte rest : ℕ) : Type 0 where
+pub record LowOf (m column : ℕ) (tap : Bool) (rest : ℕ) : Type 0 where
   pub inside : column < 10
-  pub tells : byte ≡ 48 + oneIf (not (eqb m 0))
+  pub tells : tap ≡ not (eqb m 0)
   pub none : m ≡ 0 → rest ≡ 0
   pub less : (m ≡ 0 → ⊥) → rest < m
   pub here : (m ≡ 0 → ⊥) → bit column m ≡ 1

@@ -11,7 +11,6 @@ ghost use mathlib.Core.Path.{_≡_};
 ghost use mathlib.Core.Bool.{true};
 ghost use mathlib.Core.List.{List, [], _∷_, _++_};
 ghost use Prim.Native.Nat.{ℕ, _+_, _*_, _≤_, _<_};
-ghost use lib.Dec.{eqb};
 ghost use lib.ListN.{length};
 ghost use lib.Seq.{sets};
 ghost use Rattle.definitions.specs.Lists.{oneIf};
@@ -100,38 +99,38 @@ fn invalidate_hold(s: ChartNotesScratch, column: usize, notes: &mut [u8]) -> Cha
     out
 }
 
-// A tap's record at the end of the records, and their number with it; where the cell is a `0` the next record is written over this one.
-fn push_tap(row: u32, count: usize, column: usize, b: u8, notes: &mut [u8]) -> usize
+// A tap's record at the end of the records, and their number with it; where there is no tap the next record is written over this one.
+fn push_tap(row: u32, count: usize, column: usize, tap: bool, notes: &mut [u8]) -> usize
     requires { ⌜ (count * 10 + 10 ≤ length (now notes)) × (column < 10) × (count < 4294967295) ⌝ }
-    ensures { λ r. ⌜ r ≡ count + oneIf (eqb b 49) ⌝ }
+    ensures { λ r. ⌜ r ≡ count + oneIf tap ⌝ }
     ensures { λ _. ⌜ now (notes .exit) ≡ sets (now (notes .entry)) (count * 10) (fields row noTail column 0) ⌝ }
 {
     put_record(notes, count, row, NO_TAIL_ROW, column as u8, 0);
-    count + cells::one_if(b == b'1') as usize
+    count + cells::one_if(tap) as usize
 }
 
-// The lowest column of a mask, a `1`, and the rest of the mask; of an empty mask a `0` in some column.
+// The lowest column of a mask, which has a tap, and the rest of the mask; of an empty mask some column without one.
 struct LowBit {
     column: usize,
-    byte: u8,
+    tap: bool,
     rest: u32,
 }
 
 fn low_bit(mask: u32) -> LowBit
     requires { ⌜ mask < 1024 ⌝ }
-    ensures { λ r. ⌜ LowOf mask (r .column) (r .byte) (r .rest) ⌝ }
+    ensures { λ r. ⌜ LowOf mask (r .column) (r .tap) (r .rest) ⌝ }
 {
     let column = u32::trailing_zeros(mask | 512) as usize;
     if mask == 0 {
         return LowBit {
             column,
-            byte: b'0',
+            tap: false,
             rest: 0,
         };
     }
     LowBit {
         column,
-        byte: b'1',
+        tap: true,
         rest: mask & (mask - 1),
     }
 }
@@ -145,13 +144,13 @@ pub fn push_mask(s: ChartNotesScratch, row: &[u8], mask: u16, notes: &mut [u8]) 
 {
     let hold_heads = s.hold_heads;
     let one = low_bit(mask as u32);
-    let first = push_tap(s.row_index, s.count, one.column, one.byte, notes);
+    let first = push_tap(s.row_index, s.count, one.column, one.tap, notes);
     let two = low_bit(one.rest);
-    let mut count = push_tap(s.row_index, first, two.column, two.byte, notes);
+    let mut count = push_tap(s.row_index, first, two.column, two.tap, notes);
     let mut left = two.rest;
     while left != 0 {
         let next = low_bit(left);
-        count = push_tap(s.row_index, count, next.column, next.byte, notes);
+        count = push_tap(s.row_index, count, next.column, next.tap, notes);
         left = next.rest;
     }
     ChartNotesScratch {

@@ -4,7 +4,6 @@ use mathlib.Core.List.{List}
 use Prim.Native.Nat.{ℕ, _<_, _≤_}
 use native.Mathlib.Omega.{arith}
 use borrow.Author.Needs.{needs}
-use lib.Dec.{eqb}
 use Rattle.definitions.proofs.Lists.{one-le}
 use Rattle.taps.proofs.Masks.{line-fits}
 use Rattle.row_notes.specs.Written.{Room}
@@ -38,7 +37,7 @@ low-bit-requires-2 c κs =
 push-tap-requires-2 : tie.Need-push-tap-requires-2 Inv-loop μ-loop
 push-tap-requires-2 c κs =
     let t = taken-next _ _ _ _ (c .before .before .before .before .before .before .before .before .before .before .pre .0) (c .before .before .before .before .before .before .before .before .before .before .pre .1) (c .before .before .before .before .before .before .before .before .before .before .pre .2) _ _ _ (taken-start _ _ _ _ (c .before .before .before .before .before .before .before .before .before .before .pre .0) (c .before .before .before .before .before .before .before .before .before .before .pre .1) (c .before .before .before .before .before .before .before .before .before .before .pre .2) (mask-small (c .before .before .before .before .before .before .before .before .before .before))) _ _ _ (c .before .before .before .before .before .before .low-bit .ensures) _ _ (c .before .before .before .before .push-tap .ensures .1) (c .before .before .before .before .push-tap .ensures .0) (c .before .before .before .before .push-tap .kept .1 .1 .1 .1 .0) in
-    (room-early _ _ _ _ (c .before .before .before .before .before .before .before .before .before .before .pre .0) (c .before .before .before .before .before .before .before .before .before .before .pre .1) (c .before .before .before .before .before .before .before .before .before .before .pre .2) _ _ _ t (omega (arith, c .before .before .before .before .push-tap .ensures .0, one-le (eqb (c .before .before .before .before .before .before .low-bit .result .byte) 49))), omega (arith, c .before .low-bit2 .ensures .inside), taken-few _ _ _ _ (c .before .before .before .before .before .before .before .before .before .before .pre .0) (c .before .before .before .before .before .before .before .before .before .before .pre .1) (c .before .before .before .before .before .before .before .before .before .before .pre .2) _ _ _ t)
+    (room-early _ _ _ _ (c .before .before .before .before .before .before .before .before .before .before .pre .0) (c .before .before .before .before .before .before .before .before .before .before .pre .1) (c .before .before .before .before .before .before .before .before .before .before .pre .2) _ _ _ t (omega (arith, c .before .before .before .before .push-tap .ensures .0, one-le (c .before .before .before .before .before .before .low-bit .result .tap))), omega (arith, c .before .low-bit2 .ensures .inside), taken-few _ _ _ _ (c .before .before .before .before .before .before .before .before .before .before .pre .0) (c .before .before .before .before .before .before .before .before .before .before .pre .1) (c .before .before .before .before .before .before .before .before .before .before .pre .2) _ _ _ t)
 
 loop-holds : tie.Need-loop-holds Inv-loop μ-loop
 loop-holds c =
