@@ -21,7 +21,16 @@ use Rattle.holds.specs.Tracks.{stackFrom, stackAfter}
 use Rattle.holds.proofs.Pairs.{heads-append, count-append, stacked, pairs-narrow}
 use Rattle.holds.proofs.Ends.{sum-same, sum-beyond}
 use Rattle.row_tally.proofs.Kept.{keep-whole}
-use Rattle.judged_pass.specs.Clean.{unpairs, unpairsFrom, Clean, AllClean, every}
+use Rattle.judged_pass.specs.Clean.{unpairs, unpairsFrom, every}
+
+-- Column c of these rows is clean from the depth d on: no cell leaves a head unpaired, and no head is left open.
+pub record Clean (c d : ℕ) (rows : List Row) : Type 0 where
+  pub whole : unpairsFrom c d rows ≡ false
+  pub closed : phantomAfter c d rows ≡ 0
+
+-- every column is clean
+abbrev pub AllClean : List Row → Type 0
+AllClean rows = (c : ℕ) → c < 10 → Clean c 0 rows
 
 -- a column without an open head
 none-open : (st : List ℕ) → length st ≡ 0 → st ≡ []

@@ -1,10 +1,10 @@
 -- What the private functions of the one pass leave: of a cell, of a row's cells, and of a row.
 use mathlib.Core.Path.{_≡_}
-use mathlib.Core.Bool.{Bool, true, false}
+use mathlib.Core.Bool.{Bool, true, not}
 use mathlib.Core.List.{List}
 use Prim.Native.Nat.{ℕ, _≤_, _<_}
 use lib.ListN.{getD}
-use Rattle.definitions.specs.Lists.{sumColumns}
+use Rattle.definitions.specs.Lists.{someColumn, sumColumns}
 use Rattle.definitions.specs.Lines.{Row}
 use Rattle.definitions.specs.Cells.{byteAt}
 use Rattle.definitions.specs.Tracker.{holdAt}
@@ -18,12 +18,12 @@ use Rattle.judged_pass.specs.declared.CleanRows.{CleanRows}
 -- A cell of a column of depth d: the depth after it, and whether it left the column clean.
 pub record CellPassed (b d : ℕ) (r : CleanCell) : Type 0 where
   pub depth : r .depth ≡ phantomStep (holdAt b) d
-  pub clean : r .clean ≡ true → unpairs (holdAt b) d ≡ false
+  pub clean : r .clean ≡ not (unpairs (holdAt b) d)
 
 -- The cells of a row, in columns of these depths: the depths after it, and whether every column was left clean.
 pub record CellsPassed (row : Row) (ds ds' : List ℕ) (kept : Bool) : Type 0 where
   pub depths : (c : ℕ) → c < 10 → getD ds' c 0 ≡ phantomStep (holdAt (byteAt c row)) (getD ds c 0)
-  pub clean : kept ≡ true → (c : ℕ) → c < 10 → unpairs (holdAt (byteAt c row)) (getD ds c 0) ≡ false
+  pub clean : kept ≡ not (someColumn 10 (λ c. unpairs (holdAt (byteAt c row)) (getD ds c 0)))
 
 -- The open heads of ten columns.
 abbrev pub openHeads : List ℕ → ℕ

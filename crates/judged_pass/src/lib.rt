@@ -1,19 +1,22 @@
 // The judged tally of clean rows in one pass, as `process_rows_judgable` of the Rust counts: while every head is paired, the holds open before a
 // row are the open heads of the columns.
 use definitions::ArrowStats;
+use definitions::Cell;
 use definitions::DepthEffect;
+use definitions::RowSum;
 use taps::Taps;
 ghost use mathlib.Core.Path.{_≡_};
+ghost use mathlib.Core.Bool.{true};
 ghost use Prim.Native.Nat.{ℕ, _≤_, _<_};
 ghost use lib.ListN.{length, getD};
 ghost use Rattle.definitions.specs.Sizes.{countBound, mostBytes};
 ghost use Rattle.definitions.specs.Tally.{noStats};
 ghost use Rattle.definitions.specs.ReadBack.{readBack};
-ghost use Rattle.definitions.specs.declared.ArrowStats.{ArrowStats};
+ghost use Rattle.definitions.specs.Judged.{judgedSum};
 ghost use Rattle.definitions.specs.Lines.{Row};
 ghost use Rattle.taps.specs.Taps.{FreeTaps, Fits, TapCounts};
 ghost use Rattle.row_tally.specs.Bounds.{Below};
-ghost use Rattle.judged_pass.specs.Clean.{CleanJudged};
+ghost use Rattle.judged_pass.specs.Clean.{cleanAnswer};
 ghost use Rattle.judged_pass.specs.JudgedPass.{CellPassed, CellsPassed, openHeads, Ready, RowPassed};
 
 // What the pass has of the rows so far: the tally, the open heads of each column, of up to ten, the holds open before the next row, the columns
@@ -36,6 +39,12 @@ pub enum CleanTally {
 pub struct CleanCell {
     pub depth: u32,
     pub clean: bool,
+}
+
+// What a row's cells add up to, and whether they leave every column clean.
+struct CleanCells {
+    sum: RowSum,
+    clean: bool,
 }
 
 // Before the first row.
@@ -83,20 +92,29 @@ fn clean_cell(b: u8, depth: u32) -> CleanCell
     }
 }
 
-// The cells of a row, one column after the other: whether they leave every column clean.
-fn clean_cells(depths: &mut [u32; 10], row: &[u8]) -> bool
+// The cells of a row, one column after the other: what they add up to on a judged row, and whether they leave every column clean. Most are
+// empty, which change nothing.
+fn clean_cells(depths: &mut [u32; 10], row: &[u8]) -> CleanCells
     requires { ⌜ (length (now row) ≤ 10) × (length (now depths) ≡ 10) × ((c : ℕ) → c < 10 → getD (now depths) c 0 ≤ 8) ⌝ }
-    ensures { λ r. ⌜ CellsPassed (now (row .entry)) (now (depths .entry)) (now (depths .exit)) r ⌝ }
+    ensures { λ r. ⌜ CellsPassed (now (row .entry)) (now (depths .entry)) (now (depths .exit)) (r .clean) × (r .sum ≡ judgedSum true (now (row .entry))) ⌝ }
 {
+    let mut sum = row_tally::no_sum();
     let mut clean = true;
     let mut i = 0;
     while i < row.len() {
-        let cell = clean_cell(row[i], depths[i]);
-        depths[i] = cell.depth;
-        clean = clean & cell.clean;
+        let b = row[i];
+        match cells::cell_of(b) {
+            Cell::Empty => {}
+            _ => {
+                let cell = clean_cell(b, depths[i]);
+                depths[i] = cell.depth;
+                clean = clean & cell.clean;
+                sum = row_tally::judged_cell(sum, i, b);
+            }
+        }
         i += 1;
     }
-    clean
+    CleanCells { sum, clean }
 }
 
 // The open heads of ten columns.
@@ -119,8 +137,8 @@ fn count_cells(t: CleanRows, row: &[u8]) -> CleanRows
     ensures { λ r. ⌜ RowPassed (now (row .entry)) t r ⌝ }
 {
     let mut depths = t.depths;
-    let clean = clean_cells(&mut depths, row);
-    let sum = row_tally::judged_sum(row);
+    let row_cells = clean_cells(&mut depths, row);
+    let sum = row_cells.sum;
     let old = t.stats;
     let stats = row_tally::add_judged_row(old, true, t.active, sum);
     let active = open_heads(&depths);
@@ -130,7 +148,7 @@ fn count_cells(t: CleanRows, row: &[u8]) -> CleanRows
         depths,
         active,
         busy,
-        clean,
+        clean: row_cells.clean,
     }
 }
 
@@ -157,10 +175,10 @@ fn count_row(t: CleanRows, row: &[u8], counts: &[u16; 256]) -> CleanRows
     }
 }
 
-// The judged tally of a text's rows, every row judged: an answer is given only where they are clean.
+// The judged tally of a text's rows, every row judged: an answer is given exactly where they are clean.
 pub fn judge_clean(data: &[u8], lanes: usize) -> CleanTally
     requires { ⌜ (length (now «data») ≤ mostBytes) × (4 ≤ lanes) × (lanes ≤ 10) ⌝ }
-    ensures { λ r. ⌜ ((s : ArrowStats) → r ≡ CleanTally.Tally s → CleanJudged lanes (readBack lanes (now («data» .entry))) s) ⌝ }
+    ensures { λ r. ⌜ r ≡ cleanAnswer lanes (readBack lanes (now («data» .entry))) ⌝ }
 {
     let counts = taps::tap_mask_counts();
     let mut t = no_rows();
@@ -179,7 +197,7 @@ pub fn judge_clean(data: &[u8], lanes: usize) -> CleanTally
         }
         off = next;
     }
-    if t.busy != 0 {
+    if t.active != 0 {
         return CleanTally::NotClean;
     }
     let stats = t.stats;

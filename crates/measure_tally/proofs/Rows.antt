@@ -5,7 +5,8 @@ use mathlib.Core.List.{List, [], _∷_, _++_, append-assoc, append-nil}
 use Prim.Native.Nat.{ℕ, _+_, _*_, _≤_}
 use native.Mathlib.Nat.{add-zero}
 use native.Mathlib.Omega.{arith}
-use lib.ListN.{length, length-append}
+use lib.ListN.{length, take, length-append}
+use lib.Seq.{length-take-le}
 use Rattle.definitions.specs.Lists.{oneIf, joined}
 use Rattle.definitions.specs.Lines.{Row}
 use Rattle.definitions.specs.Cells.{cellOf}
@@ -97,6 +98,16 @@ zero-counted row p z L rows w v x =
       low = low-more (10 * length rows) (10 * length (rows ++ (row ∷ []))) p (omega (arith, length-append rows (row ∷ []))) (x .low);
     }
 
--- rows counted since a measure began
-pub counted-grown : (L : ℕ) (c d : Counting) (done : List (List Row)) (cur : List Row) (n : ℕ) → Counted L c done [] → Counted L d done cur → length cur ≤ n → d .rows ≤ c .rows + n
-counted-grown L c d done cur n x y h = omega (arith, x .rows, y .rows, length-append (joined done) cur, length-append (joined done) [])
+-- rows of the same measure ms, as many more as are counted
+pub counted-grown : (L : ℕ) (c d : Counting) (done : List (List Row)) (ms : List Row) (i j : ℕ) → i ≤ length ms → j ≤ length ms
+    → Counted L c done (take i ms) → Counted L d done (take j ms) → d .rows + i ≡ c .rows + j
+counted-grown L c d done ms i j h k x y =
+    omega (
+      arith,
+      x .rows,
+      y .rows,
+      length-append (joined done) (take i ms),
+      length-append (joined done) (take j ms),
+      length-take-le i ms h,
+      length-take-le j ms k,
+    )

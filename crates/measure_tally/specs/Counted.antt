@@ -1,6 +1,6 @@
 -- What is counted of minimised rows: `done` are the measures that have ended, `cur` the rows of the open one.
 use mathlib.Core.Path.{_≡_}
-use mathlib.Core.List.{List, [], _++_}
+use mathlib.Core.List.{List, _++_}
 use Prim.Native.Nat.{ℕ, _+_, _*_}
 use lib.ListN.{length}
 use Rattle.definitions.specs.Lists.{joined}
@@ -25,7 +25,7 @@ pub record Counted (L : ℕ) (c : Counting) (done : List (List Row)) (cur : List
   pub few : Few c
   pub free : FreeAre (c .busy) 0 (c .phantoms .depths)
 
--- something was counted, and a measure begins
-pub record SomeCounted (L : ℕ) (c : Counting) : Type 0 where
+-- something was counted, and these rows of the open measure
+pub record SomeCounted (L : ℕ) (c : Counting) (cur : List Row) : Type 0 where
   pub done : List (List Row)
-  pub counted : Counted L c done []
+  pub counted : Counted L c done cur

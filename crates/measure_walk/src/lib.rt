@@ -65,13 +65,6 @@ fn mark(busy: u32, bit: u32, used: bool) -> u32
     if used { rest | bit } else { rest }
 }
 
-// The phantom depths of the columns.
-fn phantom_depths(p: Phantoms) -> [u32; 10]
-    ensures { λ r. ⌜ (r ≡ p .depths) × (length (p .depths) ≡ 10) ⌝ }
-{
-    p.depths
-}
-
 // The object depths of the columns.
 fn object_depths(d: Depths) -> [u32; 10]
     ensures { λ r. ⌜ (r ≡ d .depths) × (length (d .depths) ≡ 10) ⌝ }
@@ -92,7 +85,7 @@ fn walk_cells(c: Counting, n: Noting, row: &[u8], slots: &mut [u8]) -> Walk
     ensures { λ r. ⌜ ((L : ℕ) (done : List (List Row)) (cur : List Row) → length (now (row .entry)) ≤ L → L ≤ 10 → Counted L c done cur → Counted L (r .counting) done (cur ++ (now (row .entry) ∷ []))) ⌝ }
     ensures { λ r. ⌜ ((L : ℕ) (done : List (List Row)) (cur : List Row) → length (now (row .entry)) ≤ L → NotedRows L n (now (slots .entry)) done cur → NotedRows L (r .noting) (now (slots .exit)) done (cur ++ (now (row .entry) ∷ []))) ⌝ }
 {
-    let mut depths = phantom_depths(c.phantoms);
+    let mut depths = phantoms::phantom_depths(c.phantoms);
     let mut heads = c.phantoms.heads;
     let mut tails = c.phantoms.tails;
     let mut met = c.phantoms.met;

@@ -1,19 +1,21 @@
--- The loop of `phantom_cells`: the columns before i are counted, and those from i on are as they were.
+-- A loop over a row's cells: the columns before i are counted, and those from i on are as they were.
 use mathlib.Core.Path.{_≡_, refl, ap, sym, _∙_}
-use mathlib.Core.Bool.{Bool, _||_, or-assoc, or-false}
+use mathlib.Core.Bool.{Bool, false, _||_, or-assoc, or-false}
 use mathlib.Core.List.{List, [], _∷_, _++_}
 use Prim.Native.Nat.{ℕ, _+_, _*_, _-_, _<_, _≤_}
 use native.Mathlib.Decide.{decLt, ℕ-discrete}
 use native.Mathlib.Numerals.{add-one}
-use native.Mathlib.Nat.{not-suc-le-zero}
+use native.Mathlib.Nat.{add-zero, not-suc-le-zero}
 use native.Mathlib.Omega.{arith}
 use lib.ListN.{length, getD, set, drop, length-set, length-append, drop-of-length-le}
-use lib.Seq.{drop-cons, getD-set-same, getD-set-other}
+use lib.Seq.{drop-cons, set-getD, getD-set-same, getD-set-other}
 use Rattle.definitions.proofs.Columns.{past-end, step-most}
 use Rattle.definitions.proofs.Lists.{any-default, one-le}
 use Rattle.definitions.specs.Lists.{oneIf, count, someColumn}
 use Rattle.definitions.specs.Lines.{Row}
-use Rattle.definitions.specs.Cells.{byteAt}
+use Rattle.definitions.specs.Cells.{byteAt, cellOf, holdEffect}
+use Rattle.definitions.specs.declared.Cell.the-variants.{Empty}
+use Rattle.definitions.specs.declared.DepthEffect.the-variants.{Nothing}
 use Rattle.definitions.specs.Tracker.{holdAt}
 use Rattle.definitions.specs.Correction.{phantomStep, meetsPhantom, phantomMet, isOpening, isClosing}
 use Rattle.phantoms.specs.Phantoms.{depthAt, Low, Counts, CellCounted}
@@ -146,6 +148,18 @@ module _ (row : Row) (p r : Phantoms) (q : PhantomCell) (i : ℕ) (s : Passed ro
         met = next-met;
         low = next-low;
       }
+
+-- an empty cell does nothing
+pub empty-hold : (b : ℕ) → cellOf b ≡ Empty → holdAt b ≡ Nothing
+unfolding holdAt
+empty-hold b e = ap holdEffect e
+
+pub passed-empty : (row : Row) (p r : Phantoms) (i : ℕ) → Passed row p r i → i < length row → i < 10 → cellOf (getD row i 0) ≡ Empty → Passed row p r (i + 1)
+passed-empty row p r i s h m e =
+    let n = empty-hold (getD row i 0) e in
+    rw (set-getD (r .depths) i 0, add-zero (r .heads), add-zero (r .tails), or-false) at
+    (passed-next row p r (record { depth = depthAt r i; heads = 0; tails = 0; met = false }) i s h m
+    (record { depth = rw n refl; heads = rw n refl; tails = rw n refl; met = rw n refl }))
 
 module _ (row : Row) (p r : Phantoms) (i : ℕ) (s : Passed row p r i) (h : length row ≤ i) where
   all-done : (c : ℕ) → depthAt r c ≡ after row p c

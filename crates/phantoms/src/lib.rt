@@ -5,12 +5,11 @@ ghost use mathlib.Core.Bool.{true};
 ghost use mathlib.Core.List.{List, []};
 ghost use Prim.Native.Nat.{ℕ, _-_, _≤_, _<_};
 ghost use lib.ListN.{length};
-ghost use Rattle.definitions.specs.Sizes.{countBound};
 ghost use Rattle.definitions.specs.Lists.{someColumn};
 ghost use Rattle.definitions.specs.Lines.{Row};
 ghost use Rattle.definitions.specs.Correction.{corrects};
 ghost use lib.Dec.{ltb};
-ghost use Rattle.phantoms.specs.Phantoms.{depthAt, Low, Counts, CellCounted, RowCounted};
+ghost use Rattle.phantoms.specs.Phantoms.{depthAt, Counts, CellCounted};
 
 // The phantom depth of each column, of up to ten; the heads and tails so far; and whether a 1, M, L or F met a phantom depth.
 pub struct Phantoms {
@@ -80,30 +79,11 @@ pub fn phantom_cell(b: u8, depth: u32) -> PhantomCell
     }
 }
 
-// One row more.
-pub fn phantom_row(p: Phantoms, row: &[u8]) -> Phantoms
-    requires { ⌜ (length (now row) ≤ 10) × Low countBound p ⌝ }
-    ensures { λ r. ⌜ RowCounted (now (row .entry)) p r ⌝ }
+// The phantom depths of the columns.
+pub fn phantom_depths(p: Phantoms) -> [u32; 10]
+    ensures { λ r. ⌜ (r ≡ p .depths) × (length (p .depths) ≡ 10) ⌝ }
 {
-    let mut depths = p.depths;
-    let mut heads = p.heads;
-    let mut tails = p.tails;
-    let mut met = p.met;
-    let mut i = 0;
-    while i < row.len() {
-        let cell = phantom_cell(row[i], depths[i]);
-        depths[i] = cell.depth;
-        heads += cell.heads;
-        tails += cell.tails;
-        met = met | cell.met;
-        i += 1;
-    }
-    Phantoms {
-        depths,
-        heads,
-        tails,
-        met,
-    }
+    p.depths
 }
 
 // Whether a phantom depth of the first columns is left over.

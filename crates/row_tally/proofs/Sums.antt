@@ -11,7 +11,7 @@ use Rattle.definitions.specs.Tally.{countFrom, counted, direction, rowSumBy}
 use Rattle.definitions.specs.Tally.{hold, roll, tail, mine, lift, fake}
 use Rattle.definitions.specs.Judged.{isJudgedArrow}
 use Rattle.definitions.specs.declared.Cell.{Cell}
-use Rattle.definitions.specs.declared.Cell.the-variants.{Lift, LowerLift}
+use Rattle.definitions.specs.declared.Cell.the-variants.{Empty, Lift, LowerLift}
 use Rattle.definitions.specs.declared.RowSum.{RowSum}
 use Rattle.row_tally.specs.Sums.{noSum, addArrow, addCounted, addCell, arrowOf}
 
@@ -48,6 +48,10 @@ sum-next arrow s c b r = simp add-assoc
 pub no-arrow : (s : RowSum) (c : ℕ) → addArrow s c false ≡ s
 unfolding addArrow
 no-arrow s c = simp add-zero
+
+pub no-cell : (s : RowSum) (c : ℕ) → addCell s c Empty false ≡ s
+unfolding addArrow addCounted
+no-cell s c = simp add-zero
 
 -- a cell that is an arrow of every row, or of none
 pub arrow-either : (judged : Bool) (x : Cell) (a : Bool) → isArrow x ≡ a → isJudgedArrow x ≡ a → arrowOf judged x ≡ a

@@ -12,7 +12,7 @@ ghost use Rattle.definitions.specs.Cells.{cellOf, isArrow};
 ghost use Rattle.definitions.specs.Tracker.{holdAt};
 ghost use Rattle.definitions.specs.Tally.{noStats, rowSum, rowSumBy, addSum, addRow};
 ghost use Rattle.definitions.specs.Correction.{keepHead, withSteps};
-ghost use Rattle.definitions.specs.Judged.{onlyFakes, judgedSum, judgeRow};
+ghost use Rattle.definitions.specs.Judged.{isJudgedArrow, onlyFakes, judgedSum, judgeRow};
 ghost use Rattle.taps.specs.Taps.{tapLineMask, Fits, TapCounts};
 ghost use Rattle.taps.specs.declared.Taps.the-variants.{Mask};
 ghost use Rattle.definitions.specs.Lines.{Row};
@@ -117,18 +117,12 @@ pub fn sum_cell(s: RowSum, column: usize, b: u8) -> RowSum
     add_cell(s, column, b, false)
 }
 
-// What a row adds up to, cell by cell.
-fn row_sum(row: &[u8]) -> RowSum
-    requires { ⌜ length (now row) ≤ 10 ⌝ }
-    ensures { λ r. ⌜ r ≡ rowSum (now (row .entry)) ⌝ }
+// One cell of a judged row.
+pub fn judged_cell(s: RowSum, column: usize, b: u8) -> RowSum
+    requires { ⌜ Under 10 s ⌝ }
+    ensures { λ r. ⌜ r ≡ addCell s column (cellOf b) (isJudgedArrow (cellOf b)) ⌝ }
 {
-    let mut s = no_sum();
-    let mut i = 0;
-    while i < row.len() {
-        s = sum_cell(s, i, row[i]);
-        i += 1;
-    }
-    s
+    add_cell(s, column, b, true)
 }
 
 // The tally of no rows.
@@ -231,15 +225,6 @@ pub fn add_judged_row(t: ArrowStats, judged: bool, held: u32, s: RowSum) -> Arro
     r
 }
 
-// The tally with one row more.
-pub fn count_line(t: ArrowStats, row: &[u8]) -> ArrowStats
-    requires { ⌜ (length (now row) ≤ 10) × Below countBound t ⌝ }
-    ensures { λ r. ⌜ r ≡ addRow t (rowSum (now (row .entry))) ⌝ }
-{
-    let s = row_sum(row);
-    add_row_lent(t, s)
-}
-
 // The tally with one row of taps alone more.
 pub fn count_taps(t: ArrowStats, mask: u16, wide: bool, counts: &[u16; 256]) -> ArrowStats
     requires { ⌜ TapCounts (now counts) × Below countBound t × Fits wide mask ⌝ }
@@ -320,20 +305,6 @@ pub fn judged_sum_masked(judged: bool, row: &[u8], heads: u16) -> RowSum
         return s;
     }
     only_fakes(s.arrows + s.mines + s.fakes)
-}
-
-// What a judged row adds up to, with all its heads.
-pub fn judged_sum(row: &[u8]) -> RowSum
-    requires { ⌜ length (now row) ≤ 10 ⌝ }
-    ensures { λ r. ⌜ r ≡ judgedSum true (now (row .entry)) ⌝ }
-{
-    let mut s = no_sum();
-    let mut i = 0;
-    while i < row.len() {
-        s = add_cell(s, i, row[i], true);
-        i += 1;
-    }
-    s
 }
 
 // What a row of taps alone adds up to, judged or not. On an unjudged row each tap is one fake.

@@ -1,5 +1,6 @@
 -- `judged::judge_accepted` meets its contract: the one pass has the tally where it has one, and else the two loops have it.
 use borrow.Author.Needs.{needs}
+use Rattle.judged_pass.proofs.JudgedPass.{answer-told}
 use Rattle.judged.proofs.judge_accepted.Statement.{statement}
 use Rattle.judged.proofs.judge_accepted.Tie as tie
 
@@ -19,7 +20,7 @@ returns : tie.Need-returns
 returns c =
     let tally = c .before .before .before .before .before in
     let accepted = tally .before .before in
-    (rw (accepted .before .if1 .taken) (accepted .judge-clean .ensures _ (tally .stats .given .1) .tally), c .before .before .zero-u16 .ensures)
+    (rw (accepted .before .if1 .taken) (answer-told _ _ _ _ (accepted .judge-clean .ensures) (tally .stats .given .1)), c .before .before .zero-u16 .ensures)
 
 enum-told : tie.Need-enum-told
 enum-told c = search needs

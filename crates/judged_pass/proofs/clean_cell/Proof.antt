@@ -28,7 +28,7 @@ sub-t10 : tie.Need-sub-t10
 sub-t10 c = search needs
 
 returns : tie.Need-returns
-returns c = cell-passed _ _ _ (sym (c .before .before .hold-effect .ensures) ∙ c .enum-told .given .1) _ refl (λ e. refl)
+returns c = cell-passed _ _ _ (sym (c .before .before .hold-effect .ensures) ∙ c .enum-told .given .1) _ refl refl
 
 returns-2 : tie.Need-returns-2
 returns-2 c = cell-passed _ _ _ (sym (c .before .before .hold-effect .ensures) ∙ c .enum-told2 .given .1) _ refl (blocks-clean (c .before .before .before .args .depth))
@@ -37,11 +37,11 @@ returns-3 : tie.Need-returns-3
 returns-3 c = cell-passed _ _ _ (sym (c .before .before .hold-effect .ensures) ∙ c .enum-told3 .given .1) _ (add-one _) (opens-clean (c .before .before .before .args .depth))
 
 returns-4 : tie.Need-returns-4
-returns-4 c = cell-passed _ _ _ (sym (c .before .before .before .hold-effect .ensures) ∙ c .before .enum-told4 .given .1) _ refl (λ e. refl)
+returns-4 c = cell-passed _ _ _ (sym (c .before .before .before .hold-effect .ensures) ∙ c .before .enum-told4 .given .1) _ refl refl
 
 returns-5 : tie.Need-returns-5
 returns-5 c =
-    cell-passed _ _ _ (sym (c .before .before .before .hold-effect .ensures) ∙ c .before .enum-told4 .given .1) _ (none-less (c .before .before .before .before .args .depth) (c .if1 .left)) (λ e. refl)
+    cell-passed _ _ _ (sym (c .before .before .before .hold-effect .ensures) ∙ c .before .enum-told4 .given .1) _ (none-less (c .before .before .before .before .args .depth) (c .if1 .left)) refl
 
 pub clean-cell-spec : {M : Type 1} → statement M
 clean-cell-spec =

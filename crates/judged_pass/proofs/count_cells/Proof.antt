@@ -19,14 +19,12 @@ use Rattle.judged_pass.proofs.count_cells.Tie as tie
 clean-cells-requires : tie.Need-clean-cells-requires
 clean-cells-requires c κs = search needs
 
-judged-sum-requires : tie.Need-judged-sum-requires
-judged-sum-requires c κs = search needs
-
 add-judged-row-requires : tie.Need-add-judged-row-requires
 add-judged-row-requires c κs =
-    let start = c .before .before .before .before .before .before in (
+    let cells = c .before .before in
+    let start = cells .before .before .before .before in (
       start .pre .2,
-      rw (c .before .judged-sum .ensures) (under-judged 10 true _ (start .pre .0)),
+      rw (cells .clean-cells .ensures .1) (under-judged 10 true _ (start .pre .0)),
       le-trans (active-few _ (start .pre .1)) (omega arith),
     )
 
@@ -34,7 +32,7 @@ open-heads-requires : tie.Need-open-heads-requires
 open-heads-requires c κs =
     let cells = c .before .before .before .before in
     let start = cells .before .before .before .before in
-    λ k h. omega (arith, cells .clean-cells .ensures .depths k h, step-most (holdAt (byteAt k (now (start .args .row)))) (getD (start .args .t .depths) k 0), start .pre .1 .low k h)
+    λ k h. omega (arith, cells .clean-cells .ensures .0 .depths k h, step-most (holdAt (byteAt k (now (start .args .row)))) (getD (start .args .t .depths) k 0), start .pre .1 .low k h)
 
 unlike-requires : tie.Need-unlike-requires
 unlike-requires c κs = search needs
@@ -43,14 +41,14 @@ returns : tie.Need-returns
 returns c =
     let heads = c .before .before in
     let added = heads .before .before in
-    let sum = added .before .before in
-    let cells = sum .before in
+    let cells = added .before .before .before in
     let start = cells .before .before .before .before in
+    let passed = cells .clean-cells .ensures in
     record {
-      cells = cells .clean-cells .ensures;
-      stats = added .add-judged-row .ensures ∙ ap (judgeRow _ _ _) (sum .judged-sum .ensures);
+      cells = passed .0;
+      stats = added .add-judged-row .ensures ∙ ap (judgeRow _ _ _) (passed .1);
       ready =
-          cells-ready _ (start .args .t) _ (start .pre .1) (cells .clean-cells .ensures) (heads .open-heads .ensures)
+          cells-ready _ (start .args .t) _ (start .pre .1) (passed .0) (heads .open-heads .ensures)
           (rw (c .unlike .ensures) (unlike-free 0 _));
     }
 
@@ -59,7 +57,6 @@ count-cells-spec =
     tie.close
     (tie.spec
     clean-cells-requires
-    judged-sum-requires
     add-judged-row-requires
     open-heads-requires
     unlike-requires

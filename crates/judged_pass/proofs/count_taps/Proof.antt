@@ -15,7 +15,7 @@ returns c =
     let start = c .before .before in
     λ row f.
     record {
-      cells = free-passed (start .args .t) _ row (start .pre .1) f _;
+      cells = free-passed (start .args .t) _ row (start .pre .1) f;
       stats = c .judge-taps .ensures row (f .mask);
       ready =
           λ e.

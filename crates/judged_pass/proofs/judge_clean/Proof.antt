@@ -1,12 +1,11 @@
 -- `judged_pass::judge_clean` meets its contract. The loop's invariant: what the pass has is that of the rows read, and they were clean.
-use Prim.Native.Nat.{ℕ, _≤_, _+_, _-_}
-use mathlib.Core.Path.{_≡_}
+use Prim.Native.Nat.{_≤_, _+_, _-_}
 use native.Mathlib.Omega.{arith}
 use borrow.Author.Needs.{needs}
-use borrow.Author.Tests.{not-false}
+use borrow.Author.Tests.{not-true, not-false}
 use lib.ListN.{length}
 use Rattle.reader.proofs.BackRows.{row-within, bytes-short}
-use Rattle.judged_pass.proofs.JudgedPass.{Passes, passes-start, passes-few, passes-row, passes-passed, passes-end}
+use Rattle.judged_pass.proofs.JudgedPass.{Passes, passes-start, passes-few, passes-row, passes-passed, passes-unclean, passes-open, passes-end}
 use Rattle.judged_pass.proofs.judge_clean.Statement.{statement}
 use Rattle.judged_pass.proofs.judge_clean.Tie as tie
 
@@ -54,7 +53,13 @@ count-row-requires c κs =
     )
 
 returns : tie.Need-returns Inv-loop μ-loop
-returns c s e = let z : _≡_ {A = ℕ} 0 1 = cc in absurd (omega arith)
+returns c =
+    let row = c .before .before .before .before in
+    let a = row .before in
+    let at = a .before .before in
+    let start = at .before .before .before .before in
+    passes-unclean _ _ _ _ (at .loop .inv .1) _ (a .before .loop-test .taken) (a .back-line .ensures) (row .if1 .taken) (start .pre .1) _
+    (c .before .count-row .ensures) (not-true _ (c .if2 .taken))
 
 loop-less : tie.Need-loop-less Inv-loop μ-loop
 loop-less c = omega (arith, c .before .before .before .before .before .back-line .ensures .next)
@@ -79,13 +84,14 @@ loop-again-2 c =
     (a .back-line .ensures .within, passes-passed _ _ _ _ (a .before .before .loop .inv .1) _ (a .before .loop-test .taken) (a .back-line .ensures) (c .if1 .left))
 
 returns-2 : tie.Need-returns-2 Inv-loop μ-loop
-returns-2 c s e = let z : _≡_ {A = ℕ} 0 1 = cc in absurd (omega arith)
+returns-2 c =
+    let at = c .before .before .before in
+    passes-open _ _ _ _ (at .loop .inv .1) (c .before .before .loop-test .left) (c .if3 .taken)
 
 returns-3 : tie.Need-returns-3 Inv-loop μ-loop
-returns-3 c s e =
+returns-3 c =
     let at = c .before .before .before .before in
-    let same : at .loop .t .stats ≡ s = cc in
-    rw (← same) (passes-end _ _ _ _ (at .loop .inv .1) (c .before .before .before .loop-test .left) (c .before .if3 .left))
+    passes-end _ _ _ _ (at .loop .inv .1) (c .before .before .before .loop-test .left) (c .before .if3 .left)
 
 pub judge-clean-spec : {M : Type 1} → statement M
 judge-clean-spec =

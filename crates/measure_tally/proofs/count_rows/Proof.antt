@@ -1,111 +1,136 @@
--- `measure_tally::count_rows` meets its contract. The loop's invariant: the first `i` rows are counted, and the next one stands at `at`.
-use Prim.Native.Nat.{_≤_, _<_, _+_, _-_, _*_}
-use mathlib.Core.Path.{_≡_, ap, sym, _∙_, subst}
-use mathlib.Core.List.{List, [], _∷_, _++_}
-use native.Mathlib.Nat.{zero-mul}
-use native.Mathlib.Numerals.{add-one}
+-- `measure_tally::count_rows` meets its contract. The loop's invariant: the rows before row `i` are counted.
+use mathlib.Core.Path.{_≡_, refl, sym, subst}
+use mathlib.Core.List.{List, []}
+use Prim.Native.Nat.{_+_, _-_, _*_, _≤_, _<_}
 use native.Mathlib.Omega.{arith}
 use borrow.Author.Needs.{needs}
 use denote.Ref.{now}
-use lib.ListN.{length, take, drop, getD, length-take}
-use lib.Seq.{take-suc, take-all}
+use lib.ListN.{length, take}
+use lib.Seq.{take-all}
+use Rattle.definitions.specs.Sizes.{rowsBound}
 use Rattle.definitions.specs.Lines.{Row}
-use Rattle.reduction.specs.Rows.{rowsAt}
-use Rattle.reduction.proofs.RowsAt.{rows-length, row-part}
-use Rattle.reduction.proofs.Powers.{row-end, next-at}
-use Rattle.measure_tally.specs.Counted.{Few, Counted}
+use Rattle.reduction.proofs.RowsAt.{rows-length}
+use Rattle.measure_tally.specs.Counted.{Few, Counted, SomeCounted}
 use Rattle.measure_tally.proofs.Rows.{counted-grown}
+use Rattle.measure_tally.proofs.Places.{rowsOf, row-room, row-wide, row-more}
 use Rattle.measure_tally.proofs.count_rows.Statement.{statement}
 use Rattle.measure_tally.proofs.count_rows.Tie as tie
 
 abbrev Inv-loop : tie.InvT-loop
-Inv-loop text start rows lanes counts c₀ i₀ at₀ c i at =
-    (i ≤ rows) × (at ≡ start + i * (lanes + 1))
-    × ((done : List (List Row)) → Counted lanes c₀ done [] → Counted lanes c done (take i (rowsAt (lanes + 1) lanes rows (drop start text))))
+Inv-loop text start rows lanes counts c₀ i₀ c i =
+    (i ≤ rows) × ((done : List (List Row)) → Counted lanes c₀ done [] → Counted lanes c done (take i (rowsOf lanes rows text start)))
 
 abbrev μ-loop : tie.MeasureT-loop
-μ-loop text start rows lanes counts c₀ i₀ at₀ c i at = rows - i
+μ-loop text start rows lanes counts c₀ i₀ c i = rows - i
 
--- the row stands in the text
-room : (c : tie.In-loop Inv-loop μ-loop) →
-    let at = c .before in
-    let a = at .before .before .before .args in
-    at .loop .at + (a .lanes + 1) ≤ length (now (a .text))
+abbrev start : tie.At-loop Inv-loop μ-loop → tie.Start Inv-loop μ-loop
+start c = c .before .before .before
+
+-- a text's length is a number
+text-fits : (c : tie.At-loop Inv-loop μ-loop) → length (now (start c .args .text)) < 18446744073709551616
+text-fits c = omega arith
+
+abbrev at : tie.Else1 Inv-loop μ-loop → tie.At-loop Inv-loop μ-loop
+at c = c .before .before .before .before
+
+-- the row that is not ordinary stands in the text
+room : (c : tie.Else1 Inv-loop μ-loop) →
+    let a = start (at c) .args in
+    (a .start + c .before .before .count-ordinary .result .row * (a .lanes + 1)) + (a .lanes + 1) ≤ length (now (a .text))
 room c =
-    let at = c .before in
-    let a = at .before .before .before .args in
-    omega (arith, at .loop .inv .1, row-end (at .loop .i) (a .rows) (a .lanes + 1) (c .loop-test .taken))
+    let s = start (at c) in
+    row-room (s .args .lanes) (s .args .rows) (now (s .args .text)) (s .args .start) (s .pre .0 .2) (c .before .before .count-ordinary .result .row) _ (c .if1 .left) refl
 
--- and there are few so far
-few : (c : tie.In-loop Inv-loop μ-loop) →
-    let at = c .before in
-    let a = at .before .before .before .args in
-    (at .loop .c .rows ≤ a .old .rows + at .loop .i) × Few (at .loop .c)
+-- and few are counted so far
+few : (c : tie.Else1 Inv-loop μ-loop) → (c .before .before .count-ordinary .result .counting .rows < rowsBound) × Few (c .before .before .count-ordinary .result .counting)
 few c =
-    let at = c .before in
-    let a = at .before .before .before .args in
-    let some = at .before .before .before .pre .1 .1 in
-    let x = at .loop .inv .2 (some .done) (some .counted) in
-    (counted-grown _ _ _ _ _ (at .loop .i) (some .counted) x (rw length-take (omega arith)), x .few)
+    let s = start (at c) in
+    let a = s .args in
+    let t = c .before .before .count-ordinary in
+    let ms = rowsOf (a .lanes) (a .rows) (now (a .text)) (a .start) in
+    let some = s .pre .1 .1 in
+    let x = t .ensures .1 (some .done) (at c .loop .inv .1 (some .done) (some .counted)) in
+    let grown = counted-grown _ _ _ _ ms 0 (t .result .row) (omega arith) (rw rows-length (t .ensures .0 .1)) (some .counted) x in
+    (omega (arith, grown, s .pre .1 .0, c .if1 .left), x .few)
 
 tap-mask-counts-requires : tie.Need-tap-mask-counts-requires Inv-loop μ-loop
 tap-mask-counts-requires c κs = search needs
 
 loop-holds : tie.Need-loop-holds Inv-loop μ-loop
-loop-holds c = (omega arith, omega (arith, zero-mul (c .before .before .args .lanes + 1)), λ done x. x)
+loop-holds c = (omega arith, λ done x. x)
 
-add-end : tie.Need-add-end Inv-loop μ-loop
-add-end c = omega (arith, room c)
-
-sub-count-row : tie.Need-sub-count-row Inv-loop μ-loop
-sub-count-row c = omega arith
-
-part-count-row-start : tie.Need-part-count-row-start Inv-loop μ-loop
-part-count-row-start c = omega (arith, room c)
-
-part-count-row-end : tie.Need-part-count-row-end Inv-loop μ-loop
-part-count-row-end c = omega (arith, room c)
-
-count-row-requires : tie.Need-count-row-requires Inv-loop μ-loop
-count-row-requires c κs =
-    let w = few (c .before .before) in
-    (rw length-take (omega arith), omega (arith, w .0), w .1, c .before .before .before .before .tap-mask-counts .ensures)
-
-add-at : tie.Need-add-at Inv-loop μ-loop
-add-at c = omega (arith, room (c .before .before .before))
-
-add-i : tie.Need-add-i Inv-loop μ-loop
-add-i c = omega arith
-
-loop-less : tie.Need-loop-less Inv-loop μ-loop
-loop-less c = omega arith
-
-loop-again : tie.Need-loop-again Inv-loop μ-loop
-loop-again c =
-    let k = c .before .before .before in
-    let at = k .before in
-    let a = at .before .before .before .args in
-    let w = a .lanes + 1 in
-    let n = at .loop .i in
-    let ms = rowsAt w (a .lanes) (a .rows) (drop (a .start) (now (a .text))) in
-    let here : n < length ms = rw rows-length (k .loop-test .taken) in
-    let row : getD ms n [] ≡ take (at .loop .at + a .lanes - at .loop .at) (drop (at .loop .at) (now (a .text))) =
-    row-part (now (a .text)) (a .start) w (a .lanes) (a .rows) n (k .loop-test .taken) ∙ ap (λ p. take (p + a .lanes - p) (drop p (now (a .text)))) (sym (at .loop .inv .1)) in
-    let more : take (n + 1) ms ≡ take n ms ++ (take (at .loop .at + a .lanes - at .loop .at) (drop (at .loop .at) (now (a .text))) ∷ []) =
-    ap (λ p. take p ms) (add-one n) ∙ take-suc ms n [] here ∙ ap (λ r. take n ms ++ (r ∷ [])) row in (
-      omega arith,
-      next-at (at .loop .at) (a .start) n (a .lanes) (at .loop .inv .1),
-      λ done x. subst (Counted (a .lanes) (c .count-row .result) done) (sym more)
-          (c .count-row .ensures (a .lanes) done (take n ms) (rw length-take (omega arith)) (omega arith) (at .loop .inv .2 done x)),
+count-ordinary-requires : tie.Need-count-ordinary-requires Inv-loop μ-loop
+count-ordinary-requires c κs =
+    let s = start (c .before) in
+    let a = s .args in
+    let v = c .before .loop in
+    let ms = rowsOf (a .lanes) (a .rows) (now (a .text)) (a .start) in
+    let some = s .pre .1 .1 in
+    let x = v .inv .1 (some .done) (some .counted) in
+    let grown = counted-grown _ _ _ _ ms 0 (v .i) (omega arith) (rw rows-length (v .inv .0)) (some .counted) x in (
+      (s .pre .0 .1, s .pre .0 .2, v .inv .0, c .before .before .tap-mask-counts .ensures),
+      (omega (arith, grown, s .pre .1 .0, v .inv .0), record { done = some .done; counted = x }),
     )
 
 returns : tie.Need-returns Inv-loop μ-loop
 returns c =
-    let at = c .before in
-    let a = at .before .before .before .args in
-    let ms = rowsAt (a .lanes + 1) (a .lanes) (a .rows) (drop (a .start) (now (a .text))) in
-    let all : length ms ≤ at .loop .i = rw rows-length (omega arith) in
-    λ done x. subst (Counted (a .lanes) (at .loop .c) done) (take-all (at .loop .i) ms all) (at .loop .inv .2 done x)
+    let t = c .before .before .count-ordinary in
+    let l = c .before .before .before .before in
+    let a = start l .args in
+    let ms = rowsOf (a .lanes) (a .rows) (now (a .text)) (a .start) in
+    let all : length ms ≤ t .result .row = rw rows-length (c .if1 .taken) in
+    λ done x. subst (Counted (a .lanes) _ done) (take-all (t .result .row) ms all) (t .ensures .1 done (l .loop .inv .1 done x))
+
+add-at : tie.Need-add-at Inv-loop μ-loop
+add-at c = omega (arith, start (at c) .pre .0 .1)
+
+mul-at : tie.Need-mul-at Inv-loop μ-loop
+mul-at c = omega (arith, room c, text-fits (at c))
+
+add-at-2 : tie.Need-add-at-2 Inv-loop μ-loop
+add-at-2 c = omega (arith, room c, text-fits (at c))
+
+add-end : tie.Need-add-end Inv-loop μ-loop
+add-end c = omega (arith, room c, text-fits (at c))
+
+sub-count-cells : tie.Need-sub-count-cells Inv-loop μ-loop
+sub-count-cells c = omega arith
+
+part-count-cells-start : tie.Need-part-count-cells-start Inv-loop μ-loop
+part-count-cells-start c = omega (arith, room c)
+
+part-count-cells-end : tie.Need-part-count-cells-end Inv-loop μ-loop
+part-count-cells-end c = omega (arith, room c)
+
+count-cells-requires : tie.Need-count-cells-requires Inv-loop μ-loop
+count-cells-requires c κs =
+    let e = c .before in
+    let s = start (at e) in
+    let a = s .args in
+    let w = few e in
+    let wide = row-wide (a .lanes) (a .rows) (now (a .text)) (a .start) (s .pre .0 .2) (e .before .before .count-ordinary .result .row) _ (e .if1 .left) refl in
+    (omega (arith, wide, s .pre .0 .1), w .0, w .1)
+
+add-i : tie.Need-add-i Inv-loop μ-loop
+add-i c = omega (arith, c .before .before .if1 .left)
+
+loop-less : tie.Need-loop-less Inv-loop μ-loop
+loop-less c = omega (arith, c .before .before .if1 .left, c .before .before .before .before .count-ordinary .ensures .0 .0)
+
+loop-again : tie.Need-loop-again Inv-loop μ-loop
+loop-again c =
+    let e = c .before .before in
+    let s = start (at e) in
+    let a = s .args in
+    let t = e .before .before .count-ordinary in
+    let k = t .result .row in
+    let ms = rowsOf (a .lanes) (a .rows) (now (a .text)) (a .start) in
+    let wide = row-wide (a .lanes) (a .rows) (now (a .text)) (a .start) (s .pre .0 .2) k _ (e .if1 .left) refl in
+    let more = row-more (a .lanes) (a .rows) (now (a .text)) (a .start) (s .pre .0 .2) k _ (e .if1 .left) refl in (
+      omega (arith, e .if1 .left),
+      λ done x. subst (Counted (a .lanes) _ done) (sym more)
+          (c .count-cells .ensures (a .lanes) done (take k ms) (omega (arith, wide)) (s .pre .0 .1) (t .ensures .1 done (at e .loop .inv .1 done x))),
+    )
 
 pub count-rows-spec : {M : Type 1} → statement M
 count-rows-spec =
@@ -115,13 +140,16 @@ count-rows-spec =
     μ-loop
     tap-mask-counts-requires
     loop-holds
-    add-end
-    sub-count-row
-    part-count-row-start
-    part-count-row-end
-    count-row-requires
+    count-ordinary-requires
+    returns
     add-at
+    mul-at
+    add-at-2
+    add-end
+    sub-count-cells
+    part-count-cells-start
+    part-count-cells-end
+    count-cells-requires
     add-i
     loop-less
-    loop-again
-    returns)
+    loop-again)
