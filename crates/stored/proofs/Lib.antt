@@ -1,4 +1,2 @@
--- The laws that the comparisons' proofs go by.
-pub mod Comparing
-pub mod Reading
+-- The laws that the proofs of the stored record's parts go by.
 pub mod Parts

@@ -1,4 +1,3 @@
 -- What the contracts of the stored sample's reader cite, beside the definitions.
-pub mod Agreement
 pub mod Layout
 pub mod Lent

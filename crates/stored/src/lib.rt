@@ -1,11 +1,10 @@
-// The stored sample of the Rust's answers: where the parts of a record stand, what an entry left beside them, and the arrays to lend.
+// The stored sample of the Rust's answers: where the parts of a record stand, and the arrays to lend.
 ghost use mathlib.Core.Path.{_≡_};
 ghost use Prim.Native.Nat.{_+_, _*_, _≤_, _<_};
 ghost use lib.ListN.{getD};
 ghost use Rattle.lines.specs.Words.{halfAt};
 ghost use Rattle.stored.specs.Layout.{afterPlace, partOf, contentStart, contentOf, figuresOf, lanesAt, textEnd, flagsEnd, textOf, flagsOf};
 
-pub mod compare;
 pub mod lent;
 
 // How the answers of one text compare.

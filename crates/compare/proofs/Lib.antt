@@ -1,0 +1,3 @@
+-- The laws that the comparisons' proofs go by.
+pub mod Comparing
+pub mod Reading

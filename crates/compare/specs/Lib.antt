@@ -1,0 +1,2 @@
+-- What the contracts of the comparisons cite, beside the definitions.
+pub mod Agreement
