@@ -9,9 +9,10 @@ use lib.Ieee.{Float}
 use Rattle.definitions.specs.Lists.{oneIf}
 use Rattle.definitions.specs.Refusals.{replaces}
 use Rattle.definitions.specs.Entries.{figures, noTally, tallyFigures}
-use Rattle.scans.specs.Answers.{refusedOr, refusedOrBeat}
+use Rattle.scans.specs.Answers.{refusedOr}
 use Rattle.scans.specs.declared.MeasuresAnswer.the-variants.{Refused, Measures}
-use Rattle.scans.specs.declared.LastBeat.the-variants as last
+use Rattle.last_beat.specs.Answers.{refusedOrBeat}
+use Rattle.last_beat.specs.declared.LastBeat.the-variants as last
 use Rattle.judged.specs.Answers.{refusedOrTally}
 use Rattle.judged.specs.declared.JudgedAnswer.the-variants as judged
 use Rattle.timing.specs.Answers as timing-answers

@@ -6,8 +6,8 @@ use figures::note_figures;
 use figures::without_tally;
 use judged::JudgedAnswer;
 use kept::KeptAnswer;
+use last_beat::LastBeat;
 use note_records::read_note;
-use scans::LastBeat;
 use scans::MeasuresAnswer;
 use timing::TimingAnswer;
 ghost use mathlib.Core.Path.{_≡_};
@@ -129,7 +129,7 @@ pub extern "C" fn padcheck_equally_spaced(
     ensures { λ _. ⌜ now (spacing .exit) ≡ spacingsLeft lanes (now («data» .entry)) (now (spacing .entry)) ⌝ }
     ensures { λ _. ⌜ now (figures .exit) ≡ measuresFigures lanes (now («data» .entry)) (now (spacing .entry)) (now (figures .entry)) ⌝ }
 {
-    match scans::spacing::equally_spaced_impl(data, lanes, spacing) {
+    match spacing::equally_spaced_impl(data, lanes, spacing) {
         MeasuresAnswer::Refused(number) => number,
         MeasuresAnswer::Measures(n) => {
             *figures = without_tally(0, n, 0, 0, false, 0);
@@ -147,7 +147,7 @@ pub extern "C" fn padcheck_chart_last_beat(
     ensures { λ r. ⌜ r ≡ lastNumber lanes (now («data» .entry)) ⌝ }
     ensures { λ _. ⌜ now (figures .exit) ≡ lastFigures lanes (now («data» .entry)) (now (figures .entry)) ⌝ }
 {
-    match scans::last::chart_last_beat_impl(data, lanes) {
+    match last_beat::chart_last_beat_impl(data, lanes) {
         LastBeat::Refused(number) => number,
         LastBeat::Beat { beat: _, bits, row } => {
             *figures = without_tally(0, 0, 0, bits, false, row);

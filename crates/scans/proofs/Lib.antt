@@ -3,6 +3,3 @@ pub mod Raw
 pub mod Filling
 pub mod Steps
 pub mod Strides
-pub mod Spaces
-pub mod LastRaw
-pub mod Looking

@@ -1,3 +1,2 @@
 -- What the contracts of the scans cite, beside the definitions.
 pub mod Answers
-pub mod Spaces

@@ -1,6 +1,6 @@
 -- `padcheck::padcheck_chart_last_beat` meets its contract, from the answer of the scan by cases.
 use Rattle.definitions.specs.Entries.{lastFigures}
-use Rattle.scans.specs.Answers.{lastAnswer}
+use Rattle.last_beat.specs.Answers.{lastAnswer}
 use Rattle.padcheck.proofs.Answers.{refused-told, accepted-told, last-told}
 use borrow.Author.Needs.{needs}
 use Rattle.padcheck.proofs.padcheck_chart_last_beat.Statement.{statement}

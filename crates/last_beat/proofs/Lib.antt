@@ -1,0 +1,3 @@
+-- Laws of the last-beat scan.
+pub mod LastRaw
+pub mod Looking

@@ -1,0 +1,2 @@
+-- Laws of the spacing scan.
+pub mod Spaces
