@@ -57,8 +57,8 @@ returns c =
     let row = c .before .before .before .before in
     let a = row .before in
     let at = a .before .before in
-    let start = at .before .before .before .before in
-    passes-unclean _ _ _ _ (at .loop .inv .1) _ (a .before .loop-test .taken) (a .back-line .ensures) (row .if1 .taken) (start .pre .1) _
+    let start = at .before .before .before .before .before in
+    passes-unclean _ _ _ _ (at .loop .inv .1) _ (a .before .loop-test .taken) (a .back-line .ensures) (row .if1 .taken) (start .pre .2) _
     (c .before .count-row .ensures) (not-true _ (c .if2 .taken))
 
 loop-less : tie.Need-loop-less Inv-loop μ-loop
