@@ -3,7 +3,7 @@ use mathlib.Core.Path.{_≡_, refl, ap, ap₂, sym, subst, _∙_}
 use mathlib.Core.Bool.{Bool, true, false, cond, _||_, _&&_, not}
 use mathlib.Core.List.{List, [], _∷_, _++_}
 use Prim.Native.Nat.{ℕ, zero, suc, _+_, _*_, _-_, _/_, _%_, _^_, _<_, _≤_}
-use native.Mathlib.Nat.{pow-suc, pow-succ', mul-assoc}
+use native.Mathlib.Nat.{suc-add, pow-suc, pow-succ', mul-assoc, div-one, div-div-eq-div-mul, div-eq-of-lt, pow-le-pow-right}
 use native.Mathlib.Decide.{decLt}
 use native.Mathlib.Omega.{arith}
 use lib.Bits.{bitAnd, and-mask}
@@ -14,13 +14,16 @@ use lib.Seq.{take-add, length-take-le}
 use borrow.Author.Tests.{eqb-true, ne-eqb, ltb-true}
 use Rattle.definitions.proofs.Bools.{and-left, and-right}
 use Rattle.definitions.specs.Lines.{Row}
-use Rattle.definitions.specs.Cells.{cellOf}
-use Rattle.definitions.specs.Tally.{rowSum, rowSumBy}
+use Rattle.definitions.specs.Cells.{cellOf, isArrow}
+use Rattle.definitions.specs.Lists.{oneIf, count, sumColumns}
+use Rattle.definitions.specs.declared.Cell.{Cell}
+use Rattle.definitions.specs.declared.Cell.the-variants.{Empty, Tap}
+use Rattle.definitions.specs.Tally.{rowSum, rowSumBy, countFrom, direction}
 use Rattle.definitions.specs.declared.RowSum.{RowSum}
-use Rattle.taps.specs.Taps.{withBit, tapMask, hasMask, tapLineMask, wideRow, Fits, Fives, maskCounts, unpack}
+use Rattle.taps.specs.Taps.{withBit, tapMask, hasMask, tapLineMask, wideRow, Fits, Fives, bit, towards, maskCounts, unpack}
 use Rattle.taps.specs.declared.Taps.{Taps}
 use Rattle.taps.specs.declared.Taps.the-variants.{Mask, Other}
-use Rattle.taps.proofs.Tables.{upFrom, same-at}
+use Rattle.taps.proofs.Tables.{same-at}
 
 pub not-other : {A : Type 0} (m : ℕ) → Other ≡ Mask m → A
 not-other m e = let z : _≡_ {A = ℕ} 0 1 = cc in absurd (omega arith)
@@ -77,27 +80,175 @@ row-back (b ∷ r) m e =
     let high : s .rest ≡ m / 2 = omega arith in
     ap₂ (λ (x : ℕ) (l : Row). x ∷ l) low (row-back r (s .rest) (s .after) ∙ ap (rowOf (length r)) high)
 
--- the sum of each mask's row, at each width up to 10, and what the mask's counts stand for
-abbrev sums : ℕ → List RowSum
-sums w = upFrom (λ m. rowSum (rowOf w m)) 0 (2 ^ w)
+-- ---- The sum of a mask's row
 
-abbrev counted : ℕ → List RowSum
-counted w = upFrom (λ m. unpack (maskCounts m)) 0 (2 ^ w)
+-- the bits of a mask in the w columns from c on that q takes
+abbrev sumBits : (ℕ → Bool) → ℕ → ℕ → ℕ → ℕ
+sumBits q m c zero = 0
+sumBits q m c (suc w) = cond (q c) (bit c m) 0 + sumBits q m (suc c) w
 
-tested : upFrom sums 0 11 ≡ upFrom counted 0 11
-unfolding rowSum rowSumBy cellOf maskCounts unpack
-tested = refl
+none-taken : (t : Bool) → _≡_ {A = ℕ} (cond t 0 0) 0
+none-taken true = refl
+none-taken false = refl
+
+-- a cell of a row of taps counts by its bit, where a test fails on a `0`
+one-bit : (b : ℕ) (f : Cell → Bool) (t : Bool) → b ≤ 1 → f Empty ≡ false → f Tap ≡ t → oneIf (f (cellOf (48 + b))) ≡ cond t b 0
+unfolding cellOf
+one-bit zero f t h e k = ap oneIf e ∙ sym (none-taken t)
+one-bit (suc zero) f true h e k = ap oneIf k
+one-bit (suc zero) f false h e k = ap oneIf k
+one-bit (suc (suc b)) f t h e k = absurd (omega arith)
+
+halved : (m c : ℕ) → m / 2 ^ c / 2 ≡ m / 2 ^ suc c
+halved m c = div-div-eq-div-mul m (2 ^ c) 2 ∙ ap (λ n. m / n) (sym (pow-suc 2 c))
+
+-- what a test of column and cell counts in a mask's row
+module _ (p : ℕ → Cell → Bool) (q : ℕ → Bool) (zeros : (c : ℕ) → p c Empty ≡ false) (ones : (c : ℕ) → p c Tap ≡ q c) (m : ℕ) where
+  counts-from : (c w : ℕ) → countFrom p c (rowOf w (m / 2 ^ c)) ≡ sumBits q m c w
+  counts-from c zero = refl
+  counts-from c (suc w) =
+      ap₂ _+_
+      (one-bit (bit c m) (p c) (q c) (omega arith) (zeros c) (ones c))
+      (ap (λ n. countFrom p (suc c) (rowOf w n)) (halved m c) ∙ counts-from (suc c) w)
+
+-- a test that fails on `0` and `1` counts nothing
+counts-none : (p : ℕ → Bool) → p 48 ≡ false → p 49 ≡ false → (w m : ℕ) → count p (rowOf w m) ≡ 0
+counts-none p e k zero m = refl
+counts-none p e k (suc w) m = ap₂ _+_ (go (m % 2) (omega arith)) (counts-none p e k w (m / 2))
+  where
+    go : (b : ℕ) → b ≤ 1 → oneIf (p (48 + b)) ≡ 0
+    go zero h = ap oneIf e
+    go (suc zero) h = ap oneIf k
+    go (suc (suc b)) h = absurd (omega arith)
+
+-- past its highest bit a mask has none
+module _ (q : ℕ → Bool) (m : ℕ) where
+  none-above : (c k : ℕ) → m < 2 ^ c → 0 ≡ sumBits q m c k
+  none-above c zero h = refl
+  none-above c (suc k) h =
+      let low : bit c m ≡ 0 = ap (λ n. n % 2) (div-eq-of-lt h) in
+      let first : cond (q c) (bit c m) 0 ≡ 0 = ap (λ n. cond (q c) n 0) low ∙ none-taken (q c) in
+      let rest = none-above (suc c) k (omega (arith, pow-suc 2 c)) in
+      omega arith
+
+  to-ten : (c w k : ℕ) → m < 2 ^ (c + w) → sumBits q m c w ≡ sumBits q m c (w + k)
+  to-ten c zero k h = none-above c (0 + k) (subst (λ n. m < 2 ^ n) (omega arith) h)
+  to-ten c (suc w) k h =
+      ap (λ n. cond (q c) (bit c m) 0 + n) (to-ten (suc c) w k (subst (λ n. m < 2 ^ n) (omega arith) h))
+      ∙ ap (sumBits q m c) (sym (suc-add w k))
+
+  few-bits : (c w : ℕ) → sumBits q m c w ≤ w
+  few-bits c zero = omega arith
+  few-bits c (suc w) =
+      let first : cond (q c) (bit c m) 0 ≤ 1 = go (q c) in
+      omega (arith, few-bits (suc c) w)
+    where
+      go : (t : Bool) → cond t (bit c m) 0 ≤ 1
+      go true = omega arith
+      go false = omega arith
+
+low-two : (x y : ℕ) {n : ℕ} → x ≤ 3 → n ≡ x + 4 * y → n % 4 ≡ x
+low-two x y h e = omega arith
+
+-- the row's sum, of numbers that are small enough for their places
+packed : (a l d u r : ℕ) → a ≤ 10 → l ≤ 3 → d ≤ 3 → u ≤ 3 → r ≤ 3
+    → record { arrows = a; left = l; down = d; up = u; right = r; holds = 0; rolls = 0; tails = 0; mines = 0; lifts = 0; fakes = 0 }
+    ≡ unpack (a + (2 ^ 4 * l + 2 ^ 6 * d + 2 ^ 8 * u + 2 ^ 10 * r))
+unfolding unpack
+packed a l d u r h₁ h₂ h₃ h₄ h₅ =
+    let n = a + (2 ^ 4 * l + 2 ^ 6 * d + 2 ^ 8 * u + 2 ^ 10 * r) in
+    let q₁ : n / 16 ≡ l + 4 * d + 16 * u + 64 * r = omega arith in
+    let q₂ : n / 64 ≡ d + 4 * u + 16 * r = omega arith in
+    let q₃ : n / 256 ≡ u + 4 * r = omega arith in
+    let q₄ : n / 1024 ≡ r = omega arith in
+    let e₁ : a ≡ n % 16 = omega arith in
+    let e₂ : l ≡ n / 16 % 4 = sym (ap (λ k. k % 4) q₁ ∙ low-two l (d + 4 * u + 16 * r) h₂ (omega arith)) in
+    let e₃ : d ≡ n / 64 % 4 = sym (ap (λ k. k % 4) q₂ ∙ low-two d (u + 4 * r) h₃ (omega arith)) in
+    let e₄ : u ≡ n / 256 % 4 = sym (ap (λ k. k % 4) q₃ ∙ low-two u r h₄ (omega arith)) in
+    let e₅ : r ≡ n / 1024 % 4 = sym (ap (λ k. k % 4) q₄ ∙ low-two r 0 h₅ (omega arith)) in
+    cc
+
+-- the sum of a mask's row, at each width up to 10
+module _ (w m : ℕ) (short : w ≤ 10) (few : m < 2 ^ w) where
+  counts : (p : ℕ → Cell → Bool) (q : ℕ → Bool) → ((c : ℕ) → p c Empty ≡ false) → ((c : ℕ) → p c Tap ≡ q c) → countFrom p 0 (rowOf w m) ≡ sumBits q m 0 10
+  counts p q e k =
+      let all : w + (10 - w) ≡ 10 = omega arith in
+      ap (λ n. countFrom p 0 (rowOf w n)) (sym (div-one m))
+      ∙ counts-from p q e k m 0 w
+      ∙ to-ten q m 0 w (10 - w) (subst (λ n. m < 2 ^ n) (omega arith) few)
+      ∙ ap (sumBits q m 0) all
+
+  below : m < 1024
+  below = omega (arith, pow-le-pow-right {n = 2} (omega arith) short)
+
+  ten-bits : sumBits (λ c. true) m 0 10 ≡ sumColumns 10 (λ c. bit c m)
+  ten-bits = go (bit 0 m) (bit 1 m) (bit 2 m) (bit 3 m) (bit 4 m) (bit 5 m) (bit 6 m) (bit 7 m) (bit 8 m) (bit 9 m)
+    where
+      go : (a b c d e f g h i j : ℕ) → a + (b + (c + (d + (e + (f + (g + (h + (i + (j + 0))))))))) ≡ 0 + a + b + c + d + e + f + g + h + i + j
+      go a b c d e f g h i j = omega arith
+
+  -- the columns of each direction; there is no eleventh and no twelfth
+  lefts : sumBits (λ c. eqb (direction c) 0) m 0 10 ≡ towards 0 m
+  lefts = go (bit 0 m) (bit 4 m) (bit 8 m)
+    where
+      go : (x y z : ℕ) → x + (0 + (0 + (0 + (y + (0 + (0 + (0 + (z + (0 + 0))))))))) ≡ x + y + z
+      go x y z = omega arith
+
+  downs : sumBits (λ c. eqb (direction c) 1) m 0 10 ≡ towards 1 m
+  downs = go (bit 1 m) (bit 5 m) (bit 9 m)
+    where
+      go : (x y z : ℕ) → 0 + (x + (0 + (0 + (0 + (y + (0 + (0 + (0 + (z + 0))))))))) ≡ x + y + z
+      go x y z = omega arith
+
+  ups : sumBits (λ c. eqb (direction c) 2) m 0 10 ≡ towards 2 m
+  ups = go (bit 2 m) (bit 6 m) (bit 10 m) (ap (λ n. n % 2) (div-eq-of-lt below))
+    where
+      go : (x y z : ℕ) → z ≡ 0 → 0 + (0 + (x + (0 + (0 + (0 + (y + (0 + (0 + (0 + 0))))))))) ≡ x + y + z
+      go x y z h = omega arith
+
+  rights : sumBits (λ c. eqb (direction c) 3) m 0 10 ≡ towards 3 m
+  rights = go (bit 3 m) (bit 7 m) (bit 11 m) (ap (λ n. n % 2) (div-eq-of-lt (omega (arith, below))))
+    where
+      go : (x y z : ℕ) → z ≡ 0 → 0 + (0 + (0 + (x + (0 + (0 + (0 + (y + (0 + (0 + 0))))))))) ≡ x + y + z
+      go x y z h = omega arith
+
+  few-towards : (d : ℕ) → towards d m ≤ 3
+  few-towards d = go (bit d m) (bit (d + 4) m) (bit (d + 8) m) (omega arith) (omega arith) (omega arith)
+    where
+      go : (x y z : ℕ) → x ≤ 1 → y ≤ 1 → z ≤ 1 → x + y + z ≤ 3
+      go x y z h k l = omega arith
+
+  pub sum-row : rowSum (rowOf w m) ≡ unpack (maskCounts m)
+  unfolding rowSum rowSumBy maskCounts cellOf
+  sum-row =
+      made
+      (counts (λ c x. isArrow x) (λ c. true) (λ c. refl) (λ c. refl) ∙ ten-bits)
+      (counts (λ c x. isArrow x && eqb (direction c) 0) (λ c. eqb (direction c) 0) (λ c. refl) (λ c. refl) ∙ lefts)
+      (counts (λ c x. isArrow x && eqb (direction c) 1) (λ c. eqb (direction c) 1) (λ c. refl) (λ c. refl) ∙ downs)
+      (counts (λ c x. isArrow x && eqb (direction c) 2) (λ c. eqb (direction c) 2) (λ c. refl) (λ c. refl) ∙ ups)
+      (counts (λ c x. isArrow x && eqb (direction c) 3) (λ c. eqb (direction c) 3) (λ c. refl) (λ c. refl) ∙ rights)
+      (counts-none _ refl refl w m)
+      (counts-none _ refl refl w m)
+      (counts-none _ refl refl w m)
+      (counts-none _ refl refl w m)
+      (counts-none _ refl refl w m)
+      (counts-none _ refl refl w m)
+      ∙ packed (sumColumns 10 (λ c. bit c m)) (towards 0 m) (towards 1 m) (towards 2 m) (towards 3 m)
+      (subst (λ n. n ≤ 10) ten-bits (few-bits (λ c. true) m 0 10)) (few-towards 0) (few-towards 1) (few-towards 2) (few-towards 3)
+    where
+      made : {a₁ a₂ b₁ b₂ c₁ c₂ d₁ d₂ e₁ e₂ f₁ f₂ g₁ g₂ h₁ h₂ i₁ i₂ j₁ j₂ k₁ k₂ : ℕ} → a₁ ≡ a₂ → b₁ ≡ b₂ → c₁ ≡ c₂ → d₁ ≡ d₂ → e₁ ≡ e₂
+          → f₁ ≡ f₂ → g₁ ≡ g₂ → h₁ ≡ h₂ → i₁ ≡ i₂ → j₁ ≡ j₂ → k₁ ≡ k₂
+          → _≡_ {A = RowSum} (record { arrows = a₁; left = b₁; down = c₁; up = d₁; right = e₁; holds = f₁; rolls = g₁; tails = h₁; mines = i₁; lifts = j₁; fakes = k₁ })
+          (record { arrows = a₂; left = b₂; down = c₂; up = d₂; right = e₂; holds = f₂; rolls = g₂; tails = h₂; mines = i₂; lifts = j₂; fakes = k₂ })
+      made a b c d e f g h i j k = cc
 
 -- A row of taps alone adds up to what its mask's counts stand for.
 tap-row-sum : (r : Row) (m : ℕ) → length r ≤ 10 → tapMask r ≡ Mask m → rowSum r ≡ unpack (maskCounts m)
-tap-row-sum r m h e =
-    ap rowSum (row-back r m e)
-    ∙ same-at (λ k. rowSum (rowOf (length r) k)) (λ k. unpack (maskCounts k)) (2 ^ length r)
-    (same-at sums counted 11 tested (length r) (omega arith)) m (mask-lt r m e)
+tap-row-sum r m h e = ap rowSum (row-back r m e) ∙ sum-row (length r) m h (mask-lt r m e)
 
 -- every mask is that of a row of ten cells
 pub mask-row : (m : ℕ) → m < 1024 → rowSum (rowOf 10 m) ≡ unpack (maskCounts m)
-mask-row m h = same-at (λ k. rowSum (rowOf 10 k)) (λ k. unpack (maskCounts k)) 1024 (same-at sums counted 11 tested 10 (omega arith)) m h
+mask-row m h = sum-row 10 m (omega arith) h
 
 -- ---- Rows of the widths that have masks
 
