@@ -1,23 +1,24 @@
 -- A row whose taps stand in no column of `busy`: in each column is a `0`, or a `1` where `busy` has no bit.
 use mathlib.Core.Path.{_≡_, refl, ap, sym, _∙_, subst}
-use mathlib.Core.Bool.{Bool, true, false, cond}
+use mathlib.Core.Bool.{Bool, true, false, cond, _&&_}
 use mathlib.Core.List.{[], _∷_}
 use Prim.Native.Nat.{ℕ, zero, suc, _+_, _*_, _/_, _%_, _^_, _<_, _≤_, min, max}
 use native.Mathlib.Nat.{zero-div, mod-lt}
 use native.Mathlib.Omega.{arith}
 use lib.Bits.{bitAnd, bitOr, and-shr, and-step, or-shr, or-step}
-use lib.Dec.{eqb}
+use lib.Dec.{eqb, ltb}
 use lib.ListN.{length, getD}
-use borrow.Author.Tests.{eqb-true, ne-eqb}
+use borrow.Author.Tests.{eqb-true, ltb-true, lt-ltb}
 use lib.Pow.{shr-shr}
+use Rattle.definitions.proofs.Bools.{and-left, and-right}
 use Rattle.definitions.proofs.Lists.{any-default}
 use Rattle.definitions.specs.Lists.{count}
 use Rattle.definitions.specs.Lines.{Row}
 use Rattle.definitions.specs.Cells.{byteAt}
-use Rattle.taps.specs.Taps.{tapMask, tapLineMask, bit, FreeTaps, freeOf, freeTaps}
+use Rattle.taps.specs.Taps.{numberOf, tapMask, tapLineMask, bit, FreeTaps, freeOf, freeTaps}
 use Rattle.taps.specs.declared.Taps.{Taps}
 use Rattle.taps.specs.declared.Taps.the-variants.{Mask, Other}
-use Rattle.taps.proofs.Masks.{not-other, parts, line-taps}
+use Rattle.taps.proofs.Masks.{not-other, parts, line-taps, number-below, line-small}
 
 -- ---- bits
 
@@ -50,17 +51,25 @@ apart m busy e c one =
 
 -- ---- a row is free of `busy`, or it is not
 
-pub free-mask : (busy m : ℕ) (r : Row) → tapLineMask r ≡ Mask m → bitAnd m busy ≡ 0 → Mask m ≡ freeTaps busy r
+-- by the number of the row's mask
+pub free-number : (busy n : ℕ) (r : Row) → n ≡ numberOf (tapLineMask r) → (ltb n 65536 && eqb (bitAnd n busy) 0) ≡ true → (n < 65536) × (Mask n ≡ freeTaps busy r)
 unfolding freeTaps
-free-mask busy m r e h = sym (ap (freeOf busy) e ∙ ap (λ n. cond (eqb n 0) (Mask m) Other) h)
+free-number busy n r e h =
+    let below : n < 65536 = ltb-true n 65536 (and-left _ _ h) in
+    let told : tapLineMask r ≡ Mask n = number-below (tapLineMask r) (omega (arith, e)) ∙ ap Mask (sym e) in
+    (below, sym (ap (freeOf busy) told ∙ ap (λ (t : Bool). cond t (Mask n) Other) (and-right (ltb n 65536) (eqb (bitAnd n busy) 0) h)))
 
-pub free-busy : (busy m : ℕ) (r : Row) → tapLineMask r ≡ Mask m → (bitAnd m busy ≡ 0 → ⊥) → Other ≡ freeTaps busy r
+pub unfree-number : (busy n : ℕ) (r : Row) → n ≡ numberOf (tapLineMask r) → (ltb n 65536 && eqb (bitAnd n busy) 0) ≡ false → Other ≡ freeTaps busy r
 unfolding freeTaps
-free-busy busy m r e h = sym (ap (freeOf busy) e ∙ ap (λ (t : Bool). cond t (Mask m) Other) (ne-eqb (bitAnd m busy) 0 h))
-
-pub free-other : (busy : ℕ) (r : Row) → tapLineMask r ≡ Other → Other ≡ freeTaps busy r
-unfolding freeTaps
-free-other busy r e = sym (ap (freeOf busy) e)
+unfree-number busy n r e h = go (tapLineMask r) refl
+  where
+    go : (t : Taps) → tapLineMask r ≡ t → Other ≡ freeOf busy (tapLineMask r)
+    go Other w = sym (ap (freeOf busy) w)
+    go (Mask m) w =
+        let same : n ≡ m = e ∙ ap numberOf w in
+        let small : ltb m 65536 ≡ true = lt-ltb m 65536 (line-small r m w) in
+        let busy-bit : eqb (bitAnd m busy) 0 ≡ false = sym (ap (λ (t : Bool). t && eqb (bitAnd m busy) 0) small) ∙ rw same at h in
+        sym (ap (freeOf busy) w ∙ ap (λ (t : Bool). cond t (Mask m) Other) busy-bit)
 
 -- what a mask that was answered says
 pub free-told : {t : Taps} {busy m : ℕ} {r : Row} → t ≡ freeTaps busy r → t ≡ Mask m → FreeTaps busy m r

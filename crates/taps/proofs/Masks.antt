@@ -20,7 +20,7 @@ use Rattle.definitions.specs.declared.Cell.{Cell}
 use Rattle.definitions.specs.declared.Cell.the-variants.{Empty, Tap}
 use Rattle.definitions.specs.Tally.{rowSum, rowSumBy, countFrom, direction}
 use Rattle.definitions.specs.declared.RowSum.{RowSum}
-use Rattle.taps.specs.Taps.{withBit, tapMask, hasMask, tapLineMask, wideRow, Fits, Fives, bit, towards, maskCounts, unpack}
+use Rattle.taps.specs.Taps.{numberOf, Small, withBit, tapMask, hasMask, tapLineMask, wideRow, Fits, Fives, bit, towards, maskCounts, unpack}
 use Rattle.taps.specs.declared.Taps.{Taps}
 use Rattle.taps.specs.declared.Taps.the-variants.{Mask, Other}
 use Rattle.taps.proofs.Tables.{same-at}
@@ -394,7 +394,7 @@ module _ (r : Row) (at : ℕ) (inside : at + 5 ≤ length r) where
         ∙ rw (five-more, before, e)
 
 -- where they stand in the mask
-pub five-at : (five at : ℕ) → five < 32 → at % 5 ≡ 0 → at ≤ 5 → (five * 2 ^ at % 65536 ≡ 2 ^ at * five) × (2 ^ at * five < 1024)
+pub five-at : (five at : ℕ) → five < 32 → at % 5 ≡ 0 → at ≤ 5 → (five * 2 ^ at % 4294967296 ≡ 2 ^ at * five) × (2 ^ at * five < 1024)
 five-at five at h e k =
     elim (decLt at 1) [
       | yes l ↦ let z : at ≡ 0 = omega arith in let p : 2 ^ at ≡ 1 = ap (λ n. 2 ^ n) z in rw p (omega arith, omega arith)
@@ -409,3 +409,27 @@ and-15 n = and-mask n 4
 
 pub and-3 : (n : ℕ) → bitAnd n 3 ≡ n % 4
 and-3 n = and-mask n 2
+
+-- ---- masks as numbers
+
+pub number-mask : (t : Taps) → (numberOf t ≡ 65536 → ⊥) → t ≡ Mask (numberOf t)
+number-mask (Mask m) h = refl
+number-mask Other h = absurd (h refl)
+
+pub number-other : (t : Taps) → Small t → numberOf t ≡ 65536 → t ≡ Other
+number-other (Mask m) s e = absurd (omega (arith, s m refl))
+number-other Other s e = refl
+
+-- a number below tells a mask, any other none
+pub number-below : (t : Taps) → numberOf t < 65536 → t ≡ Mask (numberOf t)
+number-below t h = number-mask t (λ e. omega (arith, e))
+
+pub number-past : (t : Taps) → Small t → 65536 ≤ numberOf t → t ≡ Other
+number-past (Mask m) s h = absurd (omega (arith, s m refl))
+number-past Other s h = refl
+
+pub mask-small : (r : Row) → length r ≤ 10 → Small (tapMask r)
+mask-small r h m e = omega (arith, mask-few 10 r m h e)
+
+pub line-small : (r : Row) → Small (tapLineMask r)
+line-small r m e = omega (arith, line-fits r m e .0)

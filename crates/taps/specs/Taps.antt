@@ -22,6 +22,15 @@ unfoldable pub tapMask : Row → Taps
 tapMask [] = Mask 0
 tapMask (b ∷ r) = withBit b (tapMask r)
 
+-- a mask as a number, and the number of cells that have none
+abbrev pub numberOf : Taps → ℕ
+numberOf (Mask m) = m
+numberOf Other = 65536
+
+-- a mask's number is below that
+abbrev pub Small : Taps → Type 0
+Small t = (m : ℕ) → t ≡ Mask m → m < 65536
+
 -- the widths of rows that have masks
 abbrev pub hasMask : ℕ → Bool
 hasMask n = eqb n 4 || eqb n 8 || eqb n 5 || eqb n 10

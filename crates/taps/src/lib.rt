@@ -10,7 +10,7 @@ ghost use Prim.Native.Nat.{ℕ, _+_, _*_, _≤_, _<_};
 ghost use lib.ListN.{length, getD, take, drop};
 ghost use Rattle.definitions.specs.Lines.{Row};
 ghost use Rattle.lines.specs.Words.{halfAt, wordOf, Bytes};
-ghost use Rattle.taps.specs.Taps.{tapMask, tapLineMask, freeTaps, Fives, spread, zeroCells, unlikeMask, wideRow, Fits, maskCounts, TapCounts, unpack};
+ghost use Rattle.taps.specs.Taps.{numberOf, Small, tapMask, tapLineMask, freeTaps, Fives, spread, zeroCells, unlikeMask, wideRow, Fits, maskCounts, TapCounts, unpack};
 ghost use Rattle.taps.specs.declared.Taps;
 
 // A row of `0` and `1` alone as a mask, its first column in the lowest bit, or another row.
@@ -35,15 +35,88 @@ fn gather(x: u64) -> u16
     (x * 0x0102_0408 / 0x100_0000 % 256) as u16
 }
 
+// The number of cells that have no mask. A mask's own number is below 1024, so one test tells the two, and no row is asked twice.
+const NO_MASK: u32 = 65536;
+
 // The mask of four cells and up to four after them, by one test of all: a byte but for its lowest bit is 48 where it is a `0` or a `1`. The
 // cells are handed over as words, and `zeros` is the second word where all its cells are `0`.
-fn tap_cells(first: u64, second: u64, zeros: u64) -> Taps
+fn tap_cells(first: u64, second: u64, zeros: u64) -> u32
     requires { ⌜ (first < 4294967296) × (second < 4294967296) × (zeros < 4294967296) ⌝ }
-    ensures { λ r. ⌜ ((a b : Row) → Bytes a → Bytes b → length a ≡ 4 → length b ≤ 4 → first ≡ wordOf a → second ≡ wordOf b → zeros ≡ wordOf (zeroCells (length b)) → r ≡ tapMask (a ++ b)) ⌝ }
+    ensures { λ r. ⌜ ((a b : Row) → Bytes a → Bytes b → length a ≡ 4 → length b ≤ 4 → first ≡ wordOf a → second ≡ wordOf b → zeros ≡ wordOf (zeroCells (length b)) → r ≡ numberOf (tapMask (a ++ b))) ⌝ }
 {
     let word = first + second * 0x1_0000_0000;
     if word & 0xfefe_fefe_fefe_fefe == 0x3030_3030 + zeros * 0x1_0000_0000 {
-        Taps::Mask(gather(first - 0x3030_3030 + 16 * (second - zeros)))
+        gather(first - 0x3030_3030 + 16 * (second - zeros)) as u32
+    } else {
+        NO_MASK
+    }
+}
+
+// The mask of the first four cells.
+fn number4(row: &[u8]) -> u32
+    requires { ⌜ 4 ≤ length (now row) ⌝ }
+    ensures { λ r. ⌜ r ≡ numberOf (tapMask (take 4 (now (row .entry)))) ⌝ }
+{
+    tap_cells(words::half_at(row, 0), 0, 0)
+}
+
+// The mask of the first eight cells.
+fn number8(row: &[u8]) -> u32
+    requires { ⌜ 8 ≤ length (now row) ⌝ }
+    ensures { λ r. ⌜ r ≡ numberOf (tapMask (take 8 (now (row .entry)))) ⌝ }
+{
+    tap_cells(words::half_at(row, 0), words::half_at(row, 4), 0x3030_3030)
+}
+
+// The mask of five cells from `at` on.
+fn number5(row: &[u8], at: usize) -> u32
+    requires { ⌜ at + 5 ≤ length (now row) ⌝ }
+    ensures { λ r. ⌜ r ≡ numberOf (tapMask (take 5 (drop at (now (row .entry))))) ⌝ }
+{
+    tap_cells(words::half_at(row, at), wide(row[at + 4]), 0x30)
+}
+
+// The mask of a row of five or ten cells, five at a time.
+fn tap_fives(row: &[u8]) -> u32
+    requires { ⌜ Fives (length (now row)) ⌝ }
+    ensures { λ r. ⌜ r ≡ numberOf (tapMask (now (row .entry))) ⌝ }
+{
+    let mut mask: u32 = 0;
+    let mut at = 0;
+    while at < row.len() {
+        let five = number5(row, at);
+        if five == NO_MASK {
+            return NO_MASK;
+        }
+        mask += five << at;
+        at += 5;
+    }
+    mask
+}
+
+// The mask of a row of four, five, eight or ten cells; no other width has masks.
+fn line_number(row: &[u8]) -> u32
+    ensures { λ r. ⌜ r ≡ numberOf (tapLineMask (now (row .entry))) ⌝ }
+{
+    let n = row.len();
+    if n == 4 {
+        return number4(row);
+    }
+    if n == 8 {
+        return number8(row);
+    }
+    if (4 < n) & (n < 11) & (n % 5 == 0) {
+        return tap_fives(row);
+    }
+    NO_MASK
+}
+
+// A mask by its number.
+fn taps_of(number: u32) -> Taps
+    ensures { λ r. ⌜ ((t : Taps) → Small t → number ≡ numberOf t → r ≡ t) ⌝ }
+{
+    if number < NO_MASK {
+        Taps::Mask(number as u16)
     } else {
         Taps::Other
     }
@@ -54,7 +127,7 @@ pub fn tap_mask4(row: &[u8]) -> Taps
     requires { ⌜ 4 ≤ length (now row) ⌝ }
     ensures { λ r. ⌜ r ≡ tapMask (take 4 (now (row .entry))) ⌝ }
 {
-    tap_cells(words::half_at(row, 0), 0, 0)
+    taps_of(number4(row))
 }
 
 // The mask of the first eight cells.
@@ -62,64 +135,25 @@ pub fn tap_mask8(row: &[u8]) -> Taps
     requires { ⌜ 8 ≤ length (now row) ⌝ }
     ensures { λ r. ⌜ r ≡ tapMask (take 8 (now (row .entry))) ⌝ }
 {
-    tap_cells(words::half_at(row, 0), words::half_at(row, 4), 0x3030_3030)
+    taps_of(number8(row))
 }
 
-// The mask of five cells from `at` on.
-fn tap_mask5(row: &[u8], at: usize) -> Taps
-    requires { ⌜ at + 5 ≤ length (now row) ⌝ }
-    ensures { λ r. ⌜ r ≡ tapMask (take 5 (drop at (now (row .entry)))) ⌝ }
-{
-    tap_cells(words::half_at(row, at), wide(row[at + 4]), 0x30)
-}
-
-// The mask of a row of five or ten cells, five at a time.
-fn tap_fives(row: &[u8]) -> Taps
-    requires { ⌜ Fives (length (now row)) ⌝ }
-    ensures { λ r. ⌜ r ≡ tapMask (now (row .entry)) ⌝ }
-{
-    let mut mask: u16 = 0;
-    let mut at = 0;
-    while at < row.len() {
-        match tap_mask5(row, at) {
-            Taps::Mask(five) => mask += five << at,
-            Taps::Other => return Taps::Other,
-        }
-        at += 5;
-    }
-    Taps::Mask(mask)
-}
-
-// The mask of a row of four, five, eight or ten cells; no other width has masks.
+// The mask of a row of four, five, eight or ten cells.
 pub fn tap_line_mask(row: &[u8]) -> Taps
     ensures { λ r. ⌜ r ≡ tapLineMask (now (row .entry)) ⌝ }
 {
-    let n = row.len();
-    if n == 4 {
-        return tap_mask4(row);
-    }
-    if n == 8 {
-        return tap_mask8(row);
-    }
-    if (4 < n) & (n < 11) & (n % 5 == 0) {
-        return tap_fives(row);
-    }
-    Taps::Other
+    taps_of(line_number(row))
 }
 
 // The mask of a row that has one and no tap in a column of `busy`; any other row is left to its cells.
 pub fn free_taps(row: &[u8], busy: u32) -> Taps
     ensures { λ r. ⌜ r ≡ freeTaps busy (now (row .entry)) ⌝ }
 {
-    match tap_line_mask(row) {
-        Taps::Mask(mask) => {
-            if (mask as u32) & busy == 0 {
-                Taps::Mask(mask)
-            } else {
-                Taps::Other
-            }
-        }
-        Taps::Other => Taps::Other,
+    let number = line_number(row);
+    if (number < NO_MASK) & (number & busy == 0) {
+        Taps::Mask(number as u16)
+    } else {
+        Taps::Other
     }
 }
 

@@ -1,7 +1,9 @@
 -- `taps::tap_cells` meets its contract: the word passes where every byte does, and then its bits are the mask.
 use borrow.Author.Needs.{needs}
 use native.Mathlib.Omega.{arith}
+use mathlib.Core.Path.{ap}
 use Prim.Native.Nat.{_≤_}
+use Rattle.taps.specs.Taps.{numberOf}
 use Rattle.taps.proofs.Words.{halves-pass, cells-mask, cells-other}
 use Rattle.taps.proofs.tap_cells.Statement.{statement}
 use Rattle.taps.proofs.tap_cells.Tie as tie
@@ -36,12 +38,15 @@ add-gather c = let p = pass c in search needs
 gather-requires : tie.Need-gather-requires
 gather-requires c κs = let p = pass c in search needs
 
+cast-result : tie.Need-cast-result
+cast-result c = search needs
+
 returns : tie.Need-returns
 returns c a b x y four few ea eb ez =
-    cells-mask a b four few x y (rw (ea, eb, ez) at (c .before .if1 .taken)) _ (λ lo hi h k e. c .gather .ensures .0 lo hi h k (rw (ea, eb, ez) e))
+    ap numberOf (cells-mask a b four few x y (rw (ea, eb, ez) at (c .before .if1 .taken)) _ (λ lo hi h k e. c .gather .ensures .0 lo hi h k (rw (ea, eb, ez) e)))
 
 returns-2 : tie.Need-returns-2
-returns-2 c a b x y four few ea eb ez = cells-other a b four few (λ e. c .if1 .left (rw (ea, eb, ez) e))
+returns-2 c a b x y four few ea eb ez = ap numberOf (cells-other a b four few (λ e. c .if1 .left (rw (ea, eb, ez) e)))
 
 pub tap-cells-spec : {M : Type 1} → statement M
 tap-cells-spec =
@@ -56,5 +61,6 @@ tap-cells-spec =
     mul-gather
     add-gather
     gather-requires
+    cast-result
     returns
     returns-2)

@@ -5,9 +5,9 @@ use Prim.Native.Nat.{_+_, _*_, _-_, _%_, _^_, _≤_, _<_}
 use native.Mathlib.Omega.{arith}
 use lib.ListN.{length, take, drop, length-take}
 use lib.Seq.{take-all}
-use Rattle.taps.specs.Taps.{tapMask}
+use Rattle.taps.specs.Taps.{numberOf, tapMask}
 use Rattle.taps.specs.declared.Taps.the-variants.{Mask}
-use Rattle.taps.proofs.Masks.{mask-few, few-five, five-at, fives-next, fives-other}
+use Rattle.taps.proofs.Masks.{mask-few, mask-small, few-five, five-at, fives-next, fives-other, number-mask, number-other}
 use Rattle.taps.proofs.tap_fives.Statement.{statement}
 use Rattle.taps.proofs.tap_fives.Tie as tie
 
@@ -25,16 +25,16 @@ inside c =
     (omega (arith, pre .0, inv .0, c .loop-test .taken), omega (arith, pre .0, pre .1, inv .0, c .loop-test .taken))
 
 -- and have a mask
-module _ (c : tie.After-known-told Inv-loop μ-loop) where
-  abbrev asked : tie.After-tap-mask5 Inv-loop μ-loop
-  asked = c .before .before .before
+module _ (c : tie.Else1 Inv-loop μ-loop) where
+  abbrev asked : tie.After-number5 Inv-loop μ-loop
+  asked = c .before
 
-  told : tapMask (take 5 (drop (asked .before .before .loop .at) (asked .before .before .before .before .args .row .now))) ≡ Mask (c .before .five .given .0 .0)
-  told = sym (asked .tap-mask5 .ensures) ∙ c .before .five .given .1
+  told : tapMask (take 5 (drop (asked .before .before .loop .at) (asked .before .before .before .before .args .row .now))) ≡ Mask (asked .number5 .result)
+  told = number-mask _ (λ e. c .if1 .left (asked .number5 .ensures ∙ e)) ∙ ap Mask (sym (asked .number5 .ensures))
 
   shifted : let at = asked .before .before .loop .at in
-      let five = c .before .five .given .0 .0 in
-      (five * 2 ^ at % 65536 ≡ 2 ^ at * five) × (2 ^ at * five < 1024)
+      let five = asked .number5 .result in
+      (five * 2 ^ at % 4294967296 ≡ 2 ^ at * five) × (2 ^ at * five < 1024)
   shifted = five-at _ _ (few-five (asked .before .before .before .before .args .row .now) (asked .before .before .loop .at) _ told) (asked .before .before .loop .inv .0) (inside (asked .before) .1)
 
   low : asked .before .before .loop .mask < 32
@@ -47,38 +47,35 @@ loop-holds : tie.Need-loop-holds Inv-loop μ-loop
 unfolding tapMask
 loop-holds c = (refl, omega arith, refl)
 
-tap-mask5-requires : tie.Need-tap-mask5-requires Inv-loop μ-loop
-tap-mask5-requires c κs = inside c .0
+number5-requires : tie.Need-number5-requires Inv-loop μ-loop
+number5-requires c κs = inside c .0
 
-enum-known-five : tie.Need-enum-known-five Inv-loop μ-loop
-enum-known-five c = search needs
+returns : tie.Need-returns Inv-loop μ-loop
+returns c =
+    let asked = c .before in
+    let row = asked .before .before .before .before .args .row .now in
+    let at = asked .before .before .loop .at in
+    let five = take 5 (drop at row) in
+    ap numberOf (sym (fives-other _ _ (inside (asked .before) .0) _ (asked .before .before .loop .inv .2) (number-other (tapMask five) (mask-small five (omega (arith, length-take 5 (drop at row)))) (sym (asked .number5 .ensures) ∙ c .if1 .taken))))
 
 cast-mask : tie.Need-cast-mask Inv-loop μ-loop
-cast-mask c = let h = inside (c .before .before .before .before) .1 in search needs
+cast-mask c = let h = inside (c .before .before) .1 in search needs
 
 shl-mask : tie.Need-shl-mask Inv-loop μ-loop
-shl-mask c = let h = inside (c .before .before .before .before) .1 in search needs
+shl-mask c = let h = inside (c .before .before) .1 in search needs
 
 add-mask : tie.Need-add-mask Inv-loop μ-loop
 add-mask c = omega (arith, low c, shifted c .0, shifted c .1)
 
-enum-told : tie.Need-enum-told Inv-loop μ-loop
-enum-told c = search needs
-
-returns : tie.Need-returns Inv-loop μ-loop
-returns c =
-    let asked = c .before .before in
-    sym (fives-other _ _ (inside (asked .before) .0) _ (asked .before .before .loop .inv .2) (sym (asked .tap-mask5 .ensures) ∙ c .enum-told .given .1))
-
 add-at : tie.Need-add-at Inv-loop μ-loop
-add-at c = let h = inside (c .before .before .before .before) .1 in search needs
+add-at c = let h = inside (c .before .before) .1 in search needs
 
 loop-less : tie.Need-loop-less Inv-loop μ-loop
-loop-less c = omega (arith, c .before .before .before .before .loop-test .taken)
+loop-less c = omega (arith, c .before .before .loop-test .taken)
 
 loop-again : tie.Need-loop-again Inv-loop μ-loop
 loop-again c =
-    let turn = c .before .before .before .before in (
+    let turn = c .before .before in (
       omega (arith, turn .before .loop .inv .0),
       inside turn .0,
       fives-next _ _ (inside turn .0) _ (turn .before .loop .inv .2) _ (told c) ∙ ap Mask (omega (arith, shifted c .0)),
@@ -87,7 +84,7 @@ loop-again c =
 returns-2 : tie.Need-returns-2 Inv-loop μ-loop
 returns-2 c =
     let at = c .before in
-    sym (at .loop .inv .2) ∙ ap tapMask (take-all (at .loop .at) (at .before .before .args .row .now) (c .loop-test .left))
+    ap numberOf (sym (at .loop .inv .2) ∙ ap tapMask (take-all (at .loop .at) (at .before .before .args .row .now) (c .loop-test .left)))
 
 pub tap-fives-spec : {M : Type 1} → statement M
 tap-fives-spec =
@@ -96,13 +93,11 @@ tap-fives-spec =
     Inv-loop
     μ-loop
     loop-holds
-    tap-mask5-requires
-    enum-known-five
+    number5-requires
+    returns
     cast-mask
     shl-mask
     add-mask
-    enum-told
-    returns
     add-at
     loop-less
     loop-again

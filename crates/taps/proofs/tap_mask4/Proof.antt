@@ -1,32 +1,22 @@
--- `taps::tap_mask4` meets its contract: four cells and no other.
+-- `taps::tap_mask4` meets its contract.
 use borrow.Author.Needs.{needs}
-use mathlib.Core.Path.{refl, ap, _∙_}
-use mathlib.Core.List.{[], append-nil}
 use native.Mathlib.Omega.{arith}
-use lib.ListN.{take}
-use lib.Seq.{length-take-le}
-use Rattle.lines.specs.Words.{wordOf}
-use Rattle.lines.proofs.RowWords.{bytes-of}
+use lib.ListN.{take, length-take}
 use Rattle.taps.specs.Taps.{tapMask}
-use Rattle.taps.proofs.Words.{bytes-take, half-word}
+use Rattle.taps.proofs.Masks.{mask-small}
 use Rattle.taps.proofs.tap_mask4.Statement.{statement}
 use Rattle.taps.proofs.tap_mask4.Tie as tie
 
-half-at-requires : tie.Need-half-at-requires
-half-at-requires c κs = search needs
+number4-requires : tie.Need-number4-requires
+number4-requires c κs = search needs
 
-tap-cells-requires : tie.Need-tap-cells-requires
-tap-cells-requires c κs = search needs
+taps-of-requires : tie.Need-taps-of-requires
+taps-of-requires c κs = search needs
 
 returns : tie.Need-returns
-unfolding wordOf
 returns c =
-    let known = c .before .before in
-    let row = known .before .args .row .now in
-    let bytes = bytes-of row (λ k. known .shared-slice-known .given k .fits) in
-    c .tap-cells .ensures (take 4 row) [] (bytes-take 4 row bytes) tt (length-take-le 4 row (known .before .pre)) (omega arith)
-    (c .before .half-at .ensures .0 ∙ half-word row 0 (known .before .pre)) refl refl
-    ∙ ap tapMask (append-nil (take 4 row))
+    let row = c .before .before .before .args .row .now in
+    c .taps-of .ensures (tapMask (take 4 row)) (mask-small (take 4 row) (omega (arith, length-take 4 row))) (c .before .number4 .ensures)
 
 pub tap-mask4-spec : {M : Type 1} → statement M
-tap-mask4-spec = tie.close (tie.spec half-at-requires tap-cells-requires returns)
+tap-mask4-spec = tie.close (tie.spec number4-requires taps-of-requires returns)

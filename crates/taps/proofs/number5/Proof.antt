@@ -1,4 +1,4 @@
--- `taps::tap_mask5` meets its contract: four cells and the one after them.
+-- `taps::number5` meets its contract: four cells and the one after them.
 use borrow.Author.Needs.{needs}
 use mathlib.Core.Path.{_≡_, sym, ap, _∙_}
 use Prim.Native.Nat.{_≤_, _+_}
@@ -7,10 +7,10 @@ use lib.ListN.{length, take, drop, length-drop}
 use lib.Seq.{length-take-le, take-add}
 use Rattle.lines.specs.Words.{wordOf}
 use Rattle.lines.proofs.RowWords.{bytes-of}
-use Rattle.taps.specs.Taps.{tapMask, zeroCells}
+use Rattle.taps.specs.Taps.{numberOf, tapMask, zeroCells}
 use Rattle.taps.proofs.Words.{bytes-take, bytes-drop, half-word, one-word}
-use Rattle.taps.proofs.tap_mask5.Statement.{statement}
-use Rattle.taps.proofs.tap_mask5.Tie as tie
+use Rattle.taps.proofs.number5.Statement.{statement}
+use Rattle.taps.proofs.number5.Tie as tie
 
 half-at-requires : tie.Need-half-at-requires
 half-at-requires c κs = search needs
@@ -41,10 +41,10 @@ returns c =
     (bytes-take 4 (drop at row) (bytes-drop at row bytes)) (bytes-take 1 (drop 4 (drop at row)) (bytes-drop 4 (drop at row) (bytes-drop at row bytes)))
     (length-take-le 4 (drop at row) (omega arith)) (omega (arith, one)) (c .before .before .before .half-at .ensures .0 ∙ half-word row at (omega arith))
     (c .before .wide .ensures .0 ∙ one-word row at) (ap (λ n. wordOf (zeroCells n)) (sym one))
-    ∙ ap tapMask (sym (take-add 4 1 (drop at row)))
+    ∙ ap (λ l. numberOf (tapMask l)) (sym (take-add 4 1 (drop at row)))
 
-pub tap-mask5-spec : {M : Type 1} → statement M
-tap-mask5-spec =
+pub number5-spec : {M : Type 1} → statement M
+number5-spec =
     tie.close
     (tie.spec
     half-at-requires

@@ -1,0 +1,20 @@
+-- `taps::taps_of` meets its contract.
+use borrow.Author.Needs.{needs}
+use mathlib.Core.Path.{sym, ap, _∙_}
+use native.Mathlib.Omega.{arith}
+use Rattle.taps.specs.declared.Taps.the-variants.{Mask}
+use Rattle.taps.proofs.Masks.{number-below, number-past}
+use Rattle.taps.proofs.taps_of.Statement.{statement}
+use Rattle.taps.proofs.taps_of.Tie as tie
+
+cast-t4 : tie.Need-cast-t4
+cast-t4 c = search needs
+
+returns : tie.Need-returns
+returns c t s e = ap Mask e ∙ sym (number-below t (omega (arith, c .if1 .taken, e)))
+
+returns-2 : tie.Need-returns-2
+returns-2 c t s e = sym (number-past t s (omega (arith, c .if1 .left, e)))
+
+pub taps-of-spec : {M : Type 1} → statement M
+taps-of-spec = tie.close (tie.spec cast-t4 returns returns-2)
