@@ -28,10 +28,10 @@ use Rattle.row_notes.specs.declared.ChartNotesScratch.{ChartNotesScratch}
 use Rattle.row_notes.specs.Writer.{noHead, afterCell}
 use Rattle.row_notes.proofs.Steps.{zero-nothing, step-nothing}
 use Rattle.row_notes.proofs.Rows.{Midrow, mid-start, mid-step}
-use Rattle.measure_walk.specs.Cells.{ByteWalked}
+use Rattle.cell_walk.specs.Cells.{ByteWalked}
 use Rattle.measure_walk.specs.Walked.{Marked}
-use Rattle.measure_walk.specs.declared.CellAt.{CellAt}
-use Rattle.measure_walk.specs.declared.WalkCell.{WalkCell}
+use Rattle.cell_walk.specs.declared.CellAt.{CellAt}
+use Rattle.cell_walk.specs.declared.WalkCell.{WalkCell}
 use Rattle.measure_walk.proofs.Marks.{free-marked}
 
 -- From the phantoms p₀, the object depths low₀, the notes s₀ in l₀ and the mask busy₀ on.

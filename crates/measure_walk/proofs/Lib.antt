@@ -2,4 +2,3 @@
 pub mod Marks
 pub mod Cells
 pub mod Walks
-pub mod Effects

@@ -1,3 +1,2 @@
 -- What the contracts of the walk cite, beside the definitions.
 pub mod Walked
-pub mod Cells

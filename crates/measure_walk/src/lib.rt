@@ -1,12 +1,9 @@
 // A measure's minimised rows gone over once: each row is counted and noted, an ordinary one by its mask, any other by its cells.
-mod cell;
-
+use cell_walk::CellAt;
 use measure_notes::Noting;
 use measure_tally::Counting;
 use objects::Depths;
-use objects::ObjectCell;
 use objects::Objects;
-use phantoms::PhantomCell;
 use phantoms::Phantoms;
 use row_notes::ChartNotesScratch;
 use taps::Taps;
@@ -33,27 +30,6 @@ pub struct WalkTo {
     pub counting: Counting,
     pub noting: Noting,
     pub row: usize,
-}
-
-// Where a cell stands: the phantom depth, the object depth and the open head of its column, the number of records, its row and its column.
-pub struct CellAt {
-    pub depth: u32,
-    pub low: u32,
-    pub head: u32,
-    pub count: usize,
-    pub row: u32,
-    pub column: usize,
-}
-
-// What a cell leaves: its phantom and its object depth, the open head of its column, the number of records, whether it dropped one, and the
-// kind of its note.
-pub struct WalkCell {
-    pub phantom: PhantomCell,
-    pub object: ObjectCell,
-    pub head: u32,
-    pub count: usize,
-    pub invalid: bool,
-    pub kind: u8,
 }
 
 // Columns as a mask, with this one's bit as told.
@@ -110,7 +86,7 @@ fn walk_cells(c: Counting, n: Noting, row: &[u8], slots: &mut [u8]) -> Walk
                 row: row_index,
                 column: i,
             };
-            let w = cell::walk_cell(b, at, slots);
+            let w = cell_walk::walk_cell(b, at, slots);
             let p = w.phantom;
             let o = w.object;
             let head = w.head;
@@ -123,7 +99,7 @@ fn walk_cells(c: Counting, n: Noting, row: &[u8], slots: &mut [u8]) -> Walk
             open[i] = head;
             count = w.count;
             invalid = invalid | w.invalid;
-            sum = cell::count_kind(sum, i, w.kind, p.tails);
+            sum = cell_walk::count_kind(sum, i, w.kind, p.tails);
             busy = mark(
                 busy,
                 bit,

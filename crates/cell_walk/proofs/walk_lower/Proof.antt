@@ -1,9 +1,9 @@
--- `measure_walk::cell::walk_lower` meets its contract.
+-- `cell_walk::walk_lower` meets its contract.
 use mathlib.Core.Path.{refl}
 use Rattle.row_notes.proofs.Steps.{noted-single}
 use borrow.Author.Needs.{needs}
-use Rattle.measure_walk.proofs.cell.walk_lower.Statement.{statement}
-use Rattle.measure_walk.proofs.cell.walk_lower.Tie as tie
+use Rattle.cell_walk.proofs.walk_lower.Statement.{statement}
+use Rattle.cell_walk.proofs.walk_lower.Tie as tie
 
 put-note-requires : tie.Need-put-note-requires
 put-note-requires c κs = search needs

@@ -15,8 +15,8 @@ use Rattle.definitions.specs.declared.NoteEffect.{NoteEffect}
 use Rattle.definitions.specs.declared.NoteEffect.the-variants.{Nothing, Closes, Single, Head}
 use Rattle.objects.specs.declared.ObjectCell.{ObjectCell}
 use Rattle.row_notes.specs.Writer.{CellReady, CellNoted}
-use Rattle.measure_walk.specs.declared.CellAt.{CellAt}
-use Rattle.measure_walk.specs.declared.WalkCell.{WalkCell}
+use Rattle.cell_walk.specs.declared.CellAt.{CellAt}
+use Rattle.cell_walk.specs.declared.WalkCell.{WalkCell}
 
 -- the number of the kind of a cell's note, and 6 where it makes none
 abbrev pub kindOf : NoteEffect → ℕ

@@ -1,10 +1,10 @@
--- `measure_walk::cell::walk_opening` meets its contract.
+-- `cell_walk::walk_opening` meets its contract.
 use mathlib.Core.Path.{refl}
 use native.Mathlib.Numerals.{add-one}
 use Rattle.row_notes.proofs.Steps.{noted-head}
 use borrow.Author.Needs.{needs}
-use Rattle.measure_walk.proofs.cell.walk_opening.Statement.{statement}
-use Rattle.measure_walk.proofs.cell.walk_opening.Tie as tie
+use Rattle.cell_walk.proofs.walk_opening.Statement.{statement}
+use Rattle.cell_walk.proofs.walk_opening.Tie as tie
 
 put-note-requires : tie.Need-put-note-requires
 put-note-requires c κs = search needs

@@ -1,9 +1,9 @@
--- `measure_walk::cell::count_kind` meets its contract.
+-- `cell_walk::count_kind` meets its contract.
 use native.Mathlib.Omega.{arith}
-use Rattle.measure_walk.proofs.Effects.{kind-counted}
+use Rattle.cell_walk.proofs.Effects.{kind-counted}
 use borrow.Author.Needs.{needs}
-use Rattle.measure_walk.proofs.cell.count_kind.Statement.{statement}
-use Rattle.measure_walk.proofs.cell.count_kind.Tie as tie
+use Rattle.cell_walk.proofs.count_kind.Statement.{statement}
+use Rattle.cell_walk.proofs.count_kind.Tie as tie
 
 one-if-requires : tie.Need-one-if-requires
 one-if-requires c κs = search needs

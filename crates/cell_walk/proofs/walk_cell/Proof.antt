@@ -1,11 +1,11 @@
--- `measure_walk::cell::walk_cell` meets its contract: each arm is a cell.
+-- `cell_walk::walk_cell` meets its contract: each arm is a cell.
 use mathlib.Core.Path.{refl, sym, _∙_}
 use Rattle.definitions.specs.declared.Cell.the-variants.{Empty, Tap, Hold, Tail, Roll, Mine, Lift, Fake, KeySound, LowerMine, LowerLift, LowerFake}
 use Rattle.definitions.specs.declared.DepthEffect.the-variants.{Nothing, Blocks}
-use Rattle.measure_walk.proofs.Effects.{walked-at}
+use Rattle.cell_walk.proofs.Effects.{walked-at}
 use borrow.Author.Needs.{needs}
-use Rattle.measure_walk.proofs.cell.walk_cell.Statement.{statement}
-use Rattle.measure_walk.proofs.cell.walk_cell.Tie as tie
+use Rattle.cell_walk.proofs.walk_cell.Statement.{statement}
+use Rattle.cell_walk.proofs.walk_cell.Tie as tie
 
 cell-of-requires : tie.Need-cell-of-requires
 cell-of-requires c κs = search needs

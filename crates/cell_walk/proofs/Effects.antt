@@ -15,9 +15,9 @@ use Rattle.definitions.specs.declared.Cell.{Cell}
 use Rattle.definitions.specs.declared.Cell.the-variants.{Empty, Tap, Hold, Tail, Roll, Mine, Lift, Fake, KeySound, LowerMine, LowerLift, LowerFake}
 use Rattle.definitions.specs.declared.RowSum.{RowSum}
 use Rattle.row_tally.specs.Sums.{addArrow, addCounted, addCell}
-use Rattle.measure_walk.specs.Cells.{kindOf, CellWalked, ByteWalked}
-use Rattle.measure_walk.specs.declared.CellAt.{CellAt}
-use Rattle.measure_walk.specs.declared.WalkCell.{WalkCell}
+use Rattle.cell_walk.specs.Cells.{kindOf, CellWalked, ByteWalked}
+use Rattle.cell_walk.specs.declared.CellAt.{CellAt}
+use Rattle.cell_walk.specs.declared.WalkCell.{WalkCell}
 
 -- a byte's effects are those of its cell
 pub walked-at : (b : ℕ) (x : Cell) → cellOf b ≡ x → (at : CellAt) (l l′ : List ℕ) (r : WalkCell) → CellWalked (holdEffect x) (objectEffect x) (effectOf x) at l l′ r

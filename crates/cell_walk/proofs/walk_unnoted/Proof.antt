@@ -1,8 +1,8 @@
--- `measure_walk::cell::walk_unnoted` meets its contract.
+-- `cell_walk::walk_unnoted` meets its contract.
 use mathlib.Core.Path.{refl}
 use Rattle.row_notes.proofs.Steps.{noted-nothing}
-use Rattle.measure_walk.proofs.cell.walk_unnoted.Statement.{statement}
-use Rattle.measure_walk.proofs.cell.walk_unnoted.Tie as tie
+use Rattle.cell_walk.proofs.walk_unnoted.Statement.{statement}
+use Rattle.cell_walk.proofs.walk_unnoted.Tie as tie
 
 returns : tie.Need-returns
 returns c o l eo ed =

@@ -1,7 +1,5 @@
 // One cell of a row that is not ordinary: what it does to the phantom depth, the object depth and the notes of its column, told by one match
 // over the letters.
-use crate::CellAt;
-use crate::WalkCell;
 use definitions::Cell;
 use definitions::Kind;
 use definitions::RowSum;
@@ -16,7 +14,28 @@ ghost use Rattle.definitions.specs.Correction.{isClosing};
 ghost use Rattle.definitions.specs.Notes.{effectAt};
 ghost use Rattle.row_tally.specs.Bounds.{Under};
 ghost use Rattle.row_tally.specs.Sums.{addCell};
-ghost use Rattle.measure_walk.specs.Cells.{kindOf, CellFits, Blocking, Lower, Opening, Closing, Unnoted, ByteWalked};
+ghost use Rattle.cell_walk.specs.Cells.{kindOf, CellFits, Blocking, Lower, Opening, Closing, Unnoted, ByteWalked};
+
+// Where a cell stands: the phantom depth, the object depth and the open head of its column, the number of records, its row and its column.
+pub struct CellAt {
+    pub depth: u32,
+    pub low: u32,
+    pub head: u32,
+    pub count: usize,
+    pub row: u32,
+    pub column: usize,
+}
+
+// What a cell leaves: its phantom and its object depth, the open head of its column, the number of records, whether it dropped one, and the
+// kind of its note.
+pub struct WalkCell {
+    pub phantom: PhantomCell,
+    pub object: ObjectCell,
+    pub head: u32,
+    pub count: usize,
+    pub invalid: bool,
+    pub kind: u8,
+}
 
 // A kind's number where a cell makes no note.
 const NO_KIND: u8 = 6;

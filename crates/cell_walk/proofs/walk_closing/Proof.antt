@@ -1,10 +1,10 @@
--- `measure_walk::cell::walk_closing` meets its contract.
+-- `cell_walk::walk_closing` meets its contract.
 use mathlib.Core.Path.{refl}
 use native.Mathlib.Omega.{arith}
 use Rattle.row_notes.proofs.Steps.{noted-closes}
 use borrow.Author.Needs.{needs}
-use Rattle.measure_walk.proofs.cell.walk_closing.Statement.{statement}
-use Rattle.measure_walk.proofs.cell.walk_closing.Tie as tie
+use Rattle.cell_walk.proofs.walk_closing.Statement.{statement}
+use Rattle.cell_walk.proofs.walk_closing.Tie as tie
 
 end-note-requires : tie.Need-end-note-requires
 end-note-requires c κs =

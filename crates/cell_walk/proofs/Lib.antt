@@ -1,0 +1,2 @@
+-- Laws of a cell.
+pub mod Effects

@@ -1,0 +1,2 @@
+-- What the contracts of a cell cite, beside the definitions.
+pub mod Cells
