@@ -3,12 +3,9 @@ use objects::LastScan;
 use row_notes::ChartNotesScratch;
 ghost use mathlib.Core.List.{List, [], _∷_, _++_};
 ghost use Prim.Native.Nat.{ℕ, _≤_, _<_};
-ghost use lib.Bits.{bitOr};
-ghost use lib.ListN.{length};
 ghost use Rattle.definitions.specs.Sizes.{measuresBound, rowsBound};
 ghost use Rattle.definitions.specs.Lines.{Row};
-ghost use Rattle.taps.specs.Taps.{FreeTaps};
-ghost use Rattle.measure_notes.specs.Noted.{Noted, NotedRows, RowReady};
+ghost use Rattle.measure_notes.specs.Noted.{Noted, NotedRows};
 
 // A column without its bit in `busy` has no open head.
 pub struct Noting {
@@ -27,20 +24,6 @@ pub fn no_noting() -> Noting
         scratch,
         last,
         busy: 0,
-    }
-}
-
-// One row of taps more, in columns that are free in both.
-pub fn note_taps(n: Noting, row: &[u8], mask: u16, slots: &mut [u8]) -> Noting
-    requires { ⌜ RowReady n (now row) (now slots) × FreeTaps (bitOr (n .busy) (n .last .busy)) mask (now row) ⌝ }
-    ensures { λ r. ⌜ ((L : ℕ) (done : List (List Row)) (cur : List Row) → length (now (row .entry)) ≤ L → NotedRows L n (now (slots .entry)) done cur → NotedRows L r (now (slots .exit)) done (cur ++ (now (row .entry) ∷ []))) ⌝ }
-{
-    let scratch = row_notes::push_mask(n.scratch, row, mask, slots);
-    let last = objects::last_taps(n.last, mask);
-    Noting {
-        scratch,
-        last,
-        busy: n.busy,
     }
 }
 

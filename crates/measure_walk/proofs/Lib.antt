@@ -1,4 +1,3 @@
 -- Laws of the walk.
-pub mod Marks
-pub mod Cells
 pub mod Walks
+pub mod Runs

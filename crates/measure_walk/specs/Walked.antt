@@ -1,21 +1,88 @@
--- A mask of columns with the bit of one of them as told; and a measure of which some rows are walked.
+-- What a walk holds of a measure of which some rows are walked, as the structs of the layers beneath.
 use mathlib.Core.Path.{_≡_}
-use mathlib.Core.Bool.{Bool}
-use mathlib.Core.List.{List}
-use Prim.Native.Nat.{ℕ, _+_, _*_, _<_, _≤_}
+use mathlib.Core.Bool.{Bool, cond, not}
+use mathlib.Core.List.{List, [], _∷_, _++_}
+use Prim.Native.Nat.{ℕ, _+_, _-_, _*_, _<_, _≤_}
+use lib.Bits.{bitOr}
+use lib.Dec.{eqb, ltb}
 use lib.ListN.{length, take}
-use Rattle.definitions.specs.Sizes.{measuresBound, rowsBound}
-use Rattle.definitions.specs.Lists.{oneIf, joined}
+use Rattle.definitions.specs.Sizes.{countBound, measuresBound, rowsBound}
+use Rattle.definitions.specs.Lists.{joined}
 use Rattle.definitions.specs.Lines.{Row}
-use Rattle.taps.specs.Taps.{bit}
+use Rattle.definitions.specs.Tally.{rowSum, addRow}
+use Rattle.taps.specs.Taps.{tapLineMask, Fits}
+use Rattle.taps.specs.declared.Taps.the-variants.{Mask}
+use Rattle.beats.specs.declared.LastObject.{LastObject}
+use Rattle.objects.specs.declared.LastRow.{LastRow}
+use Rattle.objects.specs.declared.LastRow.the-variants.{Nothing, At}
+use Rattle.row_tally.specs.Bounds.{Below}
+use Rattle.row_notes.specs.declared.ChartNotesScratch.{ChartNotesScratch}
+use Rattle.row_notes.specs.Written.{Written, MaskFits, SomeMask, afterTaps}
+use Rattle.row_walk.specs.declared.Marks.{Marks}
+use Rattle.row_walk.specs.declared.Seen.{Seen}
+use Rattle.row_walk.specs.Rows.{phantomsOf, notesOf}
 use Rattle.measure_tally.specs.declared.Counting.{Counting}
 use Rattle.measure_tally.specs.Counted.{Counted}
 use Rattle.measure_notes.specs.declared.Noting.{Noting}
 use Rattle.measure_notes.specs.Noted.{NotedRows}
+use Rattle.measure_walk.specs.declared.Run.{Run}
 
-pub record Marked (busy i : ℕ) (used : Bool) (r : ℕ) : Type 0 where
-  pub here : bit i r ≡ oneIf used
-  pub others : (c : ℕ) → c < 10 → (c ≡ i → ⊥) → bit c r ≡ bit c busy
+-- What ordinary rows leave as it is, beside the marks: the steps before the measure, the numbers of the columns, the last object row of the
+-- measures before, and the measure's number.
+pub record Rest : Type 0 where
+  pub before : ℕ
+  pub depths : List ℕ
+  pub low : List ℕ
+  pub heads : List ℕ
+  pub found : LastObject
+  pub midx : ℕ
+
+abbrev pub restOf : Counting → Noting → List ℕ → List ℕ → List ℕ → Rest
+restOf c n ds low hs = record { before = c .before; depths = ds; low = low; heads = hs; found = n .last .found; midx = n .last .midx }
+
+abbrev pub countingOf : Rest → Marks → Run → Counting
+countingOf q m r = record { stats = r .stats; phantoms = phantomsOf (q .depths) m; rows = r .row; before = q .before; busy = m .busy }
+
+-- the measure's last object row, where `first` rows stand before the measure
+abbrev pub rowAt : ℕ → ℕ → LastRow
+rowAt first last = cond (ltb first last) (At (last - 1 - first)) Nothing
+
+abbrev pub notingOf : ℕ → Rest → Marks → Run → Noting
+notingOf first q m r = record {
+  scratch = notesOf (q .heads) (r .count) (r .row) m;
+  last = record { depths = record { depths = q .low }; busy = m .busy; found = q .found; row = rowAt first (r .last); rows = r .row - first; midx = q .midx };
+  busy = m .busy;
+}
+
+-- before the measure
+abbrev pub firstRun : Counting → Noting → Run
+firstRun c n = record { stats = c .stats; count = n .scratch .count; row = c .rows; last = 0 }
+
+abbrev pub firstMarks : Counting → Noting → Marks
+firstMarks c n = record {
+  heads = c .phantoms .heads;
+  tails = c .phantoms .tails;
+  met = c .phantoms .met;
+  invalid = n .scratch .«has_invalid»;
+  busy = bitOr (c .busy) (bitOr (n .busy) (n .last .busy));
+}
+
+-- what a row of taps asks, and what is then so
+pub record TapsReady (r : Run) (mask : ℕ) (wide : Bool) (l : List ℕ) : Type 0 where
+  pub few : Below countBound (r .stats)
+  pub rows : r .row < rowsBound
+  pub fits : Fits wide mask
+  pub some : SomeMask (r .row) (r .count) mask l
+
+pub record TapsAdded (r : Run) (mask : ℕ) (l l′ : List ℕ) (t : Run) : Type 0 where
+  pub stats : (cells : Row) → tapLineMask cells ≡ Mask mask → t .stats ≡ addRow (r .stats) (rowSum cells)
+  pub written : (s : ChartNotesScratch) (cells : Row) → MaskFits (r .row) (r .count) mask l s cells → (rows : List Row) → Written rows s l → Written (rows ++ (cells ∷ [])) (afterTaps s (t .count)) l′
+  pub row : t .row ≡ r .row + 1
+  pub last : t .last ≡ cond (not (eqb mask 0)) (r .row + 1) (r .last)
+
+-- after a row whose cells have come to this
+abbrev pub afterCells : Run → Seen → Run
+afterCells r s = record { stats = addRow (r .stats) (s .sum); count = s .count; row = r .row + 1; last = cond (s .object) (r .row + 1) (r .last) }
 
 -- The first i rows of the measure ms are counted and noted, and l has room for the notes of all.
 pub record Walking (L : ℕ) (c : Counting) (n : Noting) (l : List ℕ) (ms : List Row) (i : ℕ) : Type 0 where
@@ -25,3 +92,8 @@ pub record Walking (L : ℕ) (c : Counting) (n : Noting) (l : List ℕ) (ms : Li
   pub few : length (joined done) + length ms < rowsBound
   pub room : (length (joined done) + length ms) * L * 10 ≤ length l
   pub midx : length done ≤ measuresBound
+
+-- The same of what a walk holds, where `first` rows stand before the measure.
+pub record Running (L first : ℕ) (m : Marks) (r : Run) (l : List ℕ) (ms : List Row) : Type 0 where
+  pub rest : Rest
+  pub walking : Walking L (countingOf rest m r) (notingOf first rest m r) l ms (r .row - first)

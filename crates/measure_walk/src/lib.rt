@@ -1,23 +1,27 @@
 // A measure's minimised rows gone over once: each row is counted and noted, an ordinary one by its mask, any other by its cells.
-use cell_walk::CellAt;
+use definitions::ArrowStats;
 use measure_notes::Noting;
 use measure_tally::Counting;
 use objects::Depths;
-use objects::Objects;
+use objects::LastRow;
+use objects::LastScan;
 use phantoms::Phantoms;
 use row_notes::ChartNotesScratch;
+use row_walk::Marks;
+use row_walk::Seen;
 use taps::Taps;
 ghost use mathlib.Core.Path.{_≡_};
 ghost use mathlib.Core.List.{List, [], _∷_, _++_};
-ghost use Prim.Native.Nat.{ℕ, _+_, _*_, _^_, _≤_, _<_};
+ghost use Prim.Native.Nat.{ℕ, _+_, _-_, _*_, _≤_, _<_};
 ghost use lib.ListN.{length, take, drop};
-ghost use Rattle.definitions.specs.Sizes.{rowsBound};
+ghost use Rattle.definitions.specs.Sizes.{countBound, measuresBound, rowsBound};
 ghost use Rattle.definitions.specs.Lines.{Row};
 ghost use Rattle.taps.specs.Taps.{TapCounts};
 ghost use Rattle.reduction.specs.Rows.{rowsAt};
-ghost use Rattle.measure_tally.specs.Counted.{Few, Counted};
-ghost use Rattle.measure_notes.specs.Noted.{Noted, NotedRows, RowReady};
-ghost use Rattle.measure_walk.specs.Walked.{Marked, Walking};
+ghost use Rattle.row_tally.specs.Bounds.{Below, Under};
+ghost use Rattle.measure_tally.specs.Counted.{Counted};
+ghost use Rattle.measure_notes.specs.Noted.{Noted, NotedRows};
+ghost use Rattle.measure_walk.specs.Walked.{Rest, restOf, countingOf, rowAt, notingOf, firstRun, firstMarks, TapsReady, TapsAdded, afterCells, Walking, Running};
 
 // What is counted and noted.
 pub struct Walk {
@@ -25,20 +29,13 @@ pub struct Walk {
     pub noting: Noting,
 }
 
-// The same, and the row at which the walk stands.
-pub struct WalkTo {
-    pub counting: Counting,
-    pub noting: Noting,
-    pub row: usize,
-}
-
-// Columns as a mask, with this one's bit as told.
-fn mark(busy: u32, bit: u32, used: bool) -> u32
-    requires { ⌜ bit ≤ 1023 ⌝ }
-    ensures { λ r. ⌜ ((i : ℕ) → i < 10 → bit ≡ 2 ^ i → Marked busy i used r) ⌝ }
-{
-    let rest = busy & (1023 - bit);
-    if used { rest | bit } else { rest }
+// What ordinary rows change too, in plain numbers: the tally, the number of records, the number of rows, and how many of these there are up to
+// the measure's last object row; where that is no more than before the measure, it has none.
+pub struct Run {
+    pub stats: ArrowStats,
+    pub count: usize,
+    pub row: u32,
+    pub last: u32,
 }
 
 // The object depths of the columns.
@@ -55,137 +52,166 @@ fn open_heads(s: ChartNotesScratch) -> [u32; 10]
     s.hold_heads
 }
 
-// One row more, by its cells. Most bytes of a chart are `0`, which changes nothing.
-fn walk_cells(c: Counting, n: Noting, row: &[u8], slots: &mut [u8]) -> Walk
-    requires { ⌜ (length (now row) ≤ 10) × (c .rows < rowsBound) × Few c × RowReady n (now row) (now slots) ⌝ }
-    ensures { λ r. ⌜ ((L : ℕ) (done : List (List Row)) (cur : List Row) → length (now (row .entry)) ≤ L → L ≤ 10 → Counted L c done cur → Counted L (r .counting) done (cur ++ (now (row .entry) ∷ []))) ⌝ }
-    ensures { λ r. ⌜ ((L : ℕ) (done : List (List Row)) (cur : List Row) → length (now (row .entry)) ≤ L → NotedRows L n (now (slots .entry)) done cur → NotedRows L (r .noting) (now (slots .exit)) done (cur ++ (now (row .entry) ∷ []))) ⌝ }
+// Before the measure.
+fn first_run(counting: Counting, noting: Noting) -> Run
+    ensures { λ r. ⌜ r ≡ firstRun counting noting ⌝ }
 {
-    let mut depths = phantoms::phantom_depths(c.phantoms);
-    let mut heads = c.phantoms.heads;
-    let mut tails = c.phantoms.tails;
-    let mut met = c.phantoms.met;
-    let mut low = object_depths(n.last.depths);
-    let mut object = false;
-    let mut open = open_heads(n.scratch);
-    let mut count = n.scratch.count;
-    let mut invalid = n.scratch.has_invalid;
-    let row_index = n.scratch.row_index;
-    let mut sum = row_tally::no_sum();
-    let mut busy = c.busy | n.busy | n.last.busy;
-    let mut bit: u32 = 1;
-    let mut i = 0;
-    while i < row.len() {
-        let b = row[i];
-        if b != b'0' {
-            let at = CellAt {
-                depth: depths[i],
-                low: low[i],
-                head: open[i],
-                count,
-                row: row_index,
-                column: i,
-            };
-            let w = cell_walk::walk_cell(b, at, slots);
-            let p = w.phantom;
-            let o = w.object;
-            let head = w.head;
-            depths[i] = p.depth;
-            heads += p.heads;
-            tails += p.tails;
-            met = met | p.met;
-            low[i] = o.depth;
-            object = object | o.object;
-            open[i] = head;
-            count = w.count;
-            invalid = invalid | w.invalid;
-            sum = cell_walk::count_kind(sum, i, w.kind, p.tails);
-            busy = mark(
-                busy,
-                bit,
-                (p.depth != 0) | (o.depth != 0) | (head != row_notes::NO_HEAD),
-            );
-        }
-        bit *= 2;
-        i += 1;
-    }
-    let scratch = ChartNotesScratch {
-        hold_heads: open,
-        count,
-        row_index: row_index + 1,
-        has_invalid: invalid,
-    };
-    let stats = row_tally::add_row_lent(c.stats, sum);
-    let phantoms = Phantoms {
-        depths,
-        heads,
-        tails,
-        met,
-    };
-    let counting = Counting {
+    let stats = counting.stats;
+    Run {
         stats,
-        phantoms,
-        rows: c.rows + 1,
-        before: c.before,
-        busy,
-    };
-    let after = Depths { depths: low };
-    let objects = Objects {
-        object,
-        depths: after,
-    };
-    let last = objects::last_seen(n.last, objects, busy);
-    let noting = Noting {
-        scratch,
-        last,
-        busy,
-    };
-    Walk { counting, noting }
+        count: noting.scratch.count,
+        row: counting.rows,
+        last: 0,
+    }
 }
 
-// Ordinary rows of a measure that stands in a text from `start` on, from row number `first` on, up to the first row that is not.
+// The same; one mask for the phantom depths, the open heads and the object depths.
+fn first_marks(counting: Counting, noting: Noting) -> Marks
+    ensures { λ r. ⌜ r ≡ firstMarks counting noting ⌝ }
+{
+    Marks {
+        heads: counting.phantoms.heads,
+        tails: counting.phantoms.tails,
+        met: counting.phantoms.met,
+        invalid: noting.scratch.has_invalid,
+        busy: counting.busy | (noting.busy | noting.last.busy),
+    }
+}
+
+// One row of taps more, all in columns that are not busy.
+fn add_taps(r: Run, mask: u16, wide: bool, slots: &mut [u8], counts: &[u16; 256]) -> Run
+    requires { ⌜ TapsReady r mask wide (now slots) × TapCounts (now counts) ⌝ }
+    ensures { λ t. ⌜ TapsAdded r mask (now (slots .entry)) (now (slots .exit)) t ⌝ }
+{
+    let stats = row_tally::count_taps(r.stats, mask, wide, counts);
+    let count = row_notes::push_mask(r.row, r.count, mask, slots);
+    let row = r.row + 1;
+    let last = if mask != 0 { row } else { r.last };
+    Run {
+        stats,
+        count,
+        row,
+        last,
+    }
+}
+
+// One row more, whose cells have come to this.
+fn add_cells(r: Run, s: Seen) -> Run
+    requires { ⌜ Below countBound (r .stats) × Under 10 (s .sum) × (r .row < rowsBound) ⌝ }
+    ensures { λ t. ⌜ t ≡ afterCells r s ⌝ }
+{
+    let stats = row_tally::add_row_lent(r.stats, s.sum);
+    let row = r.row + 1;
+    let last = if s.object { row } else { r.last };
+    Run {
+        stats,
+        count: s.count,
+        row,
+        last,
+    }
+}
+
+// Ordinary rows of a measure, up to the first row that is not: it stands in a text from `start` on, and `first` rows stand before it.
 fn walk_taps(
-    old: Walk,
+    old: Run,
+    m: Marks,
+    first: u32,
     text: &[u8],
     start: usize,
-    first: usize,
     rows: usize,
     lanes: usize,
     slots: &mut [u8],
     counts: &[u16; 256],
-) -> WalkTo
-    requires { ⌜ (0 < lanes) × (lanes ≤ 10) × (start + rows * (lanes + 1) ≤ length (now text)) × (first ≤ rows) × TapCounts (now counts) ⌝ }
-    requires { ⌜ Walking lanes (old .counting) (old .noting) (now slots) (rowsAt (lanes + 1) lanes rows (drop start (now text))) first ⌝ }
-    ensures { λ r. ⌜ (first ≤ r .row) × (r .row ≤ rows) ⌝ }
-    ensures { λ r. ⌜ ((done : List (List Row)) → Counted lanes (old .counting) done (take first (rowsAt (lanes + 1) lanes rows (drop start (now (text .entry))))) → Counted lanes (r .counting) done (take (r .row) (rowsAt (lanes + 1) lanes rows (drop start (now (text .entry)))))) ⌝ }
-    ensures { λ r. ⌜ ((done : List (List Row)) → NotedRows lanes (old .noting) (now (slots .entry)) done (take first (rowsAt (lanes + 1) lanes rows (drop start (now (text .entry))))) → NotedRows lanes (r .noting) (now (slots .exit)) done (take (r .row) (rowsAt (lanes + 1) lanes rows (drop start (now (text .entry)))))) ⌝ }
+) -> Run
+    requires { ⌜ (0 < lanes) × (lanes ≤ 10) × (start + rows * (lanes + 1) ≤ length (now text)) × (first ≤ old .row) × (old .row ≤ first + rows) × TapCounts (now counts) ⌝ }
+    requires { ⌜ Running lanes first m old (now slots) (rowsAt (lanes + 1) lanes rows (drop start (now text))) ⌝ }
+    ensures { λ r. ⌜ (old .row ≤ r .row) × (r .row ≤ first + rows) ⌝ }
+    ensures { λ r. ⌜ ((q : Rest) (done : List (List Row)) → Counted lanes (countingOf q m old) done (take (old .row - first) (rowsAt (lanes + 1) lanes rows (drop start (now (text .entry))))) → Counted lanes (countingOf q m r) done (take (r .row - first) (rowsAt (lanes + 1) lanes rows (drop start (now (text .entry)))))) ⌝ }
+    ensures { λ r. ⌜ ((q : Rest) (done : List (List Row)) → NotedRows lanes (notingOf first q m old) (now (slots .entry)) done (take (old .row - first) (rowsAt (lanes + 1) lanes rows (drop start (now (text .entry))))) → NotedRows lanes (notingOf first q m r) (now (slots .exit)) done (take (r .row - first) (rowsAt (lanes + 1) lanes rows (drop start (now (text .entry)))))) ⌝ }
 {
-    let mut c = old.counting;
-    let mut n = old.noting;
-    let mut i = first;
-    let mut at = start + first * (lanes + 1);
-    while i < rows {
+    let mut r = old;
+    let stop = first + rows as u32;
+    let mut at = start + (r.row - first) as usize * (lanes + 1);
+    while r.row < stop {
         let end = at + lanes;
-        match taps::free_taps(&text[at..end], c.busy | (n.busy | n.last.busy)) {
+        match taps::free_taps(&text[at..end], m.busy) {
             Taps::Mask(mask) => {
-                c = measure_tally::count_taps(c, mask, taps::is_wide(lanes), counts);
-                n = measure_notes::note_taps(n, &text[at..end], mask, slots);
+                r = add_taps(r, mask, taps::is_wide(lanes), slots, counts);
             }
             Taps::Other => {
-                return WalkTo {
-                    counting: c,
-                    noting: n,
-                    row: i,
-                };
+                return r;
             }
         }
         at = end + 1;
-        i += 1;
     }
-    WalkTo {
-        counting: c,
-        noting: n,
-        row: i,
+    r
+}
+
+// The last object row of a measure before which `first` rows stand.
+fn last_row(first: u32, last: u32) -> LastRow
+    ensures { λ r. ⌜ r ≡ rowAt first last ⌝ }
+{
+    if first < last {
+        LastRow::At(last - 1 - first)
+    } else {
+        LastRow::Nothing
+    }
+}
+
+// What is counted and noted after the measure, with these numbers of the columns.
+fn end_walk(
+    counting: Counting,
+    noting: Noting,
+    r: Run,
+    m: Marks,
+    depths: [u32; 10],
+    low: [u32; 10],
+    hold_heads: [u32; 10],
+) -> Walk
+    requires { ⌜ (counting .rows ≤ r .row) × (r .row - counting .rows < rowsBound) × (noting .last .midx ≤ measuresBound) ⌝ }
+    ensures { λ w. ⌜ w .counting ≡ countingOf (restOf counting noting depths low «hold_heads») m r ⌝ }
+    ensures { λ w. ⌜ ((L : ℕ) (l : List ℕ) (done : List (List Row)) (cur : List Row) → NotedRows L (notingOf (counting .rows) (restOf counting noting depths low «hold_heads») m r) l done cur → Noted L (w .noting) l (done ++ (cur ∷ []))) ⌝ }
+{
+    let stats = r.stats;
+    let busy = m.busy;
+    let phantoms = Phantoms {
+        depths,
+        heads: m.heads,
+        tails: m.tails,
+        met: m.met,
+    };
+    let counted = Counting {
+        stats,
+        phantoms,
+        rows: r.row,
+        before: counting.before,
+        busy,
+    };
+    let scratch = ChartNotesScratch {
+        hold_heads,
+        count: r.count,
+        row_index: r.row,
+        has_invalid: m.invalid,
+    };
+    let after = Depths { depths: low };
+    let old = noting.last;
+    let found = old.found;
+    let last = LastScan {
+        depths: after,
+        busy,
+        found,
+        row: last_row(counting.rows, r.last),
+        rows: r.row - counting.rows,
+        midx: old.midx,
+    };
+    let noted = Noting {
+        scratch,
+        last,
+        busy,
+    };
+    Walk {
+        counting: counted,
+        noting: measure_notes::note_measure(noted),
     }
 }
 
@@ -205,30 +231,31 @@ pub fn walk_rows(
     ensures { λ r. ⌜ ((done : List (List Row)) → Noted lanes noting (now (slots .entry)) done → Noted lanes (r .noting) (now (slots .exit)) (done ++ (rowsAt (lanes + 1) lanes rows (drop start (now (text .entry))) ∷ []))) ⌝ }
 {
     let counts = taps::tap_mask_counts();
-    let mut c = counting;
-    let mut n = noting;
-    let mut i = 0;
+    let first = counting.rows;
+    let mut depths = phantoms::phantom_depths(counting.phantoms);
+    let mut low = object_depths(noting.last.depths);
+    let mut hold_heads = open_heads(noting.scratch);
+    let mut m = first_marks(counting, noting);
+    let mut r = first_run(counting, noting);
     loop {
-        let old = Walk {
-            counting: c,
-            noting: n,
-        };
-        let t = walk_taps(old, text, start, i, rows, lanes, slots, &counts);
-        let k = t.row;
-        let counted = t.counting;
-        let noted = t.noting;
-        if rows <= k {
-            let ended = measure_notes::note_measure(noted);
-            return Walk {
-                counting: counted,
-                noting: ended,
-            };
+        r = walk_taps(r, m, first, text, start, rows, lanes, slots, &counts);
+        let i = (r.row - first) as usize;
+        if rows <= i {
+            return end_walk(counting, noting, r, m, depths, low, hold_heads);
         }
-        let at = start + k * (lanes + 1);
+        let at = start + i * (lanes + 1);
         let end = at + lanes;
-        let w = walk_cells(counted, noted, &text[at..end], slots);
-        c = w.counting;
-        n = w.noting;
-        i = k + 1;
+        let s = row_walk::walk_cells(
+            m,
+            r.count,
+            r.row,
+            &mut depths,
+            &mut low,
+            &mut hold_heads,
+            &text[at..end],
+            slots,
+        );
+        m = s.marks;
+        r = add_cells(r, s);
     }
 }

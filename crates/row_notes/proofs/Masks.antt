@@ -1,7 +1,7 @@
 -- The lowest bit of a mask: rules of all masks of ten columns, each told by one list of values; and a row of taps, gone through by its mask.
 use mathlib.Core.Path.{_≡_, refl, ap, sym, _∙_, subst}
 use mathlib.Core.Bool.{Bool, true, false, cond, not, _||_}
-use mathlib.Core.List.{List, [], _∷_}
+use mathlib.Core.List.{List, [], _∷_, _++_}
 use Prim.Native.Nat.{ℕ, zero, suc, _+_, _-_, _*_, _^_, _/_, _%_, _<_, _≤_}
 use native.Mathlib.Decide.{decLt, ℕ-discrete}
 use native.Mathlib.Nat.{add-zero, add-suc, suc-add, zero-div}
@@ -21,15 +21,15 @@ use Rattle.definitions.specs.Records.{fields}
 use Rattle.definitions.proofs.Lists.{any-default}
 use Rattle.taps.specs.Taps.{bit, tapLineMask}
 use Rattle.taps.specs.declared.Taps.the-variants.{Mask}
-use Rattle.taps.proofs.Masks.{line-taps, line-width}
+use Rattle.taps.proofs.Masks.{line-taps, line-width, line-fits}
 use Rattle.taps.proofs.Free.{tap-cell, free-byte}
 use Rattle.taps.proofs.Tables.{upFrom, same-at}
 use Rattle.row_notes.specs.Masks.{LowOf}
 use Rattle.row_notes.specs.Writer.{noTail, FreeHeads}
-use Rattle.row_notes.specs.Written.{Room}
+use Rattle.row_notes.specs.Written.{Room, Written, MaskFits, afterTaps}
 use Rattle.row_notes.specs.declared.ChartNotesScratch.{ChartNotesScratch}
 use Rattle.row_notes.proofs.Steps.{zero-nothing, step-nothing}
-use Rattle.row_notes.proofs.Rows.{Midrow, mid-start, mid-ready, mid-step}
+use Rattle.row_notes.proofs.Rows.{Midrow, mid-start, mid-ready, mid-step, row-written}
 use Rattle.row_notes.proofs.Taps.{counting, tap-step, stored-past}
 
 abbrev column : ℕ → ℕ
@@ -138,16 +138,16 @@ module _ (l : List ℕ) (s : ChartNotesScratch) (row : Row) (mask : ℕ) (R : Ro
             absurd (omega (arith, past, tap-cell row mask c (line-taps row mask e)))
       ]
 
-  pub taken-start : mask < 1024 → Taken l s row mask l (s .count) mask
+  taken-start : mask < 1024 → Taken l s row mask l (s .count) mask
   taken-start h = record { at = 0; mid = mid-start l s row; small = h; low = λ c k b. absurd (omega arith); high = λ c k b. refl }
 
   module _ (l′ : List ℕ) (k m : ℕ) (T : Taken l s row mask l′ k m) where
-    pub taken-few : k < 4294967295
+    taken-few : k < 4294967295
     taken-few =
         omega (arith, T .mid .bound, T .mid .inside, R .narrow, R .written .low, R .few)
 
     -- there is room for one record more
-    pub room-early : k ≤ s .count + 1 → k * 10 + 10 ≤ length l′
+    room-early : k ≤ s .count + 1 → k * 10 + 10 ≤ length l′
     room-early h = omega (arith, T .mid .same, R .room, line-width row mask e .0)
 
     module _ (t : ℕ) (b : Bool) (r : ℕ) (L : LowOf m t b r) where
@@ -158,7 +158,7 @@ module _ (l : List ℕ) (s : ChartNotesScratch) (row : Row) (mask : ℕ) (R : Ro
         own : bit t mask ≡ 1
         own = sym (T .high t later (L .inside)) ∙ L .here ne
 
-        pub room-late : k * 10 + 10 ≤ length l′
+        room-late : k * 10 + 10 ≤ length l′
         room-late = omega (arith, T .mid .bound, later, within t own, T .mid .same, R .room)
 
         there : Midrow l s l′ (counting s k) t row
@@ -175,8 +175,8 @@ module _ (l : List ℕ) (s : ChartNotesScratch) (row : Row) (mask : ℕ) (R : Ro
         taken-some l″ k′ el ek es =
             let h : t < length row = within t own in
             let tap : getD row t 0 ≡ 49 = cell t h ∙ ap (λ n. 48 + n) own in
-            let one : b ≡ eqb (getD row t 0) 49 = L .tells ∙ rw (ne-eqb m 0 ne, tap) in
-            let counted : k′ ≡ k + oneIf (eqb (getD row t 0) 49) = ek ∙ ap (λ z. k + oneIf z) one in
+            let one : b ≡ true = L .tells ∙ rw (ne-eqb m 0 ne) in
+            let counted : k′ ≡ k + oneIf (eqb (getD row t 0) 49) = ek ∙ ap (λ x. k + oneIf x) (one ∙ sym (eq-eqb (getD row t 0) 49 tap)) in
             record {
               at = t + 1;
               mid = mid-step l s l′ (counting s k) t row there l″ (counting s k′) (effectAt (getD row t 0)) refl h es
@@ -194,12 +194,12 @@ module _ (l : List ℕ) (s : ChartNotesScratch) (row : Row) (mask : ℕ) (R : Ro
           rw (same, left, el) (record { at = T .at; mid = mid-past l s l′ (counting s k) row (T .at) (fields (s .«row_index») noTail t 0) (T .mid); small = T .small; low = T .low; high = T .high })
 
       -- one record more
-      pub taken-next : (l″ : List ℕ) (k′ : ℕ) → l″ ≡ sets l′ (k * 10) (fields (s .«row_index») noTail t 0) → k′ ≡ k + oneIf b → length l″ ≡ length l′ → Taken l s row mask l″ k′ r
+      taken-next : (l″ : List ℕ) (k′ : ℕ) → l″ ≡ sets l′ (k * 10) (fields (s .«row_index») noTail t 0) → k′ ≡ k + oneIf b → length l″ ≡ length l′ → Taken l s row mask l″ k′ r
       taken-next l″ k′ el ek es =
           elim (ℕ-discrete m 0) [ yes z ↦ taken-none z l″ k′ el ek | no ne ↦ taken-some ne l″ k′ el ek es ]
 
     -- no tap is left
-    pub taken-end : m ≡ 0 → Midrow l s l′ (counting s k) (length row) row
+    taken-end : m ≡ 0 → Midrow l s l′ (counting s k) (length row) row
     taken-end z =
         let gap : T .at + (length row - T .at) ≡ length row = omega (arith, T .mid .inside) in
         subst (λ n. Midrow l s l′ (counting s k) n row) gap
@@ -208,3 +208,31 @@ module _ (l : List ℕ) (s : ChartNotesScratch) (row : Row) (mask : ℕ) (R : Ro
         let here : c < length row = omega (arith, T .mid .inside) in
         let inside : c < 10 = omega (arith, line-width row mask e .1) in
         cell c here ∙ ap (λ n. 48 + n) (sym (T .high c x inside) ∙ ap (bit c) z ∙ bit-none c)))
+
+-- the same where the struct's numbers are told apart from it
+module _ (i n mask : ℕ) (l : List ℕ) (s : ChartNotesScratch) (row : Row) (F : MaskFits i n mask l s row) where
+  pub mask-small : mask < 1024
+  mask-small = line-fits row mask (F .mask) .0
+
+  pub mask-start : Taken l s row mask l n mask
+  mask-start = subst (λ k. Taken l s row mask l k mask) (F .count) (taken-start l s row mask (F .room) (F .heads) (F .mask) mask-small)
+
+  module _ (l′ : List ℕ) (k m : ℕ) (T : Taken l s row mask l′ k m) where
+    pub mask-few : k < 4294967295
+    mask-few = taken-few l s row mask (F .room) (F .heads) (F .mask) l′ k m T
+
+    pub mask-early : k ≤ n + 1 → k * 10 + 10 ≤ length l′
+    mask-early h = room-early l s row mask (F .room) (F .heads) (F .mask) l′ k m T (omega (arith, F .count))
+
+    pub mask-late : (t : ℕ) (b : Bool) (r : ℕ) → LowOf m t b r → (m ≡ 0 → ⊥) → k * 10 + 10 ≤ length l′
+    mask-late t b r L ne = room-late l s row mask (F .room) (F .heads) (F .mask) l′ k m T t b r L ne
+
+    pub mask-next : (t : ℕ) (b : Bool) (r : ℕ) → LowOf m t b r → (l″ : List ℕ) (k′ : ℕ) → l″ ≡ sets l′ (k * 10) (fields i noTail t 0) → k′ ≡ k + oneIf b
+        → length l″ ≡ length l′ → Taken l s row mask l″ k′ r
+    mask-next t b r L l″ k′ el =
+        taken-next l s row mask (F .room) (F .heads) (F .mask) l′ k m T t b r L l″ k′ (el ∙ ap (λ j. sets l′ (k * 10) (fields j noTail t 0)) (sym (F .row)))
+
+    -- no tap is left
+    pub mask-end : m ≡ 0 → (rows : List Row) → Written rows s l → Written (rows ++ (row ∷ [])) (afterTaps s k) l′
+    mask-end z =
+        row-written l s row (F .room) l′ (afterTaps s k) _ (length row) (taken-end l s row mask (F .room) (F .heads) (F .mask) l′ k m T z) (omega arith) refl refl refl refl

@@ -9,7 +9,9 @@ use Rattle.definitions.specs.Lines.{Row}
 use Rattle.definitions.specs.Notes.{notesFrom}
 use Rattle.definitions.specs.Records.{records}
 use Rattle.row_notes.specs.Drafts.{drafts}
-use Rattle.row_notes.specs.Writer.{Holds}
+use Rattle.taps.specs.Taps.{tapLineMask}
+use Rattle.taps.specs.declared.Taps.the-variants.{Mask}
+use Rattle.row_notes.specs.Writer.{Holds, FreeHeads}
 use Rattle.row_notes.specs.declared.ChartNotesScratch.{ChartNotesScratch}
 
 -- After these rows the struct s and the slice l hold their drafts: at most one for each cell.
@@ -26,6 +28,24 @@ pub record Room (s : ChartNotesScratch) (row l : List ℕ) : Type 0 where
   pub few : length rows < rowNumbersBound
   pub narrow : length row ≤ 10
   pub room : (s .count + length row) * 10 ≤ length l
+
+-- The struct has this number of records and of rows, and the cells are taps of this mask in columns without an open head.
+pub record MaskFits (i n m : ℕ) (l : List ℕ) (s : ChartNotesScratch) (cells : Row) : Type 0 where
+  pub row : s .«row_index» ≡ i
+  pub count : s .count ≡ n
+  pub room : Room s cells l
+  pub heads : FreeHeads (s .«hold_heads») cells
+  pub mask : tapLineMask cells ≡ Mask m
+
+pub record SomeMask (i n m : ℕ) (l : List ℕ) : Type 0 where
+  pub scratch : ChartNotesScratch
+  pub cells : Row
+  pub fits : MaskFits i n m l scratch cells
+
+-- the struct after a row of taps, with the number of records
+abbrev pub afterTaps : ChartNotesScratch → ℕ → ChartNotesScratch
+afterTaps s n =
+    record { «hold_heads» = s .«hold_heads»; count = n; «row_index» = s .«row_index» + 1; «has_invalid» = s .«has_invalid» }
 
 pub record SomeRows (s : ChartNotesScratch) (l : List ℕ) : Type 0 where
   pub rows : List Row

@@ -16,11 +16,10 @@ ghost use lib.Seq.{sets};
 ghost use Rattle.definitions.specs.Lists.{oneIf};
 ghost use Rattle.definitions.specs.Lines.{Row};
 ghost use Rattle.definitions.specs.Records.{fields};
-ghost use Rattle.row_notes.specs.Writer.{HeadThere, HoldEnded, invalidAfter, noHead, noTail, FreeHeads, dropped, endAt, noteAt, CellReady, Closed, Compacted, SomeDrafts};
-ghost use Rattle.taps.specs.Taps.{tapLineMask};
-ghost use Rattle.taps.specs.declared.Taps.the-variants.{Mask};
+ghost use Rattle.row_notes.specs.Writer.{HeadThere, HoldEnded, invalidAfter, noHead, noTail, dropped, endAt, noteAt, CellReady, Closed, Compacted, SomeDrafts};
 ghost use Rattle.row_notes.specs.Masks.{LowOf};
-ghost use Rattle.row_notes.specs.Written.{Written, Room, SomeRows, Finished};
+ghost use Rattle.row_notes.specs.Written.{Written, MaskFits, SomeMask, afterTaps, SomeRows, Finished};
+ghost use Rattle.row_notes.specs.declared.ChartNotesScratch.{ChartNotesScratch};
 
 // The tail field of a record that is dropped.
 const INVALID_NOTE_ROW: u32 = 4294967294;
@@ -99,7 +98,7 @@ fn invalidate_hold(s: ChartNotesScratch, column: usize, notes: &mut [u8]) -> Cha
     out
 }
 
-// A tap's record at the end of the records, and their number with it; where there is no tap the next record is written over this one.
+// A record of a tap at the end of the records, and their number with it; where there is no tap the next record is written over this one.
 fn push_tap(row: u32, count: usize, column: usize, tap: bool, notes: &mut [u8]) -> usize
     requires { ⌜ (count * 10 + 10 ≤ length (now notes)) × (column < 10) × (count < 4294967295) ⌝ }
     ensures { λ r. ⌜ r ≡ count + oneIf tap ⌝ }
@@ -109,7 +108,7 @@ fn push_tap(row: u32, count: usize, column: usize, tap: bool, notes: &mut [u8]) 
     count + cells::one_if(tap) as usize
 }
 
-// The lowest column of a mask, which has a tap, and the rest of the mask; of an empty mask some column without one.
+// The lowest column of a mask, that it is a tap's, and the rest of the mask; of an empty mask no tap, in some column.
 struct LowBit {
     column: usize,
     tap: bool,
@@ -135,30 +134,23 @@ fn low_bit(mask: u32) -> LowBit
     }
 }
 
-// A row of taps alone in columns without an open head, by its mask, `finish_row` included. Two records are written whatever the mask is, and
-// more only where it has more taps, so that few rows branch on theirs.
-pub fn push_mask(s: ChartNotesScratch, row: &[u8], mask: u16, notes: &mut [u8]) -> ChartNotesScratch
-    requires { ⌜ Room s (now row) (now notes) × FreeHeads (s .«hold_heads») (now row) × (tapLineMask (now row) ≡ Mask mask) ⌝ }
-    ensures { λ r. ⌜ ((rows : List Row) → Written rows s (now (notes .entry)) → Written (rows ++ (now (row .entry) ∷ [])) r (now (notes .exit))) ⌝ }
-    ensures { λ r. ⌜ r .«hold_heads» ≡ s .«hold_heads» ⌝ }
+// The records of a row of taps alone in columns without an open head, by its mask, and the number of records with them. Two records are
+// written whatever the mask is, and more only where it has more taps, so that few rows branch on theirs.
+pub fn push_mask(row: u32, number: usize, mask: u16, notes: &mut [u8]) -> usize
+    requires { ⌜ SomeMask row number mask (now notes) ⌝ }
+    ensures { λ r. ⌜ ((s : ChartNotesScratch) (cells : Row) → MaskFits row number mask (now (notes .entry)) s cells → (rows : List Row) → Written rows s (now (notes .entry)) → Written (rows ++ (cells ∷ [])) (afterTaps s r) (now (notes .exit))) ⌝ }
 {
-    let hold_heads = s.hold_heads;
     let one = low_bit(mask as u32);
-    let first = push_tap(s.row_index, s.count, one.column, one.tap, notes);
+    let first = push_tap(row, number, one.column, one.tap, notes);
     let two = low_bit(one.rest);
-    let mut count = push_tap(s.row_index, first, two.column, two.tap, notes);
+    let mut count = push_tap(row, first, two.column, two.tap, notes);
     let mut left = two.rest;
     while left != 0 {
         let next = low_bit(left);
-        count = push_tap(s.row_index, count, next.column, next.tap, notes);
+        count = push_tap(row, count, next.column, next.tap, notes);
         left = next.rest;
     }
-    ChartNotesScratch {
-        hold_heads,
-        count,
-        row_index: s.row_index + 1,
-        has_invalid: s.has_invalid,
-    }
+    count
 }
 
 // Drops the heads that are still open.

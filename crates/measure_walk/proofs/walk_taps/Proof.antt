@@ -1,5 +1,5 @@
--- `measure_walk::walk_taps` meets its contract. The loop's invariant: the rows before row `i` are walked, and the next one stands at `at`.
-use mathlib.Core.Path.{_≡_, refl, sym, subst}
+-- `measure_walk::walk_taps` meets its contract. The loop's invariant: the rows before row `r.row` are walked, and the next one stands at `at`.
+use mathlib.Core.Path.{_≡_, refl, ap, sym, subst, _∙_}
 use mathlib.Core.List.{List}
 use Prim.Native.Nat.{_+_, _-_, _*_, _≤_, _<_}
 use native.Mathlib.Nat.{mul-le-mul-right}
@@ -7,76 +7,116 @@ use native.Mathlib.Omega.{arith}
 use borrow.Author.Needs.{needs}
 use denote.Ref.{now}
 use lib.ListN.{length, take}
+use Rattle.definitions.specs.Sizes.{rowsBound}
 use Rattle.definitions.specs.Lines.{Row}
 use Rattle.taps.proofs.Masks.{fits-at}
-use Rattle.taps.proofs.Free.{free-told, taps-left, taps-right}
+use Rattle.taps.proofs.Free.{free-told}
 use Rattle.reduction.proofs.RowsAt.{rows-length}
 use Rattle.reduction.proofs.Powers.{next-at}
 use Rattle.measure_tally.specs.Counted.{Counted}
 use Rattle.measure_notes.specs.Noted.{NotedRows}
-use Rattle.measure_walk.specs.Walked.{Walking}
+use Rattle.measure_walk.specs.Walked.{Rest, countingOf, notingOf, Walking}
 use Rattle.measure_tally.proofs.Places.{rowsOf, part, row-room, row-wide, row-more}
 use Rattle.measure_walk.proofs.Walks.{walked-on, count-few, note-ready}
+use Rattle.measure_walk.proofs.Runs.{counted-taps, noted-taps, stats-few, run-few}
 use Rattle.measure_walk.proofs.walk_taps.Statement.{statement}
 use Rattle.measure_walk.proofs.walk_taps.Tie as tie
 
 abbrev Inv-loop : tie.InvT-loop
-Inv-loop text start first rows lanes slots₀ counts c₀ n₀ i₀ at₀ slots c n i at =
-    (first ≤ i) × (i ≤ rows) × (at ≡ start + i * (lanes + 1)) × (length slots ≡ length slots₀)
-    × ((done : List (List Row)) → Counted lanes c₀ done (take first (rowsOf lanes rows text start)) → Counted lanes c done (take i (rowsOf lanes rows text start)))
-    × ((done : List (List Row)) → NotedRows lanes n₀ slots₀ done (take first (rowsOf lanes rows text start)) → NotedRows lanes n slots done (take i (rowsOf lanes rows text start)))
+Inv-loop m first text start rows lanes slots₀ counts r₀ stop at₀ slots r at =
+    (r₀ .row ≤ r .row) × (r .row ≤ first + rows) × (at ≡ start + (r .row - first) * (lanes + 1)) × (length slots ≡ length slots₀)
+    × ((q : Rest) (done : List (List Row)) → Counted lanes (countingOf q m r₀) done (take (r₀ .row - first) (rowsOf lanes rows text start)) → Counted lanes (countingOf q m r) done (take (r .row - first) (rowsOf lanes rows text start)))
+    × ((q : Rest) (done : List (List Row)) → NotedRows lanes (notingOf first q m r₀) slots₀ done (take (r₀ .row - first) (rowsOf lanes rows text start)) → NotedRows lanes (notingOf first q m r) slots done (take (r .row - first) (rowsOf lanes rows text start)))
 
 abbrev μ-loop : tie.MeasureT-loop
-μ-loop text start first rows lanes slots₀ counts c₀ n₀ i₀ at₀ slots c n i at = rows - i
+μ-loop m first text start rows lanes slots₀ counts r₀ stop at₀ slots r at = stop - r .row
+
+abbrev begin : tie.At-loop Inv-loop μ-loop → tie.Start Inv-loop μ-loop
+begin c = c .before .before .before .before
+
+abbrev loop : tie.Then1 Inv-loop μ-loop → tie.At-loop Inv-loop μ-loop
+loop c = c .before .before
+
+-- the measure's rows
+abbrev all : tie.Start Inv-loop μ-loop → List Row
+all c = rowsOf (c .args .lanes) (c .args .rows) (now (c .args .text)) (c .args .start)
+
+-- the rows are numbers
+few : (c : tie.Start Inv-loop μ-loop) → c .args .first + c .args .rows < rowsBound
+few c =
+    let size : length (all c) ≡ c .args .rows = rows-length (c .args .lanes + 1) (c .args .lanes) (c .args .rows) _ in
+    omega (arith, size, run-few _ (c .args .first) _ _ (c .args .old) _ (all c) (c .pre .1 .walking) (c .pre .0 .3) (omega (arith, size, c .pre .0 .4)))
+
+-- where the next row stands, among numbers
+place : (c : tie.Start Inv-loop μ-loop) → c .args .start + (c .args .old .row - c .args .first) * (c .args .lanes + 1) ≤ length (now (c .args .text))
+place c =
+    let i : c .args .old .row - c .args .first ≤ c .args .rows = omega (arith, c .pre .0 .4) in
+    omega (arith, mul-le-mul-right (c .args .lanes + 1) i, c .pre .0 .2)
+
+-- the number of the row in the measure
+below : (c : tie.Then1 Inv-loop μ-loop) → (c .before .before .loop .r .row - begin (loop c) .args .first) < begin (loop c) .args .rows
+below c = omega (arith, c .if1 .taken, begin (loop c) .pre .0 .3, loop c .loop .inv .0)
 
 -- the row stands in the text
-room : (c : tie.In-loop Inv-loop μ-loop) → c .before .loop .at + (c .before .before .before .before .before .before .args .lanes + 1) ≤ length (now (c .before .before .before .before .before .before .args .text))
+room : (c : tie.Then1 Inv-loop μ-loop) → loop c .loop .at + (begin (loop c) .args .lanes + 1) ≤ length (now (begin (loop c) .args .text))
 room c =
-    let s = c .before .before .before .before .before .before in
-    row-room (s .args .lanes) (s .args .rows) (now (s .args .text)) (s .args .start) (s .pre .0 .2) (c .before .loop .i) (c .before .loop .at) (c .loop-test .taken) (c .before .loop .inv .2)
+    let s = begin (loop c) in
+    row-room (s .args .lanes) (s .args .rows) (now (s .args .text)) (s .args .start) (s .pre .0 .2) (loop c .loop .r .row - s .args .first) (loop c .loop .at) (below c) (loop c .loop .inv .2)
+
+-- no place is past what a number can be
+end-fits : (c : tie.Then1 Inv-loop μ-loop) → loop c .loop .at + begin (loop c) .args .lanes + 1 < 18446744073709551616
+end-fits c = omega (arith, room c)
 
 -- it has `lanes` bytes
-wide : (c : tie.In-loop Inv-loop μ-loop) → length (part (c .before .before .before .before .before .before .args .lanes) (now (c .before .before .before .before .before .before .args .text)) (c .before .loop .at)) ≡ c .before .before .before .before .before .before .args .lanes
+wide : (c : tie.Then1 Inv-loop μ-loop) → length (part (begin (loop c) .args .lanes) (now (begin (loop c) .args .text)) (loop c .loop .at)) ≡ begin (loop c) .args .lanes
 wide c =
-    let s = c .before .before .before .before .before .before in
-    row-wide (s .args .lanes) (s .args .rows) (now (s .args .text)) (s .args .start) (s .pre .0 .2) (c .before .loop .i) (c .before .loop .at) (c .loop-test .taken) (c .before .loop .inv .2)
+    let s = begin (loop c) in
+    row-wide (s .args .lanes) (s .args .rows) (now (s .args .text)) (s .args .start) (s .pre .0 .2) (loop c .loop .r .row - s .args .first) (loop c .loop .at) (below c) (loop c .loop .inv .2)
 
 -- what is walked so far
 walked : (c : tie.At-loop Inv-loop μ-loop) →
-    let a = c .before .before .before .before .before .args in
-    Walking (a .lanes) (c .loop .c) (c .loop .n) (c .loop .slots) (rowsOf (a .lanes) (a .rows) (now (a .text)) (a .start)) (c .loop .i)
+    let s = begin c in
+    let q = s .pre .1 .rest in
+    Walking (s .args .lanes) (countingOf q (s .args .m) (c .loop .r)) (notingOf (s .args .first) q (s .args .m) (c .loop .r)) (c .loop .slots) (all s) (c .loop .r .row - s .args .first)
 walked c =
-    let s = c .before .before .before .before .before in
-    walked-on (s .args .lanes) _ _ _ _ _ _ _ _ _ (s .pre .1) (c .loop .inv .3) (c .loop .inv .4) (c .loop .inv .5)
+    let s = begin c in
+    walked-on (s .args .lanes) _ _ _ _ _ _ _ _ _ (s .pre .1 .walking) (c .loop .inv .3) (c .loop .inv .4 (s .pre .1 .rest)) (c .loop .inv .5 (s .pre .1 .rest))
 
 -- it is one of the measure's
-within : (c : tie.In-loop Inv-loop μ-loop) →
-    let a = c .before .before .before .before .before .before .args in
-    c .before .loop .i < length (rowsOf (a .lanes) (a .rows) (now (a .text)) (a .start))
-within c = rw rows-length (c .loop-test .taken)
+within : (c : tie.Then1 Inv-loop μ-loop) → (loop c .loop .r .row - begin (loop c) .args .first) < length (all (begin (loop c)))
+within c = rw rows-length (below c)
 
--- no place is past what a number can be
-end-fits : (c : tie.In-loop Inv-loop μ-loop) → c .before .loop .at + c .before .before .before .before .before .before .args .lanes + 1 < 18446744073709551616
-end-fits c = omega (arith, room c)
+cast-stop : tie.Need-cast-stop Inv-loop μ-loop
+cast-stop c =
+    omega (arith, few (c .before .before))
 
-next-fits : (c : tie.In-loop Inv-loop μ-loop) → c .before .loop .i + 1 < 18446744073709551616
-next-fits c = omega (arith, c .loop-test .taken)
+add-stop : tie.Need-add-stop Inv-loop μ-loop
+add-stop c =
+    omega (arith, few (c .before .before))
+
+sub-at : tie.Need-sub-at Inv-loop μ-loop
+sub-at c =
+    c .before .before .before .pre .0 .3
+
+cast-at : tie.Need-cast-at Inv-loop μ-loop
+cast-at c =
+    omega arith
 
 add-at : tie.Need-add-at Inv-loop μ-loop
 add-at c =
-    omega (arith, c .before .before .before .before .pre .0 .1)
+    omega (arith, c .before .before .before .pre .0 .1)
 
 mul-at : tie.Need-mul-at Inv-loop μ-loop
 mul-at c =
-    omega (arith, mul-le-mul-right (c .before .before .before .before .args .lanes + 1) (c .before .before .before .before .pre .0 .3), c .before .before .before .before .pre .0 .2)
+    omega (arith, place (c .before .before .before))
 
 add-at-2 : tie.Need-add-at-2 Inv-loop μ-loop
 add-at-2 c =
-    omega (arith, mul-le-mul-right (c .before .before .before .before .args .lanes + 1) (c .before .before .before .before .pre .0 .3), c .before .before .before .before .pre .0 .2)
+    omega (arith, place (c .before .before .before))
 
 loop-holds : tie.Need-loop-holds Inv-loop μ-loop
 loop-holds c =
-    (omega arith, c .before .before .before .before .pre .0 .3, refl, refl, (λ done x. x), λ done x. x)
+    (omega arith, c .before .before .before .pre .0 .4, refl, refl, (λ q done x. x), λ q done x. x)
 
 add-end : tie.Need-add-end Inv-loop μ-loop
 add-end c =
@@ -105,30 +145,31 @@ enum-known-mask c =
 is-wide-requires : tie.Need-is-wide-requires Inv-loop μ-loop
 is-wide-requires c κs = search needs
 
-count-taps-requires : tie.Need-count-taps-requires Inv-loop μ-loop
-count-taps-requires c κs =
-    let l = c .before .before .before .before .before .before .before .before in
-    let few = count-few _ _ _ _ _ _ (walked (l .before)) (within l) in
-    let free = free-told (c .before .before .before .before .free-taps .ensures) (c .before .before .mask .given .1) in
-    (few .0, few .1, c .before .before .before .before .before .before .before .before .before .before .before .before .before .before .pre .0 .4, rw (c .is-wide .ensures) (fits-at _ _ _ (wide l) (free .mask)))
-
-sub-note-taps : tie.Need-sub-note-taps Inv-loop μ-loop
-sub-note-taps c =
-    omega arith
-
-part-note-taps-start : tie.Need-part-note-taps-start Inv-loop μ-loop
-part-note-taps-start c =
-    omega (arith, room (c .before .before .before .before .before .before .before .before .before))
-
-part-note-taps-end : tie.Need-part-note-taps-end Inv-loop μ-loop
-part-note-taps-end c =
-    omega (arith, room (c .before .before .before .before .before .before .before .before .before))
-
-note-taps-requires : tie.Need-note-taps-requires Inv-loop μ-loop
-note-taps-requires c κs =
-    let free = free-told (c .before .before .before .before .before .before .before .free-taps .ensures) (c .before .before .before .before .before .mask .given .1) in
-    let l = c .before .before .before .before .before .before .before .before .before .before .before in
-    (note-ready _ _ _ _ _ _ (walked (c .before .before .before .before .before .before .before .before .before .before .before .before)) (within l) _ (wide l) (c .before .before .before .before .before .before .before .before .before .before .before .before .before .before .before .before .before .pre .0 .1), taps-right (c .before .before .before .before .before .before .before .before .before .before .before .before .loop .c .busy) _ _ _ free)
+add-taps-requires : tie.Need-add-taps-requires Inv-loop μ-loop
+add-taps-requires c κs =
+    let t = c .before .before .before .before .before .before .before in
+    let s = begin (loop t) in
+    let counted = count-few _ _ _ _ _ _ (walked (loop t)) (within t) in
+    let noted = note-ready _ _ _ _ _ _ (walked (loop t)) (within t) _ (wide t) (s .pre .0 .1) in
+    let free = free-told (c .before .before .before .before .before .free-taps .ensures) (c .before .before .before .mask .given .1) in (
+      record {
+        few = stats-few (s .pre .1 .rest) (s .args .m) (loop t .loop .r) (counted .0) (counted .1);
+        rows = counted .0;
+        fits = rw (c .before .is-wide .ensures) (fits-at _ _ _ (wide t) (free .mask));
+        some = record {
+          scratch = notingOf (s .args .first) (s .pre .1 .rest) (s .args .m) (loop t .loop .r) .scratch;
+          cells = part (s .args .lanes) (now (s .args .text)) (loop t .loop .at);
+          fits = record {
+            row = refl;
+            count = refl;
+            room = noted .room;
+            heads = record { busy = s .args .m .busy; mask = c .before .before .before .mask .given .0 .0; taps = free; free = noted .free };
+            mask = free .mask;
+          };
+        };
+      },
+      s .pre .0 .5,
+    )
 
 enum-told : tie.Need-enum-told Inv-loop μ-loop
 enum-told c =
@@ -136,51 +177,53 @@ enum-told c =
 
 same-length : tie.Need-same-length Inv-loop μ-loop
 same-length c =
-    c .before .before .before .before .before .before .before .loop .inv .3
+    c .before .before .before .before .before .before .loop .inv .3
 
 returns : tie.Need-returns Inv-loop μ-loop
 returns c =
-    let v = c .before .before .before .before .before .before .before .loop .inv in
+    let v = c .before .before .before .before .before .before .loop .inv in
     ((v .0, v .1), (v .4, v .5))
 
 add-at-3 : tie.Need-add-at-3 Inv-loop μ-loop
 add-at-3 c =
-    omega (arith, end-fits (c .before .before .before .before .before .before .before .before .before .before .before .before .before .before))
-
-add-i : tie.Need-add-i Inv-loop μ-loop
-add-i c =
-    omega (arith, next-fits (c .before .before .before .before .before .before .before .before .before .before .before .before .before .before))
+    omega (arith, end-fits (c .before .before .before .before .before .before .before .before .before .before))
 
 loop-less : tie.Need-loop-less Inv-loop μ-loop
 loop-less c =
-    omega (arith, c .before .before .before .before .before .before .before .before .before .before .before .before .before .before .loop-test .taken)
+    omega (arith, c .before .before .add-taps .ensures .row, c .before .before .before .before .before .before .before .before .before .before .if1 .taken)
 
 loop-again : tie.Need-loop-again Inv-loop μ-loop
 loop-again c =
-    let l = c .before .before .before .before .before .before .before .before .before .before .before .before .before .before in
-    let v = l .before .loop in
-    let s = c .before .before .before .before .before .before .before .before .before .before .before .before .before .before .before .before .before .before .before .before in
+    let k = c .before .before .before .before .before .before .before .before .before .before in
+    let s = begin (loop k) in
+    let v = loop k .loop in
     let a = s .args in
-    let ms = rowsOf (a .lanes) (a .rows) (now (a .text)) (a .start) in
-    let free = free-told (c .before .before .before .before .before .before .before .before .before .before .free-taps .ensures) (c .before .before .before .before .before .before .before .before .mask .given .1) in
-    let more = row-more (a .lanes) (a .rows) (now (a .text)) (a .start) (s .pre .0 .2) (v .i) (v .at) (l .loop-test .taken) (v .inv .2) in
-    let r = c .before .before .note-taps in (
-      omega (arith, v .inv .0),
-      omega arith,
-      next-at (v .at) (a .start) (v .i) (a .lanes) (v .inv .2),
-      omega (arith, r .kept .1 .1 .1 .0, v .inv .3),
-      (λ done x. subst (Counted (a .lanes) _ done) (sym more)
-          (c .before .before .before .before .before .count-taps .ensures _ (taps-left _ _ _ _ free) (a .lanes) done (take (v .i) ms) (omega (arith, wide l)) (s .pre .0 .1) (v .inv .4 done x))),
-      (λ done x. subst (NotedRows (a .lanes) _ _ done) (sym more) (r .ensures (a .lanes) done (take (v .i) ms) (omega (arith, wide l)) (v .inv .5 done x))),
+    let ms = all s in
+    let t = c .before .before .add-taps in
+    let free = free-told (c .before .before .before .before .before .before .before .before .free-taps .ensures) (c .before .before .before .before .before .before .mask .given .1) in
+    let next : t .result .row - a .first ≡ (v .r .row - a .first) + 1 = omega (arith, t .ensures .row, s .pre .0 .3, v .inv .0) in
+    let more = ap (λ n. take n ms) next ∙ row-more (a .lanes) (a .rows) (now (a .text)) (a .start) (s .pre .0 .2) (v .r .row - a .first) (v .at) (below k) (v .inv .2) in
+    let above : a .first ≤ v .r .row = omega (arith, s .pre .0 .3, v .inv .0) in
+    let counted = count-few _ _ _ _ _ _ (walked (loop k)) (within k) in
+    let noted = note-ready _ _ _ _ _ _ (walked (loop k)) (within k) (part (a .lanes) (now (a .text)) (v .at)) (wide k) (s .pre .0 .1) in
+    let width = wide k in (
+      omega (arith, v .inv .0, t .ensures .row),
+      omega (arith, t .ensures .row, k .if1 .taken),
+      next-at (v .at) (a .start) (v .r .row - a .first) (a .lanes) (v .inv .2) ∙ ap (λ n. a .start + n * (a .lanes + 1)) (sym next),
+      omega (arith, t .kept .1 .1 .1 .0, v .inv .3),
+      (λ q done x. subst (Counted (a .lanes) _ done) (sym more)
+          (counted-taps (a .lanes) q (a .m) (v .r) _ _ done (take (v .r .row - a .first) ms) _ _ _ (t .ensures) free (omega (arith, width)) (s .pre .0 .1) (v .inv .4 q done x))),
+      (λ q done x. subst (NotedRows (a .lanes) _ _ done) (sym more)
+          (noted-taps (a .lanes) q (a .m) (v .r) _ _ done (take (v .r .row - a .first) ms) _ _ _ (t .ensures) free (omega (arith, width)) (a .first) above (counted .0) (omega (arith, width, s .pre .0 .1)) (noted .room .room) (v .inv .5 q done x))),
     )
 
 same-length-2 : tie.Need-same-length-2 Inv-loop μ-loop
 same-length-2 c =
-    c .before .loop .inv .3
+    c .before .before .loop .inv .3
 
 returns-2 : tie.Need-returns-2 Inv-loop μ-loop
 returns-2 c =
-    let v = c .before .loop .inv in
+    let v = c .before .before .loop .inv in
     ((v .0, v .1), (v .4, v .5))
 
 pub walk-taps-spec : {M : Type 1} → statement M
@@ -189,6 +232,10 @@ walk-taps-spec =
     (tie.spec
     Inv-loop
     μ-loop
+    cast-stop
+    add-stop
+    sub-at
+    cast-at
     add-at
     mul-at
     add-at-2
@@ -200,16 +247,11 @@ walk-taps-spec =
     free-taps-requires
     enum-known-mask
     is-wide-requires
-    count-taps-requires
-    sub-note-taps
-    part-note-taps-start
-    part-note-taps-end
-    note-taps-requires
+    add-taps-requires
     enum-told
     same-length
     returns
     add-at-3
-    add-i
     loop-less
     loop-again
     same-length-2

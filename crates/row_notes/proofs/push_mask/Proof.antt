@@ -1,34 +1,55 @@
 -- `row_notes::push_mask` meets its contract. The loop's invariant: the taps that are left are those of `left`.
-use mathlib.Core.Path.{refl}
 use mathlib.Core.List.{List}
-use Prim.Native.Nat.{ℕ, _<_, _≤_}
 use native.Mathlib.Omega.{arith}
-use borrow.Author.Needs.{needs}
+use denote.Ref.{now}
+use Rattle.definitions.specs.Lines.{Row}
 use Rattle.definitions.proofs.Lists.{one-le}
-use Rattle.taps.proofs.Masks.{line-fits}
-use Rattle.row_notes.specs.Written.{Room}
-use Rattle.row_notes.proofs.Masks.{Taken, taken-start, taken-next, taken-few, taken-end, room-early, room-late}
-use Rattle.row_notes.proofs.Rows.{row-written}
+use Rattle.row_notes.specs.Written.{MaskFits}
+use Rattle.row_notes.specs.declared.ChartNotesScratch.{ChartNotesScratch}
+use Rattle.row_notes.proofs.Masks.{Taken, mask-small, mask-start, mask-next, mask-few, mask-early, mask-late, mask-end}
 use Rattle.row_notes.proofs.push_mask.Statement.{statement}
 use Rattle.row_notes.proofs.push_mask.Tie as tie
+use Prim.Native.Nat.{ℕ}
 
 abbrev Inv-loop : tie.InvT-loop
-Inv-loop s row mask notes₀ hold-heads first count₀ left₀ notes count left = (l : List ℕ) → Room s row l → Taken l s row mask notes₀ count₀ left₀ → Taken l s row mask notes count left
+Inv-loop row number mask notes₀ first count₀ left₀ notes count left =
+    (l : List ℕ) (s : ChartNotesScratch) (cells : Row) → MaskFits row number mask l s cells → Taken l s cells mask notes₀ count₀ left₀ → Taken l s cells mask notes count left
 
 abbrev μ-loop : tie.MeasureT-loop
-μ-loop s row mask notes₀ hold-heads first count₀ left₀ notes count left = left
+μ-loop row number mask notes₀ first count₀ left₀ notes count left = left
 
-mask-small : (c : tie.Start Inv-loop μ-loop) → c .args .mask < 1024
-mask-small c = line-fits _ _ (c .pre .2) .0
+-- what is asked of the arguments holds for some struct and cells
+module _ (c : tie.Start Inv-loop μ-loop) (s : ChartNotesScratch) (cells : Row) where
+  abbrev Fits : Type 0
+  Fits = MaskFits (c .args .row) (c .args .number) (c .args .mask) (now (c .args .notes)) s cells
+
+  abbrev Are : List ℕ → ℕ → ℕ → Type 0
+  Are l k m = Taken (now (c .args .notes)) s cells (c .args .mask) l k m
+
+-- after the first record, the second, and at the loop
+one-taken : (c : tie.After-push-tap Inv-loop μ-loop) → let a = c .before .before .before .before in
+    (s : ChartNotesScratch) (cells : Row) → Fits a s cells → Are a s cells (c .push-tap .last .1 .1 .1 .1 .0) (c .push-tap .result) (c .before .before .low-bit .result .rest)
+one-taken c s cells F =
+    mask-next _ _ _ _ _ _ F _ _ _ (mask-start _ _ _ _ _ _ F) _ _ _ (c .before .before .low-bit .ensures) _ _ (c .push-tap .ensures .1) (c .push-tap .ensures .0) (c .push-tap .kept .1 .1 .1 .1 .0)
+
+two-taken : (c : tie.After-push-tap2 Inv-loop μ-loop) → let a = c .before .before .before .before .before .before .before .before .before in
+    (s : ChartNotesScratch) (cells : Row) → Fits a s cells → Are a s cells (c .push-tap2 .last .1 .1 .1 .1 .0) (c .push-tap2 .result) (c .before .before .low-bit2 .result .rest)
+two-taken c s cells F =
+    mask-next _ _ _ _ _ _ F _ _ _ (one-taken (c .before .before .before .before .before) s cells F) _ _ _ (c .before .before .low-bit2 .ensures) _ _ (c .push-tap2 .ensures .1) (c .push-tap2 .ensures .0) (c .push-tap2 .kept .1 .1 .1 .1 .0)
+
+left-taken : (c : tie.At-loop Inv-loop μ-loop) → let a = c .before .before .before .before .before .before .before .before .before .before .before .before in
+    (s : ChartNotesScratch) (cells : Row) → Fits a s cells → Are a s cells (c .loop .notes) (c .loop .count) (c .loop .left)
+left-taken c s cells F = c .loop .inv _ s cells F (two-taken (c .before .before .before) s cells F)
 
 low-bit-requires : tie.Need-low-bit-requires Inv-loop μ-loop
 low-bit-requires c κs =
-    mask-small (c .before .before .before)
+    mask-small _ _ _ _ _ _ (c .before .pre .fits)
 
 push-tap-requires : tie.Need-push-tap-requires Inv-loop μ-loop
 push-tap-requires c κs =
-    let t = taken-start _ _ _ _ (c .before .before .before .before .before .pre .0) (c .before .before .before .before .before .pre .1) (c .before .before .before .before .before .pre .2) (mask-small (c .before .before .before .before .before)) in
-    (room-early _ _ _ _ (c .before .before .before .before .before .pre .0) (c .before .before .before .before .before .pre .1) (c .before .before .before .before .before .pre .2) _ _ _ t (omega arith), omega (arith, c .before .low-bit .ensures .inside), taken-few _ _ _ _ (c .before .before .before .before .before .pre .0) (c .before .before .before .before .before .pre .1) (c .before .before .before .before .before .pre .2) _ _ _ t)
+    let F = c .before .before .before .pre .fits in
+    let t = mask-start _ _ _ _ _ _ F in
+    (mask-early _ _ _ _ _ _ F _ _ _ t (omega arith), c .before .low-bit .ensures .inside, mask-few _ _ _ _ _ _ F _ _ _ t)
 
 low-bit-requires-2 : tie.Need-low-bit-requires-2 Inv-loop μ-loop
 low-bit-requires-2 c κs =
@@ -36,21 +57,26 @@ low-bit-requires-2 c κs =
 
 push-tap-requires-2 : tie.Need-push-tap-requires-2 Inv-loop μ-loop
 push-tap-requires-2 c κs =
-    let t = taken-next _ _ _ _ (c .before .before .before .before .before .before .before .before .before .before .pre .0) (c .before .before .before .before .before .before .before .before .before .before .pre .1) (c .before .before .before .before .before .before .before .before .before .before .pre .2) _ _ _ (taken-start _ _ _ _ (c .before .before .before .before .before .before .before .before .before .before .pre .0) (c .before .before .before .before .before .before .before .before .before .before .pre .1) (c .before .before .before .before .before .before .before .before .before .before .pre .2) (mask-small (c .before .before .before .before .before .before .before .before .before .before))) _ _ _ (c .before .before .before .before .before .before .low-bit .ensures) _ _ (c .before .before .before .before .push-tap .ensures .1) (c .before .before .before .before .push-tap .ensures .0) (c .before .before .before .before .push-tap .kept .1 .1 .1 .1 .0) in
-    (room-early _ _ _ _ (c .before .before .before .before .before .before .before .before .before .before .pre .0) (c .before .before .before .before .before .before .before .before .before .before .pre .1) (c .before .before .before .before .before .before .before .before .before .before .pre .2) _ _ _ t (omega (arith, c .before .before .before .before .push-tap .ensures .0, one-le (c .before .before .before .before .before .before .low-bit .result .tap))), omega (arith, c .before .low-bit2 .ensures .inside), taken-few _ _ _ _ (c .before .before .before .before .before .before .before .before .before .before .pre .0) (c .before .before .before .before .before .before .before .before .before .before .pre .1) (c .before .before .before .before .before .before .before .before .before .before .pre .2) _ _ _ t)
+    let p = c .before .before .before .before in
+    let F = p .before .before .before .before .pre .fits in
+    let t = one-taken p _ _ F in
+    (mask-early _ _ _ _ _ _ F _ _ _ t (omega (arith, p .push-tap .ensures .0, one-le (p .before .before .low-bit .result .tap))), c .before .low-bit2 .ensures .inside, mask-few _ _ _ _ _ _ F _ _ _ t)
 
 loop-holds : tie.Need-loop-holds Inv-loop μ-loop
 loop-holds c =
-    λ l room t. t
+    λ l s cells F t. t
 
 low-bit-requires-3 : tie.Need-low-bit-requires-3 Inv-loop μ-loop
 low-bit-requires-3 c κs =
-    (c .before .loop .inv _ (c .before .before .before .before .before .before .before .before .before .before .before .before .before .before .before .pre .0) (taken-next _ _ _ _ (c .before .before .before .before .before .before .before .before .before .before .before .before .before .before .before .pre .0) (c .before .before .before .before .before .before .before .before .before .before .before .before .before .before .before .pre .1) (c .before .before .before .before .before .before .before .before .before .before .before .before .before .before .before .pre .2) _ _ _ (taken-next _ _ _ _ (c .before .before .before .before .before .before .before .before .before .before .before .before .before .before .before .pre .0) (c .before .before .before .before .before .before .before .before .before .before .before .before .before .before .before .pre .1) (c .before .before .before .before .before .before .before .before .before .before .before .before .before .before .before .pre .2) _ _ _ (taken-start _ _ _ _ (c .before .before .before .before .before .before .before .before .before .before .before .before .before .before .before .pre .0) (c .before .before .before .before .before .before .before .before .before .before .before .before .before .before .before .pre .1) (c .before .before .before .before .before .before .before .before .before .before .before .before .before .before .before .pre .2) (mask-small (c .before .before .before .before .before .before .before .before .before .before .before .before .before .before .before))) _ _ _ (c .before .before .before .before .before .before .before .before .before .before .before .low-bit .ensures) _ _ (c .before .before .before .before .before .before .before .before .before .push-tap .ensures .1) (c .before .before .before .before .before .before .before .before .before .push-tap .ensures .0) (c .before .before .before .before .before .before .before .before .before .push-tap .kept .1 .1 .1 .1 .0)) _ _ _ (c .before .before .before .before .before .before .low-bit2 .ensures) _ _ (c .before .before .before .before .push-tap2 .ensures .1) (c .before .before .before .before .push-tap2 .ensures .0) (c .before .before .before .before .push-tap2 .kept .1 .1 .1 .1 .0))) .small
+    let a = c .before .before .before .before .before .before .before .before .before .before .before .before .before in
+    left-taken (c .before) _ _ (a .pre .fits) .small
 
 push-tap-requires-3 : tie.Need-push-tap-requires-3 Inv-loop μ-loop
 push-tap-requires-3 c κs =
-    let t = c .before .before .before .loop .inv _ (c .before .before .before .before .before .before .before .before .before .before .before .before .before .before .before .before .before .pre .0) (taken-next _ _ _ _ (c .before .before .before .before .before .before .before .before .before .before .before .before .before .before .before .before .before .pre .0) (c .before .before .before .before .before .before .before .before .before .before .before .before .before .before .before .before .before .pre .1) (c .before .before .before .before .before .before .before .before .before .before .before .before .before .before .before .before .before .pre .2) _ _ _ (taken-next _ _ _ _ (c .before .before .before .before .before .before .before .before .before .before .before .before .before .before .before .before .before .pre .0) (c .before .before .before .before .before .before .before .before .before .before .before .before .before .before .before .before .before .pre .1) (c .before .before .before .before .before .before .before .before .before .before .before .before .before .before .before .before .before .pre .2) _ _ _ (taken-start _ _ _ _ (c .before .before .before .before .before .before .before .before .before .before .before .before .before .before .before .before .before .pre .0) (c .before .before .before .before .before .before .before .before .before .before .before .before .before .before .before .before .before .pre .1) (c .before .before .before .before .before .before .before .before .before .before .before .before .before .before .before .before .before .pre .2) (mask-small (c .before .before .before .before .before .before .before .before .before .before .before .before .before .before .before .before .before))) _ _ _ (c .before .before .before .before .before .before .before .before .before .before .before .before .before .low-bit .ensures) _ _ (c .before .before .before .before .before .before .before .before .before .before .before .push-tap .ensures .1) (c .before .before .before .before .before .before .before .before .before .before .before .push-tap .ensures .0) (c .before .before .before .before .before .before .before .before .before .before .before .push-tap .kept .1 .1 .1 .1 .0)) _ _ _ (c .before .before .before .before .before .before .before .before .low-bit2 .ensures) _ _ (c .before .before .before .before .before .before .push-tap2 .ensures .1) (c .before .before .before .before .before .before .push-tap2 .ensures .0) (c .before .before .before .before .before .before .push-tap2 .kept .1 .1 .1 .1 .0)) in
-    (room-late _ _ _ _ (c .before .before .before .before .before .before .before .before .before .before .before .before .before .before .before .before .before .pre .0) (c .before .before .before .before .before .before .before .before .before .before .before .before .before .before .before .before .before .pre .1) (c .before .before .before .before .before .before .before .before .before .before .before .before .before .before .before .before .before .pre .2) _ _ _ t _ _ _ (c .before .low-bit3 .ensures) (c .before .before .loop-test .taken), omega (arith, c .before .low-bit3 .ensures .inside), taken-few _ _ _ _ (c .before .before .before .before .before .before .before .before .before .before .before .before .before .before .before .before .before .pre .0) (c .before .before .before .before .before .before .before .before .before .before .before .before .before .before .before .before .before .pre .1) (c .before .before .before .before .before .before .before .before .before .before .before .before .before .before .before .before .before .pre .2) _ _ _ t)
+    let l = c .before .before in
+    let F = l .before .before .before .before .before .before .before .before .before .before .before .before .before .pre .fits in
+    let t = left-taken (l .before) _ _ F in
+    (mask-late _ _ _ _ _ _ F _ _ _ t _ _ _ (c .before .low-bit3 .ensures) (l .loop-test .taken), c .before .low-bit3 .ensures .inside, mask-few _ _ _ _ _ _ F _ _ _ t)
 
 loop-less : tie.Need-loop-less Inv-loop μ-loop
 loop-less c =
@@ -58,21 +84,17 @@ loop-less c =
 
 loop-again : tie.Need-loop-again Inv-loop μ-loop
 loop-again c =
-    λ l room t. taken-next l _ _ _ room (c .before .before .before .before .before .before .before .before .before .before .before .before .before .before .before .before .before .before .before .before .pre .1) (c .before .before .before .before .before .before .before .before .before .before .before .before .before .before .before .before .before .before .before .before .pre .2) _ _ _ (c .before .before .before .before .before .before .loop .inv l room t) _ _ _ (c .before .before .before .before .low-bit3 .ensures) _ _ (c .before .before .push-tap3 .ensures .1) (c .before .before .push-tap3 .ensures .0) (c .before .before .push-tap3 .kept .1 .1 .1 .1 .0)
-
-add-t12 : tie.Need-add-t12 Inv-loop μ-loop
-add-t12 c =
-    let room = c .before .before .before .before .before .before .before .before .before .before .before .before .before .before .before .before .pre .0 in
-    omega (arith, room .written .row, room .few)
+    let p = c .before .before in
+    λ l s cells F t. mask-next _ _ _ l s cells F _ _ _ (c .before .before .before .before .before .before .loop .inv l s cells F t) _ _ _ (p .before .before .low-bit3 .ensures) _ _ (p .push-tap3 .ensures .1) (p .push-tap3 .ensures .0) (p .push-tap3 .kept .1 .1 .1 .1 .0)
 
 same-length : tie.Need-same-length Inv-loop μ-loop
 same-length c =
-    (c .before .before .loop .inv _ (c .before .before .before .before .before .before .before .before .before .before .before .before .before .before .before .before .pre .0) (taken-next _ _ _ _ (c .before .before .before .before .before .before .before .before .before .before .before .before .before .before .before .before .pre .0) (c .before .before .before .before .before .before .before .before .before .before .before .before .before .before .before .before .pre .1) (c .before .before .before .before .before .before .before .before .before .before .before .before .before .before .before .before .pre .2) _ _ _ (taken-next _ _ _ _ (c .before .before .before .before .before .before .before .before .before .before .before .before .before .before .before .before .pre .0) (c .before .before .before .before .before .before .before .before .before .before .before .before .before .before .before .before .pre .1) (c .before .before .before .before .before .before .before .before .before .before .before .before .before .before .before .before .pre .2) _ _ _ (taken-start _ _ _ _ (c .before .before .before .before .before .before .before .before .before .before .before .before .before .before .before .before .pre .0) (c .before .before .before .before .before .before .before .before .before .before .before .before .before .before .before .before .pre .1) (c .before .before .before .before .before .before .before .before .before .before .before .before .before .before .before .before .pre .2) (mask-small (c .before .before .before .before .before .before .before .before .before .before .before .before .before .before .before .before))) _ _ _ (c .before .before .before .before .before .before .before .before .before .before .before .before .low-bit .ensures) _ _ (c .before .before .before .before .before .before .before .before .before .before .push-tap .ensures .1) (c .before .before .before .before .before .before .before .before .before .before .push-tap .ensures .0) (c .before .before .before .before .before .before .before .before .before .before .push-tap .kept .1 .1 .1 .1 .0)) _ _ _ (c .before .before .before .before .before .before .before .low-bit2 .ensures) _ _ (c .before .before .before .before .before .push-tap2 .ensures .1) (c .before .before .before .before .before .push-tap2 .ensures .0) (c .before .before .before .before .before .push-tap2 .kept .1 .1 .1 .1 .0))) .mid .same
+    let a = c .before .before .before .before .before .before .before .before .before .before .before .before .before in
+    left-taken (c .before) _ _ (a .pre .fits) .mid .same
 
 returns : tie.Need-returns Inv-loop μ-loop
 returns c =
-    let t = c .before .before .loop .inv _ (c .before .before .before .before .before .before .before .before .before .before .before .before .before .before .before .before .pre .0) (taken-next _ _ _ _ (c .before .before .before .before .before .before .before .before .before .before .before .before .before .before .before .before .pre .0) (c .before .before .before .before .before .before .before .before .before .before .before .before .before .before .before .before .pre .1) (c .before .before .before .before .before .before .before .before .before .before .before .before .before .before .before .before .pre .2) _ _ _ (taken-next _ _ _ _ (c .before .before .before .before .before .before .before .before .before .before .before .before .before .before .before .before .pre .0) (c .before .before .before .before .before .before .before .before .before .before .before .before .before .before .before .before .pre .1) (c .before .before .before .before .before .before .before .before .before .before .before .before .before .before .before .before .pre .2) _ _ _ (taken-start _ _ _ _ (c .before .before .before .before .before .before .before .before .before .before .before .before .before .before .before .before .pre .0) (c .before .before .before .before .before .before .before .before .before .before .before .before .before .before .before .before .pre .1) (c .before .before .before .before .before .before .before .before .before .before .before .before .before .before .before .before .pre .2) (mask-small (c .before .before .before .before .before .before .before .before .before .before .before .before .before .before .before .before))) _ _ _ (c .before .before .before .before .before .before .before .before .before .before .before .before .low-bit .ensures) _ _ (c .before .before .before .before .before .before .before .before .before .before .push-tap .ensures .1) (c .before .before .before .before .before .before .before .before .before .before .push-tap .ensures .0) (c .before .before .before .before .before .before .before .before .before .before .push-tap .kept .1 .1 .1 .1 .0)) _ _ _ (c .before .before .before .before .before .before .before .low-bit2 .ensures) _ _ (c .before .before .before .before .before .push-tap2 .ensures .1) (c .before .before .before .before .before .push-tap2 .ensures .0) (c .before .before .before .before .before .push-tap2 .kept .1 .1 .1 .1 .0)) in
-    (row-written _ _ _ (c .before .before .before .before .before .before .before .before .before .before .before .before .before .before .before .before .pre .0) _ _ _ _ (taken-end _ _ _ _ (c .before .before .before .before .before .before .before .before .before .before .before .before .before .before .before .before .pre .0) (c .before .before .before .before .before .before .before .before .before .before .before .before .before .before .before .before .pre .1) (c .before .before .before .before .before .before .before .before .before .before .before .before .before .before .before .before .pre .2) _ _ _ t (c .before .loop-test .left)) (omega arith) refl refl refl refl, refl)
+    λ s cells F. mask-end _ _ _ _ s cells F _ _ _ (left-taken (c .before) s cells F) (c .loop-test .left)
 
 pub push-mask-spec : {M : Type 1} → statement M
 push-mask-spec =
@@ -89,6 +111,5 @@ push-mask-spec =
     push-tap-requires-3
     loop-less
     loop-again
-    add-t12
     same-length
     returns)

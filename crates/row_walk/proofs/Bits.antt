@@ -1,20 +1,21 @@
 -- A mask of columns with the bit of one of them as told, and the numbers of the columns without a bit.
-use mathlib.Core.Path.{_≡_, refl, sym, _∙_}
+use mathlib.Core.Path.{_≡_, refl, ap, sym, _∙_}
 use mathlib.Core.Bool.{Bool, true, false, not}
 use mathlib.Core.List.{List}
-use Prim.Native.Nat.{ℕ, _/_, _-_, _^_, _<_, min, max}
+use Prim.Native.Nat.{ℕ, _*_, _/_, _%_, _-_, _^_, _<_, min, max}
 use native.Mathlib.Decide.{ℕ-discrete}
-use native.Mathlib.Nat.{mod-lt}
+use native.Mathlib.Nat.{one-mul, mod-lt, mod-eq-of-lt}
 use native.Mathlib.Omega.{arith}
 use borrow.Author.Tests.{eq-eqb, ne-eqb}
 use lib.Bits.{bitAnd, bitOr}
 use lib.Dec.{eqb}
 use lib.ListN.{getD}
+use lib.Pow.{pow-lt}
 use Rattle.definitions.specs.Lists.{oneIf}
 use Rattle.taps.specs.Taps.{bit, FreeAre}
 use Rattle.taps.proofs.Tables.{upFrom, same-at}
 use Rattle.taps.proofs.Free.{bit-and, bit-or, or-none}
-use Rattle.measure_walk.specs.Walked.{Marked}
+use Rattle.row_walk.specs.Rows.{Marked}
 
 -- of ten columns, all but one
 keep-bit : (i c : ℕ) → i < 10 → c < 10 → bit c (1023 - 2 ^ i) ≡ oneIf (not (eqb c i))
@@ -26,6 +27,10 @@ own-bit : (i c : ℕ) → i < 10 → c < 10 → bit c (2 ^ i) ≡ oneIf (eqb c i
 own-bit i c h k =
     same-at (λ c. bit c (2 ^ i)) (λ c. oneIf (eqb c i)) 10
     (same-at (λ i. upFrom (λ c. bit c (2 ^ i)) 0 10) (λ i. upFrom (λ c. oneIf (eqb c i)) 0 10) 10 refl i h) c k
+
+-- the bit of a column as the shift gives it
+pub shifted : (i : ℕ) → i < 10 → 1 * 2 ^ i % 4294967296 ≡ 2 ^ i
+shifted i h = ap (λ (n : ℕ). n % 4294967296) (one-mul (2 ^ i)) ∙ mod-eq-of-lt (omega (arith, pow-lt {j = 10} h))
 
 small : (c m : ℕ) → bit c m < 2
 small c m = mod-lt (m / 2 ^ c) (omega arith)
@@ -72,10 +77,3 @@ free-marked busy i r used n l k M here others f c h e =
       | yes q ↦ rw q (here (none-used used (sym (M .here) ∙ (rw q at e))))
       | no ne ↦ others c ne ∙ f c h (sym (M .others c h ne) ∙ e)
     ]
-
--- a mask with more columns
-pub free-left : (a b n : ℕ) (l : List ℕ) → FreeAre a n l → FreeAre (bitOr a b) n l
-free-left a b n l f c h e = f c h (or-none a b c e .0)
-
-pub free-right : (a b n : ℕ) (l : List ℕ) → FreeAre b n l → FreeAre (bitOr a b) n l
-free-right a b n l f c h e = f c h (or-none a b c e .1)

@@ -1,0 +1,2 @@
+-- What the contracts of a row's walk cite, beside the definitions.
+pub mod Rows
