@@ -20,7 +20,7 @@ use Rattle.kept_pass.specs.KeptPass.{Kept, Closed, Ended}
 use Rattle.kept_pass.proofs.Keeping.{kept-all}
 use Rattle.reduction.specs.Rows.{rowsAt, Holds}
 use Rattle.reduction.proofs.Forms.{in-text, form-rows}
-use Rattle.measure_walk.specs.Walked.{Walking}
+use Rattle.tap_walk.specs.Walked.{Walking}
 use Rattle.reduction.proofs.RowsAt.{rows-length}
 use Rattle.measure_notes.specs.declared.Noting.{Noting}
 use Rattle.measure_notes.specs.Noted.{Noted}

@@ -1,3 +1,2 @@
 -- Laws of the walk.
-pub mod Walks
 pub mod Runs

@@ -1,2 +1,2 @@
 -- What the contracts of the walk cite, beside the definitions.
-pub mod Walked
+pub mod Rows

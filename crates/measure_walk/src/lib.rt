@@ -1,5 +1,4 @@
 // A measure's minimised rows gone over once: each row is counted and noted, an ordinary one by its mask, any other by its cells.
-use definitions::ArrowStats;
 use measure_notes::Noting;
 use measure_tally::Counting;
 use objects::Depths;
@@ -9,33 +8,24 @@ use phantoms::Phantoms;
 use row_notes::ChartNotesScratch;
 use row_walk::Marks;
 use row_walk::Seen;
-use taps::Taps;
+use tap_walk::Run;
 ghost use mathlib.Core.Path.{_≡_};
 ghost use mathlib.Core.List.{List, [], _∷_, _++_};
 ghost use Prim.Native.Nat.{ℕ, _+_, _-_, _*_, _≤_, _<_};
-ghost use lib.ListN.{length, take, drop};
+ghost use lib.ListN.{length, drop};
 ghost use Rattle.definitions.specs.Sizes.{countBound, measuresBound, rowsBound};
 ghost use Rattle.definitions.specs.Lines.{Row};
-ghost use Rattle.taps.specs.Taps.{TapCounts};
 ghost use Rattle.reduction.specs.Rows.{rowsAt};
 ghost use Rattle.row_tally.specs.Bounds.{Below, Under};
 ghost use Rattle.measure_tally.specs.Counted.{Counted};
 ghost use Rattle.measure_notes.specs.Noted.{Noted, NotedRows};
-ghost use Rattle.measure_walk.specs.Walked.{Rest, restOf, countingOf, rowAt, notingOf, firstRun, firstMarks, TapsReady, TapsAdded, afterCells, Walking, Running};
+ghost use Rattle.tap_walk.specs.Walked.{countingOf, rowAt, notingOf, Walking};
+ghost use Rattle.measure_walk.specs.Rows.{restOf, firstRun, firstMarks, afterCells};
 
 // What is counted and noted.
 pub struct Walk {
     pub counting: Counting,
     pub noting: Noting,
-}
-
-// What ordinary rows change too, in plain numbers: the tally, the number of records, the number of rows, and how many of these there are up to
-// the measure's last object row; where that is no more than before the measure, it has none.
-pub struct Run {
-    pub stats: ArrowStats,
-    pub count: usize,
-    pub row: u32,
-    pub last: u32,
 }
 
 // The object depths of the columns.
@@ -78,23 +68,6 @@ fn first_marks(counting: Counting, noting: Noting) -> Marks
     }
 }
 
-// One row of taps more, all in columns that are not busy.
-fn add_taps(r: Run, mask: u16, wide: bool, slots: &mut [u8], counts: &[u16; 256]) -> Run
-    requires { ⌜ TapsReady r mask wide (now slots) × TapCounts (now counts) ⌝ }
-    ensures { λ t. ⌜ TapsAdded r mask (now (slots .entry)) (now (slots .exit)) t ⌝ }
-{
-    let stats = row_tally::count_taps(r.stats, mask, wide, counts);
-    let count = row_notes::push_mask(r.row, r.count, mask, slots);
-    let row = r.row + 1;
-    let last = if mask != 0 { row } else { r.last };
-    Run {
-        stats,
-        count,
-        row,
-        last,
-    }
-}
-
 // One row more, whose cells have come to this.
 fn add_cells(r: Run, s: Seen) -> Run
     requires { ⌜ Below countBound (r .stats) × Under 10 (s .sum) × (r .row < rowsBound) ⌝ }
@@ -109,42 +82,6 @@ fn add_cells(r: Run, s: Seen) -> Run
         row,
         last,
     }
-}
-
-// Ordinary rows of a measure, up to the first row that is not: it stands in a text from `start` on, and `first` rows stand before it.
-fn walk_taps(
-    old: Run,
-    m: Marks,
-    first: u32,
-    text: &[u8],
-    start: usize,
-    rows: usize,
-    lanes: usize,
-    slots: &mut [u8],
-    counts: &[u16; 256],
-) -> Run
-    requires { ⌜ (0 < lanes) × (lanes ≤ 10) × (start + rows * (lanes + 1) ≤ length (now text)) × (first ≤ old .row) × (old .row ≤ first + rows) × TapCounts (now counts) ⌝ }
-    requires { ⌜ Running lanes first m old (now slots) (rowsAt (lanes + 1) lanes rows (drop start (now text))) ⌝ }
-    ensures { λ r. ⌜ (old .row ≤ r .row) × (r .row ≤ first + rows) ⌝ }
-    ensures { λ r. ⌜ ((q : Rest) (done : List (List Row)) → Counted lanes (countingOf q m old) done (take (old .row - first) (rowsAt (lanes + 1) lanes rows (drop start (now (text .entry))))) → Counted lanes (countingOf q m r) done (take (r .row - first) (rowsAt (lanes + 1) lanes rows (drop start (now (text .entry)))))) ⌝ }
-    ensures { λ r. ⌜ ((q : Rest) (done : List (List Row)) → NotedRows lanes (notingOf first q m old) (now (slots .entry)) done (take (old .row - first) (rowsAt (lanes + 1) lanes rows (drop start (now (text .entry))))) → NotedRows lanes (notingOf first q m r) (now (slots .exit)) done (take (r .row - first) (rowsAt (lanes + 1) lanes rows (drop start (now (text .entry)))))) ⌝ }
-{
-    let mut r = old;
-    let stop = first + rows as u32;
-    let mut at = start + (r.row - first) as usize * (lanes + 1);
-    while r.row < stop {
-        let end = at + lanes;
-        match taps::free_taps(&text[at..end], m.busy) {
-            Taps::Mask(mask) => {
-                r = add_taps(r, mask, taps::is_wide(lanes), slots, counts);
-            }
-            Taps::Other => {
-                return r;
-            }
-        }
-        at = end + 1;
-    }
-    r
 }
 
 // The last object row of a measure before which `first` rows stand.
@@ -238,7 +175,7 @@ pub fn walk_rows(
     let mut m = first_marks(counting, noting);
     let mut r = first_run(counting, noting);
     loop {
-        r = walk_taps(r, m, first, text, start, rows, lanes, slots, &counts);
+        r = tap_walk::walk_taps(r, m, first, text, start, rows, lanes, slots, &counts);
         let i = (r.row - first) as usize;
         if rows <= i {
             return end_walk(counting, noting, r, m, depths, low, hold_heads);

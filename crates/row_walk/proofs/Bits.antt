@@ -14,7 +14,7 @@ use lib.Pow.{pow-lt}
 use Rattle.definitions.specs.Lists.{oneIf}
 use Rattle.taps.specs.Taps.{bit, FreeAre}
 use Rattle.taps.proofs.Tables.{upFrom, same-at}
-use Rattle.taps.proofs.Free.{bit-and, bit-or, or-none}
+use Rattle.taps.proofs.Free.{bit-and, bit-or}
 use Rattle.row_walk.specs.Rows.{Marked}
 
 -- of ten columns, all but one

@@ -12,7 +12,7 @@ use lib.Seq.{set-getD, getD-set-same, getD-set-other}
 use Rattle.definitions.specs.Lines.{Row}
 use Rattle.definitions.specs.Cells.{cellOf, isArrow}
 use Rattle.definitions.specs.Tracker.{holdAt}
-use Rattle.definitions.specs.Objects.{objectAt, isObject, deeper}
+use Rattle.definitions.specs.Objects.{objectAt}
 use Rattle.definitions.specs.Notes.{effectAt}
 use Rattle.definitions.specs.Tally.{rowSum}
 use Rattle.definitions.specs.declared.RowSum.{RowSum}

@@ -1,9 +1,7 @@
 -- `row_walk::walk_cells` meets its contract. The loop's invariant: the cells before column `i` are done.
-use mathlib.Core.Path.{_≡_, refl}
 use mathlib.Core.Logic.{⊎-elim}
-use Prim.Native.Nat.{_+_, _-_, _<_, _≤_}
+use Prim.Native.Nat.{_+_, _-_, _<_}
 use native.Mathlib.Omega.{arith}
-use borrow.Author.Needs.{needs}
 use lib.ListN.{length}
 use Rattle.definitions.specs.Sizes.{countBound}
 use Rattle.phantoms.specs.Phantoms.{Low}

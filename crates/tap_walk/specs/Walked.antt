@@ -3,7 +3,6 @@ use mathlib.Core.Path.{_≡_}
 use mathlib.Core.Bool.{Bool, cond, not}
 use mathlib.Core.List.{List, [], _∷_, _++_}
 use Prim.Native.Nat.{ℕ, _+_, _-_, _*_, _<_, _≤_}
-use lib.Bits.{bitOr}
 use lib.Dec.{eqb, ltb}
 use lib.ListN.{length, take}
 use Rattle.definitions.specs.Sizes.{countBound, measuresBound, rowsBound}
@@ -19,13 +18,12 @@ use Rattle.row_tally.specs.Bounds.{Below}
 use Rattle.row_notes.specs.declared.ChartNotesScratch.{ChartNotesScratch}
 use Rattle.row_notes.specs.Written.{Written, MaskFits, SomeMask, afterTaps}
 use Rattle.row_walk.specs.declared.Marks.{Marks}
-use Rattle.row_walk.specs.declared.Seen.{Seen}
 use Rattle.row_walk.specs.Rows.{phantomsOf, notesOf}
 use Rattle.measure_tally.specs.declared.Counting.{Counting}
 use Rattle.measure_tally.specs.Counted.{Counted}
 use Rattle.measure_notes.specs.declared.Noting.{Noting}
 use Rattle.measure_notes.specs.Noted.{NotedRows}
-use Rattle.measure_walk.specs.declared.Run.{Run}
+use Rattle.tap_walk.specs.declared.Run.{Run}
 
 -- What ordinary rows leave as it is, beside the marks: the steps before the measure, the numbers of the columns, the last object row of the
 -- measures before, and the measure's number.
@@ -36,9 +34,6 @@ pub record Rest : Type 0 where
   pub heads : List ℕ
   pub found : LastObject
   pub midx : ℕ
-
-abbrev pub restOf : Counting → Noting → List ℕ → List ℕ → List ℕ → Rest
-restOf c n ds low hs = record { before = c .before; depths = ds; low = low; heads = hs; found = n .last .found; midx = n .last .midx }
 
 abbrev pub countingOf : Rest → Marks → Run → Counting
 countingOf q m r = record { stats = r .stats; phantoms = phantomsOf (q .depths) m; rows = r .row; before = q .before; busy = m .busy }
@@ -54,19 +49,6 @@ notingOf first q m r = record {
   busy = m .busy;
 }
 
--- before the measure
-abbrev pub firstRun : Counting → Noting → Run
-firstRun c n = record { stats = c .stats; count = n .scratch .count; row = c .rows; last = 0 }
-
-abbrev pub firstMarks : Counting → Noting → Marks
-firstMarks c n = record {
-  heads = c .phantoms .heads;
-  tails = c .phantoms .tails;
-  met = c .phantoms .met;
-  invalid = n .scratch .«has_invalid»;
-  busy = bitOr (c .busy) (bitOr (n .busy) (n .last .busy));
-}
-
 -- what a row of taps asks, and what is then so
 pub record TapsReady (r : Run) (mask : ℕ) (wide : Bool) (l : List ℕ) : Type 0 where
   pub few : Below countBound (r .stats)
@@ -79,10 +61,6 @@ pub record TapsAdded (r : Run) (mask : ℕ) (l l′ : List ℕ) (t : Run) : Type
   pub written : (s : ChartNotesScratch) (cells : Row) → MaskFits (r .row) (r .count) mask l s cells → (rows : List Row) → Written rows s l → Written (rows ++ (cells ∷ [])) (afterTaps s (t .count)) l′
   pub row : t .row ≡ r .row + 1
   pub last : t .last ≡ cond (not (eqb mask 0)) (r .row + 1) (r .last)
-
--- after a row whose cells have come to this
-abbrev pub afterCells : Run → Seen → Run
-afterCells r s = record { stats = addRow (r .stats) (s .sum); count = s .count; row = r .row + 1; last = cond (s .object) (r .row + 1) (r .last) }
 
 -- The first i rows of the measure ms are counted and noted, and l has room for the notes of all.
 pub record Walking (L : ℕ) (c : Counting) (n : Noting) (l : List ℕ) (ms : List Row) (i : ℕ) : Type 0 where

@@ -1,4 +1,4 @@
--- `measure_walk::walk_taps` meets its contract. The loop's invariant: the rows before row `r.row` are walked, and the next one stands at `at`.
+-- `tap_walk::walk_taps` meets its contract. The loop's invariant: the rows before row `r.row` are walked, and the next one stands at `at`.
 use mathlib.Core.Path.{_≡_, refl, ap, sym, subst, _∙_}
 use mathlib.Core.List.{List}
 use Prim.Native.Nat.{_+_, _-_, _*_, _≤_, _<_}
@@ -15,12 +15,12 @@ use Rattle.reduction.proofs.RowsAt.{rows-length}
 use Rattle.reduction.proofs.Powers.{next-at}
 use Rattle.measure_tally.specs.Counted.{Counted}
 use Rattle.measure_notes.specs.Noted.{NotedRows}
-use Rattle.measure_walk.specs.Walked.{Rest, countingOf, notingOf, Walking}
+use Rattle.tap_walk.specs.Walked.{Rest, countingOf, notingOf, Walking}
 use Rattle.measure_tally.proofs.Places.{rowsOf, part, row-room, row-wide, row-more}
-use Rattle.measure_walk.proofs.Walks.{walked-on, count-few, note-ready}
-use Rattle.measure_walk.proofs.Runs.{counted-taps, noted-taps, stats-few, run-few}
-use Rattle.measure_walk.proofs.walk_taps.Statement.{statement}
-use Rattle.measure_walk.proofs.walk_taps.Tie as tie
+use Rattle.tap_walk.proofs.Walks.{walked-on, count-few, note-ready}
+use Rattle.tap_walk.proofs.Runs.{counted-taps, noted-taps, stats-few, run-few}
+use Rattle.tap_walk.proofs.walk_taps.Statement.{statement}
+use Rattle.tap_walk.proofs.walk_taps.Tie as tie
 
 abbrev Inv-loop : tie.InvT-loop
 Inv-loop m first text start rows lanes slots₀ counts r₀ stop at₀ slots r at =

@@ -1,9 +1,9 @@
--- `measure_walk::add_taps` meets its contract.
+-- `tap_walk::add_taps` meets its contract.
 use mathlib.Core.Path.{refl}
 use borrow.Author.Needs.{needs}
 use borrow.Author.Tests.{eq-eqb, ne-eqb}
-use Rattle.measure_walk.proofs.add_taps.Statement.{statement}
-use Rattle.measure_walk.proofs.add_taps.Tie as tie
+use Rattle.tap_walk.proofs.add_taps.Statement.{statement}
+use Rattle.tap_walk.proofs.add_taps.Tie as tie
 
 count-taps-requires : tie.Need-count-taps-requires
 count-taps-requires c κs = search needs

@@ -13,7 +13,7 @@ use Rattle.measure_tally.specs.Counted.{Few, Counted}
 use Rattle.measure_notes.specs.declared.Noting.{Noting}
 use Rattle.measure_notes.specs.Noted.{NotedRows, RowReady}
 use Rattle.measure_notes.proofs.Rows.{row-number, row-ready, one-room}
-use Rattle.measure_walk.specs.Walked.{Walking}
+use Rattle.tap_walk.specs.Walked.{Walking}
 
 -- the walk goes on
 pub walked-on : (L : ℕ) (c c′ : Counting) (n n′ : Noting) (l l′ : List ℕ) (ms : List Row) (i j : ℕ) → Walking L c n l ms i → length l′ ≡ length l

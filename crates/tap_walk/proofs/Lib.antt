@@ -1,0 +1,3 @@
+-- Laws of ordinary rows.
+pub mod Walks
+pub mod Runs
