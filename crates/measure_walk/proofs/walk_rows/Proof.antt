@@ -17,7 +17,7 @@ use Rattle.measure_tally.proofs.Places.{rowsOf, part, row-room, row-wide, row-m
 use Rattle.tap_walk.proofs.Walks.{walked-on, count-few, note-ready, measure-ready}
 use Rattle.tap_walk.proofs.Runs.{stats-few}
 use Rattle.measure_walk.specs.Rows.{restOf}
-use Rattle.measure_walk.proofs.Runs.{counted-first, noted-first, counted-cells, noted-cells, cells-asked}
+use Rattle.measure_walk.proofs.Runs.{counted-start, noted-start, counted-cells, noted-cells, cells-asked}
 use Rattle.measure_walk.proofs.walk_rows.Statement.{statement}
 use Rattle.measure_walk.proofs.walk_rows.Tie as tie
 
@@ -115,15 +115,16 @@ loop-holds c =
     let h = c .before .before .open-heads .ensures in
     let m = c .before .first-marks .ensures in
     let r = c .first-run .ensures in
-    let zero : 0 ≡ a .counting .rows - a .counting .rows = omega arith in
-    let none : [] ≡ take (a .counting .rows - a .counting .rows) (all s) = ap (λ n. take n (all s)) zero in
+    let row : c .first-run .result .row ≡ a .counting .rows = ap (λ (x : Run). x .row) r in
     let number : a .noting .scratch .«row_index» ≡ a .counting .rows = s .pre .1 .noted .written .row ∙ sym (s .pre .1 .counted .rows) in (
-      rw r (omega arith),
-      rw r (omega arith),
+      omega (arith, row),
+      omega (arith, row),
       refl,
       (rw (p .0) (p .1), rw (o .0) (o .1), rw (h .0) (h .1)),
-      (λ done x. rw (r, m, p .0) (subst (Counted (a .lanes) _ done) none (counted-first (a .lanes) (a .counting) (a .noting) (now (a .slots)) done x))),
-      (λ done x. rw (r, m, o .0, h .0) (subst (NotedRows (a .lanes) _ _ done) none (noted-first (a .lanes) (a .counting) (a .noting) (now (a .slots)) done number x))),
+      (λ done x. counted-start (a .lanes) (a .counting) (a .noting) (now (a .slots)) done (all s)
+          (c .before .before .before .before .phantom-depths .result) (c .before .before .before .object-depths .result) (c .before .before .open-heads .result) (c .before .first-marks .result) (c .first-run .result) r m (p .0) x),
+      (λ done x. noted-start (a .lanes) (a .counting) (a .noting) (now (a .slots)) done (all s)
+          (c .before .before .before .before .phantom-depths .result) (c .before .before .before .object-depths .result) (c .before .before .open-heads .result) (c .before .first-marks .result) (c .first-run .result) r m (o .0) (h .0) number x),
     )
 
 walk-taps-requires : tie.Need-walk-taps-requires Inv-loop μ-loop
@@ -245,18 +246,19 @@ loop-again c =
     let ms = all s in
     let at = a .start + i * (a .lanes + 1) in
     let above : first ≤ r .result .row = omega (arith, r .ensures .0 .0, v .inv .0) in
-    let next : r .result .row + 1 - first ≡ i + 1 = omega (arith, above) in
+    let row : c .add-cells .result .row ≡ r .result .row + 1 = ap (λ (x : Run). x .row) (c .add-cells .ensures) in
+    let next : c .add-cells .result .row - first ≡ i + 1 = omega (arith, above, row) in
     let more = ap (λ n. take n ms) next ∙ row-more (a .lanes) (a .rows) (now (a .text)) (a .start) (s .pre .0 .2) i at (e .if1 .left) refl in
     let wide = row-wide (a .lanes) (a .rows) (now (a .text)) (a .start) (s .pre .0 .2) i at (e .if1 .left) refl in
     let q = rest (loop t) in (
-      rw (c .add-cells .ensures) (omega (arith, above)),
-      rw (c .add-cells .ensures) (omega (arith, e .if1 .left, above)),
+      omega (arith, above, row),
+      omega (arith, e .if1 .left, above, row),
       w .kept .1 .1 .1 .1 .1 .1 .1 .0 ∙ r .kept .1 .1 .1 .1 .1 .1 .1 .0 ∙ v .inv .2,
       w .ensures .ten,
-      (λ done x. rw (c .add-cells .ensures) (subst (Counted (a .lanes) _ done) (sym more)
-          (counted-cells (a .lanes) q (v .m) (r .result) _ _ done (take i ms) _ _ _ _ _ (w .ensures) (omega (arith, wide)) (s .pre .0 .1) (r .ensures .1 .0 q done (v .inv .4 done x))))),
-      (λ done x. rw (c .add-cells .ensures) (subst (NotedRows (a .lanes) _ _ done) (sym more)
-          (noted-cells (a .lanes) q (v .m) (r .result) _ _ done (take i ms) _ _ _ _ _ (w .ensures) (omega (arith, wide)) first above (r .ensures .1 .1 q done (v .inv .5 done x))))),
+      (λ done x. subst (Counted (a .lanes) _ done) (sym more)
+          (counted-cells (a .lanes) q (v .m) (r .result) _ _ done (take i ms) _ _ _ _ _ (w .ensures) (omega (arith, wide)) _ (c .add-cells .ensures) (s .pre .0 .1) (r .ensures .1 .0 q done (v .inv .4 done x)))),
+      (λ done x. subst (NotedRows (a .lanes) _ _ done) (sym more)
+          (noted-cells (a .lanes) q (v .m) (r .result) _ _ done (take i ms) _ _ _ _ _ (w .ensures) (omega (arith, wide)) _ (c .add-cells .ensures) first above (r .ensures .1 .1 q done (v .inv .5 done x)))),
     )
 
 pub walk-rows-spec : {M : Type 1} → statement M
