@@ -26,8 +26,9 @@ use Rattle.measure_tally.specs.Counted.{Counted, Few}
 use Rattle.measure_tally.proofs.Rows.{counted-row}
 use Rattle.measure_notes.specs.Noted.{NotedRows}
 use Rattle.measure_notes.proofs.Rows.{noted-row}
-use Rattle.tap_walk.specs.declared.Run.{Run}
-use Rattle.tap_walk.specs.Walked.{Rest, countingOf, rowAt, notingOf, TapsAdded, Walking}
+use Rattle.measure_run.specs.declared.Run.{Run}
+use Rattle.measure_run.specs.Held.{Rest, countingOf, rowAt, notingOf}
+use Rattle.tap_walk.specs.Walked.{TapsAdded, Walking}
 
 -- ---- one row more
 

@@ -1,9 +1,9 @@
--- What a walk holds of a measure of which some rows are walked, as the structs of the layers beneath.
+-- Ordinary rows: what one more asks, and a measure of which some rows are walked.
 use mathlib.Core.Path.{_≡_}
 use mathlib.Core.Bool.{Bool, cond, not}
 use mathlib.Core.List.{List, [], _∷_, _++_}
 use Prim.Native.Nat.{ℕ, _+_, _-_, _*_, _<_, _≤_}
-use lib.Dec.{eqb, ltb}
+use lib.Dec.{eqb}
 use lib.ListN.{length, take}
 use Rattle.definitions.specs.Sizes.{countBound, measuresBound, rowsBound}
 use Rattle.definitions.specs.Lists.{joined}
@@ -11,43 +11,16 @@ use Rattle.definitions.specs.Lines.{Row}
 use Rattle.definitions.specs.Tally.{rowSum, addRow}
 use Rattle.taps.specs.Taps.{tapLineMask, Fits}
 use Rattle.taps.specs.declared.Taps.the-variants.{Mask}
-use Rattle.beats.specs.declared.LastObject.{LastObject}
-use Rattle.objects.specs.declared.LastRow.{LastRow}
-use Rattle.objects.specs.declared.LastRow.the-variants.{Nothing, At}
 use Rattle.row_tally.specs.Bounds.{Below}
 use Rattle.row_notes.specs.declared.ChartNotesScratch.{ChartNotesScratch}
 use Rattle.row_notes.specs.Written.{Written, MaskFits, SomeMask, afterTaps}
 use Rattle.row_walk.specs.declared.Marks.{Marks}
-use Rattle.row_walk.specs.Rows.{phantomsOf, notesOf}
 use Rattle.measure_tally.specs.declared.Counting.{Counting}
 use Rattle.measure_tally.specs.Counted.{Counted}
 use Rattle.measure_notes.specs.declared.Noting.{Noting}
 use Rattle.measure_notes.specs.Noted.{NotedRows}
-use Rattle.tap_walk.specs.declared.Run.{Run}
-
--- What ordinary rows leave as it is, beside the marks: the steps before the measure, the numbers of the columns, the last object row of the
--- measures before, and the measure's number.
-pub record Rest : Type 0 where
-  pub before : ℕ
-  pub depths : List ℕ
-  pub low : List ℕ
-  pub heads : List ℕ
-  pub found : LastObject
-  pub midx : ℕ
-
-abbrev pub countingOf : Rest → Marks → Run → Counting
-countingOf q m r = record { stats = r .stats; phantoms = phantomsOf (q .depths) m; rows = r .row; before = q .before; busy = m .busy }
-
--- the measure's last object row, where `first` rows stand before the measure
-abbrev pub rowAt : ℕ → ℕ → LastRow
-rowAt first last = cond (ltb first last) (At (last - 1 - first)) Nothing
-
-abbrev pub notingOf : ℕ → Rest → Marks → Run → Noting
-notingOf first q m r = record {
-  scratch = notesOf (q .heads) (r .count) (r .row) m;
-  last = record { depths = record { depths = q .low }; busy = m .busy; found = q .found; row = rowAt first (r .last); rows = r .row - first; midx = q .midx };
-  busy = m .busy;
-}
+use Rattle.measure_run.specs.declared.Run.{Run}
+use Rattle.measure_run.specs.Held.{Rest, countingOf, notingOf}
 
 -- what a row of taps asks, and what is then so
 pub record TapsReady (r : Run) (mask : ℕ) (wide : Bool) (l : List ℕ) : Type 0 where

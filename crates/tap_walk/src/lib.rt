@@ -1,5 +1,5 @@
-// Ordinary rows of a measure, which the main call counts and notes by their masks: what they change is plain numbers.
-use definitions::ArrowStats;
+// Ordinary rows of a measure, which the main call counts and notes by their masks.
+use measure_run::Run;
 use row_walk::Marks;
 use taps::Taps;
 ghost use mathlib.Core.List.{List};
@@ -10,16 +10,8 @@ ghost use Rattle.taps.specs.Taps.{TapCounts};
 ghost use Rattle.reduction.specs.Rows.{rowsAt};
 ghost use Rattle.measure_tally.specs.Counted.{Counted};
 ghost use Rattle.measure_notes.specs.Noted.{NotedRows};
-ghost use Rattle.tap_walk.specs.Walked.{Rest, countingOf, notingOf, TapsReady, TapsAdded, Running};
-
-// What ordinary rows change too, in plain numbers: the tally, the number of records, the number of rows, and how many of these there are up to
-// the measure's last object row; where that is no more than before the measure, it has none.
-pub struct Run {
-    pub stats: ArrowStats,
-    pub count: usize,
-    pub row: u32,
-    pub last: u32,
-}
+ghost use Rattle.measure_run.specs.Held.{Rest, countingOf, notingOf};
+ghost use Rattle.tap_walk.specs.Walked.{TapsReady, TapsAdded, Running};
 
 // One row of taps more, all in columns that are not busy.
 fn add_taps(r: Run, mask: u16, wide: bool, slots: &mut [u8], counts: &[u16; 256]) -> Run

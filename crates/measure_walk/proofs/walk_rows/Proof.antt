@@ -11,13 +11,14 @@ use Rattle.definitions.specs.Lines.{Row}
 use Rattle.reduction.proofs.RowsAt.{rows-length}
 use Rattle.measure_tally.specs.Counted.{Counted}
 use Rattle.measure_notes.specs.Noted.{NotedRows}
-use Rattle.tap_walk.specs.declared.Run.{Run}
-use Rattle.tap_walk.specs.Walked.{Rest, countingOf, notingOf, Walking}
+use Rattle.measure_run.specs.declared.Run.{Run}
+use Rattle.measure_run.specs.Held.{Rest, restOf, countingOf, notingOf}
+use Rattle.measure_run.proofs.Starts.{counted-start, noted-start}
+use Rattle.tap_walk.specs.Walked.{Walking}
 use Rattle.measure_tally.proofs.Places.{rowsOf, part, row-room, row-wide, row-more}
 use Rattle.tap_walk.proofs.Walks.{walked-on, count-few, note-ready, measure-ready}
 use Rattle.tap_walk.proofs.Runs.{stats-few}
-use Rattle.measure_walk.specs.Rows.{restOf}
-use Rattle.measure_walk.proofs.Runs.{counted-start, noted-start, counted-cells, noted-cells, cells-asked}
+use Rattle.measure_walk.proofs.Runs.{counted-cells, noted-cells, cells-asked}
 use Rattle.measure_walk.proofs.walk_rows.Statement.{statement}
 use Rattle.measure_walk.proofs.walk_rows.Tie as tie
 

@@ -15,7 +15,8 @@ use Rattle.reduction.proofs.RowsAt.{rows-length}
 use Rattle.reduction.proofs.Powers.{next-at}
 use Rattle.measure_tally.specs.Counted.{Counted}
 use Rattle.measure_notes.specs.Noted.{NotedRows}
-use Rattle.tap_walk.specs.Walked.{Rest, countingOf, notingOf, Walking}
+use Rattle.measure_run.specs.Held.{Rest, countingOf, notingOf}
+use Rattle.tap_walk.specs.Walked.{Walking}
 use Rattle.measure_tally.proofs.Places.{rowsOf, part, row-room, row-wide, row-more}
 use Rattle.tap_walk.proofs.Walks.{walked-on, count-few, note-ready}
 use Rattle.tap_walk.proofs.Runs.{counted-taps, noted-taps, stats-few, run-few}

@@ -1,8 +1,8 @@
--- `measure_walk::end_walk` meets its contract.
+-- `measure_run::end_walk` meets its contract.
 use mathlib.Core.Path.{refl}
 use borrow.Author.Needs.{needs}
-use Rattle.measure_walk.proofs.end_walk.Statement.{statement}
-use Rattle.measure_walk.proofs.end_walk.Tie as tie
+use Rattle.measure_run.proofs.end_walk.Statement.{statement}
+use Rattle.measure_run.proofs.end_walk.Tie as tie
 
 last-row-requires : tie.Need-last-row-requires
 last-row-requires c κs = search needs

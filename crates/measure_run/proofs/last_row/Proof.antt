@@ -1,8 +1,8 @@
--- `measure_walk::last_row` meets its contract.
+-- `measure_run::last_row` meets its contract.
 use borrow.Author.Needs.{needs}
 use borrow.Author.Tests.{lt-ltb, le-ltb}
-use Rattle.measure_walk.proofs.last_row.Statement.{statement}
-use Rattle.measure_walk.proofs.last_row.Tie as tie
+use Rattle.measure_run.proofs.last_row.Statement.{statement}
+use Rattle.measure_run.proofs.last_row.Tie as tie
 
 sub-t5 : tie.Need-sub-t5
 sub-t5 c = search needs

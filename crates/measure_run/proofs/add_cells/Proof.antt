@@ -1,7 +1,7 @@
--- `measure_walk::add_cells` meets its contract.
+-- `measure_run::add_cells` meets its contract.
 use borrow.Author.Needs.{needs}
-use Rattle.measure_walk.proofs.add_cells.Statement.{statement}
-use Rattle.measure_walk.proofs.add_cells.Tie as tie
+use Rattle.measure_run.proofs.add_cells.Statement.{statement}
+use Rattle.measure_run.proofs.add_cells.Tie as tie
 
 add-row-lent-requires : tie.Need-add-row-lent-requires
 add-row-lent-requires c κs = search needs

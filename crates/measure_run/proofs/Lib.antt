@@ -1,0 +1,2 @@
+-- Laws of what a walk holds.
+pub mod Starts

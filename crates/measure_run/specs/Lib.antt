@@ -1,0 +1,2 @@
+-- What the contracts of a run cite, beside the definitions.
+pub mod Held

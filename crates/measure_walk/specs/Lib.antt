@@ -1,2 +1,0 @@
--- What the contracts of the walk cite, beside the definitions.
-pub mod Rows
