@@ -1,4 +1,4 @@
--- `stored::compare::all_zero` meets its contract: the comparison with no answer. Assumes nothing.
+-- `compare::all_zero` meets its contract: the comparison with no answer. Assumes nothing.
 use mathlib.Core.List.{[]}
 use Prim.Native.Nat.{_≤_, _-_}
 use mathlib.Core.Path.{_≡_, sym, _∙_}

@@ -1,4 +1,4 @@
--- `stored::compare::bits_of` meets its contract: what differs from itself is no number. Assumes nothing.
+-- `compare::bits_of` meets its contract: what differs from itself is no number. Assumes nothing.
 use mathlib.Core.Path.{sym, _∙_}
 use Rattle.compare.proofs.Reading.{bits-none, bits-some, has-bits}
 use borrow.Author.Needs.{needs}

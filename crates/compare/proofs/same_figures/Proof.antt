@@ -1,4 +1,4 @@
--- `stored::compare::same_figures` meets its contract: the places before i are the same. Assumes nothing.
+-- `compare::same_figures` meets its contract: the places before i are the same. Assumes nothing.
 use Prim.Native.Nat.{_≤_, _-_}
 use mathlib.Core.Path.{_≡_, refl, sym, _∙_}
 use mathlib.Core.Bool.{true}

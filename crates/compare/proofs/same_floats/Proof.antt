@@ -1,4 +1,4 @@
--- `stored::compare::same_floats` meets its contract: what is left of the comparison of the bits from place i on. Assumes nothing.
+-- `compare::same_floats` meets its contract: what is left of the comparison of the bits from place i on. Assumes nothing.
 use Prim.Native.Nat.{_<_, _≤_, _-_}
 use mathlib.Core.Path.{_≡_, sym, _∙_}
 use native.Mathlib.Omega.{arith}

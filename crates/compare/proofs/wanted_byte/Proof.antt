@@ -1,4 +1,4 @@
--- `stored::compare::wanted_byte` meets its contract. Assumes nothing.
+-- `compare::wanted_byte` meets its contract. Assumes nothing.
 use mathlib.Core.Path.{sym}
 use denote.Ref.{now}
 use lib.ListN.{List·getD-eq-default}

@@ -1,4 +1,4 @@
--- `stored::compare::wanted_long` meets its contract. Assumes nothing.
+-- `compare::wanted_long` meets its contract. Assumes nothing.
 use mathlib.Core.Path.{sym, _∙_}
 use Rattle.compare.proofs.Reading.{long-get, long-none}
 use borrow.Author.Needs.{needs}

@@ -1,4 +1,4 @@
--- `scans::chart_last_beat_impl` meets its contract: the last object row found among the raw rows has the last beat of the definitions.
+-- `last_beat::chart_last_beat_impl` meets its contract: the last object row found among the raw rows has the last beat of the definitions.
 use mathlib.Core.Path.{_≡_, ap, _∙_}
 use borrow.Author.Tests.{lt-ltb, le-ltb}
 use lib.Ieee.{binary64, toBits}

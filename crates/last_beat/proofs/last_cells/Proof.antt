@@ -1,4 +1,4 @@
--- `scans::last::last_cells` meets its contract.
+-- `last_beat::last_cells` meets its contract.
 use mathlib.Core.Path.{sym, _∙_}
 use Rattle.taps.proofs.Unlikes.{unlike-free}
 use borrow.Author.Needs.{needs}

@@ -1,4 +1,4 @@
--- `scans::last::last_row` meets its contract.
+-- `last_beat::last_row` meets its contract.
 use borrow.Author.Needs.{needs}
 use Rattle.taps.proofs.Free.{free-told}
 use Rattle.last_beat.proofs.last_row.Statement.{statement}

@@ -1,4 +1,4 @@
--- `scans::scan_last` meets its contract. The loop's invariant: what is kept is what counts of the lines read.
+-- `last_beat::scan_last` meets its contract. The loop's invariant: what is kept is what counts of the lines read.
 use Prim.Native.Nat.{_-_, _+_}
 use mathlib.Core.Logic.{⊎-elim}
 use native.Mathlib.Omega.{arith}

@@ -1,4 +1,4 @@
--- `scans::equally_spaced_impl` meets its contract: each return rewrites with the tests that led there.
+-- `spacing::equally_spaced_impl` meets its contract: each return rewrites with the tests that led there.
 use mathlib.Core.Path.{ap, _∙_}
 use Prim.Native.Nat.{ℕ, _≤_}
 use borrow.Author.Needs.{needs}

@@ -1,4 +1,4 @@
--- `scans::fill_spacing` meets its contract. The loop's invariant: the spacing of the measures that have ended is stored, and `s` holds what counts of
+-- `spacing::fill_spacing` meets its contract. The loop's invariant: the spacing of the measures that have ended is stored, and `s` holds what counts of
 -- the open one.
 use Prim.Native.Nat.{_≤_, _<_, _-_, _+_, _*_}
 use mathlib.Core.Path.{_≡_, refl, sym, ap, _∙_}

@@ -1,4 +1,4 @@
--- `scans::spacing::is_spaced` meets its contract.
+-- `spacing::is_spaced` meets its contract.
 use mathlib.Core.Path.{_≡_}
 use Prim.Native.Nat.{_^_, _<_}
 use native.Mathlib.Omega.{arith}

@@ -1,4 +1,4 @@
--- `scans::spacing::no_spacing` meets its contract.
+-- `spacing::no_spacing` meets its contract.
 use Rattle.spacing.proofs.Spaces.{spaces-start}
 use Rattle.spacing.proofs.no_spacing.Statement.{statement}
 use Rattle.spacing.proofs.no_spacing.Tie as tie

@@ -1,4 +1,4 @@
--- `scans::spacing::spacing_row` meets its contract.
+-- `spacing::spacing_row` meets its contract.
 use mathlib.Core.Path.{ap, sym, _∙_}
 use Rattle.definitions.specs.Lists.{oneIf}
 use Rattle.spacing.proofs.Spaces.{lost-test, hope-test, spaces-lost, spaces-zero, spaces-other}
