@@ -130,10 +130,3 @@ free-cell busy m r x c = go (bit c m) refl (mod-lt (m / 2 ^ c) (omega arith))
 -- the same of a column within the row
 pub free-byte : (busy m : ℕ) (r : Row) → FreeTaps busy m r → (c : ℕ) → c < length r → Free busy c (getD r c 0)
 free-byte busy m r x c h = subst (Free busy c) (any-default r c 48 0 h) (free-cell busy m r x c)
-
--- a part of `busy`
-pub taps-left : (a b m : ℕ) (r : Row) → FreeTaps (bitOr a b) m r → FreeTaps a m r
-taps-left a b m r x = record { mask = x .mask; free = λ c e. or-none a b c (x .free c e) .0 }
-
-pub taps-right : (a b m : ℕ) (r : Row) → FreeTaps (bitOr a b) m r → FreeTaps b m r
-taps-right a b m r x = record { mask = x .mask; free = λ c e. or-none a b c (x .free c e) .1 }
