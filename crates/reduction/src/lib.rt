@@ -17,8 +17,11 @@ fn are_all_zero(row: &[u8]) -> bool
 {
     let mut i = 0;
     while i < row.len() {
-        if row[i] != 48 {
-            return false;
+        match row[i] {
+            b'0' => {}
+            _ => {
+                return false;
+            }
         }
         i += 1;
     }

@@ -17,11 +17,11 @@ abbrev μ-loop : tie.MeasureT-loop
 loop-holds : tie.Need-loop-holds Inv-loop μ-loop
 loop-holds c = (omega arith, refl)
 
-shared-slice-read-if1 : tie.Need-shared-slice-read-if1 Inv-loop μ-loop
-shared-slice-read-if1 c = omega arith
+shared-slice-read-match : tie.Need-shared-slice-read-match Inv-loop μ-loop
+shared-slice-read-match c = omega arith
 
 returns : tie.Need-returns Inv-loop μ-loop
-returns c = sym (c .before .before .before .loop .inv .1 ∙ zero-stop _ _ (c .before .before .loop-test .taken) (c .if1 .taken))
+returns c = sym (c .before .before .before .loop .inv .1 ∙ zero-stop _ _ (c .before .before .loop-test .taken) (c .match .rest .1))
 
 add-i : tie.Need-add-i Inv-loop μ-loop
 add-i c = omega arith
@@ -30,10 +30,10 @@ loop-less : tie.Need-loop-less Inv-loop μ-loop
 loop-less c = omega arith
 
 loop-again : tie.Need-loop-again Inv-loop μ-loop
-loop-again c = (omega arith, c .before .before .before .loop .inv .1 ∙ zero-turn _ _ (c .before .before .loop-test .taken) (c .if1 .left))
+loop-again c = (omega arith, c .before .before .before .loop .inv .1 ∙ zero-turn _ _ (c .before .before .loop-test .taken) (c .match .keys1))
 
 returns-2 : tie.Need-returns-2 Inv-loop μ-loop
 returns-2 c = sym (c .before .loop .inv .1 ∙ zero-end _ _ (c .loop-test .left))
 
 pub are-all-zero-spec : {M : Type 1} → statement M
-are-all-zero-spec = tie.close (tie.spec Inv-loop μ-loop loop-holds shared-slice-read-if1 returns add-i loop-less loop-again returns-2)
+are-all-zero-spec = tie.close (tie.spec Inv-loop μ-loop loop-holds shared-slice-read-match returns add-i loop-less loop-again returns-2)
