@@ -26,7 +26,7 @@ longText len = check 1 (ltb mostBytes len)
 abbrev pub shortText : ℕ → ℕ → Check
 shortText len room = check 2 (ltb room (len + 1))
 
--- "3: the measure slice (u32 densities, or bytes for spacing) is shorter than (len + 1) div 2 + 1."
+-- "3: the measure slice (u32 densities, or bytes for spacing, 1 true and 0 false) is shorter than (len + 1) div 2 + 1."
 abbrev pub shortMeasures : ℕ → ℕ → Check
 shortMeasures len room = check 3 (ltb room ((len + 1) / 2 + 1))
 
