@@ -5,6 +5,7 @@ pub mod Cells
 pub mod Columns
 pub mod Reduction
 pub mod Thinned
+pub mod Shorter
 pub mod Lanes
 pub mod ChartRows
 pub mod Tails

@@ -13,7 +13,7 @@ use Rattle.definitions.specs.Reduction.{reduce, minimised}
 use Rattle.definitions.specs.Figures.{textOf, density, densities, minimisedText}
 use Rattle.definitions.specs.Tally.{tally}
 use Rattle.definitions.proofs.Lists.{joined-snoc}
-use Rattle.reduction.proofs.Shorter.{reduce-short}
+use Rattle.definitions.proofs.Shorter.{reduce-short}
 use Rattle.output.proofs.Writing.{text-done}
 use Rattle.phantoms.specs.Phantoms.{Counts}
 use Rattle.reader.specs.Reading.{ReadAll}

@@ -16,7 +16,7 @@ use Rattle.reduction.specs.Rows.{rowsAt, placed, Holds, Reduced}
 use Rattle.reduction.proofs.Forms.{in-text, form-rows}
 use Rattle.output.specs.Wrote.{Wrote}
 use Rattle.output.proofs.Writing.{wrote-start, wrote-row, wrote-holds, wrote-reduced, wrote-sep}
-use Rattle.reduction.proofs.Shorter.{reduce-short}
+use Rattle.definitions.proofs.Shorter.{reduce-short}
 use Rattle.kept_pass.specs.declared.KeptPass.{KeptPass}
 use Rattle.kept_pass.specs.KeptPass.{Open, Closed, SomeOpen, Kept, Ended}
 

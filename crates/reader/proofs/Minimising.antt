@@ -7,7 +7,7 @@ use lib.ListN.{length, length-map}
 use Rattle.definitions.specs.Lines.{Row}
 use Rattle.definitions.specs.Reduction.{reduce}
 use Rattle.definitions.specs.declared.LineKind.the-variants as line
-use Rattle.reduction.proofs.Shorter.{rows-short}
+use Rattle.definitions.proofs.Shorter.{rows-short}
 use Rattle.reader.specs.declared.ReadLine.{ReadLine}
 use Rattle.reader.specs.Reading.{LineRead}
 use Rattle.reader.proofs.Passes.{Passing, Over, Few, rowPart, row-part, pass-start, pass-few, over-few, pass-passed, pass-comma, pass-row}

@@ -10,4 +10,3 @@ pub mod Placed
 pub mod Blocks
 pub mod Compaction
 pub mod Forms
-pub mod Shorter

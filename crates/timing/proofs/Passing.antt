@@ -23,7 +23,7 @@ use Rattle.reduction.proofs.Blocks.{joined-append}
 use Rattle.reduction.proofs.Forms.{back-to-back, form-length}
 use Rattle.output.specs.Wrote.{Wrote}
 use Rattle.output.proofs.Writing.{wrote-start, wrote-row, wrote-holds, wrote-reduced, wrote-sep}
-use Rattle.reduction.proofs.Shorter.{reduce-short}
+use Rattle.definitions.proofs.Shorter.{reduce-short}
 use Rattle.timing.specs.declared.TimingPass.{TimingPass}
 use Rattle.timing.specs.TimingPass.{Timed, SomeTimed}
 
