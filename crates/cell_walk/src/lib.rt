@@ -6,7 +6,7 @@ use definitions::RowSum;
 use objects::ObjectCell;
 use phantoms::PhantomCell;
 ghost use mathlib.Core.Path.{_≡_};
-ghost use Prim.Native.Nat.{ℕ, _-_, _≤_};
+ghost use Prim.Native.Nat.{ℕ, _≤_};
 ghost use Rattle.definitions.specs.Lists.{oneIf};
 ghost use Rattle.definitions.specs.Cells.{cellOf, isArrow};
 ghost use Rattle.definitions.specs.Tracker.{holdAt};
@@ -39,13 +39,6 @@ pub struct WalkCell {
 
 // A kind's number where a cell makes no note.
 const NO_KIND: u8 = 6;
-
-// One less, and 0 for 0.
-fn one_less(n: u32) -> u32
-    ensures { λ r. ⌜ r ≡ n - 1 ⌝ }
-{
-    if 0 < n { n - 1 } else { 0 }
-}
 
 // A 1, M, L or F.
 fn walk_blocking(at: CellAt, kind: Kind, slots: &mut [u8]) -> WalkCell
@@ -138,14 +131,14 @@ fn walk_closing(at: CellAt, slots: &mut [u8]) -> WalkCell
 {
     row_notes::end_note(at.head, at.row, slots);
     let phantom = PhantomCell {
-        depth: one_less(at.depth),
+        depth: phantoms::one_less(at.depth),
         heads: 0,
         tails: 1,
         met: false,
     };
     let object = ObjectCell {
         object: 0 < at.low,
-        depth: one_less(at.low),
+        depth: phantoms::one_less(at.low),
     };
     WalkCell {
         phantom,

@@ -32,7 +32,7 @@ pub fn no_phantoms() -> Phantoms
 }
 
 // One less, and 0 for 0.
-fn one_less(n: u32) -> u32
+pub fn one_less(n: u32) -> u32
     ensures { λ r. ⌜ r ≡ n - 1 ⌝ }
 {
     if 0 < n { n - 1 } else { 0 }
