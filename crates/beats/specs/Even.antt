@@ -5,6 +5,10 @@ use Prim.Native.Nat.{ℕ, _*_, _^_}
 use lib.Ieee.Exact.{HasValue}
 use Rattle.definitions.specs.Beats.{step}
 
+-- every whole number up to this is a float of 32 bits exactly
+abbrev pub exactBound : ℕ
+exactBound = 16777216
+
 -- the step of n rows is s units of 2^-43, and n steps are 4 beats: 2^45 units
 pub record EvenStep (n : ℕ) : Type 0 where
   pub units : ℕ

@@ -13,13 +13,16 @@ ghost use Rattle.definitions.specs.Beats.{step, rowBeat, rowBeats, whole, lastR
 ghost use Rattle.definitions.specs.Objects.{place48};
 ghost use Rattle.beats.specs.Places.{Inside, placeOf, Placed};
 ghost use Rattle.beats.specs.Upto.{Upto};
-ghost use Rattle.beats.specs.Even.{EvenStep};
+ghost use Rattle.beats.specs.Even.{exactBound, EvenStep};
 
 // 2^-43, of which every step is a whole number.
 const FINE: f32 = 1.1368683772161603e-13;
 
 // 2^-21, with 20 digits of a beat's fraction and one more.
 const COARSE: f32 = 4.76837158203125e-7;
+
+// Every whole number up to this is a float exactly.
+const EXACT_BOUND: u64 = 16777216;
 
 // ---- Row beats
 
@@ -77,7 +80,7 @@ fn step_of(n: u32) -> f32
 
 // k steps: both factors are floats exactly, so that only the product rounds.
 fn steps_beat(k: u32, step: f32) -> f32
-    requires { ⌜ k < 16777216 ⌝ }
+    requires { ⌜ k < exactBound ⌝ }
     ensures { λ b. ⌜ ((s : ℕ) → HasValue step false s (2 ^ 43) → b ≡ round binary32 false (k * s) (2 ^ 43)) ⌝ }
 {
     (k as f32) * step
@@ -85,7 +88,7 @@ fn steps_beat(k: u32, step: f32) -> f32
 
 // The beats of a measure whose rows are an even part of 4 beats: row r stands `midx` × `rows` + r steps after beat 0.
 fn append_steps(beats: &mut [f32], at: usize, midx: u32, rows: u32)
-    requires { ⌜ (at + rows ≤ length (now beats)) × (rows < rowsBound) × (midx * rows + rows ≤ 16777216) × EvenStep rows ⌝ }
+    requires { ⌜ (at + rows ≤ length (now beats)) × (rows < rowsBound) × (midx * rows + rows ≤ exactBound) × EvenStep rows ⌝ }
     ensures { λ _. ⌜ now (beats .exit) ≡ (take at (now (beats .entry)) ++ rowBeats midx rows 0 rows) ++ drop (at + rows) (now (beats .entry)) ⌝ }
 {
     let step = step_of(rows);
@@ -120,7 +123,7 @@ pub fn append_row_beats(beats: &mut [f32], at: usize, midx: u32, rows: u32)
     }
     let s = step_units(rows);
     if s * (rows as u64) == 35184372088832 {
-        if (midx as u64) * (rows as u64) + (rows as u64) <= 16777216 {
+        if (midx as u64) * (rows as u64) + (rows as u64) <= EXACT_BOUND {
             append_steps(beats, at, midx, rows);
             return;
         }

@@ -1,4 +1,4 @@
--- The bounds that contracts speak of, each with what it bounds. The code has the same numbers as constants (src/lib.rt).
+-- The bounds that contracts speak of, each with what it bounds. Those that code tests are constants there too (src/lib.rt).
 use Prim.Native.Nat.{ℕ}
 
 -- "1: len is over 16,777,215": the longest text that is accepted

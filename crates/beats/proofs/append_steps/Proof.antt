@@ -10,6 +10,7 @@ use lib.Ieee.Exact.{HasValue}
 use lib.ListN.{length, length-set}
 use lib.Seq.{paste, paste-zero}
 use Rattle.definitions.specs.Beats.{rowBeats}
+use Rattle.beats.specs.Even.{exactBound}
 use Rattle.beats.proofs.Row.{steps-are, beat-is}
 use Rattle.beats.proofs.Beats.{beats-next, beats-all}
 use Rattle.beats.proofs.append_steps.Statement.{statement}
@@ -21,10 +22,10 @@ Inv-loop beats₀ at midx rows step first r₀ beats r = (r ≤ rows) × (length
 abbrev μ-loop : tie.MeasureT-loop
 μ-loop beats₀ at midx rows step first r₀ beats r = rows - r
 
--- a row's number is at most 2^24
+-- a row's number is a float exactly
 few : (c : tie.In-loop Inv-loop μ-loop) →
     let a = c .before .before .before .before .args in
-    a .midx * a .rows + c .before .loop .r < 16777216
+    a .midx * a .rows + c .before .loop .r < exactBound
 few c = let s = c .before .before .before .before in omega (arith, s .pre .2)
 
 step-of-requires : tie.Need-step-of-requires Inv-loop μ-loop
