@@ -15,7 +15,7 @@ use Rattle.definitions.specs.declared.Cell.{Cell}
 use Rattle.definitions.specs.declared.Cell.the-variants.{Empty, Tap, Hold, Tail, Roll, Mine, Lift, Fake, KeySound, LowerMine, LowerLift, LowerFake}
 use Rattle.definitions.specs.declared.RowSum.{RowSum}
 use Rattle.row_tally.specs.Sums.{addArrow, addCounted, addCell}
-use Rattle.cell_walk.specs.Cells.{kindOf, CellWalked, ByteWalked}
+use Rattle.cell_walk.specs.Cells.{effectKind, CellWalked, ByteWalked}
 use Rattle.cell_walk.specs.declared.CellAt.{CellAt}
 use Rattle.cell_walk.specs.declared.WalkCell.{WalkCell}
 
@@ -42,7 +42,7 @@ addKind s c k tails =
       fakes = s .fakes + oneIf (eqb k 5);
     }
 
-kind-added : (s : RowSum) (c : ℕ) (x : Cell) → addKind s c (kindOf (effectOf x)) (oneIf (isClosing (holdEffect x))) ≡ addCell s c x (isArrow x)
+kind-added : (s : RowSum) (c : ℕ) (x : Cell) → addKind s c (effectKind (effectOf x)) (oneIf (isClosing (holdEffect x))) ≡ addCell s c x (isArrow x)
 unfolding addArrow addCounted
 kind-added s c Empty = refl
 kind-added s c Tap = refl
@@ -57,6 +57,6 @@ kind-added s c LowerMine = refl
 kind-added s c LowerLift = refl
 kind-added s c LowerFake = refl
 
-pub kind-counted : (s : RowSum) (c k t b : ℕ) → k ≡ kindOf (effectAt b) → t ≡ oneIf (isClosing (holdAt b)) → addKind s c k t ≡ addCell s c (cellOf b) (isArrow (cellOf b))
+pub kind-counted : (s : RowSum) (c k t b : ℕ) → k ≡ effectKind (effectAt b) → t ≡ oneIf (isClosing (holdAt b)) → addKind s c k t ≡ addCell s c (cellOf b) (isArrow (cellOf b))
 unfolding effectAt holdAt
 kind-counted s c k t b ek et = rw (ek, et) (kind-added s c (cellOf b))

@@ -19,11 +19,11 @@ use Rattle.cell_walk.specs.declared.CellAt.{CellAt}
 use Rattle.cell_walk.specs.declared.WalkCell.{WalkCell}
 
 -- the number of the kind of a cell's note, and 6 where it makes none
-abbrev pub kindOf : NoteEffect → ℕ
-kindOf Nothing = 6
-kindOf Closes = 6
-kindOf (Single k) = kindNumber k
-kindOf (Head k) = kindNumber k
+abbrev pub effectKind : NoteEffect → ℕ
+effectKind Nothing = 6
+effectKind Closes = 6
+effectKind (Single k) = kindNumber k
+effectKind (Head k) = kindNumber k
 
 -- what a cell asks
 pub record CellFits (at : CellAt) (l : List ℕ) : Type 0 where
@@ -40,7 +40,7 @@ pub record CellWalked (h o : DepthEffect) (n : NoteEffect) (at : CellAt) (l l′
   pub object : r .object .object ≡ isObject o (at .low)
   pub low : r .object .depth ≡ deeper o (at .low)
   pub noted : CellNoted l (at .head) (at .count) (at .row) (at .column) n l′ (r .head) (r .count) (r .invalid)
-  pub kind : r .kind ≡ kindOf n
+  pub kind : r .kind ≡ effectKind n
 
 abbrev pub Blocking : Kind → CellAt → List ℕ → List ℕ → WalkCell → Type 0
 Blocking k = CellWalked depth.the-variants.Blocks depth.the-variants.Blocks (Single k)

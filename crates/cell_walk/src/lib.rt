@@ -14,7 +14,7 @@ ghost use Rattle.definitions.specs.Correction.{isClosing};
 ghost use Rattle.definitions.specs.Notes.{effectAt};
 ghost use Rattle.row_tally.specs.Bounds.{Under};
 ghost use Rattle.row_tally.specs.Sums.{addCell};
-ghost use Rattle.cell_walk.specs.Cells.{kindOf, CellFits, Blocking, Lower, Opening, Closing, Unnoted, ByteWalked};
+ghost use Rattle.cell_walk.specs.Cells.{effectKind, CellFits, Blocking, Lower, Opening, Closing, Unnoted, ByteWalked};
 
 // Where a cell stands: the phantom depth, the object depth and the open head of its column, the number of records, its row and its column.
 pub struct CellAt {
@@ -206,7 +206,7 @@ pub fn walk_cell(b: u8, at: CellAt, slots: &mut [u8]) -> WalkCell
 // A row's sum with a cell of this kind more, or so many tails.
 pub fn count_kind(s: RowSum, column: usize, kind: u8, tails: u32) -> RowSum
     requires { ⌜ Under 10 s × (tails ≤ 1) ⌝ }
-    ensures { λ r. ⌜ ((b : ℕ) → kind ≡ kindOf (effectAt b) → tails ≡ oneIf (isClosing (holdAt b)) → r ≡ addCell s column (cellOf b) (isArrow (cellOf b))) ⌝ }
+    ensures { λ r. ⌜ ((b : ℕ) → kind ≡ effectKind (effectAt b) → tails ≡ oneIf (isClosing (holdAt b)) → r ≡ addCell s column (cellOf b) (isArrow (cellOf b))) ⌝ }
 {
     let arrow = kind < 3;
     let direction = column % 4;

@@ -16,9 +16,9 @@ use Rattle.definitions.specs.Beats.{rowBeats, beatsFrom, measureBeats, beats as
 use Rattle.definitions.proofs.Lists.{joined-snoc}
 use Rattle.beats.proofs.Beats.{beats-appended}
 use Rattle.kept_pass.specs.declared.KeptPass.{KeptPass}
-use Rattle.kept_pass.specs.KeptPass.{Kept, Closed, Ended}
+use Rattle.kept_pass.specs.KeptPass.{Kept, Closed, MeasureEnded}
 use Rattle.kept_pass.proofs.Keeping.{kept-all}
-use Rattle.reduction.specs.Rows.{rowsAt, Holds}
+use Rattle.reduction.specs.Rows.{rowsAt, RowsStand}
 use Rattle.reduction.proofs.Forms.{in-text, form-rows}
 use Rattle.tap_walk.specs.Walked.{Walking}
 use Rattle.reduction.proofs.RowsAt.{rows-length}
@@ -34,10 +34,10 @@ use Rattle.chart_pass.specs.ChartPass.{Charted, SomeCharted, ChartEnded,
 rows-there : (L : ℕ) (e : KeptPass) (text : List ℕ) (done : List (List Row)) (cur : List Row) → Closed L e text done cur → rowsAt (L + 1) L (e .rows) (drop (e .start) text) ≡ cur
 rows-there L e text done cur x =
     form-rows (in-text L)
-    (subst (λ n. Holds rowText L n (e .start) cur text) (sym (x .rows)) (wrote-holds (in-text L) (44 ∷ 10 ∷ []) text (e .start) (e .out) done cur (x .wrote)))
+    (subst (λ n. RowsStand rowText L n (e .start) cur text) (sym (x .rows)) (wrote-holds (in-text L) (44 ∷ 10 ∷ []) text (e .start) (e .out) done cur (x .wrote)))
 
 module _ (L : ℕ) (p : ChartPass) (text densities : List ℕ) (beats : List Float) (slots : List ℕ) (e : KeptPass) (after dens : List ℕ)
-    (ends : (done : List (List Row)) (cur : List Row) → Kept L (p .pass) text densities done cur → Ended L e after dens done (reduce cur)) where
+    (ends : (done : List (List Row)) (cur : List Row) → Kept L (p .pass) text densities done cur → MeasureEnded L e after dens done (reduce cur)) where
   module _ (done : List (List Row)) (cur : List Row) (x : Charted L p text densities beats slots done cur) where
     -- the rows before the open measure
     pub rows-before : p .pass .counting .rows ≡ length (joined done)

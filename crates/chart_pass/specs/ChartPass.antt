@@ -8,7 +8,7 @@ use Rattle.definitions.specs.Lists.{joined}
 use Rattle.definitions.specs.Lines.{Row}
 use Rattle.definitions.specs.Reduction.{minimised}
 use Rattle.definitions.specs.Beats.{beatsFrom, beats as beatsOf}
-use Rattle.kept_pass.specs.KeptPass.{Kept, Ended, KeptAll}
+use Rattle.kept_pass.specs.KeptPass.{Kept, MeasureEnded, KeptAll}
 use Rattle.measure_notes.specs.Noted.{Noted}
 use Rattle.chart_pass.specs.declared.ChartPass.{ChartPass}
 
@@ -25,7 +25,7 @@ pub record SomeCharted (L : ℕ) (p : ChartPass) (text densities : List ℕ) (be
 
 -- the open measure has ended with these minimised rows
 pub record ChartEnded (L : ℕ) (p : ChartPass) (text densities : List ℕ) (beats : List Float) (slots : List ℕ) (done : List (List Row)) (cur : List Row) : Type 0 where
-  pub ended : Ended L (p .pass) text densities done cur
+  pub ended : MeasureEnded L (p .pass) text densities done cur
   pub noted : Noted L (p .noting) slots (done ++ (cur ∷ []))
   pub beats-are : take (p .pass .counting .rows) beats ≡ joined (beatsFrom 0 (done ++ (cur ∷ [])))
 

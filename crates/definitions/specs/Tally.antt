@@ -12,11 +12,11 @@ use Rattle.definitions.specs.declared.RowSum.{RowSum}
 use Rattle.definitions.specs.declared.ArrowStats.{ArrowStats}
 
 -- What a cell is counted as, beside an arrow.
-pub data Counted : Type 0 where
-  nothing hold roll tail mine lift fake : Counted
+pub data CountKind : Type 0 where
+  nothing hold roll tail mine lift fake : CountKind
 
 -- "The Rust also reads m, l, f as mine, lift, fake"
-abbrev pub countedAs : Cell → Counted
+abbrev pub countedAs : Cell → CountKind
 countedAs Empty = nothing
 countedAs Tap = nothing
 countedAs Hold = hold
@@ -31,7 +31,7 @@ countedAs LowerLift = lift
 countedAs LowerFake = fake
 
 -- a number for each, so that two can be compared
-abbrev pub place : Counted → ℕ
+abbrev pub place : CountKind → ℕ
 place nothing = 0
 place hold = 1
 place roll = 2
@@ -41,7 +41,7 @@ place lift = 5
 place fake = 6
 
 -- the cells of a row that are counted so
-abbrev pub counted : Counted → Row → ℕ
+abbrev pub counted : CountKind → Row → ℕ
 counted k r = count (λ b. eqb (place (countedAs (cellOf b))) (place k)) r
 
 -- the cells of a row, from column c on, that pass a test of column and cell

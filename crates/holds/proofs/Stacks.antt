@@ -9,7 +9,7 @@ use borrow.Author.Tests.{lt-ltb, le-ltb}
 use lib.ListN.{length, getD, set, length-set}
 use lib.Seq.{getD-set-same, getD-set-other}
 use Rattle.definitions.specs.declared.DepthEffect.the-variants.{Nothing, Blocks, Opens, Closes}
-use Rattle.holds.specs.Stacks.{tracker, stackAt, stackOf, Sized, Ready, Stepped}
+use Rattle.holds.specs.Stacks.{tracker, stackAt, stackOf, Sized, TrackReady, TrackStepped}
 use Rattle.holds.specs.declared.Tracker.{Tracker}
 
 pub stack-length : (t : Tracker) (c : ℕ) → length (stackOf t c) ≡ getD (t .depths) c 0
@@ -33,7 +33,7 @@ apart : (c d x y : ℕ) → (d ≡ c → ⊥) → x < 8 → y < 8 → 8 * d + y 
 apart c d x y n hx hy e =
     elim (decLt c d) [ yes p ↦ omega arith | no p ↦ elim (decLt d c) [ yes q ↦ omega arith | no q ↦ n (omega arith) ] ]
 
-module _ (hs ds : List ℕ) (c : ℕ) (r : Ready c (tracker hs ds)) where
+module _ (hs ds : List ℕ) (c : ℕ) (r : TrackReady c (tracker hs ds)) where
   -- another depth of column c
   depth-same : (n : ℕ) → stackOf (tracker hs (set ds c n)) c ≡ stackAt hs c n
   unfolding stackOf
@@ -47,15 +47,15 @@ module _ (hs ds : List ℕ) (c : ℕ) (r : Ready c (tracker hs ds)) where
   depth-other n d ne = ap (stackAt hs d) (getD-set-other ds c d n 0 ne)
 
   -- a cell that does nothing, and one that blocks
-  pub step-nothing : (row : ℕ) → Stepped Nothing row c (tracker hs ds) (tracker hs ds) []
+  pub step-nothing : (row : ℕ) → TrackStepped Nothing row c (tracker hs ds) (tracker hs ds) []
   step-nothing row = record { stack = refl; pairs = refl; sized = r .sized; others = λ d k ne. refl }
 
-  pub step-blocks : (row : ℕ) → Stepped Blocks row c (tracker hs ds) (tracker hs (set ds c 0)) []
+  pub step-blocks : (row : ℕ) → TrackStepped Blocks row c (tracker hs ds) (tracker hs (set ds c 0)) []
   step-blocks row = record { stack = depth-same 0; pairs = refl; sized = depth-sized 0; others = λ d k ne. depth-other 0 d ne }
 
   -- a head, where there is room for it and where there is none
   pub step-opens : (row : ℕ) → getD ds c 0 < 8
-      → Stepped Opens row c (tracker hs ds) (tracker (set hs (8 * c + getD ds c 0) row) (set ds c (getD ds c 0 + 1))) []
+      → TrackStepped Opens row c (tracker hs ds) (tracker (set hs (8 * c + getD ds c 0) row) (set ds c (getD ds c 0 + 1))) []
   unfolding stackOf
   step-opens row h =
       let wide = r .sized .wide in
@@ -75,7 +75,7 @@ module _ (hs ds : List ℕ) (c : ℕ) (r : Ready c (tracker hs ds)) where
             ∙ stack-set hs d (getD ds d 0) place row (λ j m e. apart c d (getD ds c 0) j ne h (omega (arith, r .low d k)) e);
       }
 
-  pub step-full : (row : ℕ) → 8 ≤ getD ds c 0 → Stepped Opens row c (tracker hs ds) (tracker hs ds) []
+  pub step-full : (row : ℕ) → 8 ≤ getD ds c 0 → TrackStepped Opens row c (tracker hs ds) (tracker hs ds) []
   step-full row h =
       record {
         stack = sym (rw (stack-length (tracker hs ds) c, le-ltb (getD ds c 0) 8 h));
@@ -86,7 +86,7 @@ module _ (hs ds : List ℕ) (c : ℕ) (r : Ready c (tracker hs ds)) where
 
   -- a tail, where a head is open and where none is
   pub step-closes : (row at : ℕ) → 0 < getD ds c 0 → at ≡ 8 * c + getD ds c 0 - 1
-      → Stepped Closes row c (tracker hs ds) (tracker hs (set ds c (getD ds c 0 - 1))) (record { head = getD hs at 0; tail = row } ∷ [])
+      → TrackStepped Closes row c (tracker hs ds) (tracker hs (set ds c (getD ds c 0 - 1))) (record { head = getD hs at 0; tail = row } ∷ [])
   unfolding stackOf
   step-closes row at h e =
       let shown : stackAt hs c (getD ds c 0) ≡ getD hs at 0 ∷ stackAt hs c (getD ds c 0 - 1) = top (getD ds c 0) h e in
@@ -101,7 +101,7 @@ module _ (hs ds : List ℕ) (c : ℕ) (r : Ready c (tracker hs ds)) where
       top zero h e = absurd (omega arith)
       top (suc n) h e = let p : at ≡ 8 * c + n = omega arith in let q : suc n - 1 ≡ n = omega arith in rw (p, q)
 
-  pub step-none : (row : ℕ) → getD ds c 0 ≤ 0 → Stepped Closes row c (tracker hs ds) (tracker hs ds) []
+  pub step-none : (row : ℕ) → getD ds c 0 ≤ 0 → TrackStepped Closes row c (tracker hs ds) (tracker hs ds) []
   unfolding stackOf
   step-none row h =
       let z : getD ds c 0 ≡ 0 = omega arith in

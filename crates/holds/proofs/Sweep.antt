@@ -13,7 +13,7 @@ use Rattle.definitions.specs.Lists.{oneIf, sumColumns}
 use Rattle.definitions.specs.Lines.{Row}
 use Rattle.definitions.specs.Cells.{byteAt}
 use Rattle.definitions.specs.Tracker.{nextStack, paired, holdAt, pairs, isHeadOf}
-use Rattle.holds.specs.Stacks.{Sized, Ready, Stepped, endedAt}
+use Rattle.holds.specs.Stacks.{Sized, TrackReady, TrackStepped, endedAt}
 use Rattle.holds.specs.Tracks.{stackAfter, endsIn, endsAt, Column, TracksJudged, Reached, CellsDone, marked, judgedHead}
 use Rattle.holds.specs.declared.Tracker.{Tracker}
 use Rattle.holds.specs.declared.Ended.{Ended}
@@ -59,7 +59,7 @@ column-low {rows} {c} {t} s =
     omega (arith, stacked rows c .few)
 
 -- Another column: nothing of it changes.
-column-other : {e : _} {row k c : ℕ} {t t' : Tracker} {ps : List _} {rows : List Row} {work : List ℕ} (ended : Ended) → Stepped e row k t t' ps
+column-other : {e : _} {row k c : ℕ} {t t' : Tracker} {ps : List _} {rows : List Row} {work : List ℕ} (ended : Ended) → TrackStepped e row k t t' ps
     → Below (length work) ended → c < 10 → (c ≡ k → ⊥) → Column rows c t work → Column rows c t' (marked ended k work)
 column-other {k = k} {c = c} {work = work} ended s b h n q =
     record {
@@ -79,7 +79,7 @@ module _
     (s : Swept J rows cells k work₀ t work n)
     (inside : k < 10)
   where
-    pub sweep-ready : Sized t → Ready k t
+    pub sweep-ready : Sized t → TrackReady k t
     sweep-ready sized =
         record {
           inside = inside;
@@ -93,7 +93,7 @@ module _
         (row : ℕ)
         (size : length rows ≡ row)
         (more : k < length cells)
-        (m : Stepped (holdAt (getD cells k 0)) row k t t' (endedAt row ended))
+        (m : TrackStepped (holdAt (getD cells k 0)) row k t t' (endedAt row ended))
       where
         here : Column rows k t work
         here = s .left k (omega arith) inside
@@ -208,10 +208,10 @@ module _
     sweeping-end h J rows e tracks = let in-row = s .within in sweep-end J rows cells k work₀ t work n (s .swept J rows e tracks) h (omega arith)
 
     module _ (more : k < length cells) where
-      pub sweeping-ready : Ready k t
+      pub sweeping-ready : TrackReady k t
       sweeping-ready = sweep-ready (from .judging) (from .rows) cells k work₀ t work n swept (omega arith) (s .sized)
 
-      module _ (t' : Tracker) (ended : Ended) (m : Stepped (holdAt (getD cells k 0)) row k t t' (endedAt row ended)) (room : row < length work₀) where
+      module _ (t' : Tracker) (ended : Ended) (m : TrackStepped (holdAt (getD cells k 0)) row k t t' (endedAt row ended)) (room : row < length work₀) where
         in-room : row < length work
         in-room = let e = s .long in omega arith
 

@@ -31,7 +31,7 @@ pub record Sized (t : Tracker) : Type 0 where
   pub deep : length (t .depths) ≡ 10
 
 -- what a cell in column c may be tracked in
-pub record Ready (c : ℕ) (t : Tracker) : Type 0 where
+pub record TrackReady (c : ℕ) (t : Tracker) : Type 0 where
   pub inside : c < 10
   pub sized : Sized t
   pub low : Shallow (t .depths)
@@ -42,7 +42,7 @@ endedAt row Nothing = []
 endedAt row (Head h) = record { head = h; tail = row } ∷ []
 
 -- What a cell of a row does in column c: its stack, the pairs that it makes, and that the other columns stay.
-pub record Stepped (e : DepthEffect) (row c : ℕ) (t t' : Tracker) (ps : List Pair) : Type 0 where
+pub record TrackStepped (e : DepthEffect) (row c : ℕ) (t t' : Tracker) (ps : List Pair) : Type 0 where
   pub stack : stackOf t' c ≡ nextStack e row (stackOf t c)
   pub pairs : ps ≡ paired e row (stackOf t c)
   pub sized : Sized t'

@@ -9,7 +9,7 @@ ghost use Rattle.definitions.specs.Lists.{oneIf};
 ghost use Rattle.definitions.specs.Lines.{Row};
 ghost use Rattle.definitions.specs.Tracker.{holdAt};
 ghost use Rattle.definitions.specs.declared.DepthEffect;
-ghost use Rattle.holds.specs.Stacks.{tracker, stackOf, Sized, Ready, Stepped, endedAt};
+ghost use Rattle.holds.specs.Stacks.{tracker, stackOf, Sized, TrackReady, TrackStepped, endedAt};
 ghost use Rattle.holds.specs.Tracks.{marked, judgedHead, Tracks, Reached, CellsTracked, RowTracked, Leaves};
 
 // The open heads of ten columns: column c has the places 8 * c to 8 * c + 7, and `depths` says how many of them are in use.
@@ -36,8 +36,8 @@ pub enum Ended {
 
 // A head on its column's stack. A ninth is not pushed.
 fn pushed(heads: &mut [u32; 80], depths: &mut [u32; 10], row: u32, column: usize)
-    requires { ⌜ Ready column (tracker (now heads) (now depths)) ⌝ }
-    ensures { λ _. ⌜ Stepped DepthEffect.Opens row column (tracker (now (heads .entry)) (now (depths .entry))) (tracker (now (heads .exit)) (now (depths .exit))) [] ⌝ }
+    requires { ⌜ TrackReady column (tracker (now heads) (now depths)) ⌝ }
+    ensures { λ _. ⌜ TrackStepped DepthEffect.Opens row column (tracker (now (heads .entry)) (now (depths .entry))) (tracker (now (heads .exit)) (now (depths .exit))) [] ⌝ }
 {
     let depth = depths[column];
     if depth < 8 {
@@ -49,8 +49,8 @@ fn pushed(heads: &mut [u32; 80], depths: &mut [u32; 10], row: u32, column: usize
 
 // The newest head off its column's stack.
 fn popped(heads: &[u32; 80], depths: &mut [u32; 10], column: usize) -> Ended
-    requires { ⌜ Ready column (tracker (now heads) (now depths)) ⌝ }
-    ensures { λ r. ⌜ ((row : ℕ) → Stepped DepthEffect.Closes row column (tracker (now (heads .entry)) (now (depths .entry))) (tracker (now (heads .entry)) (now (depths .exit))) (endedAt row r)) ⌝ }
+    requires { ⌜ TrackReady column (tracker (now heads) (now depths)) ⌝ }
+    ensures { λ r. ⌜ ((row : ℕ) → TrackStepped DepthEffect.Closes row column (tracker (now (heads .entry)) (now (depths .entry))) (tracker (now (heads .entry)) (now (depths .exit))) (endedAt row r)) ⌝ }
 {
     let depth = depths[column];
     if 0 < depth {
@@ -70,8 +70,8 @@ fn track_cell(
     column: usize,
     b: u8,
 ) -> Ended
-    requires { ⌜ Ready column (tracker (now heads) (now depths)) ⌝ }
-    ensures { λ r. ⌜ Stepped (holdAt b) row column (tracker (now (heads .entry)) (now (depths .entry))) (tracker (now (heads .exit)) (now (depths .exit))) (endedAt row r) ⌝ }
+    requires { ⌜ TrackReady column (tracker (now heads) (now depths)) ⌝ }
+    ensures { λ r. ⌜ TrackStepped (holdAt b) row column (tracker (now (heads .entry)) (now (depths .entry))) (tracker (now (heads .exit)) (now (depths .exit))) (endedAt row r) ⌝ }
 {
     match cells::hold_effect(b) {
         DepthEffect::Nothing => Ended::Nothing,

@@ -19,7 +19,7 @@ use Rattle.phantoms.specs.Phantoms.{Counts}
 use Rattle.reader.specs.Reading.{ReadAll}
 use Rattle.reader.proofs.Passes.{Few}
 use Rattle.kept_pass.specs.declared.KeptPass.{KeptPass}
-use Rattle.kept_pass.specs.KeptPass.{Kept, Ended, KeptAll}
+use Rattle.kept_pass.specs.KeptPass.{Kept, MeasureEnded, KeptAll}
 
 -- the pass counts rows and measures, which are few
 pub record Small (L : ℕ) (p : KeptPass) (len : ℕ) : Type 0 where
@@ -37,7 +37,7 @@ kept-few L p text densities len done cur f x =
 
 -- The last measure has ended too: all of the chart's.
 pub kept-all : (L : ℕ) (e : KeptPass) (data-text text densities₁ : List ℕ) (done : List (List Row)) (cur : List Row) → ReadAll L data-text done cur
-    → Few L (length data-text) (map reduce done) cur → Ended L e text densities₁ (map reduce done) (reduce cur) → e .out ≤ length text → e .out ≤ length data-text + 1
+    → Few L (length data-text) (map reduce done) cur → MeasureEnded L e text densities₁ (map reduce done) (reduce cur) → e .out ≤ length text → e .out ≤ length data-text + 1
     → KeptAll L data-text e text densities₁
 unfolding minimisedText densities minimised
 kept-all L e data-text text densities₁ done cur read few x fits short =

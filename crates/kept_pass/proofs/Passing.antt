@@ -12,13 +12,13 @@ use Rattle.definitions.specs.Reduction.{reduce}
 use Rattle.definitions.specs.Figures.{rowText, density}
 use Rattle.measure_tally.specs.declared.Counting.{Counting}
 use Rattle.measure_tally.specs.Counted.{Counted}
-use Rattle.reduction.specs.Rows.{rowsAt, placed, Holds, Reduced}
+use Rattle.reduction.specs.Rows.{rowsAt, placed, RowsStand, Reduced}
 use Rattle.reduction.proofs.Forms.{in-text, form-rows}
 use Rattle.output.specs.Wrote.{Wrote}
 use Rattle.output.proofs.Writing.{wrote-start, wrote-row, wrote-holds, wrote-reduced, wrote-sep}
 use Rattle.definitions.proofs.Shorter.{reduce-short}
 use Rattle.kept_pass.specs.declared.KeptPass.{KeptPass}
-use Rattle.kept_pass.specs.KeptPass.{Open, Closed, SomeOpen, Kept, Ended}
+use Rattle.kept_pass.specs.KeptPass.{Open, Closed, SomeOpen, Kept, MeasureEnded}
 
 abbrev sep : List ℕ
 sep = 44 ∷ 10 ∷ []
@@ -47,10 +47,10 @@ pub open-size : (L : ℕ) (p : KeptPass) (text : List ℕ) → SomeOpen L p text
 open-size L p text s = sym (s .open-is .wrote .size ∙ ap (λ n. p .start + n * (L + 1)) (sym (s .open-is .rows)))
 
 module _ (L : ℕ) (p : KeptPass) (text after : List ℕ) (kept : ℕ) (fits : p .out ≤ length text)
-    (red : (rs : List Row) → Holds rowText L (p .rows) (p .start) rs text → Reduced rowText (p .start) rs text kept after) where
+    (red : (rs : List Row) → RowsStand rowText L (p .rows) (p .start) rs text → Reduced rowText (p .start) rs text kept after) where
   module _ (done : List (List Row)) (cur : List Row) (x : Open L p text done cur) where
     reduced : Reduced rowText (p .start) cur text kept after
-    reduced = red cur (subst (λ n. Holds rowText L n (p .start) cur text) (sym (x .rows)) (wrote-holds (in-text L) sep text (p .start) (p .out) done cur (x .wrote)))
+    reduced = red cur (subst (λ n. RowsStand rowText L n (p .start) cur text) (sym (x .rows)) (wrote-holds (in-text L) sep text (p .start) (p .out) done cur (x .wrote)))
 
     wrote : Wrote rowText sep (L + 1) L after (p .start) (p .start + kept * (L + 1)) done (reduce cur)
     wrote = wrote-reduced (in-text L) sep text (p .start) (p .out) done cur (x .wrote) kept after (omega (arith, x .wrote .size)) reduced
@@ -59,7 +59,7 @@ module _ (L : ℕ) (p : KeptPass) (text after : List ℕ) (kept : ℕ) (fits : p
     rows-there : rowsAt (L + 1) L kept (drop (p .start) after) ≡ reduce cur
     rows-there =
         form-rows (in-text L)
-        (subst (λ n. Holds rowText L n (p .start) (reduce cur) after) (sym (reduced .count)) (wrote-holds (in-text L) sep after (p .start) (p .start + kept * (L + 1)) done (reduce cur) wrote))
+        (subst (λ n. RowsStand rowText L n (p .start) (reduce cur) after) (sym (reduced .count)) (wrote-holds (in-text L) sep after (p .start) (p .start + kept * (L + 1)) done (reduce cur) wrote))
 
     kept-few : kept ≤ p .rows
     kept-few = omega (arith, reduced .count, reduce-short cur, x .rows)
@@ -78,7 +78,7 @@ module _ (L : ℕ) (p : KeptPass) (text after : List ℕ) (kept : ℕ) (fits : p
 
 -- the measure's density is stored
 pub ended-rows : (L : ℕ) (e : KeptPass) (text densities : List ℕ) (done : List (List Row)) (cur : List Row) → Closed L e text done cur → take (e .midx) densities ≡ map density done
-    → e .midx < length densities → (d : ℕ) → d ≡ density cur → Ended L e text (set densities (e .midx) d) done cur
+    → e .midx < length densities → (d : ℕ) → d ≡ density cur → MeasureEnded L e text (set densities (e .midx) d) done cur
 ended-rows L e text densities done cur x stored room d same =
     record {
       closed = x;
@@ -86,7 +86,7 @@ ended-rows L e text densities done cur x stored room d same =
     }
 
 -- the `,` line is written
-pub next-measure : (L : ℕ) (e : KeptPass) (text densities : List ℕ) (done : List (List Row)) (cur : List Row) → Ended L e text densities done cur → e .out + 2 ≤ length text
+pub next-measure : (L : ℕ) (e : KeptPass) (text densities : List ℕ) (done : List (List Row)) (cur : List Row) → MeasureEnded L e text densities done cur → e .out + 2 ≤ length text
     → (c : Counting) (after : List ℕ) → ((L : ℕ) (done : List (List Row)) (cur : List Row) → Counted L (e .counting) done cur → Counted L c (done ++ (cur ∷ [])) [])
     → after ≡ placed (e .out) sep text
     → Kept L (record { counting = c; start = e .out + 2; out = e .out + 2; rows = 0; midx = e .midx + 1 }) after densities (done ++ (cur ∷ [])) []

@@ -40,7 +40,7 @@ pub record Kept (L : ℕ) (p : KeptPass) (text densities : List ℕ) (done : Lis
   pub stored : take (p .midx) densities ≡ map density done
 
 -- the open measure minimised and counted, and the densities with its own
-pub record Ended (L : ℕ) (p : KeptPass) (text densities : List ℕ) (done : List (List Row)) (cur : List Row) : Type 0 where
+pub record MeasureEnded (L : ℕ) (p : KeptPass) (text densities : List ℕ) (done : List (List Row)) (cur : List Row) : Type 0 where
   pub closed : Closed L p text done cur
   pub stored : take (p .midx + 1) densities ≡ map density (done ++ (cur ∷ []))
 

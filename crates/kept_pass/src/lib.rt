@@ -9,7 +9,7 @@ ghost use lib.ListN.{length};
 ghost use Rattle.definitions.specs.Sizes.{measuresBound, mostBytes, rowsBound};
 ghost use Rattle.definitions.specs.Lines.{Row};
 ghost use Rattle.definitions.specs.Reduction.{reduce};
-ghost use Rattle.kept_pass.specs.KeptPass.{Open, Closed, SomeOpen, Kept, Ended, KeptAll};
+ghost use Rattle.kept_pass.specs.KeptPass.{Open, Closed, SomeOpen, Kept, MeasureEnded, KeptAll};
 
 // What is counted so far, where the open measure begins, how many bytes are written, and the open measure's rows and number.
 pub struct KeptPass {
@@ -75,7 +75,7 @@ fn end_rows(p: KeptPass, text: &mut [u8], lanes: usize) -> KeptPass
 pub fn end_measure(p: KeptPass, text: &mut [u8], densities: &mut [u32], lanes: usize) -> KeptPass
     requires { ⌜ (0 < lanes) × (lanes ≤ 10) × (p .out ≤ length (now text)) × (p .counting .rows + p .rows < rowsBound) × SomeOpen lanes p (now text) ⌝ }
     requires { ⌜ p .midx < length (now densities) ⌝ }
-    ensures { λ r. ⌜ ((done : List (List Row)) (cur : List Row) → Kept lanes p (now (text .entry)) (now (densities .entry)) done cur → Ended lanes r (now (text .exit)) (now (densities .exit)) done (reduce cur)) ⌝ }
+    ensures { λ r. ⌜ ((done : List (List Row)) (cur : List Row) → Kept lanes p (now (text .entry)) (now (densities .entry)) done cur → MeasureEnded lanes r (now (text .exit)) (now (densities .exit)) done (reduce cur)) ⌝ }
     ensures { λ r. ⌜ (r .out ≤ p .out) × (r .midx ≡ p .midx) ⌝ }
 {
     let e = end_rows(p, text, lanes);
@@ -87,7 +87,7 @@ pub fn end_measure(p: KeptPass, text: &mut [u8], densities: &mut [u32], lanes: u
 // The `,` line after a measure that has ended is written, and the next measure begins.
 pub fn begin_measure(e: KeptPass, text: &mut [u8]) -> KeptPass
     requires { ⌜ (e .out + 2 ≤ length (now text)) × (e .midx ≤ measuresBound) ⌝ }
-    ensures { λ r. ⌜ ((L : ℕ) (densities : List ℕ) (done : List (List Row)) (cur : List Row) → Ended L e (now (text .entry)) densities done cur → Kept L r (now (text .exit)) densities (done ++ (cur ∷ [])) []) ⌝ }
+    ensures { λ r. ⌜ ((L : ℕ) (densities : List ℕ) (done : List (List Row)) (cur : List Row) → MeasureEnded L e (now (text .entry)) densities done cur → Kept L r (now (text .exit)) densities (done ++ (cur ∷ [])) []) ⌝ }
     ensures { λ r. ⌜ (r .out ≡ e .out + 2) × (r .midx ≡ e .midx + 1) ⌝ }
 {
     let counting = e.counting;

@@ -13,7 +13,7 @@ use Rattle.definitions.specs.Objects.{Place, objectsFrom, lastOf, place48, last
 use Rattle.beats.specs.declared.LastObject.{LastObject}
 use Rattle.beats.specs.declared.LastObject.the-variants as last
 use Rattle.beats.specs.Places.{placeOf, Placed}
-use Rattle.objects.specs.Rows.{Low}
+use Rattle.objects.specs.Rows.{DepthsLow}
 use Rattle.objects.proofs.Scan.{low-more}
 use Rattle.reader.proofs.Passes.{Over, Few}
 use Rattle.objects.specs.declared.LastScan.{LastScan}
@@ -24,7 +24,7 @@ use Rattle.last_beat.proofs.LastRaw.{last-raw}
 pub record Small (s : LastScan) (b : ℕ) : Type 0 where
   pub rows : 5 * s .rows ≤ b
   pub midx : 2 * s .midx ≤ b
-  pub low : Low b (s .depths)
+  pub low : DepthsLow b (s .depths)
 
 pub looking-few : (s : LastScan) (L len : ℕ) (done : List (List Row)) (cur : List Row) → Few L len done cur → LastKept s done cur → Small s (len + 1)
 looking-few s L len done cur f x =

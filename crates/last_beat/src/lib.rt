@@ -12,7 +12,7 @@ ghost use Rattle.definitions.specs.Lines.{Row};
 ghost use Rattle.definitions.specs.Measures.{chart};
 ghost use Rattle.definitions.specs.Objects.{objectsFrom, lastOf};
 ghost use Rattle.beats.specs.Places.{placeOf, Placed};
-ghost use Rattle.objects.specs.Rows.{Low};
+ghost use Rattle.objects.specs.Rows.{DepthsLow};
 ghost use Rattle.objects.specs.LastKept.{LastKept};
 ghost use Rattle.last_beat.specs.Answers.{lastAnswer};
 
@@ -24,7 +24,7 @@ pub enum LastBeat {
 
 // One row more, by its cells.
 fn last_cells(s: LastScan, cells: &[u8]) -> LastScan
-    requires { ⌜ (length (now cells) ≤ 10) × (s .rows < rowNumbersBound) × Low 4294967294 (s .depths) ⌝ }
+    requires { ⌜ (length (now cells) ≤ 10) × (s .rows < rowNumbersBound) × DepthsLow 4294967294 (s .depths) ⌝ }
     ensures { λ r. ⌜ ((done : List (List Row)) (cur : List Row) → LastKept s done cur → LastKept r done (cur ++ (now (cells .entry) ∷ []))) ⌝ }
 {
     if reduction::is_all_zero(cells) {
@@ -37,7 +37,7 @@ fn last_cells(s: LastScan, cells: &[u8]) -> LastScan
 
 // One row more.
 fn last_row(s: LastScan, cells: &[u8]) -> LastScan
-    requires { ⌜ (length (now cells) ≤ 10) × (s .rows < rowNumbersBound) × Low 4294967294 (s .depths) ⌝ }
+    requires { ⌜ (length (now cells) ≤ 10) × (s .rows < rowNumbersBound) × DepthsLow 4294967294 (s .depths) ⌝ }
     ensures { λ r. ⌜ ((done : List (List Row)) (cur : List Row) → LastKept s done cur → LastKept r done (cur ++ (now (cells .entry) ∷ []))) ⌝ }
 {
     match taps::free_taps(cells, s.busy) {

@@ -8,8 +8,8 @@ use Rattle.definitions.specs.Lines.{Row}
 use Rattle.definitions.proofs.Lists.{All}
 use Rattle.taps.specs.Taps.{FreeAre}
 use Rattle.row_notes.specs.Writer.{noHead}
-use Rattle.row_notes.specs.Written.{Written, Room}
-use Rattle.objects.specs.Rows.{Low}
+use Rattle.row_notes.specs.Written.{Written, RecordRoom}
+use Rattle.objects.specs.Rows.{DepthsLow}
 use Rattle.objects.specs.LastKept.{LastKept}
 use Rattle.measure_notes.specs.declared.Noting.{Noting}
 
@@ -25,7 +25,7 @@ Noted L n l done = NotedRows L n l done []
 
 -- what one row asks
 pub record RowReady (n : Noting) (row l : List ℕ) : Type 0 where
-  pub room : Room (n .scratch) row l
+  pub room : RecordRoom (n .scratch) row l
   pub rows : n .last .rows < rowNumbersBound
-  pub low : Low 4294967294 (n .last .depths)
+  pub low : DepthsLow 4294967294 (n .last .depths)
   pub free : FreeAre (n .busy) noHead (n .scratch .«hold_heads»)

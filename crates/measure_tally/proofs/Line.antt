@@ -11,7 +11,7 @@ use Rattle.definitions.specs.declared.Cell.the-variants.{Empty}
 use Rattle.definitions.specs.declared.RowSum.{RowSum}
 use Rattle.phantoms.specs.declared.Phantoms.{Phantoms}
 use Rattle.phantoms.specs.declared.PhantomCell.{PhantomCell}
-use Rattle.phantoms.specs.Phantoms.{depthAt, CellCounted}
+use Rattle.phantoms.specs.Phantoms.{phantomAt, CellCounted}
 use Rattle.phantoms.proofs.Loop.{Passed, passed-start, passed-next, passed-empty}
 use Rattle.row_tally.specs.Sums.{noSum, addCell}
 use Rattle.row_tally.proofs.Loops.{Summed, summed-start, summed-next, summed-empty, drop-next}
@@ -34,7 +34,7 @@ module _ (row : Row) (p₀ p : Phantoms) (sum : RowSum) (i : ℕ) (C : Lined row
   }
 
   -- one cell more
-  pub lined-next : (q : PhantomCell) → CellCounted (getD row i 0) (depthAt p i) q
+  pub lined-next : (q : PhantomCell) → CellCounted (getD row i 0) (phantomAt p i) q
       → (t : RowSum) → t ≡ addCell sum i (cellOf (getD row i 0)) (isArrow (cellOf (getD row i 0)))
       → Lined row p₀ (record { depths = set (p .depths) i (q .depth); heads = p .heads + q .heads; tails = p .tails + q .tails; met = p .met || q .met }) t (i + 1)
   lined-next q w t et = record {

@@ -15,7 +15,7 @@ use Rattle.taps.specs.declared.Taps.the-variants.{Mask}
 use Rattle.taps.proofs.Masks.{parts}
 use Rattle.taps.proofs.Masks.{line-taps}
 use Rattle.taps.proofs.Free.{Free, zero-cell, tap-there, free-cell}
-use Rattle.objects.specs.Rows.{Holds, RowDone}
+use Rattle.objects.specs.Rows.{DepthsHeld, RowDone}
 use Rattle.objects.specs.declared.Depths.{Depths}
 use Rattle.objects.proofs.Scan.{low-more}
 
@@ -46,6 +46,6 @@ free-done busy m row s x free =
       low = λ k low. low-more k (k + 1) s (omega arith) low;
     }
   where
-    after : (D : objects.Depths) → Holds D s → (c : ℕ) → c < 10 → (b : ℕ) → Free busy c b → deeper (objectAt b) (D c) ≡ D c
+    after : (D : objects.Depths) → DepthsHeld D s → (c : ℕ) → c < 10 → (b : ℕ) → Free busy c b → deeper (objectAt b) (D c) ≡ D c
     after D held c h b (zero-cell e) = rw e
     after D held c h b (tap-there e none) = rw e (sym (sym (held c h) ∙ free c h none))

@@ -18,7 +18,7 @@ use Rattle.beats.specs.declared.LastObject.the-variants as last
 use Rattle.beats.proofs.Placed.{placed-nothing, placed-at}
 use Rattle.objects.specs.declared.Depths.{Depths as Held}
 use Rattle.objects.specs.declared.Objects.{Objects}
-use Rattle.objects.specs.Rows.{Holds, Low, NoDepths, RowDone}
+use Rattle.objects.specs.Rows.{DepthsHeld, DepthsLow, NoDepths, RowDone}
 use Rattle.objects.proofs.Scan.{low-more}
 use Rattle.objects.specs.declared.LastRow.the-variants.{Nothing, At}
 use Rattle.objects.specs.declared.LastScan.{LastScan}
@@ -123,7 +123,7 @@ module _ (s : LastScan) (done : List (List Row)) (cur : List Row) (x : LastKept 
   pub kept-zero : (row : Row) → allZero row ≡ true → LastKept (record { depths = s .depths; busy = s .busy; found = s .found; row = s .row; rows = s .rows + 1; midx = s .midx }) done (cur ++ (row ∷ []))
   kept-zero row z =
       record {
-        depths = subst (λ E. Holds E (s .depths)) (sym (rows-snoc (depthsAfter done) cur row ∙ zero-after (afterRows (depthsAfter done) cur) row z)) (x .depths);
+        depths = subst (λ E. DepthsHeld E (s .depths)) (sym (rows-snoc (depthsAfter done) cur row ∙ zero-after (afterRows (depthsAfter done) cur) row z)) (x .depths);
         low = low-more _ _ (s .depths) (rw length-append (omega arith)) (x .low);
         found = x .found;
         placed = x .placed;
@@ -136,10 +136,10 @@ module _ (s : LastScan) (done : List (List Row)) (cur : List Row) (x : LastKept 
 
   -- any row, by what the object row's test says
   module _ (row : Row) (o : Objects) (w : RowDone row (s .depths) o) (busy : ℕ) (free : FreeAre busy 0 (o .depths .depths)) where
-    depths-after : Holds (afterRows (depthsAfter done) (cur ++ (row ∷ []))) (o .depths)
-    depths-after = subst (λ E. Holds E (o .depths)) (sym (rows-snoc (depthsAfter done) cur row)) (w .depths (afterRows (depthsAfter done) cur) (x .depths))
+    depths-after : DepthsHeld (afterRows (depthsAfter done) (cur ++ (row ∷ []))) (o .depths)
+    depths-after = subst (λ E. DepthsHeld E (o .depths)) (sym (rows-snoc (depthsAfter done) cur row)) (w .depths (afterRows (depthsAfter done) cur) (x .depths))
 
-    low-after : Low (length (joined done) + length (cur ++ (row ∷ []))) (o .depths)
+    low-after : DepthsLow (length (joined done) + length (cur ++ (row ∷ []))) (o .depths)
     low-after = low-more _ _ (o .depths) (rw length-append (omega arith)) (w .low _ (x .low))
 
     is-object : (t : Bool) → o .object ≡ t → objectRow (afterRows (depthsAfter done) cur) row ≡ t
@@ -174,11 +174,11 @@ module _ (s : LastScan) (done : List (List Row)) (cur : List Row) (x : LastKept 
         }
 
   -- the measure ends, with an object row or without one
-  depths-kept : Holds (afterRows (depthsAfter (done ++ (cur ∷ []))) []) (s .depths)
-  depths-kept = subst (λ E. Holds E (s .depths)) (sym (ap (afterRows (λ c. 0)) (joined-snoc done cur) ∙ rows-append (λ c. 0) (joined done) cur)) (x .depths)
+  depths-kept : DepthsHeld (afterRows (depthsAfter (done ++ (cur ∷ []))) []) (s .depths)
+  depths-kept = subst (λ E. DepthsHeld E (s .depths)) (sym (ap (afterRows (λ c. 0)) (joined-snoc done cur) ∙ rows-append (λ c. 0) (joined done) cur)) (x .depths)
 
-  low-kept : Low (length (joined (done ++ (cur ∷ []))) + 0) (s .depths)
-  low-kept = subst (λ n. Low n (s .depths)) (sym (add-zero (length (joined (done ++ (cur ∷ [])))) ∙ ap length (joined-snoc done cur) ∙ length-append (joined done) cur)) (x .low)
+  low-kept : DepthsLow (length (joined (done ++ (cur ∷ []))) + 0) (s .depths)
+  low-kept = subst (λ n. DepthsLow n (s .depths)) (sym (add-zero (length (joined (done ++ (cur ∷ [])))) ∙ ap length (joined-snoc done cur) ∙ length-append (joined done) cur)) (x .low)
 
   one-more : s .midx + 1 ≡ length (done ++ (cur ∷ []))
   one-more = rw length-append (omega (arith, x .midx))

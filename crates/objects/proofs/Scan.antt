@@ -14,7 +14,7 @@ use Rattle.definitions.specs.Cells.{cellOf, byteAt}
 use Rattle.definitions.specs.Objects.{objectAt, isObject, deeper, objectRow, objectFrom}
 use Rattle.definitions.specs.Objects as objects
 use Rattle.definitions.proofs.Lists.{any-default}
-use Rattle.objects.specs.Rows.{depthAt, Holds, Low, RowDone}
+use Rattle.objects.specs.Rows.{depthAt, DepthsHeld, DepthsLow, RowDone}
 use Rattle.objects.specs.declared.Depths.{Depths}
 use Rattle.definitions.specs.declared.DepthEffect.{DepthEffect}
 use Rattle.definitions.specs.declared.DepthEffect.the-variants.{Nothing, Blocks, Opens, Closes}
@@ -27,7 +27,7 @@ after row l c = deeper (objectAt (byteAt c row)) (getD l c 0)
 pub record Scanned (row : Row) (l₀ l : List ℕ) (object : Bool) (i : ℕ) : Type 0 where
   pub within : i ≤ length row
   pub size : length l ≡ 10
-  pub found : (D : objects.Depths) → Holds D (record { depths = l₀ }) → objectRow D row ≡ (object || objectFrom D i (drop i row))
+  pub found : (D : objects.Depths) → DepthsHeld D (record { depths = l₀ }) → objectRow D row ≡ (object || objectFrom D i (drop i row))
   pub done : (c : ℕ) → c < i → getD l c 0 ≡ after row l₀ c
   pub left : (c : ℕ) → i ≤ c → getD l c 0 ≡ getD l₀ c 0
 
@@ -47,7 +47,7 @@ module _ (row : Row) (l₀ l : List ℕ) (object : Bool) (i : ℕ) (s : Scanned 
   scan-depth = s .left i (omega arith)
 
   next-object : (o : Bool) → i < length row → i < 10 → o ≡ isObject (objectAt (getD row i 0)) (getD l i 0)
-      → (D : objects.Depths) → Holds D (record { depths = l₀ }) → objectRow D row ≡ ((object || o) || objectFrom D (i + 1) (drop (i + 1) row))
+      → (D : objects.Depths) → DepthsHeld D (record { depths = l₀ }) → objectRow D row ≡ ((object || o) || objectFrom D (i + 1) (drop (i + 1) row))
   next-object o h k e D held =
       let d : getD l i 0 ≡ D i = scan-depth ∙ held i k in
       s .found D held
@@ -105,5 +105,5 @@ scan-end row old l object i s h =
     }
 
 -- ---- For callers
-pub low-more : (j k : ℕ) (s : Depths) → j ≤ k → Low j s → Low k s
+pub low-more : (j k : ℕ) (s : Depths) → j ≤ k → DepthsLow j s → DepthsLow k s
 low-more j k s h low c m = omega (arith, low c m)

@@ -10,7 +10,7 @@ use Rattle.definitions.specs.Lines.{Row}
 use Rattle.definitions.specs.Objects.{Depths, afterRow, afterRows, objectRow, objectsFrom, lastOf}
 use Rattle.taps.specs.Taps.{FreeAre}
 use Rattle.beats.specs.Places.{placeOf, Placed}
-use Rattle.objects.specs.Rows.{Holds, Low}
+use Rattle.objects.specs.Rows.{DepthsHeld, DepthsLow}
 use Rattle.objects.specs.declared.LastRow.{LastRow}
 use Rattle.objects.specs.declared.LastRow.the-variants.{Nothing, At}
 use Rattle.objects.specs.declared.LastScan.{LastScan}
@@ -29,8 +29,8 @@ abbrev pub depthsAfter : List (List Row) → Depths
 depthsAfter done = afterRows (λ c. 0) (joined done)
 
 pub record LastKept (s : LastScan) (done : List (List Row)) (cur : List Row) : Type 0 where
-  pub depths : Holds (afterRows (depthsAfter done) cur) (s .depths)
-  pub low : Low (length (joined done) + length cur) (s .depths)
+  pub depths : DepthsHeld (afterRows (depthsAfter done) cur) (s .depths)
+  pub low : DepthsLow (length (joined done) + length cur) (s .depths)
   pub found : placeOf (s .found) ≡ lastOf (objectsFrom (λ c. 0) 0 done)
   pub placed : Placed (s .found)
   pub row : rowOf (s .row) ≡ rowLast (depthsAfter done) 0 none cur

@@ -14,17 +14,17 @@ abbrev pub depthAt : Depths → ℕ → ℕ
 depthAt s c = getD (s .depths) c 0
 
 -- the struct holds these depths
-abbrev pub Holds : objects.Depths → Depths → Type 0
-Holds D s = (c : ℕ) → c < 10 → depthAt s c ≡ D c
+abbrev pub DepthsHeld : objects.Depths → Depths → Type 0
+DepthsHeld D s = (c : ℕ) → c < 10 → depthAt s c ≡ D c
 
 -- no depth is over k
-abbrev pub Low : ℕ → Depths → Type 0
-Low k s = (c : ℕ) → c < 10 → depthAt s c ≤ k
+abbrev pub DepthsLow : ℕ → Depths → Type 0
+DepthsLow k s = (c : ℕ) → c < 10 → depthAt s c ≤ k
 
 -- Before the first row every depth is 0.
 pub record NoDepths (r : Depths) : Type 0 where
-  pub none : Holds (λ c. 0) r
-  pub low : Low 0 r
+  pub none : DepthsHeld (λ c. 0) r
+  pub low : DepthsLow 0 r
 
 -- One cell: whether it makes its row an object row, and the depth after it.
 pub record CellDone (b d : ℕ) (r : ObjectCell) : Type 0 where
@@ -34,6 +34,6 @@ pub record CellDone (b d : ℕ) (r : ObjectCell) : Type 0 where
 -- A row: whatever depths the struct held, the answer is of those, and the struct then holds the depths after the row. Each depth grows by
 -- at most 1.
 pub record RowDone (row : Row) (s : Depths) (r : Objects) : Type 0 where
-  pub object : (D : objects.Depths) → Holds D s → r .object ≡ objectRow D row
-  pub depths : (D : objects.Depths) → Holds D s → Holds (afterRow D row) (r .depths)
-  pub low : (k : ℕ) → Low k s → Low (k + 1) (r .depths)
+  pub object : (D : objects.Depths) → DepthsHeld D s → r .object ≡ objectRow D row
+  pub depths : (D : objects.Depths) → DepthsHeld D s → DepthsHeld (afterRow D row) (r .depths)
+  pub low : (k : ℕ) → DepthsLow k s → DepthsLow (k + 1) (r .depths)

@@ -10,7 +10,7 @@ ghost use Rattle.definitions.specs.Sizes.{measuresBound, rowNumbersBound, rowsB
 ghost use Rattle.definitions.specs.Lines.{Row};
 ghost use Rattle.definitions.specs.Reduction.{allZero};
 ghost use Rattle.taps.specs.Taps.{FreeTaps, FreeAre};
-ghost use Rattle.objects.specs.Rows.{Low, NoDepths, CellDone, RowDone};
+ghost use Rattle.objects.specs.Rows.{DepthsLow, NoDepths, CellDone, RowDone};
 ghost use Rattle.objects.specs.LastKept.{LastKept};
 
 // The depth of each column, of up to ten.
@@ -73,7 +73,7 @@ pub fn object_cell(b: u8, depth: u32) -> ObjectCell
 
 // Whether the row is an object row where its columns have these depths, and the depths after it. Each grows by at most 1.
 pub fn row_has_object(row: &[u8], old: Depths) -> Objects
-    requires { ⌜ (length (now row) ≤ 10) × Low 4294967294 old ⌝ }
+    requires { ⌜ (length (now row) ≤ 10) × DepthsLow 4294967294 old ⌝ }
     ensures { λ r. ⌜ RowDone (now (row .entry)) old r ⌝ }
 {
     let mut depths = old.depths;

@@ -12,7 +12,7 @@ use Rattle.definitions.specs.Lines.{Row}
 use Rattle.definitions.specs.Figures.{rowText, textOf}
 use Rattle.definitions.specs.Reduction.{reduce}
 use Rattle.definitions.proofs.Lists.{none, one, all-append}
-use Rattle.reduction.specs.Rows.{placed, Holds, Reduced}
+use Rattle.reduction.specs.Rows.{placed, RowsStand, Reduced}
 use Rattle.reduction.proofs.Placed.{placed-front, placed-past}
 use Rattle.reduction.proofs.Blocks.{joined-append}
 use Rattle.reduction.proofs.Multiples.{reduce-all}
@@ -91,7 +91,7 @@ module _ {form : List Row → List ℕ} {w L : ℕ} (fm : Form form w L) (sep : 
         }
 
     -- the rows stand there to be minimised, and then are
-    pub wrote-holds : Holds form L (length cur) start cur text
+    pub wrote-holds : RowsStand form L (length cur) start cur text
     wrote-holds = form-holds fm (doneText form sep done) cur text (x .front) refl (x .wide) (ap (λ n. take n text) (sym (x .size)) ∙ x .bytes)
 
     pub wrote-reduced : (r : ℕ) (after : List ℕ) → start ≤ length text → Reduced form start cur text r after → Wrote form sep w L after start (start + r * w) done (reduce cur)

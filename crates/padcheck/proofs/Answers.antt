@@ -9,13 +9,13 @@ use lib.Ieee.{Float}
 use Rattle.definitions.specs.Lists.{oneIf}
 use Rattle.definitions.specs.Refusals.{replaces}
 use Rattle.definitions.specs.Entries.{figures, noTally, tallyFigures}
-use Rattle.scans.specs.Answers.{refusedOr}
+use Rattle.scans.specs.Answers.{refusedOrMeasures}
 use Rattle.scans.specs.declared.MeasuresAnswer.the-variants.{Refused, Measures}
 use Rattle.last_beat.specs.Answers.{refusedOrBeat}
 use Rattle.last_beat.specs.declared.LastBeat.the-variants as last
 use Rattle.judged.specs.Answers.{refusedOrTally}
 use Rattle.judged.specs.declared.JudgedAnswer.the-variants as judged
-use Rattle.timing.specs.Answers as timing-answers
+use Rattle.timing.specs.Answers.{refusedOrRows}
 use Rattle.timing.specs.declared.TimingAnswer.the-variants as timing
 use Rattle.kept.specs.Answers.{refusedOrKept}
 use Rattle.kept.specs.declared.KeptAnswer.the-variants as kept
@@ -42,7 +42,7 @@ module _ {A B : Type 0} {answer : ℕ → B → A} {refused : ℕ → A} {accept
   accepted-told zero b c e f = (refl, λ old fs g. g ∙ t .same-left b c (sym e ∙ f))
   accepted-told (suc k) b c e f = let z = t .not-accepted k b c (sym e ∙ f) in absurd (omega arith)
 
-pub measures-told : Told refusedOr Refused Measures (λ n. figures 0 n 0 0 0 0 0 noTally)
+pub measures-told : Told refusedOrMeasures Refused Measures (λ n. figures 0 n 0 0 0 0 0 noTally)
 measures-told = record { number = λ k b m e. cc; not-refused = λ b m e. cc; not-accepted = λ k b c e. cc; same-left = λ b c e. cc }
 
 pub last-told : Told {B = Float × ℕ × ℕ} (λ k b. refusedOrBeat k (b .0) (b .1) (b .2)) last.Refused (λ b. last.Beat (b .0) (b .1) (b .2)) (λ b. figures 0 0 0 0 (b .1) 0 (b .2) noTally)
@@ -51,7 +51,7 @@ last-told = record { number = λ k b m e. cc; not-refused = λ b m e. cc; not-ac
 pub tally-told : Told refusedOrTally judged.Refused judged.Tally (λ t. figures 0 0 0 0 0 0 0 (tallyFigures t))
 tally-told = record { number = λ k b m e. cc; not-refused = λ b m e. cc; not-accepted = λ k b c e. cc; same-left = λ b c e. cc }
 
-pub timing-told : Told {B = ℕ × ℕ × Bool} (λ k b. timing-answers.refusedOr k (b .0) (b .1) (b .2)) timing.Refused (λ b. timing.Rows (b .0) (b .1) (b .2)) (λ b. figures (b .0) 0 (b .1) 0 0 (oneIf (b .2)) 0 noTally)
+pub timing-told : Told {B = ℕ × ℕ × Bool} (λ k b. refusedOrRows k (b .0) (b .1) (b .2)) timing.Refused (λ b. timing.Rows (b .0) (b .1) (b .2)) (λ b. figures (b .0) 0 (b .1) 0 0 (oneIf (b .2)) 0 noTally)
 timing-told = record { number = λ k b m e. cc; not-refused = λ b m e. cc; not-accepted = λ k b c e. cc; same-left = λ b c e. cc }
 
 pub kept-told : Told refusedOrKept kept.Refused kept.Kept (λ f. figures (f .bytes) (f .measures) (f .rows) 0 0 0 0 (tallyFigures (f .stats)))

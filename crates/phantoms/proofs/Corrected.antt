@@ -9,13 +9,13 @@ use lib.Dec.{eqb, ltb}
 use Rattle.definitions.specs.Lists.{someColumn}
 use Rattle.definitions.specs.Lines.{Row}
 use Rattle.definitions.specs.Correction.{phantomAfter, phantomMet, corrects}
-use Rattle.phantoms.specs.Phantoms.{depthAt, Counts}
+use Rattle.phantoms.specs.Phantoms.{phantomAt, Counts}
 use Rattle.phantoms.specs.declared.Phantoms.{Phantoms}
 use Rattle.phantoms.proofs.Columns.{column-same, column-or}
 
 -- a phantom depth of the first L columns is left over
 abbrev leftOver : ℕ → Phantoms → Bool
-leftOver L p = someColumn L (λ c. ltb 0 (depthAt p c))
+leftOver L p = someColumn L (λ c. ltb 0 (phantomAt p c))
 
 module _ (p : Phantoms) (L : ℕ) (rows : List Row) (k : Counts L rows p) where
   columns : someColumn L (λ c. phantomMet c 0 rows || ltb 0 (phantomAfter c 0 rows)) ≡ (p .met || leftOver L p)

@@ -18,7 +18,7 @@ use Rattle.definitions.specs.declared.Cell.the-variants.{Empty}
 use Rattle.definitions.specs.declared.DepthEffect.the-variants.{Nothing}
 use Rattle.definitions.specs.Tracker.{holdAt}
 use Rattle.definitions.specs.Correction.{phantomStep, meetsPhantom, phantomMet, isOpening, isClosing}
-use Rattle.phantoms.specs.Phantoms.{depthAt, Low, Counts, CellCounted}
+use Rattle.phantoms.specs.Phantoms.{phantomAt, Low, Counts, CellCounted}
 use Rattle.phantoms.specs.declared.Phantoms.{Phantoms}
 use Rattle.phantoms.specs.declared.PhantomCell.{PhantomCell}
 use Rattle.phantoms.proofs.Columns.{column-same, column-or, column-past}
@@ -40,17 +40,17 @@ isTail b = isClosing (holdAt b)
 
 -- the depth after a row's cell in a column, and whether the cell meets a phantom depth there
 abbrev after : Row → Phantoms → ℕ → ℕ
-after row p c = phantomStep (holdAt (byteAt c row)) (depthAt p c)
+after row p c = phantomStep (holdAt (byteAt c row)) (phantomAt p c)
 
 abbrev meets : Row → Phantoms → ℕ → Bool
-meets row p c = meetsPhantom (holdAt (byteAt c row)) (depthAt p c)
+meets row p c = meetsPhantom (holdAt (byteAt c row)) (phantomAt p c)
 
 -- With p before the row: what r holds when the loop is at column i.
 pub record Passed (row : Row) (p r : Phantoms) (i : ℕ) : Type 0 where
   pub within : i ≤ length row
   pub size : length (r .depths) ≡ 10
-  pub done : (c : ℕ) → c < i → depthAt r c ≡ after row p c
-  pub left : (c : ℕ) → i ≤ c → depthAt r c ≡ depthAt p c
+  pub done : (c : ℕ) → c < i → phantomAt r c ≡ after row p c
+  pub left : (c : ℕ) → i ≤ c → phantomAt r c ≡ phantomAt p c
   pub heads : r .heads + count isHead (drop i row) ≡ p .heads + count isHead row
   pub tails : r .tails + count isTail (drop i row) ≡ p .tails + count isTail row
   pub met : r .met ≡ (p .met || someColumn i (meets row p))
@@ -99,18 +99,18 @@ next r i q =
     }
 
 module _ (row : Row) (p r : Phantoms) (q : PhantomCell) (i : ℕ) (s : Passed row p r i) (h : i < length row) (m : i < 10)
-    (cell : CellCounted (getD row i 0) (depthAt r i) q) where
+    (cell : CellCounted (getD row i 0) (phantomAt r i) q) where
   -- the cell, as the row has it
   byte : getD row i 0 ≡ byteAt i row
   byte = any-default row i 0 48 h
 
-  here : depthAt (next r i q) i ≡ phantomStep (holdAt (getD row i 0)) (depthAt r i)
+  here : phantomAt (next r i q) i ≡ phantomStep (holdAt (getD row i 0)) (phantomAt r i)
   here = getD-set-same (r .depths) i (q .depth) 0 (omega (arith, s .size)) ∙ cell .depth
 
-  others : (c : ℕ) → (c ≡ i → ⊥) → depthAt (next r i q) c ≡ depthAt r c
+  others : (c : ℕ) → (c ≡ i → ⊥) → phantomAt (next r i q) c ≡ phantomAt r c
   others c n = getD-set-other (r .depths) i c (q .depth) 0 n
 
-  next-here : depthAt (next r i q) i ≡ after row p i
+  next-here : phantomAt (next r i q) i ≡ after row p i
   next-here = here ∙ rw (byte, s .left i (omega arith))
 
   next-met : (r .met || q .met) ≡ (p .met || someColumn (i + 1) (meets row p))
@@ -124,11 +124,11 @@ module _ (row : Row) (p r : Phantoms) (q : PhantomCell) (i : ℕ) (s : Passed ro
             λ c b.
             elim (ℕ-discrete c i) [
               | yes e ↦
-                  rw e (omega (arith, here, step-most (holdAt (getD row i 0)) (depthAt r i), low .depths i m))
+                  rw e (omega (arith, here, step-most (holdAt (getD row i 0)) (phantomAt r i), low .depths i m))
               | no n ↦ omega (arith, others c n, low .depths c b)
             ];
-        heads = omega (arith, one-head (getD row i 0) (depthAt r i) q cell, low .heads);
-        tails = omega (arith, one-tail (getD row i 0) (depthAt r i) q cell, low .tails);
+        heads = omega (arith, one-head (getD row i 0) (phantomAt r i) q cell, low .heads);
+        tails = omega (arith, one-tail (getD row i 0) (phantomAt r i) q cell, low .tails);
       }
 
   pub passed-next : Passed row p (next r i q) (i + 1)
@@ -158,11 +158,11 @@ pub passed-empty : (row : Row) (p r : Phantoms) (i : ℕ) → Passed row p r i �
 passed-empty row p r i s h m e =
     let n = empty-hold (getD row i 0) e in
     rw (set-getD (r .depths) i 0, add-zero (r .heads), add-zero (r .tails), or-false) at
-    (passed-next row p r (record { depth = depthAt r i; heads = 0; tails = 0; met = false }) i s h m
+    (passed-next row p r (record { depth = phantomAt r i; heads = 0; tails = 0; met = false }) i s h m
     (record { depth = rw n refl; heads = rw n refl; tails = rw n refl; met = rw n refl }))
 
 module _ (row : Row) (p r : Phantoms) (i : ℕ) (s : Passed row p r i) (h : length row ≤ i) where
-  all-done : (c : ℕ) → depthAt r c ≡ after row p c
+  all-done : (c : ℕ) → phantomAt r c ≡ after row p c
   all-done c =
       elim (decLt c i) [
         | yes b ↦ s .done c b

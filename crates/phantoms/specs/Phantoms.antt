@@ -11,18 +11,18 @@ use Rattle.phantoms.specs.declared.Phantoms.{Phantoms}
 use Rattle.phantoms.specs.declared.PhantomCell.{PhantomCell}
 
 -- the phantom depth of a column
-abbrev pub depthAt : Phantoms → ℕ → ℕ
-depthAt p c = getD (p .depths) c 0
+abbrev pub phantomAt : Phantoms → ℕ → ℕ
+phantomAt p c = getD (p .depths) c 0
 
 -- No count of the struct is over k.
 pub record Low (k : ℕ) (p : Phantoms) : Type 0 where
-  pub depths : (c : ℕ) → c < 10 → depthAt p c ≤ k
+  pub depths : (c : ℕ) → c < 10 → phantomAt p c ≤ k
   pub heads : p .heads ≤ k
   pub tails : p .tails ≤ k
 
 -- The struct has counted these rows, of L columns.
 pub record Counts (L : ℕ) (rows : List Row) (p : Phantoms) : Type 0 where
-  pub depths : (c : ℕ) → c < L → depthAt p c ≡ phantomAfter c 0 rows
+  pub depths : (c : ℕ) → c < L → phantomAt p c ≡ phantomAfter c 0 rows
   pub heads : p .heads ≡ headCount rows
   pub tails : p .tails ≡ tailCount rows
   pub met : p .met ≡ someColumn L (λ c. phantomMet c 0 rows)

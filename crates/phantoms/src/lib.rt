@@ -9,7 +9,7 @@ ghost use Rattle.definitions.specs.Lists.{someColumn};
 ghost use Rattle.definitions.specs.Lines.{Row};
 ghost use Rattle.definitions.specs.Correction.{corrects};
 ghost use lib.Dec.{ltb};
-ghost use Rattle.phantoms.specs.Phantoms.{depthAt, Counts, CellCounted};
+ghost use Rattle.phantoms.specs.Phantoms.{phantomAt, Counts, CellCounted};
 
 // The phantom depth of each column, of up to ten; the heads and tails so far; and whether a 1, M, L or F met a phantom depth.
 pub struct Phantoms {
@@ -89,7 +89,7 @@ pub fn phantom_depths(p: Phantoms) -> [u32; 10]
 // Whether a phantom depth of the first columns is left over.
 fn is_left_over(p: Phantoms, lanes: usize) -> bool
     requires { ⌜ lanes ≤ 10 ⌝ }
-    ensures { λ r. ⌜ r ≡ someColumn lanes (λ c. ltb 0 (depthAt p c)) ⌝ }
+    ensures { λ r. ⌜ r ≡ someColumn lanes (λ c. ltb 0 (phantomAt p c)) ⌝ }
 {
     let mut left = false;
     let mut i = 0;

@@ -11,7 +11,7 @@ use Rattle.definitions.specs.Lines.{Row}
 use Rattle.definitions.specs.Reduction.{atMultiples, stride, reduce}
 use Rattle.definitions.specs.Figures.{rowText}
 use Rattle.definitions.proofs.Lists.{All, none, one, all-map}
-use Rattle.reduction.specs.Rows.{rowsAt, placed, compacted, Holds, Reduced}
+use Rattle.reduction.specs.Rows.{rowsAt, placed, compacted, RowsStand, Reduced}
 use Rattle.reduction.proofs.Powers.{power-pos}
 use Rattle.reduction.proofs.Placed.{placed-front}
 use Rattle.reduction.proofs.Multiples.{multiples-map, reduce-all}
@@ -116,19 +116,19 @@ module _ {form : List Row → List ℕ} {w L : ℕ} (fm : Form form w L) where
   pub form-length : {rs : List Row} → All (λ r. length r ≡ L) rs → length (form rs) ≡ length rs * w
   form-length {rs} h = ap length (fm .is rs) ∙ written-length (fm .block) w L (all-map (fm .size) h)
 
-  form-blocks : {n start : ℕ} {rs : List Row} {text : List ℕ} → Holds form L n start rs text → rowsAt w w n (drop start text) ≡ map (fm .block) rs
+  form-blocks : {n start : ℕ} {rs : List Row} {text : List ℕ} → RowsStand form L n start rs text → rowsAt w w n (drop start text) ≡ map (fm .block) rs
   form-blocks {n} {start} {rs} {text} h =
       ap (λ (k : ℕ). rowsAt w w k (drop start text)) (sym (h .count))
       ∙ blocks-are (fm .block) w L (drop start text) (all-map (fm .size) (h .wide))
       (ap (λ (b : List ℕ). take (length b) (drop start text)) (sym (fm .is rs)) ∙ h .bytes ∙ fm .is rs)
 
   -- the rows that are read where rows were written
-  pub form-rows : {n start : ℕ} {rs : List Row} {text : List ℕ} → Holds form L n start rs text → rowsAt w L n (drop start text) ≡ rs
+  pub form-rows : {n start : ℕ} {rs : List Row} {text : List ℕ} → RowsStand form L n start rs text → rowsAt w L n (drop start text) ≡ rs
   form-rows {n} {start} {rs} {text} h =
       rows-of-blocks w L n (drop start text) (fm .low) ∙ ap (map (take L)) (form-blocks h) ∙ rows-are (fm .block) w L (all-map (fm .row) (h .wide))
 
   -- what search and compaction make of them
-  pub form-reduced : {n start r : ℕ} {rs : List Row} {text after : List ℕ} → Holds form L n start rs text
+  pub form-reduced : {n start r : ℕ} {rs : List Row} {text after : List ℕ} → RowsStand form L n start rs text
       → (r ≡ length (reduce (rowsAt w L n (drop start text)))) × (after ≡ compacted w n (stride (rowsAt w L n (drop start text))) start text)
       → Reduced form start rs text r after
   unfolding compacted reduce
@@ -152,7 +152,7 @@ module _ {form : List Row → List ℕ} {w L : ℕ} (fm : Form form w L) where
         size : length before + length (form rs) ≡ start + n * w
         size = rw (front, form-length wide, count)
 
-    pub form-holds : Holds form L n start rs text
+    pub form-holds : RowsStand form L n start rs text
     form-holds = record { count = count; wide = wide; bytes = ap (λ (k : ℕ). take (length (form rs)) (drop k text)) (sym front) ∙ parts .1 }
 
     -- and afterwards the minimised rows follow `before`.

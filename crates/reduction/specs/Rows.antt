@@ -23,7 +23,7 @@ unfoldable pub compacted : ℕ → ℕ → ℕ → ℕ → List ℕ → List ℕ
 compacted w n s start text = placed start (joined (atMultiples s 0 (rowsAt w w n (drop start text)))) text
 
 -- n rows of L bytes, written out by `form`, stand in the text from start on
-pub record Holds (form : List Row → List ℕ) (L n start : ℕ) (rs : List Row) (text : List ℕ) : Type 0 where
+pub record RowsStand (form : List Row → List ℕ) (L n start : ℕ) (rs : List Row) (text : List ℕ) : Type 0 where
   pub count : length rs ≡ n
   pub wide : All (λ r. length r ≡ L) rs
   pub bytes : take (length (form rs)) (drop start text) ≡ form rs

@@ -8,7 +8,7 @@ ghost use Rattle.definitions.specs.Lines.{Row};
 ghost use Rattle.definitions.specs.Lists.{joined};
 ghost use Rattle.definitions.specs.Figures.{rowText};
 ghost use Rattle.definitions.specs.Reduction.{allZero, stride, reduce};
-ghost use Rattle.reduction.specs.Rows.{rowsAt, compacted, Holds, Reduced};
+ghost use Rattle.reduction.specs.Rows.{rowsAt, compacted, RowsStand, Reduced};
 use lines::words;
 
 // Whether every byte of a row is `0`, byte by byte.
@@ -177,7 +177,7 @@ fn reduce_measure(text: &mut [u8], start: usize, rows: usize, width: usize, lane
 pub fn reduce_output_measure(text: &mut [u8], start: usize, rows: usize, lanes: usize) -> usize
     requires { ⌜ (0 < lanes) × (lanes ≤ 10) ⌝ }
     requires { ⌜ start + rows * (lanes + 1) ≤ length (now text) ⌝ }
-    ensures { λ r. ⌜ ((rs : List Row) → Holds rowText lanes rows start rs (now (text .entry)) → Reduced rowText start rs (now (text .entry)) r (now (text .exit))) ⌝ }
+    ensures { λ r. ⌜ ((rs : List Row) → RowsStand rowText lanes rows start rs (now (text .entry)) → Reduced rowText start rs (now (text .entry)) r (now (text .exit))) ⌝ }
 {
     reduce_measure(text, start, rows, lanes + 1, lanes)
 }
@@ -186,7 +186,7 @@ pub fn reduce_output_measure(text: &mut [u8], start: usize, rows: usize, lanes: 
 pub fn reduce_rows(text: &mut [u8], start: usize, rows: usize, lanes: usize) -> usize
     requires { ⌜ 0 < lanes ⌝ }
     requires { ⌜ start + rows * lanes ≤ length (now text) ⌝ }
-    ensures { λ r. ⌜ ((rs : List Row) → Holds joined lanes rows start rs (now (text .entry)) → Reduced joined start rs (now (text .entry)) r (now (text .exit))) ⌝ }
+    ensures { λ r. ⌜ ((rs : List Row) → RowsStand joined lanes rows start rs (now (text .entry)) → Reduced joined start rs (now (text .entry)) r (now (text .exit))) ⌝ }
 {
     reduce_measure(text, start, rows, lanes, lanes)
 }

@@ -11,7 +11,7 @@ use lib.ListN.{length, getD, set, length-append}
 use lib.Seq.{getD-set-same, getD-set-other}
 use Rattle.definitions.specs.Lists.{joined}
 use Rattle.row_notes.specs.Drafts.{State, plain, waiting, ended, Draft, settleState, settled, settle, noteBy, keep, kept}
-use Rattle.row_notes.specs.Writer.{noHead, dropped, draftBytes, blank, Stored, Holds, HeadThere, HoldEnded, invalidAfter, SomeDrafts, Closed}
+use Rattle.row_notes.specs.Writer.{noHead, dropped, draftBytes, blank, Stored, DraftsHeld, HeadThere, HoldEnded, invalidAfter, SomeDrafts, HeadsEnded}
 use Rattle.row_notes.specs.declared.ChartNotesScratch.{ChartNotesScratch}
 use Rattle.row_notes.proofs.Model.{gather-map}
 use Rattle.definitions.proofs.Blocks.{blocks-length}
@@ -48,7 +48,7 @@ pub record Closing (l : List ℕ) (s : ChartNotesScratch) (l′ : List ℕ) (r :
   pub same : length l′ ≡ length l
   pub count : r .count ≡ s .count
   pub free : (i : ℕ) → i < c → getD (r .«hold_heads») i 0 ≡ noHead
-  pub part : (ds : List Draft) → Holds l s ds → (es : List Draft) × Holds l′ r es × (kept es ≡ kept ds)
+  pub part : (ds : List Draft) → DraftsHeld l s ds → (es : List Draft) × DraftsHeld l′ r es × (kept es ≡ kept ds)
 
 pub closing-start : (l : List ℕ) (s : ChartNotesScratch) → Closing l s l s 0
 closing-start l s = record { inside = omega arith; same = refl; count = refl; free = λ i h. absurd (omega arith); part = λ ds S. (ds, S, refl) }
@@ -56,7 +56,7 @@ closing-start l s = record { inside = omega arith; same = refl; count = refl; fr
 module _ (l : List ℕ) (s : ChartNotesScratch) (l′ : List ℕ) (r : ChartNotesScratch) (c : ℕ) (K : Closing l s l′ r c) (D : SomeDrafts l s) where
   pub closing-ready : c < 10 → HeadThere l′ r c
   closing-ready h =
-      let S : Holds l′ r (K .part (D .drafts) (D .stored) .0) = K .part (D .drafts) (D .stored) .1 in
+      let S : DraftsHeld l′ r (K .part (D .drafts) (D .stored) .0) = K .part (D .drafts) (D .stored) .1 in
       record { inside = h; head = λ ne. omega (arith, S .heads c h ne .0, stored-length S) }
 
   pub closing-step : (l″ : List ℕ) (t : ChartNotesScratch) → c < 10 → length l″ ≡ length l′ → HoldEnded l′ r c dropped (invalidAfter r c) l″ t
@@ -75,12 +75,12 @@ module _ (l : List ℕ) (s : ChartNotesScratch) (l′ : List ℕ) (r : ChartNote
       at-i i g (yes q) = rw q (getD-set-same (r .«hold_heads») c noHead 0 (omega (arith, K .part (D .drafts) (D .stored) .1 .ten)))
       at-i i g (no q) = getD-set-other (r .«hold_heads») c i noHead 0 q ∙ K .free i (omega arith)
 
-  pub closing-end : 10 ≤ c → Closed l s l′ r
+  pub closing-end : 10 ≤ c → HeadsEnded l s l′ r
   closing-end h = record {
     count = K .count;
     ended = λ ds S.
         let Q = K .part ds S in
-        let T : Holds l′ r (Q .0) = Q .1 in
+        let T : DraftsHeld l′ r (Q .0) = Q .1 in
         let f : r .count < noHead = T .few in (
           Q .0,
           record {

@@ -10,7 +10,7 @@ use Rattle.definitions.specs.Records.{records}
 use Rattle.definitions.specs.declared.Note.{Note}
 use Rattle.slices.specs.Zeroed.{zeroed}
 use Rattle.row_notes.specs.Drafts.{drafts, kept}
-use Rattle.row_notes.specs.Writer.{Closed, Compacted}
+use Rattle.row_notes.specs.Writer.{HeadsEnded, Compacted}
 use Rattle.row_notes.specs.Written.{Written, SomeRows, Finished}
 use Rattle.row_notes.specs.declared.ChartNotesScratch.{ChartNotesScratch}
 use Rattle.row_notes.proofs.Model.{model}
@@ -23,7 +23,7 @@ rows-length l s R = stored-length (R .written .holds)
 
 pub finished : (l : List ℕ) (s : ChartNotesScratch) (l₁ : List ℕ) (t : ChartNotesScratch) (l₂ z : List ℕ) (r : ℕ)
     → length l₁ ≡ length l → length l₂ ≡ length l₁
-    → Closed l s l₁ t → Compacted l₁ (t .count) (t .«has_invalid») l₂ r → z ≡ zeroed 0 (r * 10) l₂
+    → HeadsEnded l s l₁ t → Compacted l₁ (t .count) (t .«has_invalid») l₂ r → z ≡ zeroed 0 (r * 10) l₂
     → (rows : List Row) → Written rows s l → Finished rows (length l) z r
 finished l s l₁ t l₂ z r e₁ e₂ D C ez rows W =
     let P = D .ended (drafts rows) (W .holds) in

@@ -26,7 +26,7 @@ use Rattle.taps.proofs.Free.{tap-cell, free-byte}
 use Rattle.taps.proofs.Tables.{upFrom, same-at}
 use Rattle.row_notes.specs.Masks.{LowOf}
 use Rattle.row_notes.specs.Writer.{noTail, FreeHeads}
-use Rattle.row_notes.specs.Written.{Room, Written, MaskFits, afterTaps}
+use Rattle.row_notes.specs.Written.{RecordRoom, Written, MaskFits, afterTaps}
 use Rattle.row_notes.specs.declared.ChartNotesScratch.{ChartNotesScratch}
 use Rattle.row_notes.proofs.Steps.{zero-nothing, step-nothing}
 use Rattle.row_notes.proofs.Rows.{Midrow, mid-start, mid-ready, mid-step, row-written}
@@ -125,7 +125,7 @@ pub record Taken (l : List ℕ) (s : ChartNotesScratch) (row : Row) (mask : ℕ)
   pub low : (c : ℕ) → c < at → c < 10 → bit c m ≡ 0
   pub high : (c : ℕ) → at ≤ c → c < 10 → bit c m ≡ bit c mask
 
-module _ (l : List ℕ) (s : ChartNotesScratch) (row : Row) (mask : ℕ) (R : Room s row l) (heads : FreeHeads (s .«hold_heads») row) (e : tapLineMask row ≡ Mask mask) where
+module _ (l : List ℕ) (s : ChartNotesScratch) (row : Row) (mask : ℕ) (R : RecordRoom s row l) (heads : FreeHeads (s .«hold_heads») row) (e : tapLineMask row ≡ Mask mask) where
   cell : (c : ℕ) → c < length row → getD row c 0 ≡ 48 + bit c mask
   cell c h = any-default row c 0 48 h ∙ tap-cell row mask c (line-taps row mask e)
 

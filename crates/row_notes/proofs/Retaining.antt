@@ -17,7 +17,7 @@ use Rattle.definitions.specs.declared.Tail.the-variants.{Without, Row}
 use Rattle.definitions.specs.declared.Note.{Note}
 use Rattle.note_records.specs.Fields.{fieldsAt}
 use Rattle.row_notes.specs.Drafts.{State, plain, waiting, ended, Draft, noteBy, keep, kept}
-use Rattle.row_notes.specs.Writer.{dropped, stateNumber, draftBytes, FineState, Fine, blank, Ended, Compacted}
+use Rattle.row_notes.specs.Writer.{dropped, stateNumber, draftBytes, FineState, Fine, blank, DraftsEnded, Compacted}
 use Rattle.row_notes.proofs.Model.{gather-append}
 use Rattle.definitions.proofs.Blocks.{blocks-get, blocks-length}
 use Rattle.definitions.proofs.ReadBack.{blocks-word, word-row, word-tail, ten}
@@ -70,8 +70,8 @@ pub record Retaining (l₀ : List ℕ) (n : ℕ) (invalid : Bool) (l : List ℕ)
   pub short : w ≤ k
   pub same : length l ≡ length l₀
   pub after : drop (k * 10) l ≡ drop (k * 10) l₀
-  pub count : (ds : List Draft) → Ended l₀ n invalid ds → w ≡ length (kept (take k ds))
-  pub part : (ds : List Draft) → Ended l₀ n invalid ds → (q : List ℕ) × (l ≡ records (kept (take k ds)) ++ q)
+  pub count : (ds : List Draft) → DraftsEnded l₀ n invalid ds → w ≡ length (kept (take k ds))
+  pub part : (ds : List Draft) → DraftsEnded l₀ n invalid ds → (q : List ℕ) × (l ≡ records (kept (take k ds)) ++ q)
 
 pub retain-start : (l : List ℕ) (n : ℕ) (invalid : Bool) → Retaining l n invalid l 0 0
 unfolding records
@@ -85,7 +85,7 @@ retain-start l n invalid = record {
 }
 
 module _ (l₀ : List ℕ) (n : ℕ) (invalid : Bool) (fits : n * 10 ≤ length l₀) (l : List ℕ) (w k : ℕ) (C : Retaining l₀ n invalid l w k) where
-  module _ (h : k < n) (ds : List Draft) (E : Ended l₀ n invalid ds) where
+  module _ (h : k < n) (ds : List Draft) (E : DraftsEnded l₀ n invalid ds) where
     below : k < length ds
     below = let m : n ≡ length ds = E .count in omega arith
 
@@ -177,7 +177,7 @@ module _ (l₀ : List ℕ) (n : ℕ) (invalid : Bool) (fits : n * 10 ≤ length 
         part = λ ds E. more ds E (C .part ds E) (one-more h ds E ne);
       }
     where
-      more : (ds : List Draft) → Ended l₀ n invalid ds → (q : List ℕ) × (l ≡ joined (map encode (kept (take k ds))) ++ q)
+      more : (ds : List Draft) → DraftsEnded l₀ n invalid ds → (q : List ℕ) × (l ≡ joined (map encode (kept (take k ds))) ++ q)
           → (x : Note) × (kept (take (k + 1) ds) ≡ kept (take k ds) ++ (x ∷ []))
           × (fieldsAt l (k * 10) ≡ encode x)
           → (q : List ℕ) × (l′ ≡ joined (map encode (kept (take (k + 1) ds))) ++ q)
@@ -208,7 +208,7 @@ module _ (l₀ : List ℕ) (n : ℕ) (invalid : Bool) (fits : n * 10 ≤ length 
         (P .0, P .1 ∙ ap (λ (x : List Draft). records (kept x) ++ P .0) (all ds E));
   }
     where
-      all : (ds : List Draft) → Ended l₀ n invalid ds → take k ds ≡ ds
+      all : (ds : List Draft) → DraftsEnded l₀ n invalid ds → take k ds ≡ ds
       all ds E = let m : n ≡ length ds = E .count in take-all k ds (omega arith)
 
 -- ---- nothing was dropped
@@ -245,7 +245,7 @@ retain-all l n invalid q = record {
   bytes = λ ds E. (E .rest, E .bytes ∙ ap (λ (x : List ℕ). x ++ E .rest) (sym (staying ds E .1)));
 }
   where
-    staying : (ds : List Draft) → Ended l n invalid ds → (length (kept ds) ≡ length ds) × (joined (map encode (kept ds)) ≡ joined (map draftBytes ds))
+    staying : (ds : List Draft) → DraftsEnded l n invalid ds → (length (kept ds) ≡ length ds) × (joined (map encode (kept ds)) ≡ joined (map draftBytes ds))
     staying ds E =
         let m : n ≡ length ds = E .count in
         all-stay ds (λ k h. record { done = E .done k (omega arith); there = E .clean q k h; fine = E .fine k (omega arith) })

@@ -15,8 +15,8 @@ use Rattle.definitions.specs.Notes.{effectAt}
 use Rattle.definitions.specs.declared.NoteEffect.{NoteEffect}
 use Rattle.definitions.proofs.Lists.{All, none, one}
 use Rattle.row_notes.specs.Drafts.{Draft, stepCell, stepRow, stepRows, drafts}
-use Rattle.row_notes.specs.Writer.{noHead, Stored, Holds, Ready, Stepped}
-use Rattle.row_notes.specs.Written.{Written, Room}
+use Rattle.row_notes.specs.Writer.{noHead, Stored, DraftsHeld, NoteReady, NoteStepped}
+use Rattle.row_notes.specs.Written.{Written, RecordRoom}
 use Rattle.row_notes.specs.declared.ChartNotesScratch.{ChartNotesScratch}
 
 -- before the first row
@@ -39,14 +39,14 @@ pub record Midrow (l : List ℕ) (s : ChartNotesScratch) (l′ : List ℕ) (r : 
   pub same : length l′ ≡ length l
   pub bound : r .count ≤ s .count + c
   pub index : r .«row_index» ≡ s .«row_index»
-  pub part : (ds : List Draft) → Holds l s ds
-      → (es : List Draft) × Holds l′ r es × (stepRow (s .«row_index») c (drop c row) es ≡ stepRow (s .«row_index») zero row ds)
+  pub part : (ds : List Draft) → DraftsHeld l s ds
+      → (es : List Draft) × DraftsHeld l′ r es × (stepRow (s .«row_index») c (drop c row) es ≡ stepRow (s .«row_index») zero row ds)
 
 pub mid-start : (l : List ℕ) (s : ChartNotesScratch) (row : Row) → Midrow l s l s 0 row
 mid-start l s row = record { inside = omega arith; same = refl; bound = omega arith; index = refl; part = λ ds S. (ds, S, refl) }
 
 module _ (l : List ℕ) (s : ChartNotesScratch) (l′ : List ℕ) (r : ChartNotesScratch) (c : ℕ) (row : Row) (M : Midrow l s l′ r c row) where
-  pub mid-ready : Room s row l → c < length row → Ready l′ r c
+  pub mid-ready : RecordRoom s row l → c < length row → NoteReady l′ r c
   mid-ready R h =
       let P = M .part (drafts (R .rows)) (R .written .holds) in
       let a : length row ≤ 10 = R .narrow in
@@ -64,7 +64,7 @@ module _ (l : List ℕ) (s : ChartNotesScratch) (l′ : List ℕ) (r : ChartNote
       }
 
   pub mid-step : (l″ : List ℕ) (t : ChartNotesScratch) (x : NoteEffect) → x ≡ effectAt (getD row c 0) → c < length row → length l″ ≡ length l′
-      → Stepped l′ r l″ t 1 (stepCell (r .«row_index») c x) → Midrow l s l″ t (c + 1) row
+      → NoteStepped l′ r l″ t 1 (stepCell (r .«row_index») c x) → Midrow l s l″ t (c + 1) row
   unfolding stepRow
   mid-step l″ t x f h e T = record {
     inside = omega arith;
@@ -80,11 +80,11 @@ module _ (l : List ℕ) (s : ChartNotesScratch) (l′ : List ℕ) (r : ChartNote
   }
 
   -- the row is done
-  pub mid-end : length row ≤ c → (ds : List Draft) → Holds l s ds → Holds l′ r (stepRow (s .«row_index») zero row ds)
+  pub mid-end : length row ≤ c → (ds : List Draft) → DraftsHeld l s ds → DraftsHeld l′ r (stepRow (s .«row_index») zero row ds)
   unfolding stepRow
   mid-end h ds S =
       let P = M .part ds S in
-      subst (λ (x : List Draft). Holds l′ r x) (ap (λ (x : Row). stepRow (s .«row_index») c x (P .0)) (sym (drop-of-length-le row h)) ∙ P .2) (P .1)
+      subst (λ (x : List Draft). DraftsHeld l′ r x) (ap (λ (x : Row). stepRow (s .«row_index») c x (P .0)) (sym (drop-of-length-le row h)) ∙ P .2) (P .1)
 
 -- ---- one row more
 
@@ -103,7 +103,7 @@ cells-more (r ∷ rows) row =
     let h : length (joined (rows ++ (row ∷ []))) ≡ length (joined rows) + length row = cells-more rows row in
     simp length-append (omega arith)
 
-module _ (l : List ℕ) (s : ChartNotesScratch) (row : Row) (R : Room s row l) (l′ : List ℕ) (r : ChartNotesScratch) where
+module _ (l : List ℕ) (s : ChartNotesScratch) (row : Row) (R : RecordRoom s row l) (l′ : List ℕ) (r : ChartNotesScratch) where
   -- the state r but for the number of its row, after the row's cells
   pub row-written : (t : ChartNotesScratch) (c : ℕ) → Midrow l s l′ t c row → length row ≤ c
       → r .«hold_heads» ≡ t .«hold_heads» → r .count ≡ t .count → r .«has_invalid» ≡ t .«has_invalid» → r .«row_index» ≡ t .«row_index» + 1

@@ -16,7 +16,7 @@ use Rattle.definitions.specs.declared.Kind.{Kind}
 use Rattle.definitions.specs.declared.NoteEffect.{NoteEffect}
 use Rattle.definitions.specs.declared.NoteEffect.the-variants.{Nothing, Closes, Single, Head}
 use Rattle.row_notes.specs.Drafts.{State, plain, waiting, Draft, settle, stepCell}
-use Rattle.row_notes.specs.Writer.{noHead, dropped, draftBytes, FineState, Fine, Holds, Stored, Ready, HeadThere, HoldEnded, NotePushed, CellReady, CellNoted, afterCell, endAt, noteAt, endHead, invalidAfter, Stepped}
+use Rattle.row_notes.specs.Writer.{noHead, dropped, draftBytes, FineState, Fine, DraftsHeld, Stored, NoteReady, HeadThere, HoldEnded, NotePushed, CellReady, CellNoted, afterCell, endAt, noteAt, endHead, invalidAfter, NoteStepped}
 use Rattle.row_notes.specs.declared.ChartNotesScratch.{ChartNotesScratch}
 use Rattle.row_notes.proofs.Stored.{stored-settle, stored-plain, stored-head}
 
@@ -39,13 +39,13 @@ invalid-keeps s c e =
     (p .0, eqb-true (getD (s .«hold_heads») c 0) noHead (p .1))
 
 -- the head of a column is dropped
-pub dropped-there : (l : List ℕ) (s : ChartNotesScratch) (c : ℕ) → c < 10 → (ds : List Draft) → Holds l s ds
+pub dropped-there : (l : List ℕ) (s : ChartNotesScratch) (c : ℕ) → c < 10 → (ds : List Draft) → DraftsHeld l s ds
     → Stored (endHead l (s .«hold_heads») c dropped) (set (s .«hold_heads») c noHead) (s .count) (invalidAfter s c) (map (settle c none) ds)
 dropped-there l s c h ds S =
     stored-settle l (s .«hold_heads») (s .count) (s .«has_invalid») ds S c h none tt (invalidAfter s c)
     (λ q. let p = invalid-keeps s c q in (p .0, λ e. p .1))
 
-pub step-nothing : (l : List ℕ) (s : ChartNotesScratch) (i c : ℕ) (x : NoteEffect) → x ≡ Nothing → Stepped l s l s 1 (stepCell i c x)
+pub step-nothing : (l : List ℕ) (s : ChartNotesScratch) (i c : ℕ) (x : NoteEffect) → x ≡ Nothing → NoteStepped l s l s 1 (stepCell i c x)
 step-nothing l s i c x e = record {
   stored = λ ds S. rw (e, append-nil) S;
   bound = omega arith;
@@ -57,9 +57,9 @@ pub zero-nothing : (b : ℕ) → b ≡ 48 → effectAt b ≡ Nothing
 unfolding effectAt cellOf
 zero-nothing b e = rw e
 
-module _ (l : List ℕ) (s : ChartNotesScratch) (c : ℕ) (R : Ready l s c) (l′ : List ℕ) (r : ChartNotesScratch) where
+module _ (l : List ℕ) (s : ChartNotesScratch) (c : ℕ) (R : NoteReady l s c) (l′ : List ℕ) (r : ChartNotesScratch) where
   pub step-closes : (x : NoteEffect) → x ≡ Closes → HoldEnded l s c (s .«row_index») (s .«has_invalid») l′ r
-      → Stepped l s l′ r 1 (stepCell (s .«row_index») c x)
+      → NoteStepped l s l′ r 1 (stepCell (s .«row_index») c x)
   step-closes x e H = record {
     stored = λ ds S.
         rw (e, H .bytes, H .heads, H .count, H .invalid, append-nil)
@@ -79,7 +79,7 @@ module _ (l : List ℕ) (s : ChartNotesScratch) (c : ℕ) (R : Ready l s c) (l�
   unfolding draft
   fine k t f = record { row = R .low; column = R .inside; state = f }
 
-  pub step-single : (x : NoteEffect) (k : Kind) → x ≡ Single k → NotePushed l s c k noHead l′ r → Stepped l s l′ r 1 (stepCell (s .«row_index») c x)
+  pub step-single : (x : NoteEffect) (k : Kind) → x ≡ Single k → NotePushed l s c k noHead l′ r → NoteStepped l s l′ r 1 (stepCell (s .«row_index») c x)
   unfolding draftBytes draft
   step-single x k e N = record {
     stored = λ ds S.
@@ -89,7 +89,7 @@ module _ (l : List ℕ) (s : ChartNotesScratch) (c : ℕ) (R : Ready l s c) (l�
     row = N .row;
   }
 
-  pub step-head : (x : NoteEffect) (k : Kind) → x ≡ Head k → NotePushed l s c k (s .count) l′ r → Stepped l s l′ r 1 (stepCell (s .«row_index») c x)
+  pub step-head : (x : NoteEffect) (k : Kind) → x ≡ Head k → NotePushed l s c k (s .count) l′ r → NoteStepped l s l′ r 1 (stepCell (s .«row_index») c x)
   unfolding draftBytes draft
   step-head x k e N = record {
     stored = λ ds S.
@@ -114,7 +114,7 @@ noted-nothing l head count row column x e s eh ec er =
     }
 
 module _ (l : List ℕ) (head count row column : ℕ) (R : CellReady l head count row column) (l′ : List ℕ) where
-  ready : (s : ChartNotesScratch) → getD (s .«hold_heads») column 0 ≡ head → s .count ≡ count → s .«row_index» ≡ row → Ready l s column
+  ready : (s : ChartNotesScratch) → getD (s .«hold_heads») column 0 ≡ head → s .count ≡ count → s .«row_index» ≡ row → NoteReady l s column
   ready s eh ec er =
       record {
         inside = R .inside;
@@ -127,7 +127,7 @@ module _ (l : List ℕ) (head count row column : ℕ) (R : CellReady l head coun
   pub noted-closes : (x : NoteEffect) → x ≡ Closes → l′ ≡ endAt l head row → CellNoted l head count row column x l′ noHead count false
   noted-closes x e b s eh ec er =
       let t = afterCell s column noHead count false in
-      subst (λ (q : ℕ). Stepped l s l′ t 1 (stepCell q column x)) er
+      subst (λ (q : ℕ). NoteStepped l s l′ t 1 (stepCell q column x)) er
       (step-closes l s column (ready s eh ec er) l′ t x e
       (record { bytes = rw (eh, er) b; heads = refl; count = sym ec; row = refl; invalid = or-false (s .«has_invalid») }))
 
@@ -135,7 +135,7 @@ module _ (l : List ℕ) (head count row column : ℕ) (R : CellReady l head coun
       → CellNoted l head count row column x l′ noHead (count + 1) (not (eqb head noHead))
   noted-single x k e b s eh ec er =
       let t = afterCell s column noHead (count + 1) (not (eqb head noHead)) in
-      subst (λ (q : ℕ). Stepped l s l′ t 1 (stepCell q column x)) er
+      subst (λ (q : ℕ). NoteStepped l s l′ t 1 (stepCell q column x)) er
       (step-single l s column (ready s eh ec er) l′ t x k e
       (record { bytes = rw (eh, ec, er) b; heads = refl; count = rw ec; row = refl; invalid = rw eh }))
 
@@ -143,6 +143,6 @@ module _ (l : List ℕ) (head count row column : ℕ) (R : CellReady l head coun
       → CellNoted l head count row column x l′ count (count + 1) (not (eqb head noHead))
   noted-head x k e b s eh ec er =
       let t = afterCell s column count (count + 1) (not (eqb head noHead)) in
-      subst (λ (q : ℕ). Stepped l s l′ t 1 (stepCell q column x)) er
+      subst (λ (q : ℕ). NoteStepped l s l′ t 1 (stepCell q column x)) er
       (step-head l s column (ready s eh ec er) l′ t x k e
       (record { bytes = rw (eh, ec, er) b; heads = rw ec; count = rw ec; row = refl; invalid = rw eh }))

@@ -20,7 +20,7 @@ use Rattle.taps.proofs.Free.{Free, zero-cell, tap-there}
 use Rattle.definitions.proofs.Blocks.{blocks-length}
 use Rattle.note_records.proofs.Blocks.{sets-right}
 use Rattle.row_notes.specs.Drafts.{Draft, stepCell}
-use Rattle.row_notes.specs.Writer.{noHead, noTail, draftBytes, Stored, Ready, NotePushed, Stepped}
+use Rattle.row_notes.specs.Writer.{noHead, noTail, draftBytes, Stored, NoteReady, NotePushed, NoteStepped}
 use Rattle.row_notes.specs.declared.ChartNotesScratch.{ChartNotesScratch}
 use Rattle.row_notes.proofs.Stored.{ten-bytes}
 use Rattle.row_notes.proofs.Steps.{step-single, zero-nothing}
@@ -49,7 +49,7 @@ tap-single : (b : ℕ) → b ≡ 49 → effectAt b ≡ Single Tap
 unfolding effectAt cellOf
 tap-single b e = rw e
 
-module _ (l : List ℕ) (s : ChartNotesScratch) (c b : ℕ) (R : Ready l s c) (l′ : List ℕ) (k : ℕ)
+module _ (l : List ℕ) (s : ChartNotesScratch) (c b : ℕ) (R : NoteReady l s c) (l′ : List ℕ) (k : ℕ)
     (el : l′ ≡ sets l (s .count * 10) (fields (s .«row_index») noTail c 0)) (ek : k ≡ s .count + oneIf (eqb b 49)) where
   pushed : b ≡ 49 → getD (s .«hold_heads») c 0 ≡ noHead → NotePushed l s c Tap noHead l′ (counting s k)
   pushed e free = record {
@@ -61,7 +61,7 @@ module _ (l : List ℕ) (s : ChartNotesScratch) (c b : ℕ) (R : Ready l s c) (l
   }
 
   -- what a cell that is a `0`, or a `1` in a column without an open head, does
-  pub tap-step : (busy : ℕ) → FreeAre busy noHead (s .«hold_heads») → Free busy c b → Stepped l s l′ (counting s k) 1 (stepCell (s .«row_index») c (effectAt b))
+  pub tap-step : (busy : ℕ) → FreeAre busy noHead (s .«hold_heads») → Free busy c b → NoteStepped l s l′ (counting s k) 1 (stepCell (s .«row_index») c (effectAt b))
   tap-step busy free (tap-there e none) =
       step-single l s c R l′ (counting s k) (effectAt b) Tap (tap-single b e) (pushed e (free c (R .inside) none))
   tap-step busy free (zero-cell e) =

@@ -85,8 +85,8 @@ pub record Stored (l hs : List ℕ) (n : ℕ) (invalid : Bool) (ds : List Draft)
   pub fine : (k : ℕ) → k < n → Fine (getD ds k blank)
   pub clean : Clean invalid ds
 
-abbrev pub Holds : List ℕ → ChartNotesScratch → List Draft → Type 0
-Holds l s ds = Stored l (s .«hold_heads») (s .count) (s .«has_invalid») ds
+abbrev pub DraftsHeld : List ℕ → ChartNotesScratch → List Draft → Type 0
+DraftsHeld l s ds = Stored l (s .«hold_heads») (s .count) (s .«has_invalid») ds
 
 -- ---- one cell
 
@@ -115,7 +115,7 @@ pub record HoldEnded (l : List ℕ) (s : ChartNotesScratch) (column tail : ℕ) 
   pub invalid : r .«has_invalid» ≡ flag
 
 -- what a cell in a column asks
-pub record Ready (l : List ℕ) (s : ChartNotesScratch) (column : ℕ) : Type 0 where
+pub record NoteReady (l : List ℕ) (s : ChartNotesScratch) (column : ℕ) : Type 0 where
   pub inside : column < 10
   pub low : s .«row_index» < rowNumbersBound
   pub room : s .count * 10 + 10 ≤ length l
@@ -143,8 +143,8 @@ abbrev pub noteAt : List ℕ → ℕ → ℕ → ℕ → ℕ → Kind → List �
 noteAt l head count row column kind = sets (endAt l head dropped) (count * 10) (fields row noTail column (kindNumber kind))
 
 -- whatever drafts were there, f of them are, and at most m more
-pub record Stepped (l : List ℕ) (s : ChartNotesScratch) (l′ : List ℕ) (r : ChartNotesScratch) (m : ℕ) (f : List Draft → List Draft) : Type 0 where
-  pub stored : (ds : List Draft) → Holds l s ds → Holds l′ r (f ds)
+pub record NoteStepped (l : List ℕ) (s : ChartNotesScratch) (l′ : List ℕ) (r : ChartNotesScratch) (m : ℕ) (f : List Draft → List Draft) : Type 0 where
+  pub stored : (ds : List Draft) → DraftsHeld l s ds → DraftsHeld l′ r (f ds)
   pub bound : r .count ≤ s .count + m
   pub row : r .«row_index» ≡ s .«row_index»
 
@@ -157,17 +157,17 @@ afterCell s column head count invalid =
 abbrev pub CellNoted : List ℕ → ℕ → ℕ → ℕ → ℕ → NoteEffect → List ℕ → ℕ → ℕ → Bool → Type 0
 CellNoted l head count row column x l′ head′ count′ invalid =
     (s : ChartNotesScratch) → getD (s .«hold_heads») column 0 ≡ head → s .count ≡ count → s .«row_index» ≡ row
-    → Stepped l s l′ (afterCell s column head′ count′ invalid) 1 (stepCell row column x)
+    → NoteStepped l s l′ (afterCell s column head′ count′ invalid) 1 (stepCell row column x)
 
 -- ---- the end
 
 -- some drafts are there
 pub record SomeDrafts (l : List ℕ) (s : ChartNotesScratch) : Type 0 where
   pub drafts : List Draft
-  pub stored : Holds l s drafts
+  pub stored : DraftsHeld l s drafts
 
 -- the slice l begins with the bytes of the n drafts, of which none waits
-pub record Ended (l : List ℕ) (n : ℕ) (invalid : Bool) (ds : List Draft) : Type 0 where
+pub record DraftsEnded (l : List ℕ) (n : ℕ) (invalid : Bool) (ds : List Draft) : Type 0 where
   pub count : n ≡ length ds
   pub rest : List ℕ
   pub bytes : l ≡ joined (map draftBytes ds) ++ rest
@@ -176,12 +176,12 @@ pub record Ended (l : List ℕ) (n : ℕ) (invalid : Bool) (ds : List Draft) : T
   pub clean : Clean invalid ds
 
 -- the heads have ended, and the same notes are left
-pub record Closed (l : List ℕ) (s : ChartNotesScratch) (l′ : List ℕ) (r : ChartNotesScratch) : Type 0 where
+pub record HeadsEnded (l : List ℕ) (s : ChartNotesScratch) (l′ : List ℕ) (r : ChartNotesScratch) : Type 0 where
   pub count : r .count ≡ s .count
-  pub ended : (ds : List Draft) → Holds l s ds → (es : List Draft) × Ended l′ (r .count) (r .«has_invalid») es × (kept es ≡ kept ds)
+  pub ended : (ds : List Draft) → DraftsHeld l s ds → (es : List Draft) × DraftsEnded l′ (r .count) (r .«has_invalid») es × (kept es ≡ kept ds)
 
 -- l′ begins with the r records of the notes that are left
 pub record Compacted (l : List ℕ) (n : ℕ) (invalid : Bool) (l′ : List ℕ) (r : ℕ) : Type 0 where
   pub bound : r ≤ n
-  pub count : (ds : List Draft) → Ended l n invalid ds → r ≡ length (kept ds)
-  pub bytes : (ds : List Draft) → Ended l n invalid ds → (q : List ℕ) × (l′ ≡ records (kept ds) ++ q)
+  pub count : (ds : List Draft) → DraftsEnded l n invalid ds → r ≡ length (kept ds)
+  pub bytes : (ds : List Draft) → DraftsEnded l n invalid ds → (q : List ℕ) × (l′ ≡ records (kept ds) ++ q)

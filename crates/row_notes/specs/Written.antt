@@ -11,18 +11,18 @@ use Rattle.definitions.specs.Records.{records}
 use Rattle.row_notes.specs.Drafts.{drafts}
 use Rattle.taps.specs.Taps.{tapLineMask}
 use Rattle.taps.specs.declared.Taps.the-variants.{Mask}
-use Rattle.row_notes.specs.Writer.{Holds, FreeHeads}
+use Rattle.row_notes.specs.Writer.{DraftsHeld, FreeHeads}
 use Rattle.row_notes.specs.declared.ChartNotesScratch.{ChartNotesScratch}
 
 -- After these rows the struct s and the slice l hold their drafts: at most one for each cell.
 pub record Written (rows : List Row) (s : ChartNotesScratch) (l : List ℕ) : Type 0 where
   pub row : s .«row_index» ≡ length rows
-  pub holds : Holds l s (drafts rows)
+  pub holds : DraftsHeld l s (drafts rows)
   pub cells : s .count ≤ length (joined rows)
   pub low : s .count ≤ 10 * length rows
 
 -- What a row asks: rows were written, and there is room for a record for each of its cells.
-pub record Room (s : ChartNotesScratch) (row l : List ℕ) : Type 0 where
+pub record RecordRoom (s : ChartNotesScratch) (row l : List ℕ) : Type 0 where
   pub rows : List Row
   pub written : Written rows s l
   pub few : length rows < rowNumbersBound
@@ -33,7 +33,7 @@ pub record Room (s : ChartNotesScratch) (row l : List ℕ) : Type 0 where
 pub record MaskFits (i n m : ℕ) (l : List ℕ) (s : ChartNotesScratch) (cells : Row) : Type 0 where
   pub row : s .«row_index» ≡ i
   pub count : s .count ≡ n
-  pub room : Room s cells l
+  pub room : RecordRoom s cells l
   pub heads : FreeHeads (s .«hold_heads») cells
   pub mask : tapLineMask cells ≡ Mask m
 

@@ -16,7 +16,7 @@ ghost use lib.Seq.{sets};
 ghost use Rattle.definitions.specs.Lists.{oneIf};
 ghost use Rattle.definitions.specs.Lines.{Row};
 ghost use Rattle.definitions.specs.Records.{fields};
-ghost use Rattle.row_notes.specs.Writer.{HeadThere, HoldEnded, invalidAfter, noHead, noTail, dropped, endAt, noteAt, CellReady, Closed, Compacted, SomeDrafts};
+ghost use Rattle.row_notes.specs.Writer.{HeadThere, HoldEnded, invalidAfter, noHead, noTail, dropped, endAt, noteAt, CellReady, HeadsEnded, Compacted, SomeDrafts};
 ghost use Rattle.row_notes.specs.Masks.{LowOf};
 ghost use Rattle.row_notes.specs.Written.{Written, MaskFits, SomeMask, afterTaps, SomeRows, Finished};
 ghost use Rattle.row_notes.specs.declared.ChartNotesScratch.{ChartNotesScratch};
@@ -156,7 +156,7 @@ pub fn push_mask(row: u32, number: usize, mask: u16, notes: &mut [u8]) -> usize
 // Drops the heads that are still open.
 fn close_heads(s: ChartNotesScratch, notes: &mut [u8]) -> ChartNotesScratch
     requires { ⌜ SomeDrafts (now notes) s ⌝ }
-    ensures { λ r. ⌜ Closed (now (notes .entry)) s (now (notes .exit)) r ⌝ }
+    ensures { λ r. ⌜ HeadsEnded (now (notes .entry)) s (now (notes .exit)) r ⌝ }
 {
     let mut out = s;
     let mut column = 0;

@@ -9,7 +9,7 @@ use Rattle.definitions.proofs.Lists.{one-le}
 use Rattle.definitions.specs.Lists.{oneIf, count}
 use Rattle.definitions.specs.Lines.{Row}
 use Rattle.definitions.specs.Cells.{cellOf}
-use Rattle.definitions.specs.Tally.{Counted, countedAs, place, rowSum, rowSumBy, noStats, addRow}
+use Rattle.definitions.specs.Tally.{CountKind, countedAs, place, rowSum, rowSumBy, noStats, addRow}
 use Rattle.definitions.specs.Tally.{nothing, hold, roll, tail, mine, lift, fake}
 use Rattle.definitions.specs.Judged.{isJudgedArrow, isUnjudgedFake, judgedSum, judgeRow}
 use Rattle.definitions.specs.declared.Cell.{Cell}
@@ -26,7 +26,7 @@ pub below-more : (j k : ℕ) (t : ArrowStats) → j ≤ k → Below j t → Belo
 below-more j k t h b = omega arith
 
 -- a cell is counted in one way at most
-heads-le : (k : Counted) → oneIf (eqb (place k) 1) + oneIf (eqb (place k) 2) ≤ 1
+heads-le : (k : CountKind) → oneIf (eqb (place k) 1) + oneIf (eqb (place k) 2) ≤ 1
 heads-le nothing = omega arith
 heads-le hold = omega arith
 heads-le roll = omega arith

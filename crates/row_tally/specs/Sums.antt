@@ -4,7 +4,7 @@ use Prim.Native.Nat.{ℕ, _+_}
 use lib.Dec.{eqb}
 use Rattle.definitions.specs.Lists.{oneIf}
 use Rattle.definitions.specs.Cells.{isArrow}
-use Rattle.definitions.specs.Tally.{Counted, countedAs, place, direction}
+use Rattle.definitions.specs.Tally.{CountKind, countedAs, place, direction}
 use Rattle.definitions.specs.Tally.{hold, roll, tail, mine, lift, fake}
 use Rattle.definitions.specs.Judged.{isJudgedArrow}
 use Rattle.definitions.specs.declared.Cell.{Cell}
@@ -43,7 +43,7 @@ addArrow s c arrow =
       fakes = s .fakes;
     }
 
-abbrev oneOf : Counted → Cell → ℕ
+abbrev oneOf : CountKind → Cell → ℕ
 oneOf k x = oneIf (eqb (place (countedAs x)) (place k))
 
 -- with what a cell is counted as beside an arrow

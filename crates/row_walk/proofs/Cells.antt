@@ -18,7 +18,7 @@ use Rattle.definitions.specs.Tally.{rowSum}
 use Rattle.definitions.specs.declared.RowSum.{RowSum}
 use Rattle.taps.specs.Taps.{FreeAre}
 use Rattle.phantoms.specs.declared.Phantoms.{Phantoms}
-use Rattle.phantoms.specs.Phantoms.{depthAt, CellCounted}
+use Rattle.phantoms.specs.Phantoms.{phantomAt, CellCounted}
 use Rattle.phantoms.proofs.Loop.{Passed, passed-start, passed-next, passed-end}
 use Rattle.objects.proofs.Scan.{Scanned, scan-start, scan-next, scan-end}
 use Rattle.row_tally.proofs.Bounds.{under-more}
@@ -80,7 +80,7 @@ zero-passed : (row : Row) (p r : Phantoms) (i : ℕ) → Passed row p r i → i 
 unfolding holdAt cellOf
 zero-passed row p r i s h m e =
     rw (set-getD (r .depths) i 0, add-zero (r .heads), add-zero (r .tails), or-false) at
-    (passed-next row p r (record { depth = depthAt r i; heads = 0; tails = 0; met = false }) i s h m
+    (passed-next row p r (record { depth = phantomAt r i; heads = 0; tails = 0; met = false }) i s h m
     (rw e (record { depth = refl; heads = refl; tails = refl; met = refl })))
 
 zero-scanned : (row : Row) (l₀ l : List ℕ) (object : Bool) (i : ℕ) → Scanned row l₀ l object i → i < length row → i < 10 → getD row i 0 ≡ 48 → Scanned row l₀ l object (i + 1)

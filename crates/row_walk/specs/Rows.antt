@@ -22,8 +22,8 @@ use Rattle.row_tally.specs.Bounds.{Under}
 use Rattle.row_tally.specs.Sums.{addCell}
 use Rattle.row_notes.specs.declared.ChartNotesScratch.{ChartNotesScratch}
 use Rattle.row_notes.specs.Writer.{noHead}
-use Rattle.row_notes.specs.Written.{Written, Room}
-use Rattle.cell_walk.specs.Cells.{kindOf}
+use Rattle.row_notes.specs.Written.{Written, RecordRoom}
+use Rattle.cell_walk.specs.Cells.{effectKind}
 use Rattle.cell_walk.specs.declared.WalkCell.{WalkCell}
 use Rattle.row_walk.specs.declared.Marks.{Marks}
 use Rattle.row_walk.specs.declared.Seen.{Seen}
@@ -42,7 +42,7 @@ pub record CellSeen (s : Seen) (c : ℕ) (w : WalkCell) (r : Seen) : Type 0 wher
   pub met : r .marks .met ≡ (s .marks .met || w .phantom .met)
   pub invalid : r .marks .invalid ≡ (s .marks .invalid || w .invalid)
   pub busy : Marked (s .marks .busy) c (isUsed w) (r .marks .busy)
-  pub sum : (b : ℕ) → w .kind ≡ kindOf (effectAt b) → w .phantom .tails ≡ oneIf (isClosing (holdAt b)) → r .sum ≡ addCell (s .sum) c (cellOf b) (isArrow (cellOf b))
+  pub sum : (b : ℕ) → w .kind ≡ effectKind (effectAt b) → w .phantom .tails ≡ oneIf (isClosing (holdAt b)) → r .sum ≡ addCell (s .sum) c (cellOf b) (isArrow (cellOf b))
   pub count : r .count ≡ w .count
   pub object : r .object ≡ (s .object || w .object .object)
 
@@ -59,8 +59,8 @@ pub record CellsReady (row : Row) (l ds low hs : List ℕ) (n i : ℕ) (m : Mark
   pub lows : length low ≡ 10
   pub heads : length hs ≡ 10
   pub phantoms : Low countBound (phantomsOf ds m)
-  pub objects : objects.Low 4294967294 (record { depths = low })
-  pub room : Room (notesOf hs n i m) row l
+  pub objects : objects.DepthsLow 4294967294 (record { depths = low })
+  pub room : RecordRoom (notesOf hs n i m) row l
 
 -- The row's cells are done: it is summed, counted, tested for an object and noted, and what was free and still is has no bit in `busy`.
 pub record RowWalked (row : Row) (l ds low hs : List ℕ) (n i : ℕ) (m : Marks) (l′ ds′ low′ hs′ : List ℕ) (r : Seen) : Type 0 where

@@ -8,10 +8,10 @@ use Rattle.scans.specs.declared.MeasuresAnswer.{MeasuresAnswer}
 use Rattle.scans.specs.declared.MeasuresAnswer.the-variants.{Refused, Measures}
 
 -- a refusal's number, or for 0 so many measures
-abbrev pub refusedOr : ℕ → ℕ → MeasuresAnswer
-refusedOr zero n = Measures n
-refusedOr (suc k) n = Refused (suc k)
+abbrev pub refusedOrMeasures : ℕ → ℕ → MeasuresAnswer
+refusedOrMeasures zero n = Measures n
+refusedOrMeasures (suc k) n = Refused (suc k)
 
 -- of densities and spacing alike
 unfoldable pub measuresAnswer : ℕ → List ℕ → List ℕ → MeasuresAnswer
-measuresAnswer lanes text slice = refusedOr (measuresNumber lanes text slice) (measureCount (lanesOf lanes) text)
+measuresAnswer lanes text slice = refusedOrMeasures (measuresNumber lanes text slice) (measureCount (lanesOf lanes) text)

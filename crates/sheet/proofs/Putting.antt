@@ -13,7 +13,7 @@ use Rattle.definitions.specs.Records.{kindNumber, readNote}
 use Rattle.definitions.specs.declared.Note.{Note}
 use Rattle.reduction.specs.Rows.{placed}
 use Rattle.reduction.proofs.Placed.{placed-front, placed-past, placed-length}
-use Rattle.sheet.specs.Sheet.{ascii, digits, field, figureLine, measureLine, tailField, noteLine, recordLine, measureLines, recordLines, headLines, sheetOf}
+use Rattle.sheet.specs.Sheet.{ascii, digits, numberField, figureLine, measureLine, tailField, noteLine, recordLine, measureLines, recordLines, headLines, sheetOf}
 use Rattle.sheet.specs.declared.SheetFigures.{SheetFigures}
 use Rattle.sheet.specs.Put.{Put}
 
@@ -69,25 +69,25 @@ digits-more (suc most) n b f h e p q = rw (le-ltb n 10 h, ← e) (put-then (rw (
 
 -- a number and the byte after it
 pub put-field : (n b : ℕ) {at next last : ℕ} {d d₁ d₂ : List ℕ} → Put at (digits 20 n) d next d₁ → Put next (b ∷ []) d₁ last d₂
-    → Put at (field n b) d last d₂
-unfolding field
+    → Put at (numberField n b) d last d₂
+unfolding numberField
 put-field n b p q = put-then p q
 
 -- lines, part by part
-pub put-figure-line : (n : ℕ) {at next last : ℕ} {name d d₁ d₂ : List ℕ} → Put at name d next d₁ → Put next (field n 10) d₁ last d₂
+pub put-figure-line : (n : ℕ) {at next last : ℕ} {name d d₁ d₂ : List ℕ} → Put at name d next d₁ → Put next (numberField n 10) d₁ last d₂
     → Put at (figureLine name n) d last d₂
 unfolding figureLine
 put-figure-line n p q = put-then p q
 
 pub put-measure-line : (m density spaced : ℕ) {at p1 p2 p3 p4 : ℕ} {d d₁ d₂ d₃ d₄ : List ℕ} → Put at (ascii "m ") d p1 d₁
-    → Put p1 (field m 32) d₁ p2 d₂ → Put p2 (field density 32) d₂ p3 d₃ → Put p3 (field spaced 10) d₃ p4 d₄
+    → Put p1 (numberField m 32) d₁ p2 d₂ → Put p2 (numberField density 32) d₂ p3 d₃ → Put p3 (numberField spaced 10) d₃ p4 d₄
     → Put at (measureLine m density spaced) d p4 d₄
 unfolding measureLine
 put-measure-line m density spaced a b c e = put-then a (put-then b (put-then c e))
 
 pub put-note-line : (n : Note) {at p1 p2 p3 p4 p5 row column kind : ℕ} {d d₁ d₂ d₃ d₄ d₅ : List ℕ}
     → row ≡ n .row → column ≡ n .column → kind ≡ kindNumber (n .kind) → Put at (ascii "n ") d p1 d₁
-    → Put p1 (field row 32) d₁ p2 d₂ → Put p2 (field column 32) d₂ p3 d₃ → Put p3 (field kind 32) d₃ p4 d₄ → Put p4 (tailField (n .tail)) d₄ p5 d₅
+    → Put p1 (numberField row 32) d₁ p2 d₂ → Put p2 (numberField column 32) d₂ p3 d₃ → Put p3 (numberField kind 32) d₃ p4 d₄ → Put p4 (tailField (n .tail)) d₄ p5 d₅
     → Put at (noteLine n) d p5 d₅
 unfolding noteLine
 put-note-line n row-is column-is kind-is w a b c t =

@@ -26,25 +26,25 @@ digits zero n = []
 digits (suc most) n = cond (ltb n 10) ((48 + n) ∷ []) (digits most (n / 10) ++ ((48 + n % 10) ∷ []))
 
 -- a number below 2 ^ 64, and so of at most 20 digits, with a byte after it: 32 within a line, 10 at its end
-unfoldable pub field : ℕ → ℕ → List ℕ
-field n after = digits 20 n ++ (after ∷ [])
+unfoldable pub numberField : ℕ → ℕ → List ℕ
+numberField n after = digits 20 n ++ (after ∷ [])
 
 -- "`measures` and `notes` count measures and note records", and so on: a name with its blank, and a number
 unfoldable pub figureLine : List ℕ → ℕ → List ℕ
-figureLine name n = name ++ field n 10
+figureLine name n = name ++ numberField n 10
 
 -- "`m`: measure, density, spacing (1 or 0)."
 unfoldable pub measureLine : ℕ → ℕ → ℕ → List ℕ
-measureLine m density spaced = ascii "m " ++ (field m 32 ++ (field density 32 ++ field spaced 10))
+measureLine m density spaced = ascii "m " ++ (numberField m 32 ++ (numberField density 32 ++ numberField spaced 10))
 
 -- "tail or `-`"
 abbrev pub tailField : Tail → List ℕ
 tailField Without = 45 ∷ 10 ∷ []
-tailField (Row j) = field j 10
+tailField (Row j) = numberField j 10
 
 -- "`n`: row, column, kind, tail or `-`."
 unfoldable pub noteLine : Note → List ℕ
-noteLine n = ascii "n " ++ (field (n .row) 32 ++ (field (n .column) 32 ++ (field (kindNumber (n .kind)) 32 ++ tailField (n .tail))))
+noteLine n = ascii "n " ++ (numberField (n .row) 32 ++ (numberField (n .column) 32 ++ (numberField (kindNumber (n .kind)) 32 ++ tailField (n .tail))))
 
 -- the line of a record; one that cannot be read has none
 abbrev pub recordLine : ReadNote → List ℕ

@@ -10,7 +10,7 @@ ghost use mathlib.Core.List.{_∷_, []};
 ghost use Prim.Native.Nat.{_+_, _*_, _<_, _≤_};
 ghost use lib.ListN.{length};
 ghost use Rattle.definitions.specs.Records.{readNote};
-ghost use Rattle.sheet.specs.Sheet.{digits, field, figureLine, measureLine, tailField, noteLine, recordLine, measureLines, recordLines, headLines, sheetOf};
+ghost use Rattle.sheet.specs.Sheet.{digits, numberField, figureLine, measureLine, tailField, noteLine, recordLine, measureLines, recordLines, headLines, sheetOf};
 ghost use Rattle.sheet.specs.Put.{Put};
 
 // The six figures at the head of a sheet.
@@ -65,7 +65,7 @@ pub fn put_word(out: &mut [u8], at: usize, word: &[u8]) -> usize
 // A number with a byte after it.
 fn put_field(out: &mut [u8], at: usize, n: u64, after: u8) -> usize
     requires { ⌜ at + 21 ≤ length (now out) ⌝ }
-    ensures { λ r. ⌜ Put at (field n after) (now (out .entry)) r (now (out .exit)) ⌝ }
+    ensures { λ r. ⌜ Put at (numberField n after) (now (out .entry)) r (now (out .exit)) ⌝ }
     ensures { λ r. ⌜ r ≤ at + 21 ⌝ }
 {
     let next = put_digits(out, at, n, 20);

@@ -36,8 +36,8 @@ textEnd s = afterPlace 16 (halfAt s 0)
 abbrev pub flagsEnd : List ℕ → ℕ
 flagsEnd s = afterPlace (textEnd s) (halfAt s 4)
 
-abbrev pub textOf : List ℕ → List ℕ
-textOf s = partOf s 16 (textEnd s)
+abbrev pub storedText : List ℕ → List ℕ
+storedText s = partOf s 16 (textEnd s)
 
 abbrev pub flagsOf : List ℕ → List ℕ
 flagsOf s = partOf s (textEnd s) (flagsEnd s)

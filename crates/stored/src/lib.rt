@@ -3,7 +3,7 @@ ghost use mathlib.Core.Path.{_≡_};
 ghost use Prim.Native.Nat.{_+_, _*_, _≤_, _<_};
 ghost use lib.ListN.{getD};
 ghost use Rattle.lines.specs.Words.{halfAt};
-ghost use Rattle.stored.specs.Layout.{afterPlace, partOf, contentStart, contentOf, figuresOf, lanesAt, textEnd, flagsEnd, textOf, flagsOf};
+ghost use Rattle.stored.specs.Layout.{afterPlace, partOf, contentStart, contentOf, figuresOf, lanesAt, textEnd, flagsEnd, storedText, flagsOf};
 
 pub mod lent;
 
@@ -122,7 +122,7 @@ pub fn flags_end(s: &[u8]) -> usize
 }
 
 pub fn text(s: &[u8]) -> &[u8]
-    ensures { λ r. ⌜ now r ≡ textOf (now (s .entry)) ⌝ }
+    ensures { λ r. ⌜ now r ≡ storedText (now (s .entry)) ⌝ }
 {
     part(s, 16, text_end(s))
 }

@@ -20,7 +20,7 @@ use Rattle.objects.proofs.Free.{free-done}
 use Rattle.objects.proofs.Kept.{kept-object, kept-other}
 use Rattle.row_tally.specs.Bounds.{Below}
 use Rattle.row_tally.proofs.Bounds.{below-more}
-use Rattle.row_notes.specs.Written.{Room}
+use Rattle.row_notes.specs.Written.{RecordRoom}
 use Rattle.row_walk.specs.declared.Marks.{Marks}
 use Rattle.measure_tally.specs.Counted.{Counted, Few}
 use Rattle.measure_tally.proofs.Rows.{counted-row}
@@ -55,7 +55,7 @@ module _ (L : ℕ) (q : Rest) (m : Marks) (r : Run) (l l′ : List ℕ) (done : 
     pub noted-taps : (first : ℕ) → first ≤ r .row → r .row < rowsBound → length row ≤ 10 → (r .count + length row) * 10 ≤ length l
         → NotedRows L (notingOf first q m r) l done cur → NotedRows L (notingOf first q m t) l′ done (cur ++ (row ∷ []))
     noted-taps first above few narrow space x =
-        let room : Room (notingOf first q m r .scratch) row l = record { rows = joined done ++ cur; written = x .written; few = omega (arith, x .written .row); narrow = narrow; room = space } in
+        let room : RecordRoom (notingOf first q m r .scratch) row l = record { rows = joined done ++ cur; written = x .written; few = omega (arith, x .written .row); narrow = narrow; room = space } in
         rw (A .row, A .last)
         (noted-row L _ l l′ row done cur w x _ _ _
         (A .written (notingOf first q m r .scratch) row (record { row = refl; count = refl; room = room; heads = record { busy = m .busy; mask = mask; taps = free; free = x .free }; mask = free .mask }))

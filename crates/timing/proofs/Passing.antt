@@ -18,7 +18,7 @@ use Rattle.definitions.specs.Beats.{rowBeats}
 use Rattle.definitions.specs.TimingRows.{hasHead}
 use Rattle.definitions.proofs.Lists.{joined-snoc}
 use Rattle.beats.proofs.Beats.{beats-appended}
-use Rattle.reduction.specs.Rows.{placed, Holds, Reduced}
+use Rattle.reduction.specs.Rows.{placed, RowsStand, Reduced}
 use Rattle.reduction.proofs.Blocks.{joined-append}
 use Rattle.reduction.proofs.Forms.{back-to-back, form-length}
 use Rattle.output.specs.Wrote.{Wrote}
@@ -64,10 +64,10 @@ pub timed-size : (L : ℕ) (p : TimingPass) (text : List ℕ) (beats : List Floa
 timed-size L p text beats s = sym (s .timed .wrote .size ∙ ap (λ n. p .start + n * L) (sym (s .timed .rows)))
 
 module _ (L : ℕ) (p : TimingPass) (text after : List ℕ) (beats : List Float) (kept : ℕ) (fits : p .out ≤ length text)
-    (red : (rs : List Row) → Holds joined L (p .rows) (p .start) rs text → Reduced joined (p .start) rs text kept after) where
+    (red : (rs : List Row) → RowsStand joined L (p .rows) (p .start) rs text → Reduced joined (p .start) rs text kept after) where
   module _ (done : List (List Row)) (cur : List Row) (x : Timed L p text beats done cur) where
     reduced : Reduced joined (p .start) cur text kept after
-    reduced = red cur (subst (λ n. Holds joined L n (p .start) cur text) (sym (x .rows)) (wrote-holds (back-to-back L) [] text (p .start) (p .out) done cur (x .wrote)))
+    reduced = red cur (subst (λ n. RowsStand joined L n (p .start) cur text) (sym (x .rows)) (wrote-holds (back-to-back L) [] text (p .start) (p .out) done cur (x .wrote)))
 
     wrote : Wrote joined [] L L after (p .start) (p .start + kept * L) done (reduce cur)
     wrote = wrote-reduced (back-to-back L) [] text (p .start) (p .out) done cur (x .wrote) kept after (omega (arith, x .wrote .size)) reduced

@@ -12,13 +12,13 @@ use Rattle.timing.specs.declared.TimingAnswer.{TimingAnswer}
 use Rattle.timing.specs.declared.TimingAnswer.the-variants.{Refused, Rows}
 
 -- a refusal's number, or for 0 the bytes, the rows and whether there is a 2 or 4
-abbrev pub refusedOr : ℕ → ℕ → ℕ → Bool → TimingAnswer
-refusedOr zero bytes rows heads = Rows bytes rows heads
-refusedOr (suc k) bytes rows heads = Refused (suc k)
+abbrev pub refusedOrRows : ℕ → ℕ → ℕ → Bool → TimingAnswer
+refusedOrRows zero bytes rows heads = Rows bytes rows heads
+refusedOrRows (suc k) bytes rows heads = Refused (suc k)
 
 unfoldable pub timingAnswer : ℕ → List ℕ → List ℕ → List Float → TimingAnswer
 timingAnswer lanes text out beats₀ =
-    refusedOr
+    refusedOrRows
     (timingNumber lanes text out beats₀)
     (length (timingRows (lanesOf lanes) text))
     (rowCount (lanesOf lanes) text)

@@ -4,7 +4,7 @@ use mathlib.Core.List.{List}
 use Prim.Native.Nat.{ℕ}
 use Rattle.definitions.specs.Tracker.{Pair, holdAt}
 use Rattle.definitions.specs.declared.DepthEffect.{DepthEffect}
-use Rattle.holds.specs.Stacks.{Stepped}
+use Rattle.holds.specs.Stacks.{TrackStepped}
 use Rattle.holds.specs.declared.Tracker.{Tracker}
 use Rattle.holds.proofs.Stacks.{step-nothing, step-blocks}
 use borrow.Author.Needs.{needs}
@@ -39,8 +39,8 @@ popped-requires : tie.Need-popped-requires
 popped-requires c κs = search needs
 
 -- the arm's effect is the byte's
-known : (b : ℕ) {x e : DepthEffect} {row column : ℕ} {t t' : Tracker} {ps : List Pair} → x ≡ holdAt b → x ≡ e → Stepped e row column t t' ps
-    → Stepped (holdAt b) row column t t' ps
+known : (b : ℕ) {x e : DepthEffect} {row column : ℕ} {t t' : Tracker} {ps : List Pair} → x ≡ holdAt b → x ≡ e → TrackStepped e row column t t' ps
+    → TrackStepped (holdAt b) row column t t' ps
 known b p q s = rw (← p, q) s
 
 returns : tie.Need-returns

@@ -5,12 +5,12 @@ use native.Mathlib.Numerals.{add-one}
 use native.Mathlib.Omega.{arith}
 use lib.Dec.{ltb}
 use Rattle.definitions.specs.Lists.{someColumn}
-use Rattle.phantoms.specs.Phantoms.{depthAt}
+use Rattle.phantoms.specs.Phantoms.{phantomAt}
 use Rattle.phantoms.proofs.is_left_over.Statement.{statement}
 use Rattle.phantoms.proofs.is_left_over.Tie as tie
 
 abbrev Inv-loop : tie.InvT-loop
-Inv-loop lanes p left₀ i₀ left i = (i ≤ lanes) × (left ≡ someColumn i (λ c. ltb 0 (depthAt p c)))
+Inv-loop lanes p left₀ i₀ left i = (i ≤ lanes) × (left ≡ someColumn i (λ c. ltb 0 (phantomAt p c)))
 
 abbrev μ-loop : tie.MeasureT-loop
 μ-loop lanes p left₀ i₀ left i = lanes - i
