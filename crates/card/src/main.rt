@@ -5,7 +5,7 @@ use padcheck::padcheck_equally_spaced;
 use padcheck::padcheck_minimize_chart_count_rows_notes;
 use sheet::SheetFigures;
 use sheet::put_sheet;
-use sheet::put_word;
+use sheet::put_text;
 ghost use mathlib.Core.Path.{_≡_};
 ghost use Prim.Native.Nat.{_≤_};
 ghost use lib.ListN.{length};
@@ -101,7 +101,7 @@ fn put_card(data: &[u8], out: &mut [u8]) -> usize
     ensures { λ r. ⌜ Put 0 (card (now («data» .entry))) (now (out .entry)) r (now (out .exit)) ⌝ }
 {
     if data.len() > 4095 {
-        return put_word(out, 0, b"refused 1\n");
+        return put_text(out, 0, b"refused 1\n");
     }
     put_chart(data, out)
 }

@@ -54,7 +54,7 @@ fn put_digits(out: &mut [u8], at: usize, n: u64, most: usize) -> usize
 }
 
 // A word as it stands.
-pub fn put_word(out: &mut [u8], at: usize, word: &[u8]) -> usize
+pub fn put_text(out: &mut [u8], at: usize, word: &[u8]) -> usize
     requires { ⌜ at + length (now word) ≤ length (now out) ⌝ }
     ensures { λ r. ⌜ Put at (now (word .entry)) (now (out .entry)) r (now (out .exit)) ⌝ }
 {
@@ -78,7 +78,7 @@ fn put_figure(out: &mut [u8], at: usize, name: &[u8], n: u64) -> usize
     ensures { λ r. ⌜ Put at (figureLine (now (name .entry)) n) (now (out .entry)) r (now (out .exit)) ⌝ }
     ensures { λ r. ⌜ r ≤ at + length (now (name .entry)) + 21 ⌝ }
 {
-    let next = put_word(out, at, name);
+    let next = put_text(out, at, name);
     put_field(out, next, n, 10)
 }
 
@@ -100,7 +100,7 @@ fn put_measure(out: &mut [u8], at: usize, m: u64, density: u64, spaced: u64) -> 
     ensures { λ r. ⌜ Put at (measureLine m density spaced) (now (out .entry)) r (now (out .exit)) ⌝ }
     ensures { λ r. ⌜ r ≤ at + 65 ⌝ }
 {
-    let p1 = put_word(out, at, b"m ");
+    let p1 = put_text(out, at, b"m ");
     let p2 = put_field(out, p1, m, 32);
     let p3 = put_field(out, p2, density, 32);
     put_field(out, p3, spaced, 10)
@@ -124,32 +124,32 @@ fn put_tail(out: &mut [u8], at: usize, tail: Tail) -> usize
     ensures { λ r. ⌜ r ≤ at + 21 ⌝ }
 {
     match tail {
-        Tail::Without => put_word(out, at, b"-\n"),
+        Tail::Without => put_text(out, at, b"-\n"),
         Tail::Row(row) => put_field(out, at, wide(row), 10),
     }
 }
 
-fn put_note(out: &mut [u8], at: usize, n: Note) -> usize
+fn put_note_line(out: &mut [u8], at: usize, n: Note) -> usize
     requires { ⌜ at + 86 ≤ length (now out) ⌝ }
     ensures { λ r. ⌜ Put at (noteLine n) (now (out .entry)) r (now (out .exit)) ⌝ }
     ensures { λ r. ⌜ r ≤ at + 86 ⌝ }
 {
     let tail = n.tail;
     let kind = n.kind;
-    let p1 = put_word(out, at, b"n ");
+    let p1 = put_text(out, at, b"n ");
     let p2 = put_field(out, p1, wide(n.row), 32);
     let p3 = put_field(out, p2, wide(n.column), 32);
     let p4 = put_field(out, p3, wide_byte(kind_number(kind)), 32);
     put_tail(out, p4, tail)
 }
 
-fn put_record(out: &mut [u8], at: usize, records: &[u8], index: usize) -> usize
+fn put_record_line(out: &mut [u8], at: usize, records: &[u8], index: usize) -> usize
     requires { ⌜ at + 86 ≤ length (now out) ⌝ }
     ensures { λ r. ⌜ Put at (recordLine (readNote (now (records .entry)) index)) (now (out .entry)) r (now (out .exit)) ⌝ }
     ensures { λ r. ⌜ r ≤ at + 86 ⌝ }
 {
     match read_note(records, index) {
-        ReadNote::Found(n) => put_note(out, at, n),
+        ReadNote::Found(n) => put_note_line(out, at, n),
         ReadNote::Refused(_) => at,
     }
 }
@@ -184,7 +184,7 @@ fn put_notes(out: &mut [u8], at: usize, records: &[u8], count: usize) -> usize
     let mut next = at;
     let mut i = 0;
     while i < count {
-        next = put_record(out, next, records, i);
+        next = put_record_line(out, next, records, i);
         i += 1;
     }
     next

@@ -7,11 +7,11 @@ use borrow.Author.Needs.{needs}
 use Rattle.card.proofs.put_card.Statement.{statement}
 use Rattle.card.proofs.put_card.Tie as tie
 
-slice-aggregate-put-word : tie.Need-slice-aggregate-put-word
-slice-aggregate-put-word c = search needs
+slice-aggregate-put-text : tie.Need-slice-aggregate-put-text
+slice-aggregate-put-text c = search needs
 
-put-word-requires : tie.Need-put-word-requires
-put-word-requires c κs = search needs
+put-text-requires : tie.Need-put-text-requires
+put-text-requires c κs = search needs
 
 same-length : tie.Need-same-length
 same-length c = search needs
@@ -22,7 +22,7 @@ returns c =
     let p = c .before .before in
     let t = p .before .before .before in
     let text = now (t .before .before .before .args .«data») in
-    rw (lt-ltb 4095 (length text) (t .if1 .taken)) (p .put-word .ensures)
+    rw (lt-ltb 4095 (length text) (t .if1 .taken)) (p .put-text .ensures)
 
 put-chart-requires : tie.Need-put-chart-requires
 put-chart-requires c κs = search needs
@@ -42,8 +42,8 @@ pub put-card-spec : {M : Type 1} → statement M
 put-card-spec =
     tie.close
     (tie.spec
-    slice-aggregate-put-word
-    put-word-requires
+    slice-aggregate-put-text
+    put-text-requires
     same-length
     returns
     put-chart-requires

@@ -5,8 +5,8 @@ use borrow.Author.Needs.{needs}
 use Rattle.sheet.proofs.put_figure.Statement.{statement}
 use Rattle.sheet.proofs.put_figure.Tie as tie
 
-put-word-requires : tie.Need-put-word-requires
-put-word-requires c κs = search needs
+put-text-requires : tie.Need-put-text-requires
+put-text-requires c κs = search needs
 
 put-field-requires : tie.Need-put-field-requires
 put-field-requires c κs = search needs
@@ -18,9 +18,9 @@ returns : tie.Need-returns
 returns c =
     let q = c .before .before in
     let p = q .before .before .before .before in (
-      put-figure-line (p .before .before .before .before .args .n) (p .put-word .ensures) (q .put-field .ensures .0),
+      put-figure-line (p .before .before .before .before .args .n) (p .put-text .ensures) (q .put-field .ensures .0),
       omega arith,
     )
 
 pub put-figure-spec : {M : Type 1} → statement M
-put-figure-spec = tie.close (tie.spec put-word-requires put-field-requires same-length returns)
+put-figure-spec = tie.close (tie.spec put-text-requires put-field-requires same-length returns)

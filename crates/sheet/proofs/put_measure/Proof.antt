@@ -5,11 +5,11 @@ use borrow.Author.Needs.{needs}
 use Rattle.sheet.proofs.put_measure.Statement.{statement}
 use Rattle.sheet.proofs.put_measure.Tie as tie
 
-slice-aggregate-put-word : tie.Need-slice-aggregate-put-word
-slice-aggregate-put-word c = search needs
+slice-aggregate-put-text : tie.Need-slice-aggregate-put-text
+slice-aggregate-put-text c = search needs
 
-put-word-requires : tie.Need-put-word-requires
-put-word-requires c κs = search needs
+put-text-requires : tie.Need-put-text-requires
+put-text-requires c κs = search needs
 
 put-field-requires : tie.Need-put-field-requires
 put-field-requires c κs = search needs
@@ -30,7 +30,7 @@ returns c =
     let f1 = f2 .before .before .before .before in
     let w = f1 .before .before .before .before in
     let a = w .before .before .before .before .args in (
-      put-measure-line (a .m) (a .density) (a .spaced) (w .put-word .ensures) (f1 .put-field .ensures .0) (f2 .put-field2 .ensures .0) (f3 .put-field3 .ensures .0),
+      put-measure-line (a .m) (a .density) (a .spaced) (w .put-text .ensures) (f1 .put-field .ensures .0) (f2 .put-field2 .ensures .0) (f3 .put-field3 .ensures .0),
       omega arith,
     )
 
@@ -38,8 +38,8 @@ pub put-measure-spec : {M : Type 1} → statement M
 put-measure-spec =
     tie.close
     (tie.spec
-    slice-aggregate-put-word
-    put-word-requires
+    slice-aggregate-put-text
+    put-text-requires
     put-field-requires
     put-field-requires-2
     put-field-requires-3

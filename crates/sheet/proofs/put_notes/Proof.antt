@@ -22,8 +22,8 @@ loop-holds c =
     let a = c .before .before .args in
     (omega arith, refl, omega arith, put-none (a .at) (now (a .out)) (omega arith))
 
-put-record-requires : tie.Need-put-record-requires Inv-loop μ-loop
-put-record-requires c κs = omega arith
+put-record-line-requires : tie.Need-put-record-line-requires Inv-loop μ-loop
+put-record-line-requires c κs = omega arith
 
 add-i : tie.Need-add-i Inv-loop μ-loop
 add-i c = omega arith
@@ -37,9 +37,9 @@ loop-again c =
     let l = p .before .before .before in
     let a = l .before .before .before .args in (
       omega arith,
-      p .put-record .kept .0 ∙ l .loop .inv .1,
+      p .put-record-line .kept .0 ∙ l .loop .inv .1,
       omega arith,
-      put-record-more (now (a .records)) (l .loop .i) (l .loop .inv .3) (p .put-record .ensures .0),
+      put-record-more (now (a .records)) (l .loop .i) (l .loop .inv .3) (p .put-record-line .ensures .0),
     )
 
 same-length : tie.Need-same-length Inv-loop μ-loop
@@ -59,7 +59,7 @@ put-notes-spec =
     Inv-loop
     μ-loop
     loop-holds
-    put-record-requires
+    put-record-line-requires
     add-i
     loop-less
     loop-again

@@ -7,11 +7,11 @@ use Rattle.sheet.proofs.put_tail.Tie as tie
 enum-told : tie.Need-enum-told
 enum-told c = search needs
 
-slice-aggregate-put-word : tie.Need-slice-aggregate-put-word
-slice-aggregate-put-word c = search needs
+slice-aggregate-put-text : tie.Need-slice-aggregate-put-text
+slice-aggregate-put-text c = search needs
 
-put-word-requires : tie.Need-put-word-requires
-put-word-requires c κs = search needs
+put-text-requires : tie.Need-put-text-requires
+put-text-requires c κs = search needs
 
 enum-known-tail : tie.Need-enum-known-tail
 enum-known-tail c = search needs
@@ -28,7 +28,7 @@ same-length c = search needs
 returns : tie.Need-returns
 returns c =
     let w = c .before .before in (
-      rw (w .before .before .before .enum-told .given .1) (w .put-word .ensures),
+      rw (w .before .before .before .enum-told .given .1) (w .put-text .ensures),
       omega arith,
     )
 
@@ -47,8 +47,8 @@ put-tail-spec =
     tie.close
     (tie.spec
     enum-told
-    slice-aggregate-put-word
-    put-word-requires
+    slice-aggregate-put-text
+    put-text-requires
     enum-known-tail
     wide-requires
     put-field-requires

@@ -1,16 +1,16 @@
--- `sheet::put_note` meets its contract, part by part.
+-- `sheet::put_note_line` meets its contract, part by part.
 use mathlib.Core.Path.{_∙_}
 use native.Mathlib.Omega.{arith}
 use Rattle.sheet.proofs.Putting.{put-note-line}
 use borrow.Author.Needs.{needs}
-use Rattle.sheet.proofs.put_note.Statement.{statement}
-use Rattle.sheet.proofs.put_note.Tie as tie
+use Rattle.sheet.proofs.put_note_line.Statement.{statement}
+use Rattle.sheet.proofs.put_note_line.Tie as tie
 
-slice-aggregate-put-word : tie.Need-slice-aggregate-put-word
-slice-aggregate-put-word c = search needs
+slice-aggregate-put-text : tie.Need-slice-aggregate-put-text
+slice-aggregate-put-text c = search needs
 
-put-word-requires : tie.Need-put-word-requires
-put-word-requires c κs = search needs
+put-text-requires : tie.Need-put-text-requires
+put-text-requires c κs = search needs
 
 wide-requires : tie.Need-wide-requires
 wide-requires c κs = search needs
@@ -48,16 +48,16 @@ returns c =
     let w = f1 .before .before .before .before .before in
     let n = w .before .before .before .before .args .n in (
       put-note-line n (f1 .before .wide .ensures) (f2 .before .wide2 .ensures) (f3 .before .wide-byte .ensures ∙ f3 .before .before .kind-number .ensures)
-          (w .put-word .ensures) (f1 .put-field .ensures .0) (f2 .put-field2 .ensures .0) (f3 .put-field3 .ensures .0) (t .put-tail .ensures .0),
+          (w .put-text .ensures) (f1 .put-field .ensures .0) (f2 .put-field2 .ensures .0) (f3 .put-field3 .ensures .0) (t .put-tail .ensures .0),
       omega arith,
     )
 
-pub put-note-spec : {M : Type 1} → statement M
-put-note-spec =
+pub put-note-line-spec : {M : Type 1} → statement M
+put-note-line-spec =
     tie.close
     (tie.spec
-    slice-aggregate-put-word
-    put-word-requires
+    slice-aggregate-put-text
+    put-text-requires
     wide-requires
     put-field-requires
     wide-requires-2

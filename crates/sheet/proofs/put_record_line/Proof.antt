@@ -1,11 +1,11 @@
--- `sheet::put_record` meets its contract: the line of the note that the record gives.
+-- `sheet::put_record_line` meets its contract: the line of the note that the record gives.
 use mathlib.Core.Path.{sym, _∙_}
 use native.Mathlib.Omega.{arith}
 use denote.Ref.{now}
 use Rattle.sheet.proofs.Putting.{put-none}
 use borrow.Author.Needs.{needs}
-use Rattle.sheet.proofs.put_record.Statement.{statement}
-use Rattle.sheet.proofs.put_record.Tie as tie
+use Rattle.sheet.proofs.put_record_line.Statement.{statement}
+use Rattle.sheet.proofs.put_record_line.Tie as tie
 
 read-note-requires : tie.Need-read-note-requires
 read-note-requires c κs = search needs
@@ -13,8 +13,8 @@ read-note-requires c κs = search needs
 enum-known-n : tie.Need-enum-known-n
 enum-known-n c = search needs
 
-put-note-requires : tie.Need-put-note-requires
-put-note-requires c κs = search needs
+put-note-line-requires : tie.Need-put-note-line-requires
+put-note-line-requires c κs = search needs
 
 enum-told : tie.Need-enum-told
 enum-told c = search needs
@@ -26,7 +26,7 @@ returns : tie.Need-returns
 returns c =
     let p = c .before .before in
     let r = p .before .before .before .before .before in (
-      rw (sym (r .read-note .ensures) ∙ p .before .before .before .n .given .1) (p .put-note .ensures .0),
+      rw (sym (r .read-note .ensures) ∙ p .before .before .before .n .given .1) (p .put-note-line .ensures .0),
       omega arith,
     )
 
@@ -38,13 +38,13 @@ returns-2 c =
       omega arith,
     )
 
-pub put-record-spec : {M : Type 1} → statement M
-put-record-spec =
+pub put-record-line-spec : {M : Type 1} → statement M
+put-record-line-spec =
     tie.close
     (tie.spec
     read-note-requires
     enum-known-n
-    put-note-requires
+    put-note-line-requires
     enum-told
     same-length
     returns
