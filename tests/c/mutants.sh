@@ -1,7 +1,8 @@
 #!/bin/sh
 # Shows that the C test notices a wrong header: each number, length and word of padcheck.h is changed alone, and the test must fail.
 # A wrong number must be noticed twice, by the static assertions and, without them, by what the library answers.
-# The library is taken from PADCHECK_LIB_DIR, else from target/staticlib. The last line is 'N passed, M failed'; takes half a minute.
+# Each word of a declaration, here and in the Rust binding, is changed alone too; prototypes.sh must fail.
+# The library is taken from PADCHECK_LIB_DIR, else from target/staticlib. The last line is 'N passed, M failed'; takes a minute.
 set -eu
 cd "$(dirname "$0")/../.."
 . tests/need.sh
@@ -81,6 +82,34 @@ while IFS='|' read -r what command; do
         said yes
     fi
 done <"$out/edits"
+
+# The words of the declarations that begin at a line like this, a sed command for each that changes it.
+words() {
+    awk -v from="$2" '
+        $0 ~ from { on = 1 }
+        on {
+            count = gsub(/[A-Za-z0-9_]+/, "&")
+            for (i = 1; i <= count; i++) print NR "s/[A-Za-z0-9_][A-Za-z0-9_]*/&x/" i
+        }
+        /;$/ { on = 0 }' "$1"
+}
+declarations() {
+    file=$1
+    shift
+    while read -r command; do
+        sed "$command" "$file" >"$out/changed"
+        if sh tests/c/prototypes.sh "$@" >"$out/log" 2>&1; then
+            said no "a declaration of $file: not noticed: $command"
+        else
+            said yes
+        fi
+    done <"$out/edits"
+}
+symbols=bindings/rust/src/symbols.rs
+words "$header" '^uint32_t padcheck_' >"$out/edits"
+declarations "$header" "$out/changed" "$symbols"
+words "$symbols" '^    pub fn ' >"$out/edits"
+declarations "$symbols" "$header" "$out/changed"
 rm -rf "$out"
 echo "$passed passed, $failed failed"
 [ "$failed" = 0 ]
