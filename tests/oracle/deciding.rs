@@ -45,6 +45,8 @@ pub const DIFFERENT: &str = "L133|13M4|3213|1033|L4M2|1413|L21M|1M13|1F4L|,|1030
 pub const TEXTS: &[Deciding] = &[
     flagged("all figures different", DIFFERENT, &[1, 1, 1, 0]),
     // Lines
+    four("cut at byte 10", "1000\r0100|0010|"),
+    four("empty text", ""),
     four("blank 9", "\t1000|"),
     four("blank 10", "|1000|"),
     four("blank 12", "\x0C1000|"),
@@ -65,6 +67,7 @@ pub const TEXTS: &[Deciding] = &[
     four("short line", "100|0100|"),
     four("more than L bytes", "10001|0100|"),
     four("end without semicolon", "1000|,|0100"),
+    four("last measure without rows", "1000|,|"),
     four("measure without rows", "1000|,|,|0100|"),
     // Lanes
     lanes("lanes 5", 5, "00001|"),
@@ -86,8 +89,27 @@ pub const TEXTS: &[Deciding] = &[
         "1000|0000|0000|0000|0000|0000|0000|0000|",
     ),
     four("stride: one row", "0000|"),
+    // Minimised text
+    four("text: byte 10 after a row", "1000|0100"),
+    four("text: comma and byte 10", " , x|1000|"),
+    four("text: no semicolon", "1000|;|"),
+    // Cells
+    flagged("cells: other bytes", "1000|5NHD|0100|5NHD|", &[1, 1, 1, 0]),
+    four("cells: other bytes, counted anew", "2000|5NHD|"),
     // Beats
     four("beat rounded once", ",|,|1000|0100|0010|0001|1000|0100|"),
+    four(
+        "beat: step as a 32-bit float",
+        ",|,|1000|0100|0010|0001|1000|0100|0010|",
+    ),
+    four("beat: tie to even, down", ",|1000|0100|0010|0001|1000|"),
+    four(
+        "beat: tie to even, up",
+        "1000|0100|0010|0001|1000|0100|0010|",
+    ),
+    four("last beat: the last object row", "1000|,|0010|0100|"),
+    four("last beat: 64-bit floats", LAST_WIDE),
+    four("last beat: whole 48ths", "0000|1000|0000|0000|0000|"),
     four("last beat: tie to even, down", LAST_TIE_DOWN),
     four("last beat: tie to even, up", LAST_TIE_UP),
     // Object rows
@@ -132,6 +154,7 @@ pub const TEXTS: &[Deciding] = &[
     four("tracker: a 4", "4000|3000|0002|"),
     four("tracker: a ninth head", NINTH),
     four("tracker: an eighth head", EIGHTH),
+    four("tracker: per column", "2000|0200|3000|0300|"),
     // Typed notes
     four("notes: K touches none", "2000|K000|3000|0000|"),
     four("notes: 2 drops", "2000|2000|3000|"),
@@ -140,6 +163,11 @@ pub const TEXTS: &[Deciding] = &[
     four("notes: a tail alone", "3000|1000|0100|"),
     four("notes: a tail twice", "2000|3000|3000|"),
     four("notes: rising column", "1M24|0033|LF00|"),
+    four("notes: per column", "2000|0200|3000|0300|"),
+    four("record: rows through the chart", "1000|0000|,|0100|"),
+    four("record: low byte first", LOW_FIRST),
+    four("record: column and kind", "1M24|0033|LF00|"),
+    four("record: no tail", "1000|"),
     // Tallies
     four("tally: jump", "1100|0010|"),
     four("tally: hand of three", "1110|1100|"),
@@ -159,6 +187,8 @@ pub const TEXTS: &[Deciding] = &[
     ),
     four("tally: a tail takes off one held", "2200|3000|0011|0300|"),
     lanes("tally: five columns", 5, "11111|00001|"),
+    lanes("tally: eight columns", 8, "00001111|"),
+    lanes("tally: ten columns", 10, "0000111111|"),
     lanes("tally: slow path", 5, "2000M|01100|30000|"),
     // Correction
     four("correction: if there is a head", "3000|100\r|"),
@@ -178,6 +208,8 @@ pub const TEXTS: &[Deciding] = &[
     four("correction: depth not below 0", "3000|2000|1000|"),
     four("correction: K resets no depth", "2000|K000|1000|3000|"),
     four("correction: m resets no depth", "2000|m000|1000|3000|"),
+    four("correction: l resets no depth", "2000|l000|1000|3000|"),
+    four("correction: f resets no depth", "2000|f000|1000|3000|"),
     four("correction: keeps the steps", "2000|0300|0010|"),
     four("correction: none", "2000|3000|100\r|"),
     // Rows read back
@@ -188,9 +220,11 @@ pub const TEXTS: &[Deciding] = &[
     four("read back: comma and semicolon", ",1000|;0100|0010|"),
     four("read back: goes on after a semicolon", ";|1000|"),
     four("read back: short line", "100|"),
+    four("read back: first L bytes", "10001|0100|"),
     // Judged tallies
     four("judged: L and l", "L000|0l00|"),
     four("judged: jump of lifts", "Ll00|"),
+    four("judged: a mine is no step", "M000|F000|1000|"),
     four("judged: heads unpaired", "2100|"),
     four("judged: 1 in a hold", "2000|1000|3000|"),
     four("judged: L in a hold", "2000|L000|3000|"),
@@ -204,6 +238,7 @@ pub const TEXTS: &[Deciding] = &[
     four("judged: the tail's row", "2200|3310|"),
     four("judged: after the tail's row", "2200|3300|1000|"),
     four("judged: a tail alone", "3000|2200|0010|3300|"),
+    four("judged: holding stays 0", "2000|3000|"),
     // Flags
     flagged("flags: 0 unjudged", "1000|0100|", &[0, 1]),
     flagged("flags: 2 judged", "1000|0100|", &[2, 255]),
@@ -224,6 +259,7 @@ pub const TEXTS: &[Deciding] = &[
     four("timing: a 4", "4000|3000|"),
     four("timing: no head", "1000|3000|M00K|"),
     four("timing: head in an earlier measure", "2000|,|1000|"),
+    four("timing: back to back", "1000|0100|"),
 ];
 
 macro_rules! eight_zeros {
@@ -257,6 +293,26 @@ macro_rules! zeros_124 {
 /// 128 rows with a tap on the fourth, at 4 and a half 48ths, and on the second, at 1 and a half.
 const LAST_TIE_DOWN: &str = concat!("0000|0000|0000|1000|", zeros_124!());
 const LAST_TIE_UP: &str = concat!("0000|1000|0000|0000|", zeros_124!());
+
+macro_rules! eight {
+    ($($text:tt)*) => {
+        concat!(
+            $($text)*, $($text)*, $($text)*, $($text)*, $($text)*, $($text)*, $($text)*, $($text)*
+        )
+    };
+}
+
+/// 1,024 measures without rows, then one of 129 rows with a tap on the second.
+const LAST_WIDE: &str = concat!(
+    eight!(eight!(eight!(",|"))),
+    eight!(eight!(eight!(",|"))),
+    "0000|1000|",
+    zeros_124!(),
+    "0000|0000|0000|"
+);
+
+/// 256 rows that are all zero, then a hold whose rows take more than a byte.
+const LOW_FIRST: &str = concat!(zeros_124!(), zeros_124!(), eight_zeros!(), "0200|0300|");
 
 /// Nine and eight heads in a column, each with its tail; the last one beside a tap.
 const NINTH: &str =
