@@ -75,7 +75,17 @@ pub(crate) fn count(figures: &Figures, place: usize) -> usize {
 
 #[cfg(test)]
 mod tests {
+    use super::place::*;
     use super::*;
+
+    #[test]
+    fn places_are_those_of_the_header() {
+        let texts = [TEXT_BYTES, MEASURES, ROWS, NOTES];
+        assert_eq!(texts, [0, 1, 2, 3]);
+        let beats = [LAST_BEAT, HAS_HEADS, LAST_BEAT_48THS];
+        assert_eq!(beats, [4, 5, 6]);
+        assert_eq!(TALLY, 8);
+    }
 
     #[test]
     fn each_field_is_read_from_its_place() {
