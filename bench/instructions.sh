@@ -94,7 +94,7 @@ compare() {
         }' "$1" "$counts/measured"
 }
 if ! compare "$stored"; then
-    echo "instructions.sh: a call takes more than it did; look at what the compiler writes into its loops (docs/SPEED.md)"
+    echo "instructions.sh: a call takes more than it did, or is stored or counted alone; look at what the compiler writes into its loops (docs/SPEED.md)"
     exit 1
 fi
 passed=$number
