@@ -11,6 +11,7 @@ ghost use lib.ListN.{length};
 ghost use Rattle.definitions.specs.Sizes.{measuresBound, mostBytes, rowsBound};
 ghost use Rattle.definitions.specs.Lanes.{mostRows};
 ghost use Rattle.definitions.specs.Lines.{Row};
+ghost use Rattle.taps.specs.Taps.{wideRow, TapCounts};
 ghost use Rattle.definitions.specs.Reduction.{reduce};
 ghost use Rattle.chart_pass.specs.ChartPass.{Charted, SomeCharted, ChartEnded, ChartAll};
 
@@ -48,8 +49,9 @@ fn end_measure(
     beats: &mut [f32],
     slots: &mut [u8],
     lanes: usize,
+    counts: &[u16; 256],
 ) -> ChartPass
-    requires { ⌜ (0 < lanes) × (lanes ≤ 10) × (p .pass .out ≤ length (now text)) × SomeCharted lanes p (now text) (now densities) (now beats) (now slots) ⌝ }
+    requires { ⌜ (0 < lanes) × (lanes ≤ 10) × (p .pass .out ≤ length (now text)) × SomeCharted lanes p (now text) (now densities) (now beats) (now slots) × TapCounts (wideRow lanes) (now counts) ⌝ }
     requires { ⌜ (p .pass .midx < length (now densities)) × (p .pass .midx ≤ measuresBound) × (p .pass .counting .rows + p .pass .rows < rowsBound) ⌝ }
     requires { ⌜ (p .pass .counting .rows + p .pass .rows ≤ length (now beats)) × ((p .pass .counting .rows + p .pass .rows) * lanes * 10 ≤ length (now slots)) ⌝ }
     ensures { λ r. ⌜ ((done : List (List Row)) (cur : List Row) → Charted lanes p (now (text .entry)) (now (densities .entry)) (now (beats .entry)) (now (slots .entry)) done cur → ChartEnded lanes r (now (text .exit)) (now (densities .exit)) (now (beats .exit)) (now (slots .exit)) done (reduce cur)) ⌝ }
@@ -63,7 +65,7 @@ fn end_measure(
     let midx = p.pass.midx;
     let kept = reduction::reduce_output_measure(text, start, rows, lanes);
     beats::append_row_beats(beats, before as usize, midx as u32, kept as u32);
-    let w = measure_walk::walk_rows(counting, old, text, start, kept, lanes, slots);
+    let w = measure_walk::walk_rows(counting, old, text, start, kept, lanes, slots, counts);
     let counted = w.counting;
     let noting = w.noting;
     densities[midx] = measure_tally::density(counted);
@@ -85,17 +87,58 @@ fn chart_comma(
     beats: &mut [f32],
     slots: &mut [u8],
     lanes: usize,
+    counts: &[u16; 256],
 ) -> ChartPass
-    requires { ⌜ (0 < lanes) × (lanes ≤ 10) × (p .pass .out + 2 ≤ length (now text)) × SomeCharted lanes p (now text) (now densities) (now beats) (now slots) ⌝ }
+    requires { ⌜ (0 < lanes) × (lanes ≤ 10) × (p .pass .out + 2 ≤ length (now text)) × SomeCharted lanes p (now text) (now densities) (now beats) (now slots) × TapCounts (wideRow lanes) (now counts) ⌝ }
     requires { ⌜ (p .pass .midx < length (now densities)) × (p .pass .midx ≤ measuresBound) × (p .pass .counting .rows + p .pass .rows < rowsBound) ⌝ }
     requires { ⌜ (p .pass .counting .rows + p .pass .rows ≤ length (now beats)) × ((p .pass .counting .rows + p .pass .rows) * lanes * 10 ≤ length (now slots)) ⌝ }
     ensures { λ r. ⌜ ((done : List (List Row)) (cur : List Row) → Charted lanes p (now (text .entry)) (now (densities .entry)) (now (beats .entry)) (now (slots .entry)) done cur → Charted lanes r (now (text .exit)) (now (densities .exit)) (now (beats .exit)) (now (slots .exit)) (done ++ (reduce cur ∷ [])) []) ⌝ }
     ensures { λ r. ⌜ r .pass .out ≤ p .pass .out + 2 ⌝ }
 {
-    let e = end_measure(p, text, densities, beats, slots, lanes);
+    let e = end_measure(p, text, densities, beats, slots, lanes, counts);
     let noting = e.noting;
     let pass = kept_pass::begin_measure(e.pass, text);
     ChartPass { pass, noting }
+}
+
+// The lines of a whole text, and the end of its last measure. The table of the tap masks is lent.
+fn read_lines(
+    data: &[u8],
+    lanes: usize,
+    text: &mut [u8],
+    densities: &mut [u32],
+    beats: &mut [f32],
+    slots: &mut [u8],
+    counts: &[u16; 256],
+) -> ChartPass
+    requires { ⌜ (4 ≤ lanes) × (lanes ≤ 10) × (length (now «data») ≤ mostBytes) ⌝ }
+    requires { ⌜ (length (now «data») + 1 ≤ length (now text)) × ((length (now «data») + 1) / 2 + 1 ≤ length (now densities)) × (mostRows lanes (length (now «data»)) ≤ length (now beats)) × (10 * lanes * mostRows lanes (length (now «data»)) ≤ length (now slots)) × TapCounts (wideRow lanes) (now counts) ⌝ }
+    ensures { λ r. ⌜ ChartAll lanes (now («data» .entry)) r (now (text .exit)) (now (densities .exit)) (now (beats .exit)) (now (slots .exit)) ⌝ }
+{
+    let width = reader::line_width(data, lanes);
+    let mut off = 0;
+    let mut p = no_chart();
+    while off <= data.len() {
+        let line = reader::read_line(data, off, lanes, width);
+        let kind = line.kind;
+        let start = line.start;
+        let next = line.next;
+        match kind {
+            LineKind::Passed => {}
+            LineKind::Comma => {
+                p = chart_comma(p, text, densities, beats, slots, lanes, counts);
+            }
+            LineKind::Semi => {
+                break;
+            }
+            LineKind::Row => {
+                let end = start + lanes;
+                p = chart_row(p, text, &data[start..end]);
+            }
+        }
+        off = next;
+    }
+    end_measure(p, text, densities, beats, slots, lanes, counts)
 }
 
 // The whole text, its last measure too.
@@ -111,28 +154,6 @@ pub fn read_chart(
     requires { ⌜ (length (now «data») + 1 ≤ length (now text)) × ((length (now «data») + 1) / 2 + 1 ≤ length (now densities)) × (mostRows lanes (length (now «data»)) ≤ length (now beats)) × (10 * lanes * mostRows lanes (length (now «data»)) ≤ length (now slots)) ⌝ }
     ensures { λ r. ⌜ ChartAll lanes (now («data» .entry)) r (now (text .exit)) (now (densities .exit)) (now (beats .exit)) (now (slots .exit)) ⌝ }
 {
-    let width = reader::line_width(data, lanes);
-    let mut off = 0;
-    let mut p = no_chart();
-    while off <= data.len() {
-        let line = reader::read_line(data, off, lanes, width);
-        let kind = line.kind;
-        let start = line.start;
-        let next = line.next;
-        match kind {
-            LineKind::Passed => {}
-            LineKind::Comma => {
-                p = chart_comma(p, text, densities, beats, slots, lanes);
-            }
-            LineKind::Semi => {
-                break;
-            }
-            LineKind::Row => {
-                let end = start + lanes;
-                p = chart_row(p, text, &data[start..end]);
-            }
-        }
-        off = next;
-    }
-    end_measure(p, text, densities, beats, slots, lanes)
+    let counts = taps::tap_mask_counts(lanes);
+    read_lines(data, lanes, text, densities, beats, slots, &counts)
 }

@@ -10,7 +10,7 @@ ghost use Rattle.definitions.specs.Tally.{rowSum, addRow, tally};
 ghost use mathlib.Core.List.{List};
 ghost use Rattle.definitions.specs.Lines.{Row};
 ghost use Rattle.definitions.specs.Correction.{pairedOnly, corrected};
-ghost use Rattle.taps.specs.Taps.{TapCounts};
+ghost use Rattle.taps.specs.Taps.{wideRow, TapCounts};
 ghost use Rattle.row_tally.specs.Bounds.{Below};
 ghost use Rattle.row_tally.specs.Kept.{keepMask};
 ghost use Rattle.phantoms.specs.Phantoms.{Counts};
@@ -48,7 +48,7 @@ fn mark_heads(text: &[u8], lanes: usize, trim: bool, work: &mut [u16])
 
 // The tally with one row more, of which only the heads of a mask count: a row of taps alone by the table, and an all-zero row adds nothing.
 fn count_row(t: ArrowStats, row: &[u8], heads: u16, counts: &[u16; 256]) -> ArrowStats
-    requires { ⌜ (length (now row) ≤ 10) × TapCounts (now counts) × Below countBound t ⌝ }
+    requires { ⌜ (length (now row) ≤ 10) × TapCounts (wideRow (length (now row))) (now counts) × Below countBound t ⌝ }
     ensures { λ r. ⌜ r ≡ addRow t (rowSum (keepMask heads 0 (now (row .entry)))) ⌝ }
 {
     match taps::tap_line_mask(row) {
@@ -69,7 +69,7 @@ fn count_kept(text: &[u8], lanes: usize, trim: bool, work: &[u16]) -> ArrowStats
     ensures { λ r. ⌜ r ≡ tally (pairedOnly (rowsBack trim lanes (now (text .entry)))) ⌝ }
 {
     let width = reader::back::back_width(text, lanes, trim);
-    let counts = taps::tap_mask_counts();
+    let counts = taps::tap_mask_counts(lanes);
     let mut stats = row_tally::no_stats();
     let mut off = 0;
     let mut i = 0;

@@ -6,8 +6,7 @@ use Prim.Native.Nat.{ℕ, _+_, _*_, _-_, _/_, _%_, _^_, _≤_, _<_}
 use native.Mathlib.Nat.{zero-add, add-zero, sub-zero, le-trans, mul-le-mul-right}
 use native.Mathlib.Omega.{arith}
 use lib.Dec.{eqb}
-use lib.ListN.{length, getD, take, drop, length-append, length-drop}
-use lib.Seq.{length-take-le}
+use lib.ListN.{length, getD, take, drop, length-append}
 use lib.Pow.{field, mod-mod-pow}
 use Rattle.definitions.specs.Lists.{oneIf}
 use Rattle.definitions.specs.Lanes.{mostRows}
@@ -37,10 +36,6 @@ use Rattle.row_tally.proofs.Rows.{judge-snoc}
 use Rattle.judged.specs.declared.TimingStats.{TimingStats}
 use Rattle.judged.specs.Timing.{headsOf, endsOf, isJudged, timingSum, newHolds, noTiming, timingRow, timingTaps, WorkEntries}
 use Rattle.reader.proofs.BackRows.{rows-short, bytesAt, bytes-are, row-room, row-wide, row-here, row-inside}
-
--- a row within the text has all its bytes
-pub bytes-long : (L : ℕ) (text : List ℕ) (off : ℕ) → off + L ≤ length text → length (bytesAt L text off) ≡ L
-bytes-long L text off h = ap length (bytes-are L text off) ∙ length-take-le L (drop off text) (omega (arith, length-drop off text))
 
 -- J says which rows are judged.
 pub record Tallying (J : ℕ → Bool) (L : ℕ) (text : List ℕ) (off row : ℕ) (t : TimingStats) : Type 0 where

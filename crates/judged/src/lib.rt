@@ -109,7 +109,7 @@ fn process_timing_taps(
     entry: u16,
     counts: &[u16; 256],
 ) -> TimingStats
-    requires { ⌜ TapCounts (now counts) × Below countBound (t .stats) × (t .active ≤ countBound) × Fits wide mask ⌝ }
+    requires { ⌜ TapCounts wide (now counts) × Below countBound (t .stats) × (t .active ≤ countBound) × Fits wide mask ⌝ }
     ensures { λ r. ⌜ ((row : Row) → tapLineMask row ≡ Mask mask → r ≡ timingTaps t entry row) ⌝ }
 {
     let judged = entry / 16384 == 1;
@@ -128,7 +128,7 @@ fn tally_timing_rows(data: &[u8], lanes: usize, work: &[u16]) -> ArrowStats
     ensures { λ r. ⌜ ((J : ℕ → Bool) → WorkEntries J (readBack lanes (now («data» .entry))) (now (work .entry)) → r ≡ judgedRows lanes J (readBack lanes (now («data» .entry)))) ⌝ }
 {
     let width = reader::back::back_width(data, lanes, true);
-    let counts = taps::tap_mask_counts();
+    let counts = taps::tap_mask_counts(lanes);
     let mut t = no_timing();
     let mut off = 0;
     let mut row = 0;

@@ -14,7 +14,7 @@ ghost use Rattle.definitions.specs.Tally.{noStats};
 ghost use Rattle.definitions.specs.ReadBack.{readBack};
 ghost use Rattle.definitions.specs.Judged.{judgedSum};
 ghost use Rattle.definitions.specs.Lines.{Row};
-ghost use Rattle.taps.specs.Taps.{FreeTaps, Fits, TapCounts};
+ghost use Rattle.taps.specs.Taps.{FreeTaps, wideRow, Fits, TapCounts};
 ghost use Rattle.row_tally.specs.Bounds.{Below};
 ghost use Rattle.judged_pass.specs.Clean.{cleanAnswer};
 ghost use Rattle.judged_pass.specs.JudgedPass.{CellPassed, CellsPassed, openHeads, Ready, RowPassed};
@@ -154,7 +154,7 @@ fn count_cells(t: CleanRows, row: &[u8]) -> CleanRows
 
 // One row more of taps alone, none in a column with an open head: it leaves the depths as they are.
 fn count_taps(t: CleanRows, mask: u16, wide: bool, counts: &[u16; 256]) -> CleanRows
-    requires { ⌜ TapCounts (now counts) × Ready t × Below countBound (t .stats) × Fits wide mask ⌝ }
+    requires { ⌜ TapCounts wide (now counts) × Ready t × Below countBound (t .stats) × Fits wide mask ⌝ }
     ensures { λ r. ⌜ ((row : Row) → FreeTaps (t .busy) mask row → RowPassed row t r) ⌝ }
 {
     let old = t.stats;
@@ -166,7 +166,7 @@ fn count_taps(t: CleanRows, mask: u16, wide: bool, counts: &[u16; 256]) -> Clean
 
 // One row more.
 fn count_row(t: CleanRows, row: &[u8], counts: &[u16; 256]) -> CleanRows
-    requires { ⌜ (length (now row) ≤ 10) × TapCounts (now counts) × Ready t × Below countBound (t .stats) ⌝ }
+    requires { ⌜ (length (now row) ≤ 10) × TapCounts (wideRow (length (now row))) (now counts) × Ready t × Below countBound (t .stats) ⌝ }
     ensures { λ r. ⌜ RowPassed (now (row .entry)) t r ⌝ }
 {
     match taps::free_taps(row, t.busy) {
@@ -180,7 +180,7 @@ pub fn judge_clean(data: &[u8], lanes: usize) -> CleanTally
     requires { ⌜ (length (now «data») ≤ mostBytes) × (4 ≤ lanes) × (lanes ≤ 10) ⌝ }
     ensures { λ r. ⌜ r ≡ cleanAnswer lanes (readBack lanes (now («data» .entry))) ⌝ }
 {
-    let counts = taps::tap_mask_counts();
+    let counts = taps::tap_mask_counts(lanes);
     let mut t = no_rows();
     let width = reader::back::back_width(data, lanes, true);
     let mut off = 0;

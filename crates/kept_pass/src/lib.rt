@@ -9,6 +9,7 @@ ghost use lib.ListN.{length};
 ghost use Rattle.definitions.specs.Sizes.{measuresBound, mostBytes, rowsBound};
 ghost use Rattle.definitions.specs.Lines.{Row};
 ghost use Rattle.definitions.specs.Reduction.{reduce};
+ghost use Rattle.taps.specs.Taps.{wideRow, TapCounts};
 ghost use Rattle.kept_pass.specs.KeptPass.{Open, Closed, SomeOpen, Kept, MeasureEnded, KeptAll};
 
 // What is counted so far, where the open measure begins, how many bytes are written, and the open measure's rows and number.
@@ -52,8 +53,8 @@ pub fn pass_row(p: KeptPass, text: &mut [u8], row: &[u8]) -> KeptPass
 }
 
 // The open measure's rows minimised in place and counted.
-fn end_rows(p: KeptPass, text: &mut [u8], lanes: usize) -> KeptPass
-    requires { ⌜ (0 < lanes) × (lanes ≤ 10) × (p .out ≤ length (now text)) × (p .counting .rows + p .rows < rowsBound) × SomeOpen lanes p (now text) ⌝ }
+fn end_rows(p: KeptPass, text: &mut [u8], lanes: usize, counts: &[u16; 256]) -> KeptPass
+    requires { ⌜ (0 < lanes) × (lanes ≤ 10) × (p .out ≤ length (now text)) × (p .counting .rows + p .rows < rowsBound) × SomeOpen lanes p (now text) × TapCounts (wideRow lanes) (now counts) ⌝ }
     ensures { λ r. ⌜ ((done : List (List Row)) (cur : List Row) → Open lanes p (now (text .entry)) done cur → Closed lanes r (now (text .exit)) done (reduce cur)) ⌝ }
     ensures { λ r. ⌜ (r .out ≤ p .out) × (r .midx ≡ p .midx) ⌝ }
 {
@@ -61,7 +62,7 @@ fn end_rows(p: KeptPass, text: &mut [u8], lanes: usize) -> KeptPass
     let start = p.start;
     let rows = p.rows;
     let kept = reduction::reduce_output_measure(text, start, rows, lanes);
-    let counted = measure_tally::count_rows(counting, text, start, kept, lanes);
+    let counted = measure_tally::count_rows(counting, text, start, kept, lanes, counts);
     KeptPass {
         counting: counted,
         start,
@@ -72,13 +73,19 @@ fn end_rows(p: KeptPass, text: &mut [u8], lanes: usize) -> KeptPass
 }
 
 // The open measure ends: its rows are minimised and counted, and its density is stored.
-pub fn end_measure(p: KeptPass, text: &mut [u8], densities: &mut [u32], lanes: usize) -> KeptPass
-    requires { ⌜ (0 < lanes) × (lanes ≤ 10) × (p .out ≤ length (now text)) × (p .counting .rows + p .rows < rowsBound) × SomeOpen lanes p (now text) ⌝ }
+pub fn end_measure(
+    p: KeptPass,
+    text: &mut [u8],
+    densities: &mut [u32],
+    lanes: usize,
+    counts: &[u16; 256],
+) -> KeptPass
+    requires { ⌜ (0 < lanes) × (lanes ≤ 10) × (p .out ≤ length (now text)) × (p .counting .rows + p .rows < rowsBound) × SomeOpen lanes p (now text) × TapCounts (wideRow lanes) (now counts) ⌝ }
     requires { ⌜ p .midx < length (now densities) ⌝ }
     ensures { λ r. ⌜ ((done : List (List Row)) (cur : List Row) → Kept lanes p (now (text .entry)) (now (densities .entry)) done cur → MeasureEnded lanes r (now (text .exit)) (now (densities .exit)) done (reduce cur)) ⌝ }
     ensures { λ r. ⌜ (r .out ≤ p .out) × (r .midx ≡ p .midx) ⌝ }
 {
-    let e = end_rows(p, text, lanes);
+    let e = end_rows(p, text, lanes, counts);
     let m = e.midx;
     densities[m] = measure_tally::density(e.counting);
     e
@@ -104,20 +111,32 @@ pub fn begin_measure(e: KeptPass, text: &mut [u8]) -> KeptPass
 }
 
 // The open measure ends with a `,` line.
-fn pass_comma(p: KeptPass, text: &mut [u8], densities: &mut [u32], lanes: usize) -> KeptPass
-    requires { ⌜ (0 < lanes) × (lanes ≤ 10) × (p .out + 2 ≤ length (now text)) × (p .counting .rows + p .rows < rowsBound) × SomeOpen lanes p (now text) ⌝ }
+fn pass_comma(
+    p: KeptPass,
+    text: &mut [u8],
+    densities: &mut [u32],
+    lanes: usize,
+    counts: &[u16; 256],
+) -> KeptPass
+    requires { ⌜ (0 < lanes) × (lanes ≤ 10) × (p .out + 2 ≤ length (now text)) × (p .counting .rows + p .rows < rowsBound) × SomeOpen lanes p (now text) × TapCounts (wideRow lanes) (now counts) ⌝ }
     requires { ⌜ (p .midx < length (now densities)) × (p .midx ≤ measuresBound) ⌝ }
     ensures { λ r. ⌜ ((done : List (List Row)) (cur : List Row) → Kept lanes p (now (text .entry)) (now (densities .entry)) done cur → Kept lanes r (now (text .exit)) (now (densities .exit)) (done ++ (reduce cur ∷ [])) []) ⌝ }
     ensures { λ r. ⌜ (r .out ≤ p .out + 2) × (r .midx ≡ p .midx + 1) ⌝ }
 {
-    let e = end_measure(p, text, densities, lanes);
+    let e = end_measure(p, text, densities, lanes, counts);
     begin_measure(e, text)
 }
 
-// The whole text: what is counted in the end, and how much is written; the last measure's density is stored too.
-pub fn keep_chart(data: &[u8], lanes: usize, text: &mut [u8], densities: &mut [u32]) -> KeptPass
+// The lines of a whole text, and the end of its last measure. The table of the tap masks is lent.
+fn keep_lines(
+    data: &[u8],
+    lanes: usize,
+    text: &mut [u8],
+    densities: &mut [u32],
+    counts: &[u16; 256],
+) -> KeptPass
     requires { ⌜ (4 ≤ lanes) × (lanes ≤ 10) × (length (now «data») ≤ mostBytes) ⌝ }
-    requires { ⌜ (length (now «data») + 1 ≤ length (now text)) × ((length (now «data») + 1) / 2 + 1 ≤ length (now densities)) ⌝ }
+    requires { ⌜ (length (now «data») + 1 ≤ length (now text)) × ((length (now «data») + 1) / 2 + 1 ≤ length (now densities)) × TapCounts (wideRow lanes) (now counts) ⌝ }
     ensures { λ r. ⌜ KeptAll lanes (now («data» .entry)) r (now (text .exit)) (now (densities .exit)) ⌝ }
 {
     let width = reader::line_width(data, lanes);
@@ -131,7 +150,7 @@ pub fn keep_chart(data: &[u8], lanes: usize, text: &mut [u8], densities: &mut [u
         match kind {
             LineKind::Passed => {}
             LineKind::Comma => {
-                p = pass_comma(p, text, densities, lanes);
+                p = pass_comma(p, text, densities, lanes, counts);
             }
             LineKind::Semi => {
                 break;
@@ -143,5 +162,15 @@ pub fn keep_chart(data: &[u8], lanes: usize, text: &mut [u8], densities: &mut [u
         }
         off = next;
     }
-    end_measure(p, text, densities, lanes)
+    end_measure(p, text, densities, lanes, counts)
+}
+
+// The whole text: what is counted in the end, and how much is written; the last measure's density is stored too.
+pub fn keep_chart(data: &[u8], lanes: usize, text: &mut [u8], densities: &mut [u32]) -> KeptPass
+    requires { ⌜ (4 ≤ lanes) × (lanes ≤ 10) × (length (now «data») ≤ mostBytes) ⌝ }
+    requires { ⌜ (length (now «data») + 1 ≤ length (now text)) × ((length (now «data») + 1) / 2 + 1 ≤ length (now densities)) ⌝ }
+    ensures { λ r. ⌜ KeptAll lanes (now («data» .entry)) r (now (text .exit)) (now (densities .exit)) ⌝ }
+{
+    let counts = taps::tap_mask_counts(lanes);
+    keep_lines(data, lanes, text, densities, &counts)
 }

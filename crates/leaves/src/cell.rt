@@ -105,7 +105,7 @@ pub extern "C" fn leaves_tap_mask8(row: &[u8]) -> u32
 pub extern "C" fn leaves_tap_sum(mask: u8, sum: &mut [u32; 11])
     ensures { λ _. ⌜ now (sum .exit) ≡ sumNumbers (unpack (maskCounts mask)) ⌝ }
 {
-    let counts = taps::tap_mask_counts();
+    let counts = taps::tap_mask_counts(8);
     let s = taps::tap_sum(mask as u16, false, &counts);
     *sum = [
         s.arrows,

@@ -10,7 +10,7 @@ ghost use lib.ListN.{length, take, drop};
 ghost use Rattle.definitions.specs.Sizes.{rowsBound};
 ghost use Rattle.definitions.specs.Lines.{Row};
 ghost use Rattle.definitions.specs.Figures.{density as densityOf};
-ghost use Rattle.taps.specs.Taps.{FreeTaps, Fits, TapCounts};
+ghost use Rattle.taps.specs.Taps.{FreeTaps, wideRow, Fits, TapCounts};
 ghost use Rattle.reduction.specs.Rows.{rowsAt};
 ghost use Rattle.measure_tally.specs.Counted.{Few, Counted, SomeCounted};
 
@@ -40,7 +40,7 @@ pub fn no_counting() -> Counting
 
 // One row of taps more, all in columns of the phantom depth 0: it leaves the depths, and no turn of a loop branches on its cells.
 pub fn count_taps(c: Counting, mask: u16, wide: bool, counts: &[u16; 256]) -> Counting
-    requires { ⌜ (c .rows < rowsBound) × Few c × TapCounts (now counts) × Fits wide mask ⌝ }
+    requires { ⌜ (c .rows < rowsBound) × Few c × TapCounts wide (now counts) × Fits wide mask ⌝ }
     ensures { λ r. ⌜ ((row : Row) → FreeTaps (c .busy) mask row → (L : ℕ) (done : List (List Row)) (cur : List Row) → length row ≤ L → L ≤ 10 → Counted L c done cur → Counted L r done (cur ++ (row ∷ []))) ⌝ }
 {
     let stats = row_tally::count_taps(c.stats, mask, wide, counts);
@@ -156,7 +156,7 @@ fn count_ordinary(
     lanes: usize,
     counts: &[u16; 256],
 ) -> CountedTo
-    requires { ⌜ (lanes ≤ 10) × (start + rows * (lanes + 1) ≤ length (now text)) × (first ≤ rows) × TapCounts (now counts) ⌝ }
+    requires { ⌜ (lanes ≤ 10) × (start + rows * (lanes + 1) ≤ length (now text)) × (first ≤ rows) × TapCounts (wideRow lanes) (now counts) ⌝ }
     requires { ⌜ (old .rows + (rows - first) < rowsBound) × SomeCounted lanes old (take first (rowsAt (lanes + 1) lanes rows (drop start (now text)))) ⌝ }
     ensures { λ r. ⌜ (first ≤ r .row) × (r .row ≤ rows) ⌝ }
     ensures { λ r. ⌜ ((done : List (List Row)) → Counted lanes old done (take first (rowsAt (lanes + 1) lanes rows (drop start (now (text .entry))))) → Counted lanes (r .counting) done (take (r .row) (rowsAt (lanes + 1) lanes rows (drop start (now (text .entry)))))) ⌝ }
@@ -185,16 +185,22 @@ fn count_ordinary(
 }
 
 // The rows of a measure that stand in a text from `start` on, each with a newline byte after it.
-pub fn count_rows(old: Counting, text: &[u8], start: usize, rows: usize, lanes: usize) -> Counting
-    requires { ⌜ (0 < lanes) × (lanes ≤ 10) × (start + rows * (lanes + 1) ≤ length (now text)) ⌝ }
+pub fn count_rows(
+    old: Counting,
+    text: &[u8],
+    start: usize,
+    rows: usize,
+    lanes: usize,
+    counts: &[u16; 256],
+) -> Counting
+    requires { ⌜ (0 < lanes) × (lanes ≤ 10) × (start + rows * (lanes + 1) ≤ length (now text)) × TapCounts (wideRow lanes) (now counts) ⌝ }
     requires { ⌜ (old .rows + rows < rowsBound) × SomeCounted lanes old [] ⌝ }
     ensures { λ r. ⌜ ((done : List (List Row)) → Counted lanes old done [] → Counted lanes r done (rowsAt (lanes + 1) lanes rows (drop start (now (text .entry))))) ⌝ }
 {
-    let counts = taps::tap_mask_counts();
     let mut c = old;
     let mut i = 0;
     loop {
-        let t = count_ordinary(c, text, start, i, rows, lanes, &counts);
+        let t = count_ordinary(c, text, start, i, rows, lanes, counts);
         let k = t.row;
         let counted = t.counting;
         if rows <= k {

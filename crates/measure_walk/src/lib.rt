@@ -7,6 +7,7 @@ ghost use Prim.Native.Nat.{_+_, _*_, _≤_, _<_};
 ghost use lib.ListN.{length, drop};
 ghost use Rattle.definitions.specs.Lines.{Row};
 ghost use Rattle.reduction.specs.Rows.{rowsAt};
+ghost use Rattle.taps.specs.Taps.{wideRow, TapCounts};
 ghost use Rattle.measure_tally.specs.Counted.{Counted};
 ghost use Rattle.measure_notes.specs.Noted.{Noted};
 ghost use Rattle.tap_walk.specs.Walked.{Walking};
@@ -20,13 +21,13 @@ pub fn walk_rows(
     rows: usize,
     lanes: usize,
     slots: &mut [u8],
+    counts: &[u16; 256],
 ) -> Walk
-    requires { ⌜ (0 < lanes) × (lanes ≤ 10) × (start + rows * (lanes + 1) ≤ length (now text)) ⌝ }
+    requires { ⌜ (0 < lanes) × (lanes ≤ 10) × (start + rows * (lanes + 1) ≤ length (now text)) × TapCounts (wideRow lanes) (now counts) ⌝ }
     requires { ⌜ Walking lanes counting noting (now slots) (rowsAt (lanes + 1) lanes rows (drop start (now text))) 0 ⌝ }
     ensures { λ r. ⌜ ((done : List (List Row)) → Counted lanes counting done [] → Counted lanes (r .counting) done (rowsAt (lanes + 1) lanes rows (drop start (now (text .entry))))) ⌝ }
     ensures { λ r. ⌜ ((done : List (List Row)) → Noted lanes noting (now (slots .entry)) done → Noted lanes (r .noting) (now (slots .exit)) (done ++ (rowsAt (lanes + 1) lanes rows (drop start (now (text .entry))) ∷ []))) ⌝ }
 {
-    let counts = taps::tap_mask_counts();
     let first = counting.rows;
     let mut depths = phantoms::phantom_depths(counting.phantoms);
     let mut low = measure_run::object_depths(noting.last.depths);
@@ -34,7 +35,7 @@ pub fn walk_rows(
     let mut m = measure_run::first_marks(counting, noting);
     let mut r = measure_run::first_run(counting, noting);
     loop {
-        r = tap_walk::walk_taps(r, m, first, text, start, rows, lanes, slots, &counts);
+        r = tap_walk::walk_taps(r, m, first, text, start, rows, lanes, slots, counts);
         let i = (r.row - first) as usize;
         if rows <= i {
             return measure_run::end_walk(counting, noting, r, m, depths, low, hold_heads);

@@ -1,5 +1,5 @@
 -- The rows of a text read back: no longer than the lane count, and few enough for a slice with an entry each.
-use mathlib.Core.Path.{_≡_, sym, _∙_}
+use mathlib.Core.Path.{_≡_, ap, sym, _∙_}
 use mathlib.Core.Bool.{Bool, true, false, _&&_, not}
 use mathlib.Core.List.{List, [], _∷_, _++_, append-assoc}
 use Prim.Native.Nat.{ℕ, _+_, _*_, _-_, _≤_, _<_}
@@ -43,6 +43,10 @@ bytes-are L text off = rw add-sub-cancel-left
 
 pub bytes-short : (L : ℕ) (text : List ℕ) (off : ℕ) → L ≤ 10 → length (bytesAt L text off) ≤ 10
 bytes-short L text off h = rw (bytes-are L text off, length-take) (le-trans (min-le-left L (length (drop off text))) h)
+
+-- a row within the text has all its bytes
+pub bytes-long : (L : ℕ) (text : List ℕ) (off : ℕ) → off + L ≤ length text → length (bytesAt L text off) ≡ L
+bytes-long L text off h = ap length (bytes-are L text off) ∙ length-take-le L (drop off text) (omega (arith, length-drop off text))
 
 -- rows that are read have their entries in a work slice that is long enough
 entry-room : (L n len room : ℕ) → (L + 1) * n ≤ len + 1 → mostRows L len ≤ room → n ≤ room

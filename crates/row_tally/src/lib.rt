@@ -227,7 +227,7 @@ pub fn add_judged_row(t: ArrowStats, judged: bool, held: u32, s: RowSum) -> Arro
 
 // The tally with one row of taps alone more.
 pub fn count_taps(t: ArrowStats, mask: u16, wide: bool, counts: &[u16; 256]) -> ArrowStats
-    requires { ⌜ TapCounts (now counts) × Below countBound t × Fits wide mask ⌝ }
+    requires { ⌜ TapCounts wide (now counts) × Below countBound t × Fits wide mask ⌝ }
     ensures { λ r. ⌜ ((row : Row) → tapLineMask row ≡ Mask mask → r ≡ addRow t (rowSum row)) ⌝ }
 {
     let s = taps::tap_sum(mask, wide, counts);
@@ -309,7 +309,7 @@ pub fn judged_sum_masked(judged: bool, row: &[u8], heads: u16) -> RowSum
 
 // What a row of taps alone adds up to, judged or not. On an unjudged row each tap is one fake.
 fn judged_taps(judged: bool, mask: u16, wide: bool, counts: &[u16; 256]) -> RowSum
-    requires { ⌜ TapCounts (now counts) × Fits wide mask ⌝ }
+    requires { ⌜ TapCounts wide (now counts) × Fits wide mask ⌝ }
     ensures { λ r. ⌜ Under 10 r × ((row : Row) → tapLineMask row ≡ Mask mask → r ≡ judgedSum judged row) ⌝ }
 {
     let s = taps::tap_sum(mask, wide, counts);
@@ -328,7 +328,7 @@ pub fn judge_taps(
     wide: bool,
     counts: &[u16; 256],
 ) -> ArrowStats
-    requires { ⌜ TapCounts (now counts) × Below countBound t × (held ≤ countBound) × Fits wide mask ⌝ }
+    requires { ⌜ TapCounts wide (now counts) × Below countBound t × (held ≤ countBound) × Fits wide mask ⌝ }
     ensures { λ r. ⌜ ((row : Row) → tapLineMask row ≡ Mask mask → r ≡ judgeRow t judged held (judgedSum judged row)) ⌝ }
 {
     let s = judged_taps(judged, mask, wide, counts);

@@ -6,7 +6,7 @@ ghost use mathlib.Core.List.{List};
 ghost use Prim.Native.Nat.{_+_, _-_, _*_, _≤_, _<_};
 ghost use lib.ListN.{length, take, drop};
 ghost use Rattle.definitions.specs.Lines.{Row};
-ghost use Rattle.taps.specs.Taps.{TapCounts};
+ghost use Rattle.taps.specs.Taps.{wideRow, TapCounts};
 ghost use Rattle.reduction.specs.Rows.{rowsAt};
 ghost use Rattle.measure_tally.specs.Counted.{Counted};
 ghost use Rattle.measure_notes.specs.Noted.{NotedRows};
@@ -15,7 +15,7 @@ ghost use Rattle.tap_walk.specs.Walked.{TapsReady, TapsAdded, Running};
 
 // One row of taps more, all in columns that are not busy.
 fn add_taps(r: Run, mask: u16, wide: bool, slots: &mut [u8], counts: &[u16; 256]) -> Run
-    requires { ⌜ TapsReady r mask wide (now slots) × TapCounts (now counts) ⌝ }
+    requires { ⌜ TapsReady r mask wide (now slots) × TapCounts wide (now counts) ⌝ }
     ensures { λ t. ⌜ TapsAdded r mask (now (slots .entry)) (now (slots .exit)) t ⌝ }
 {
     let stats = row_tally::count_taps(r.stats, mask, wide, counts);
@@ -42,7 +42,7 @@ pub fn walk_taps(
     slots: &mut [u8],
     counts: &[u16; 256],
 ) -> Run
-    requires { ⌜ (0 < lanes) × (lanes ≤ 10) × (start + rows * (lanes + 1) ≤ length (now text)) × (first ≤ old .row) × (old .row ≤ first + rows) × TapCounts (now counts) ⌝ }
+    requires { ⌜ (0 < lanes) × (lanes ≤ 10) × (start + rows * (lanes + 1) ≤ length (now text)) × (first ≤ old .row) × (old .row ≤ first + rows) × TapCounts (wideRow lanes) (now counts) ⌝ }
     requires { ⌜ Running lanes first m old (now slots) (rowsAt (lanes + 1) lanes rows (drop start (now text))) ⌝ }
     ensures { λ r. ⌜ (old .row ≤ r .row) × (r .row ≤ first + rows) ⌝ }
     ensures { λ r. ⌜ ((q : Rest) (done : List (List Row)) → Counted lanes (countingOf q m old) done (take (old .row - first) (rowsAt (lanes + 1) lanes rows (drop start (now (text .entry))))) → Counted lanes (countingOf q m r) done (take (r .row - first) (rowsAt (lanes + 1) lanes rows (drop start (now (text .entry)))))) ⌝ }

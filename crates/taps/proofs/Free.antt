@@ -15,10 +15,10 @@ use Rattle.definitions.proofs.Lists.{any-default}
 use Rattle.definitions.specs.Lists.{count}
 use Rattle.definitions.specs.Lines.{Row}
 use Rattle.definitions.specs.Cells.{byteAt}
-use Rattle.taps.specs.Taps.{numberOf, tapMask, tapLineMask, bit, FreeTaps, freeOf, freeTaps}
+use Rattle.taps.specs.Taps.{Tells, tapMask, tapLineMask, bit, FreeTaps, freeOf, freeTaps}
 use Rattle.taps.specs.declared.Taps.{Taps}
 use Rattle.taps.specs.declared.Taps.the-variants.{Mask, Other}
-use Rattle.taps.proofs.Masks.{not-other, parts, line-taps, number-below, line-small}
+use Rattle.taps.proofs.Masks.{not-other, parts, line-taps, tells-below, line-small}
 
 -- ---- bits
 
@@ -52,21 +52,21 @@ apart m busy e c one =
 -- ---- a row is free of `busy`, or it is not
 
 -- by the number of the row's mask
-pub free-number : (busy n : ℕ) (r : Row) → n ≡ numberOf (tapLineMask r) → (ltb n 65536 && eqb (bitAnd n busy) 0) ≡ true → (n < 65536) × (Mask n ≡ freeTaps busy r)
+pub free-number : (busy n : ℕ) (r : Row) → Tells n (tapLineMask r) → (ltb n 65536 && eqb (bitAnd n busy) 0) ≡ true → (n < 65536) × (Mask n ≡ freeTaps busy r)
 unfolding freeTaps
 free-number busy n r e h =
     let below : n < 65536 = ltb-true n 65536 (and-left _ _ h) in
-    let told : tapLineMask r ≡ Mask n = number-below (tapLineMask r) (omega (arith, e)) ∙ ap Mask (sym e) in
+    let told : tapLineMask r ≡ Mask n = tells-below (tapLineMask r) n e below in
     (below, sym (ap (freeOf busy) told ∙ ap (λ (t : Bool). cond t (Mask n) Other) (and-right (ltb n 65536) (eqb (bitAnd n busy) 0) h)))
 
-pub unfree-number : (busy n : ℕ) (r : Row) → n ≡ numberOf (tapLineMask r) → (ltb n 65536 && eqb (bitAnd n busy) 0) ≡ false → Other ≡ freeTaps busy r
+pub unfree-number : (busy n : ℕ) (r : Row) → Tells n (tapLineMask r) → (ltb n 65536 && eqb (bitAnd n busy) 0) ≡ false → Other ≡ freeTaps busy r
 unfolding freeTaps
 unfree-number busy n r e h = go (tapLineMask r) refl
   where
     go : (t : Taps) → tapLineMask r ≡ t → Other ≡ freeOf busy (tapLineMask r)
     go Other w = sym (ap (freeOf busy) w)
     go (Mask m) w =
-        let same : n ≡ m = e ∙ ap numberOf w in
+        let same : n ≡ m = subst (Tells n) w e in
         let small : ltb m 65536 ≡ true = lt-ltb m 65536 (line-small r m w) in
         let busy-bit : eqb (bitAnd m busy) 0 ≡ false = sym (ap (λ (t : Bool). t && eqb (bitAnd m busy) 0) small) ∙ rw same at h in
         sym (ap (freeOf busy) w ∙ ap (λ (t : Bool). cond t (Mask m) Other) busy-bit)

@@ -12,7 +12,6 @@ use lib.ListN.{length, take, drop, length-take, take-append-drop}
 use lib.Pow.{pow-lt}
 use lib.Seq.{take-add, length-take-le}
 use borrow.Author.Tests.{eqb-true, ne-eqb, ltb-true}
-use Rattle.definitions.proofs.Bools.{and-left, and-right}
 use Rattle.definitions.specs.Lines.{Row}
 use Rattle.definitions.specs.Cells.{cellOf, isArrow}
 use Rattle.definitions.specs.Lists.{oneIf, count, sumColumns}
@@ -20,10 +19,9 @@ use Rattle.definitions.specs.declared.Cell.{Cell}
 use Rattle.definitions.specs.declared.Cell.the-variants.{Empty, Tap}
 use Rattle.definitions.specs.Tally.{rowSum, rowSumBy, countFrom, direction}
 use Rattle.definitions.specs.declared.RowSum.{RowSum}
-use Rattle.taps.specs.Taps.{numberOf, Small, withBit, tapMask, hasMask, tapLineMask, wideRow, Fits, Fives, bit, towards, maskCounts, unpack}
+use Rattle.taps.specs.Taps.{numberOf, Small, Tells, withBit, tapMask, hasMask, tapLineMask, wideRow, Fits, bit, towards, maskCounts, unpack}
 use Rattle.taps.specs.declared.Taps.{Taps}
 use Rattle.taps.specs.declared.Taps.the-variants.{Mask, Other}
-use Rattle.taps.proofs.Tables.{same-at}
 
 pub not-other : {A : Type 0} (m : ℕ) → Other ≡ Mask m → A
 not-other m e = let z : _≡_ {A = ℕ} 0 1 = cc in absurd (omega arith)
@@ -218,6 +216,15 @@ module _ (w m : ℕ) (short : w ≤ 10) (few : m < 2 ^ w) where
       go : (x y z : ℕ) → x ≤ 1 → y ≤ 1 → z ≤ 1 → x + y + z ≤ 3
       go x y z h k l = omega arith
 
+  pub counts-few : maskCounts m < 4096
+  unfolding maskCounts
+  counts-few =
+      go (sumColumns 10 (λ c. bit c m)) (towards 0 m) (towards 1 m) (towards 2 m) (towards 3 m)
+      (subst (λ n. n ≤ 10) ten-bits (few-bits (λ c. true) m 0 10)) (few-towards 0) (few-towards 1) (few-towards 2) (few-towards 3)
+    where
+      go : (a l d u r : ℕ) → a ≤ 10 → l ≤ 3 → d ≤ 3 → u ≤ 3 → r ≤ 3 → a + (2 ^ 4 * l + 2 ^ 6 * d + 2 ^ 8 * u + 2 ^ 10 * r) < 4096
+      go a l d u r h₁ h₂ h₃ h₄ h₅ = omega arith
+
   pub sum-row : rowSum (rowOf w m) ≡ unpack (maskCounts m)
   unfolding rowSum rowSumBy maskCounts cellOf
   sum-row =
@@ -263,22 +270,29 @@ width n e = go (eqb n 4) (eqb n 8) (eqb n 5) (eqb n 10) (eqb-true n 4) (eqb-true
     go false false false true a b c d f = let k = d refl in (omega arith, omega arith)
     go false false false false a b c d f = let z : _≡_ {A = ℕ} 0 1 = cc in absurd (omega arith)
 
--- whether n cells are one or two fives
-abbrev inFives : ℕ → Bool
-inFives n = (ltb 4 n && ltb n 11) && eqb (n % 5) 0
+-- the width of a row by the tests of its length
+pub four-up : (n : ℕ) → (eqb n 4 || eqb n 5) ≡ true → 4 ≤ n
+four-up n e = go (eqb n 4) (eqb n 5) (eqb-true n 4) (eqb-true n 5) e
+  where
+    go : (p q : Bool) → (p ≡ true → n ≡ 4) → (q ≡ true → n ≡ 5) → (p || q) ≡ true → 4 ≤ n
+    go true q a b f = omega (arith, a refl)
+    go false true a b f = omega (arith, b refl)
+    go false false a b f = let z : _≡_ {A = ℕ} 0 1 = cc in absurd (omega arith)
 
-pub in-fives : (n : ℕ) → inFives n ≡ true → Fives n × (hasMask n ≡ true)
-in-fives n e =
-    let h = ltb-true n 11 (and-right (ltb 4 n) (ltb n 11) (and-left (ltb 4 n && ltb n 11) (eqb (n % 5) 0) e)) in
-    let z = eqb-true (n % 5) 0 (and-right (ltb 4 n && ltb n 11) (eqb (n % 5) 0) e) in
-    ((z, omega arith), rw e at (same-at (λ k. inFives k && hasMask k) inFives 11 refl n h))
+pub then-five : (n : ℕ) → (eqb n 4 || eqb n 5) ≡ true → (n ≡ 4 → ⊥) → n ≡ 5
+then-five n e four = go (eqb n 5) (eqb-true n 5) (rw (ne-eqb n 4 four) at e)
+  where
+    go : (q : Bool) → (q ≡ true → n ≡ 5) → q ≡ true → n ≡ 5
+    go true b f = b refl
+    go false b f = let z : _≡_ {A = ℕ} 0 1 = cc in absurd (omega arith)
 
-pub no-fives : (n : ℕ) → (n ≡ 4 → ⊥) → (n ≡ 8 → ⊥) → inFives n ≡ false → hasMask n ≡ false
-no-fives n four eight e =
-    elim (decLt n 11) [
-      | yes h ↦ same-at hasMask (λ k. eqb k 4 || eqb k 8 || inFives k) 11 refl n h ∙ rw (ne-eqb n 4 four, ne-eqb n 8 eight, e)
-      | no h ↦ rw (ne-eqb n 4 four, ne-eqb n 8 eight, ne-eqb n 5 (λ k. absurd (omega arith)), ne-eqb n 10 (λ k. absurd (omega arith)))
-    ]
+pub no-width : (n : ℕ) → (eqb n 4 || eqb n 5) ≡ false → (n ≡ 8 → ⊥) → (n ≡ 10 → ⊥) → hasMask n ≡ false
+no-width n e eight ten = rw (ne-eqb n 8 eight, ne-eqb n 10 ten) (go (eqb n 4) (eqb n 5) e)
+  where
+    go : (p q : Bool) → (p || q) ≡ false → (p || false || q || false) ≡ false
+    go true q f = f
+    go false true f = f
+    go false false f = f
 
 module _ (r : Row) where
   -- a row of such a width has the mask of its cells
@@ -373,37 +387,6 @@ sides w (Mask lo) (Mask hi) m e = let same : lo + 2 ^ w * hi ≡ m = cc in recor
 sides w (Mask lo) Other m e = not-other m e
 sides w Other u m e = not-other m e
 
--- ---- Five cells more
-
-module _ (r : Row) (at : ℕ) (inside : at + 5 ≤ length r) where
-  five-more : tapMask (take (at + 5) r) ≡ beside at (tapMask (take at r)) (tapMask (take 5 (drop at r)))
-  five-more =
-      ap tapMask (take-add at 5 r)
-      ∙ mask-append (take at r) (take 5 (drop at r))
-      ∙ ap (λ n. beside n (tapMask (take at r)) (tapMask (take 5 (drop at r)))) (length-take-le at r (omega arith))
-
-  module _ (m : ℕ) (before : tapMask (take at r) ≡ Mask m) where
-    pub fives-next : (five : ℕ) → tapMask (take 5 (drop at r)) ≡ Mask five → tapMask (take (at + 5) r) ≡ Mask (m + 2 ^ at * five)
-    fives-next five e = five-more ∙ rw (before, e)
-
-    -- no mask of the five, none of the row
-    pub fives-other : tapMask (take 5 (drop at r)) ≡ Other → tapMask r ≡ Other
-    fives-other e =
-        ap tapMask (sym (take-append-drop (at + 5) r))
-        ∙ mask-append (take (at + 5) r) (drop (at + 5) r)
-        ∙ rw (five-more, before, e)
-
--- where they stand in the mask
-pub five-at : (five at : ℕ) → five < 32 → at % 5 ≡ 0 → at ≤ 5 → (five * 2 ^ at % 4294967296 ≡ 2 ^ at * five) × (2 ^ at * five < 1024)
-five-at five at h e k =
-    elim (decLt at 1) [
-      | yes l ↦ let z : at ≡ 0 = omega arith in let p : 2 ^ at ≡ 1 = ap (λ n. 2 ^ n) z in rw p (omega arith, omega arith)
-      | no n ↦ let z : at ≡ 5 = omega arith in let p : 2 ^ at ≡ 32 = ap (λ n. 2 ^ n) z in rw p (omega arith, omega arith)
-    ]
-
-pub few-five : (r : Row) (at five : ℕ) → tapMask (take 5 (drop at r)) ≡ Mask five → five < 32
-few-five r at five e = mask-few 5 (take 5 (drop at r)) five (omega (arith, length-take 5 (drop at r))) e
-
 pub and-15 : (n : ℕ) → bitAnd n 15 ≡ n % 16
 and-15 n = and-mask n 4
 
@@ -412,21 +395,22 @@ and-3 n = and-mask n 2
 
 -- ---- masks as numbers
 
-pub number-mask : (t : Taps) → (numberOf t ≡ 65536 → ⊥) → t ≡ Mask (numberOf t)
-number-mask (Mask m) h = refl
-number-mask Other h = absurd (h refl)
-
-pub number-other : (t : Taps) → Small t → numberOf t ≡ 65536 → t ≡ Other
-number-other (Mask m) s e = absurd (omega (arith, s m refl))
-number-other Other s e = refl
+pub tells-number : (t : Taps) (n : ℕ) → n ≡ numberOf t → Tells n t
+tells-number (Mask m) n e = e
+tells-number Other n e = omega arith
 
 -- a number below tells a mask, any other none
-pub number-below : (t : Taps) → numberOf t < 65536 → t ≡ Mask (numberOf t)
-number-below t h = number-mask t (λ e. omega (arith, e))
+pub tells-below : (t : Taps) (n : ℕ) → Tells n t → n < 65536 → t ≡ Mask n
+tells-below (Mask m) n e h = ap Mask (sym e)
+tells-below Other n e h = absurd (omega arith)
 
-pub number-past : (t : Taps) → Small t → 65536 ≤ numberOf t → t ≡ Other
-number-past (Mask m) s h = absurd (omega (arith, s m refl))
-number-past Other s h = refl
+pub tells-past : (t : Taps) (n : ℕ) → Small t → Tells n t → 65536 ≤ n → t ≡ Other
+tells-past (Mask m) n s e h = absurd (omega (arith, s m refl))
+tells-past Other n s e h = refl
+
+pub number-le : (t : Taps) (n : ℕ) → Small t → n ≡ numberOf t → n ≤ 65536
+number-le (Mask m) n s e = omega (arith, s m refl)
+number-le Other n s e = omega arith
 
 pub mask-small : (r : Row) → length r ≤ 10 → Small (tapMask r)
 mask-small r h m e = omega (arith, mask-few 10 r m h e)

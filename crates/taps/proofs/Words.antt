@@ -1,21 +1,22 @@
 -- Up to eight cells at once, by their word: a byte but for its lowest bit is 48 where it is a `0` or a `1`.
-use mathlib.Core.Path.{_≡_, refl, ap, sym, _∙_}
+use mathlib.Core.Path.{_≡_, refl, ap, ap₂, sym, subst, _∙_}
 use mathlib.Core.Bool.{Bool, true, false, _||_}
 use mathlib.Core.List.{[], _∷_, _++_}
 use Prim.Native.Nat.{ℕ, zero, suc, _+_, _*_, _-_, _/_, _%_, _^_, _<_, _≤_}
+use native.Mathlib.Nat.{mul-le-mul-right}
 use native.Mathlib.Omega.{arith}
 use borrow.Author.Tests.{eqb-true, eq-eqb}
 use lib.Bits.{bitAnd, and-block, and-le-l, and-le-r}
 use lib.Dec.{eqb, lit<}
-use lib.ListN.{length, getD, take, drop, length-append}
-use lib.Seq.{getD-drop, drop-drop}
+use lib.ListN.{length, getD, take, drop, length-append, length-drop, take-append-drop}
+use lib.Seq.{getD-drop, length-take-le}
 use Rattle.definitions.specs.Lines.{Row}
 use Rattle.lines.specs.Words.{halfAt, wordOf, Bytes}
-use Rattle.taps.specs.Taps.{withBit, tapMask, zeroCells, spreadBits, spread, maskCounts}
+use Rattle.taps.specs.Taps.{numberOf, Tells, withBit, tapMask, zeroCells, spreadBits, spread, BitsPlaced, maskCounts}
 use Rattle.taps.specs.declared.Taps.{Taps}
 use Rattle.taps.specs.declared.Taps.the-variants.{Mask, Other}
 use Rattle.taps.proofs.Tables.{same-at}
-use Rattle.taps.proofs.Masks.{Parts, parts, not-other, mask-few, beside, mask-append, Sides, sides}
+use Rattle.taps.proofs.Masks.{Parts, parts, not-other, mask-lt, mask-few, beside, mask-append, Sides, sides}
 
 -- ---- a byte
 
@@ -184,6 +185,31 @@ module _ (a b : Row) (four : length a ≡ 4) (few : length b ≤ 4) where
       go (Mask m) e =
           absurd (n (ap (λ w. bitAnd w 18374403900871474942) (sym (word-append a b four)) ∙ word-passes 8 (a ++ b) m short e ∙ zeros-append a b four))
 
+-- ---- one or two cells after others
+
+module _ (a b : Row) (few : length b ≤ 2) (n zeros factor places : ℕ) (told : n ≡ numberOf (tapMask a)) (z : zeros ≡ wordOf (zeroCells (length b))) where
+  -- where their word passes, their bits stand after those of the others
+  pub rest-mask : Bytes b → bitAnd (wordOf b) 65278 ≡ zeros → BitsPlaced zeros factor places (length a) (length b)
+      → Tells (n + bitAnd (wordOf b * factor) places) (tapMask (a ++ b))
+  rest-mask x e placed =
+      let k = word-passed 2 b x few (e ∙ z) in
+      let w : wordOf b ≡ zeros + spreadBits 2 (k .mask) = word-bits 2 b (k .mask) few (k .told) ∙ ap (λ v. v + spreadBits 2 (k .mask)) (sym z) in
+      let bits : bitAnd (wordOf b * factor) places ≡ 2 ^ length a * k .mask = ap (λ v. bitAnd (v * factor) places) w ∙ placed (k .mask) (mask-lt b (k .mask) (k .told)) in
+      subst (Tells (n + bitAnd (wordOf b * factor) places)) (sym (mask-append a b ∙ ap (beside (length a) (tapMask a)) (k .told))) (go (tapMask a) (k .mask) _ told bits)
+    where
+      go : (t : Taps) (m v : ℕ) → n ≡ numberOf t → v ≡ 2 ^ length a * m → Tells (n + v) (beside (length a) t (Mask m))
+      go (Mask lo) m v e f = ap₂ _+_ e f
+      go Other m v e f = omega arith
+
+  -- where it does not, there is no mask
+  pub rest-other : (bitAnd (wordOf b) 65278 ≡ zeros → ⊥) → Tells 65536 (tapMask (a ++ b))
+  rest-other fails = subst (Tells 65536) (sym (mask-append a b)) (go (tapMask a) (tapMask b) refl)
+    where
+      go : (t u : Taps) → tapMask b ≡ u → Tells 65536 (beside (length a) t u)
+      go t (Mask m) e = absurd (fails (word-passes 2 b m few e ∙ sym z))
+      go (Mask lo) Other e = omega arith
+      go Other Other e = omega arith
+
 -- ---- words of a row
 
 pub bytes-take : (n : ℕ) (l : Row) → Bytes l → Bytes (take n l)
@@ -211,30 +237,56 @@ half-word r i h =
     let p : getD (drop i r) 0 0 ≡ getD r i 0 = getD-drop i r 0 0 ∙ ap (λ k. getD r k 0) here in
     omega (arith, first-four (drop i r) h, p, getD-drop i r 1 0, getD-drop i r 2 0, getD-drop i r 3 0)
 
-one : (l : Row) → wordOf (take 1 l) ≡ getD l 0 0
+-- a row's last byte, and its last two, from i on
+pub one-word : (r : Row) (i : ℕ) → length r ≡ i + 1 → getD r i 0 ≡ wordOf (drop i r)
 unfolding wordOf
-one [] = refl
-one (x ∷ l) = omega arith
+one-word r i h =
+    let here : i + 0 ≡ i = omega arith in
+    sym (go (drop i r) (omega (arith, length-drop i r)) ∙ getD-drop i r 0 0 ∙ ap (λ k. getD r k 0) here)
+  where
+    go : (l : Row) → length l ≡ 1 → wordOf l ≡ getD l 0 0
+    go [] e = absurd (omega arith)
+    go (x ∷ []) e = omega arith
+    go (x ∷ y ∷ l) e = absurd (omega arith)
 
--- the byte after them
-pub one-word : (r : Row) (i : ℕ) → getD r (i + 4) 0 ≡ wordOf (take 1 (drop 4 (drop i r)))
-one-word r i =
-    let here : i + 4 + 0 ≡ i + 4 = omega arith in
-    sym (one (drop 4 (drop i r)) ∙ ap (λ (l : Row). getD l 0 0) (drop-drop 4 i r) ∙ getD-drop (i + 4) r 0 0 ∙ ap (λ k. getD r k 0) here)
+pub two-word : (r : Row) (i : ℕ) → length r ≡ i + 2 → getD r i 0 + getD r (i + 1) 0 * 256 ≡ wordOf (drop i r)
+unfolding wordOf
+two-word r i h =
+    let here : i + 0 ≡ i = omega arith in
+    let p : getD (drop i r) 0 0 ≡ getD r i 0 = getD-drop i r 0 0 ∙ ap (λ k. getD r k 0) here in
+    omega (arith, go (drop i r) (omega (arith, length-drop i r)), p, getD-drop i r 1 0)
+  where
+    go : (l : Row) → length l ≡ 2 → wordOf l ≡ getD l 0 0 + getD l 1 0 * 256
+    go [] e = absurd (omega arith)
+    go (x ∷ []) e = absurd (omega arith)
+    go (x ∷ y ∷ []) e = omega arith
+    go (x ∷ y ∷ z ∷ l) e = absurd (omega arith)
 
--- ---- counts without the table
+-- a row as its first n cells and the k after them
+pub rest-of : (r : Row) (n k : ℕ) → length r ≡ n + k → k ≤ 2 → (factor places v : ℕ) → BitsPlaced (wordOf (zeroCells k)) factor places n k
+    → (length (drop n r) ≤ 2 → BitsPlaced (wordOf (zeroCells k)) factor places (length (take n r)) (length (drop n r)) → wordOf (zeroCells k) ≡ wordOf (zeroCells (length (drop n r))) → Tells v (tapMask (take n r ++ drop n r)))
+    → Tells v (tapMask r)
+rest-of r n k h few factor places v placed go =
+    let long : length (take n r) ≡ n = length-take-le n r (omega arith) in
+    let short : length (drop n r) ≡ k = omega (arith, length-drop n r) in
+    let after : BitsPlaced (wordOf (zeroCells k)) factor places n (length (drop n r)) = subst (BitsPlaced (wordOf (zeroCells k)) factor places n) (sym short) placed in
+    subst (λ l. Tells v (tapMask l)) (take-append-drop n r)
+    (go (omega arith) (subst (λ i. BitsPlaced (wordOf (zeroCells k)) factor places i (length (drop n r))) (sym long) after) (ap (λ l. wordOf (zeroCells l)) (sym short)))
 
-pub spread-le : (m : ℕ) → spread m ≤ 16843009
-unfolding spread
-spread-le m = omega arith
+pub product-lt : (a b : ℕ) → a < 65536 → b < 65536 → a * b < 4294967296
+product-lt a b h k = let less : a ≤ 65535 = omega arith in omega (arith, mul-le-mul-right b less)
 
-pub spreads : (m : ℕ) → m < 1024 → bitAnd (m % 16 * 2113665) 16843009 ≡ spread m
-unfolding spread
-spreads m h = same-at (λ n. bitAnd (n % 16 * 2113665) 16843009) spread 1024 refl m h
+-- where the bits of one cell after four, and of two after eight, are put
+pub fifth-placed : BitsPlaced (wordOf (zeroCells 1)) 16 16 4 1
+unfolding wordOf
+fifth-placed m h = same-at (λ n. bitAnd ((48 + spreadBits 2 n) * 16) 16) (λ n. 16 * n) 2 refl m h
 
-abbrev sumOf : ℕ → ℕ
-sumOf m = spread m + spread (m / 16) + spread (m / 256)
+pub last-placed : BitsPlaced (wordOf (zeroCells 2)) 258 768 8 2
+unfolding wordOf
+last-placed m h = same-at (λ n. bitAnd ((12336 + spreadBits 2 n) * 258) 768) (λ n. 256 * n) 4 refl m h
 
-pub bits-counted : (m : ℕ) → m < 1024 → sumOf m * 17043520 / 16777216 % 256 * 16 + sumOf m * 16843009 / 16777216 % 16 ≡ maskCounts m
-unfolding spread maskCounts
-bits-counted m h = same-at (λ n. sumOf n * 17043520 / 16777216 % 256 * 16 + sumOf n * 16843009 / 16777216 % 16) maskCounts 1024 refl m h
+-- ---- the counts of five columns and five
+
+pub fives-counted : (m : ℕ) → m < 1024 → maskCounts (m % 32) + maskCounts (32 * (m / 32)) ≡ maskCounts m
+unfolding maskCounts
+fives-counted m h = same-at (λ n. maskCounts (n % 32) + maskCounts (32 * (n / 32))) maskCounts 1024 refl m h

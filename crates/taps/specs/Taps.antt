@@ -1,5 +1,5 @@
 -- Document 01, `TAP_MASK_COUNTS`: the mask of a row of `0` and `1` alone, and the counts that the table has for it.
-use mathlib.Core.Bool.{Bool, false, cond, _||_, not}
+use mathlib.Core.Bool.{Bool, true, false, cond, _||_, not}
 use mathlib.Core.Path.{_≡_}
 use mathlib.Core.List.{List, [], _∷_}
 use Prim.Native.Nat.{ℕ, zero, suc, _+_, _*_, _/_, _%_, _^_, _<_, _≤_}
@@ -31,6 +31,11 @@ numberOf Other = 65536
 abbrev pub Small : Taps → Type 0
 Small t = (m : ℕ) → t ≡ Mask m → m < 65536
 
+-- a number that tells a mask, or that there is none: any number past all masks does
+abbrev pub Tells : ℕ → Taps → Type 0
+Tells n (Mask m) = n ≡ m
+Tells n Other = 65536 ≤ n
+
 -- the widths of rows that have masks
 abbrev pub hasMask : ℕ → Bool
 hasMask n = eqb n 4 || eqb n 8 || eqb n 5 || eqb n 10
@@ -38,17 +43,13 @@ hasMask n = eqb n 4 || eqb n 8 || eqb n 5 || eqb n 10
 unfoldable pub tapLineMask : Row → Taps
 tapLineMask r = cond (hasMask (length r)) (tapMask r) Other
 
--- "Only 4 and 8 lanes use it.": rows of other widths are counted without the table.
+-- "Only 4 and 8 lanes use it.": rows of other widths are counted without it.
 abbrev pub wideRow : ℕ → Bool
 wideRow n = not (eqb n 4 || eqb n 8)
 
 -- A mask of up to ten columns, and of up to eight where the table is used.
 abbrev pub Fits : Bool → ℕ → Type 0
 Fits wide m = (m < 1024) × (wide ≡ false → m < 256)
-
--- cells in fives, ten at most
-abbrev pub Fives : ℕ → Type 0
-Fives n = (n % 5 ≡ 0) × (n ≤ 10)
 
 -- n cells `0`
 abbrev pub zeroCells : ℕ → Row
@@ -64,6 +65,10 @@ spread m = spreadBits 4 m
 
 abbrev pub bit : ℕ → ℕ → ℕ
 bit c m = m / 2 ^ c % 2
+
+-- A product by `factor` sets the bits of k cells, of which `zeros` is the word where all are `0`, from place n on: `places` has these bits.
+abbrev pub BitsPlaced : ℕ → ℕ → ℕ → ℕ → ℕ → Type 0
+BitsPlaced zeros factor places n k = (m : ℕ) → m < 2 ^ k → bitAnd ((zeros + spreadBits 2 m) * factor) places ≡ 2 ^ n * m
 
 -- A row has this mask, and no tap of it stands in a column of `busy`.
 pub record FreeTaps (busy m : ℕ) (r : Row) : Type 0 where
@@ -101,9 +106,10 @@ maskCounts m =
     sumColumns 10 (λ c. bit c m)
     + (2 ^ 4 * towards 0 m + 2 ^ 6 * towards 1 m + 2 ^ 8 * towards 2 m + 2 ^ 10 * towards 3 m)
 
--- a list that has each mask's counts at its number
-abbrev pub TapCounts : List ℕ → Type 0
-TapCounts l = (m : ℕ) → m < 256 → getD l m 0 ≡ maskCounts m
+-- a list that has each mask's counts at its number; for wide rows those of the first five columns, and from 32 on those of the next five
+abbrev pub TapCounts : Bool → List ℕ → Type 0
+TapCounts false l = (m : ℕ) → m < 256 → getD l m 0 ≡ maskCounts m
+TapCounts true l = (m : ℕ) → m < 32 → (getD l m 0 ≡ maskCounts m) × (getD l (32 + m) 0 ≡ maskCounts (32 * m))
 
 -- the row's sum that the counts stand for
 unfoldable pub unpack : ℕ → RowSum

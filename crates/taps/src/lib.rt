@@ -1,6 +1,7 @@
 // Rows of taps alone: their masks, the table of what a mask counts, and which of ten columns differ from a number.
 mod counts;
 
+use counts::FIVE_COUNTS;
 use counts::TAP_MASK_COUNTS;
 use definitions::RowSum;
 use lines::words;
@@ -10,7 +11,7 @@ ghost use Prim.Native.Nat.{ℕ, _+_, _*_, _≤_, _<_};
 ghost use lib.ListN.{length, getD, take, drop};
 ghost use Rattle.definitions.specs.Lines.{Row};
 ghost use Rattle.lines.specs.Words.{halfAt, wordOf, Bytes};
-ghost use Rattle.taps.specs.Taps.{numberOf, Small, tapMask, tapLineMask, freeTaps, Fives, spread, zeroCells, unlikeMask, wideRow, Fits, maskCounts, TapCounts, unpack};
+ghost use Rattle.taps.specs.Taps.{numberOf, Small, Tells, BitsPlaced, tapMask, tapLineMask, freeTaps, spread, zeroCells, unlikeMask, wideRow, Fits, maskCounts, TapCounts, unpack};
 ghost use Rattle.taps.specs.declared.Taps;
 
 // A row of `0` and `1` alone as a mask, its first column in the lowest bit, or another row.
@@ -68,52 +69,66 @@ fn number8(row: &[u8]) -> u32
     tap_cells(words::half_at(row, 0), words::half_at(row, 4), 0x3030_3030)
 }
 
-// The mask of five cells from `at` on.
-fn number5(row: &[u8], at: usize) -> u32
-    requires { ⌜ at + 5 ≤ length (now row) ⌝ }
-    ensures { λ r. ⌜ r ≡ numberOf (tapMask (take 5 (drop at (now (row .entry))))) ⌝ }
+// A mask with one or two cells more, handed over as a word; `zeros` is that word where they are all `0`. A product by `factor` has their bits in
+// the places of `bits`. A number past all masks stays past them.
+fn with_rest(number: u32, rest: u64, zeros: u64, factor: u64, bits: u64) -> u32
+    requires { ⌜ (number ≤ 65536) × (rest < 65536) × (factor < 65536) × (bits < 1024) ⌝ }
+    ensures { λ r. ⌜ ((a b : Row) → Bytes b → length b ≤ 2 → number ≡ numberOf (tapMask a) → rest ≡ wordOf b → zeros ≡ wordOf (zeroCells (length b)) → BitsPlaced zeros factor bits (length a) (length b) → Tells r (tapMask (a ++ b))) ⌝ }
 {
-    tap_cells(words::half_at(row, at), wide(row[at + 4]), 0x30)
+    if rest & 0xfefe == zeros {
+        number + (rest * factor & bits) as u32
+    } else {
+        NO_MASK
+    }
 }
 
-// The mask of a row of five or ten cells, five at a time.
-fn tap_fives(row: &[u8]) -> u32
-    requires { ⌜ Fives (length (now row)) ⌝ }
-    ensures { λ r. ⌜ r ≡ numberOf (tapMask (now (row .entry))) ⌝ }
+// The mask of five cells, by that of the first four.
+fn number5(row: &[u8], four: u32) -> u32
+    requires { ⌜ (length (now row) ≡ 5) × (four ≡ numberOf (tapMask (take 4 (now row)))) ⌝ }
+    ensures { λ r. ⌜ Tells r (tapMask (now (row .entry))) ⌝ }
 {
-    let mut mask: u32 = 0;
-    let mut at = 0;
-    while at < row.len() {
-        let five = number5(row, at);
-        if five == NO_MASK {
-            return NO_MASK;
-        }
-        mask += five << at;
-        at += 5;
-    }
-    mask
+    with_rest(four, wide(row[4]), 0x30, 16, 0x10)
+}
+
+// The mask of ten cells, by that of the first eight.
+fn number10(row: &[u8]) -> u32
+    requires { ⌜ length (now row) ≡ 10 ⌝ }
+    ensures { λ r. ⌜ Tells r (tapMask (now (row .entry))) ⌝ }
+{
+    let eight = number8(row);
+    with_rest(
+        eight,
+        wide(row[8]) + wide(row[9]) * 0x100,
+        0x3030,
+        0x102,
+        0x300,
+    )
 }
 
 // The mask of a row of four, five, eight or ten cells; no other width has masks.
 fn line_number(row: &[u8]) -> u32
-    ensures { λ r. ⌜ r ≡ numberOf (tapLineMask (now (row .entry))) ⌝ }
+    ensures { λ r. ⌜ Tells r (tapLineMask (now (row .entry))) ⌝ }
 {
     let n = row.len();
-    if n == 4 {
-        return number4(row);
+    if (n == 4) | (n == 5) {
+        let four = number4(row);
+        if n == 4 {
+            return four;
+        }
+        return number5(row, four);
     }
     if n == 8 {
         return number8(row);
     }
-    if (4 < n) & (n < 11) & (n % 5 == 0) {
-        return tap_fives(row);
+    if n == 10 {
+        return number10(row);
     }
     NO_MASK
 }
 
 // A mask by its number.
 fn taps_of(number: u32) -> Taps
-    ensures { λ r. ⌜ ((t : Taps) → Small t → number ≡ numberOf t → r ≡ t) ⌝ }
+    ensures { λ r. ⌜ ((t : Taps) → Small t → Tells number t → r ≡ t) ⌝ }
 {
     if number < NO_MASK {
         Taps::Mask(number as u16)
@@ -173,53 +188,39 @@ pub fn unlike(numbers: &[u32; 10], n: u32) -> u32
     mask
 }
 
-// The table, to be lent: a look into the constant itself would write out all its entries each time.
-pub fn tap_mask_counts() -> [u16; 256]
-    ensures { λ r. ⌜ TapCounts r ⌝ }
-{
-    TAP_MASK_COUNTS
-}
-
-// Whether rows of so many cells are counted without the table: "Only 4 and 8 lanes use it."
+// Whether rows of so many cells are counted without `TAP_MASK_COUNTS`: "Only 4 and 8 lanes use it."
 pub fn is_wide(columns: usize) -> bool
     ensures { λ r. ⌜ r ≡ wideRow columns ⌝ }
 {
     (columns != 4) & (columns != 8)
 }
 
-// The four lowest bits of a mask, each in a byte of its own.
-fn spread_bits(mask: u64) -> u64
-    requires { ⌜ mask < 1024 ⌝ }
-    ensures { λ r. ⌜ r ≡ spread mask ⌝ }
+// The table for rows of so many cells, to be lent: a look into a constant itself would write out all its entries each time.
+pub fn tap_mask_counts(columns: usize) -> [u16; 256]
+    ensures { λ r. ⌜ TapCounts (wideRow columns) r ⌝ }
 {
-    mask % 16 * 0x20_4081 & 0x0101_0101
-}
-
-// The counts of a mask of ten columns as the table has those of eight: each byte of the sum has the ones of a direction, one product sets
-// them beside each other and the other adds them.
-fn bit_counts(mask: u16) -> u16
-    requires { ⌜ mask < 1024 ⌝ }
-    ensures { λ r. ⌜ r ≡ maskCounts mask ⌝ }
-{
-    let m = mask as u64;
-    let t = spread_bits(m) + spread_bits(m / 16) + spread_bits(m / 256);
-    (t * 0x104_1040 / 0x100_0000 % 256 * 16 + t * 0x101_0101 / 0x100_0000 % 16) as u16
-}
-
-// A mask's counts: the table's entry, or without the table.
-fn tap_counts(mask: u16, wide: bool, counts: &[u16; 256]) -> u16
-    requires { ⌜ TapCounts (now counts) × Fits wide mask ⌝ }
-    ensures { λ r. ⌜ r ≡ maskCounts mask ⌝ }
-{
-    if wide {
-        return bit_counts(mask);
+    if is_wide(columns) {
+        FIVE_COUNTS
+    } else {
+        TAP_MASK_COUNTS
     }
-    counts[mask as usize]
+}
+
+// A mask's counts: the table's entry, or the sum of two where the table is of five columns and five.
+fn tap_counts(mask: u16, wide: bool, counts: &[u16; 256]) -> u16
+    requires { ⌜ TapCounts wide (now counts) × Fits wide mask ⌝ }
+    ensures { λ r. ⌜ r ≡ maskCounts mask ⌝ }
+{
+    let m = mask as usize;
+    if wide {
+        return counts[m % 32] + counts[32 + m / 32];
+    }
+    counts[m]
 }
 
 // What a row of taps alone adds up to.
 pub fn tap_sum(mask: u16, wide: bool, counts: &[u16; 256]) -> RowSum
-    requires { ⌜ TapCounts (now counts) × Fits wide mask ⌝ }
+    requires { ⌜ TapCounts wide (now counts) × Fits wide mask ⌝ }
     ensures { λ r. ⌜ r ≡ unpack (maskCounts mask) ⌝ }
 {
     let n = tap_counts(mask, wide, counts) as u32;

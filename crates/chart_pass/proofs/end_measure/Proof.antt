@@ -59,7 +59,7 @@ walk-rows-requires : tie.Need-walk-rows-requires
 walk-rows-requires c κs =
     let w = few (c .before .before .before .before .before .before .before .before) in
     let s = c .before .before .before .before .before .before .before .before .before .before .before .before .before .before .before .before in (
-      (s .pre .0 .0, s .pre .0 .1, omega (arith, w .1, s .pre .0 .2, c .before .before .before .before .before .before .before .before .reduce-output-measure .kept .0)),
+      (s .pre .0 .0, s .pre .0 .1, omega (arith, w .1, s .pre .0 .2, c .before .before .before .before .before .before .before .before .reduce-output-measure .kept .0), s .pre .0 .4),
       walk-room _ _ _ _ _ _ (s .pre .0 .3) _ _ (w .0) (s .pre .1 .0 .2) (s .pre .1 .1 .1) (s .pre .1 .0 .1),
     )
 
@@ -76,16 +76,16 @@ slice-write-densities : tie.Need-slice-write-densities
 slice-write-densities c =
     c .before .before .before .before .before .before .before .before .before .before .before .before .before .before .before .before .before .before .before .before .before .before .pre .1 .0 .0
 
-add-t23 : tie.Need-add-t23
-add-t23 c =
+add-t24 : tie.Need-add-t24
+add-t24 c =
     omega (arith, c .before .before .before .before .before .before .before .before .before .before .before .before .before .before .before .before .before .before .before .before .before .before .pre .0 .1)
 
-mul-t31 : tie.Need-mul-t31
-mul-t31 c =
+mul-t32 : tie.Need-mul-t32
+mul-t32 c =
     omega (arith, out-fits (c .before .before .before .before .before .before .before .before .before .before .before .before .before .before))
 
-add-t32 : tie.Need-add-t32
-add-t32 c =
+add-t33 : tie.Need-add-t33
+add-t33 c =
     omega (arith, out-fits (c .before .before .before .before .before .before .before .before .before .before .before .before .before .before))
 
 same-length : tie.Need-same-length
@@ -133,9 +133,9 @@ end-measure-spec =
     density-requires
     mul-densities
     slice-write-densities
-    add-t23
-    mul-t31
-    add-t32
+    add-t24
+    mul-t32
+    add-t33
     same-length
     same-length-2
     same-length-3

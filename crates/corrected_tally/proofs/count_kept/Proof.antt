@@ -10,6 +10,7 @@ use Rattle.definitions.specs.Sizes.{countBound}
 use Rattle.row_tally.proofs.Bounds.{below-more}
 use Rattle.corrected_tally.proofs.Rows.{rows-few, row-inside}
 use Rattle.corrected_tally.proofs.Counting.{Counting, counting-start, counting-row, counting-passed, counting-end}
+use Rattle.reader.proofs.BackRows.{bytes-long}
 use Rattle.corrected_tally.proofs.count_kept.Statement.{statement}
 use Rattle.corrected_tally.proofs.count_kept.Tie as tie
 
@@ -81,7 +82,7 @@ count-row-requires c κs =
     let here = c .before .before .before in
     let at = here .before .before .before in
     let start = at .before .before .before .before .before .before in
-    (rw length-take (omega (arith, start .pre .0 .most)), at .before .before .tap-mask-counts .ensures, below-more (10 * at .loop .i) countBound (at .loop .stats) (omega (arith, row-few here)) (at .loop .inv .1 .low))
+    (rw length-take (omega (arith, start .pre .0 .most)), rw (bytes-long _ _ _ (row-room here)) (at .before .before .tap-mask-counts .ensures), below-more (10 * at .loop .i) countBound (at .loop .stats) (omega (arith, row-few here)) (at .loop .inv .1 .low))
 
 add-i : tie.Need-add-i Inv-loop μ-loop
 add-i c = omega (arith, row-few (c .before .before .before .before))

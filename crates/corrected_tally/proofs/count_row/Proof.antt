@@ -2,7 +2,7 @@
 use mathlib.Core.Path.{ap, sym, _∙_}
 use denote.Ref.{now}
 use Rattle.definitions.specs.Tally.{rowSum, addRow}
-use Rattle.taps.specs.Taps.{Fits}
+use Rattle.taps.specs.Taps.{Fits, TapCounts}
 use Rattle.taps.proofs.Masks.{line-taps, line-fits}
 use Rattle.row_tally.proofs.Zeros.{zero-adds}
 use Rattle.corrected_tally.proofs.Taps.{taps-kept, zero-kept}
@@ -24,8 +24,12 @@ fits c =
     let known = c .before .before in
     rw (c .is-wide .ensures) (line-fits _ _ (sym (known .before .before .tap-line-mask .ensures) ∙ known .mask .given .1))
 
+-- the table is that of the row's width
+table : (c : tie.After-is-wide) → TapCounts (c .is-wide .result) (now (c .before .before .before .before .before .before .args .counts))
+table c = rw (c .is-wide .ensures) (c .before .before .before .before .before .before .pre .1)
+
 count-taps-requires : tie.Need-count-taps-requires
-count-taps-requires c κs = let f = fits c in search needs
+count-taps-requires c κs = let f = fits c in let t = table c in search needs
 
 enum-told : tie.Need-enum-told
 enum-told c = search needs

@@ -15,8 +15,8 @@ use Rattle.taps.proofs.Masks.{fits-at}
 use Rattle.row_tally.specs.Bounds.{Below}
 use Rattle.row_tally.proofs.Bounds.{below-more}
 use Rattle.judged.specs.Timing.{WorkEntries}
-use Rattle.reader.proofs.BackRows.{row-within, bytes-short}
-use Rattle.judged.proofs.Tallying.{Tallying, tallying-start, tallying-active, tallying-room, tallying-passed, tallying-enough, tallying-row, tallying-taps, tallying-end, bytes-long}
+use Rattle.reader.proofs.BackRows.{row-within, bytes-short, bytes-long}
+use Rattle.judged.proofs.Tallying.{Tallying, tallying-start, tallying-active, tallying-room, tallying-passed, tallying-enough, tallying-row, tallying-taps, tallying-end}
 use Rattle.judged.proofs.tally_timing_rows.Statement.{statement}
 use Rattle.judged.proofs.tally_timing_rows.Tie as tie
 
@@ -98,7 +98,7 @@ process-timing-taps-requires c κs =
     let row = known .before .before .before .before .before in
     let at = row .before .before .before in
     let free = free-told (known .before .before .free-taps .ensures) (known .mask .given .1) in (
-      at .before .before .tap-mask-counts .ensures,
+      rw (c .before .is-wide .ensures) (at .before .before .tap-mask-counts .ensures),
       so-few at .0,
       so-few at .1,
       rw (c .before .is-wide .ensures) (fits-at _ _ _ (bytes-long _ _ _ (row-within _ _ _ _ (row .before .back-line .ensures) (row .if1 .taken))) (free .mask)),

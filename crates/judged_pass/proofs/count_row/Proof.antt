@@ -1,7 +1,8 @@
 -- `judged_pass::count_row` meets its contract: by its mask where it has a free one, else cell by cell.
 use borrow.Author.Needs.{needs}
+use denote.Ref.{now}
 use Rattle.taps.proofs.Free.{free-told}
-use Rattle.taps.specs.Taps.{Fits}
+use Rattle.taps.specs.Taps.{Fits, TapCounts}
 use Rattle.taps.proofs.Masks.{line-fits}
 use Rattle.judged_pass.proofs.count_row.Statement.{statement}
 use Rattle.judged_pass.proofs.count_row.Tie as tie
@@ -20,8 +21,12 @@ fits c =
     let known = c .before .before in
     rw (c .is-wide .ensures) (line-fits _ _ (free-told (known .before .before .free-taps .ensures) (known .mask .given .1) .mask))
 
+-- the table is that of the row's width
+table : (c : tie.After-is-wide) → TapCounts (c .is-wide .result) (now (c .before .before .before .before .before .before .args .counts))
+table c = rw (c .is-wide .ensures) (c .before .before .before .before .before .before .pre .1)
+
 count-taps-requires : tie.Need-count-taps-requires
-count-taps-requires c κs = let f = fits c in search needs
+count-taps-requires c κs = let f = fits c in let t = table c in search needs
 
 enum-told : tie.Need-enum-told
 enum-told c = search needs

@@ -4,7 +4,7 @@ use native.Mathlib.Omega.{arith}
 use borrow.Author.Needs.{needs}
 use borrow.Author.Tests.{not-true, not-false}
 use lib.ListN.{length}
-use Rattle.reader.proofs.BackRows.{row-within, bytes-short}
+use Rattle.reader.proofs.BackRows.{row-within, bytes-short, bytes-long}
 use Rattle.judged_pass.proofs.JudgedPass.{Passes, passes-start, passes-few, passes-row, passes-passed, passes-unclean, passes-open, passes-end}
 use Rattle.judged_pass.proofs.judge_clean.Statement.{statement}
 use Rattle.judged_pass.proofs.judge_clean.Tie as tie
@@ -44,10 +44,11 @@ part-count-row-end c = row-within _ _ _ _ (c .before .back-line .ensures) (c .if
 
 count-row-requires : tie.Need-count-row-requires Inv-loop μ-loop
 count-row-requires c κs =
-    let at = c .before .before .before .before .before in
+    let row = c .before .before in
+    let at = row .before .before .before in
     let start = at .before .before .before .before .before in (
       bytes-short _ _ _ (start .pre .2),
-      at .before .before .before .tap-mask-counts .ensures,
+      rw (bytes-long _ _ _ (row-within _ _ _ _ (row .before .back-line .ensures) (row .if1 .taken))) (at .before .before .before .tap-mask-counts .ensures),
       at .loop .inv .1 .ready,
       passes-few _ _ _ _ (at .loop .inv .1) (omega (arith, at .loop .inv .0, start .pre .0)),
     )

@@ -25,18 +25,18 @@ count-rows-requires c κs =
     let r = c .before .before .before in
     let s = r .before .before .before .before in
     let w = few r in (
-      (s .pre .0, s .pre .1, omega (arith, w .1, s .pre .2, r .reduce-output-measure .kept .0)),
+      (s .pre .0, s .pre .1, omega (arith, w .1, s .pre .2, r .reduce-output-measure .kept .0), s .pre .5),
       (omega (arith, w .0, s .pre .3), record { done = s .pre .4 .done; counted = s .pre .4 .open-is .counted }),
     )
 
-add-t13 : tie.Need-add-t13
-add-t13 c = search needs
+add-t14 : tie.Need-add-t14
+add-t14 c = search needs
 
-mul-t14 : tie.Need-mul-t14
-mul-t14 c = omega (arith, few (c .before .before .before .before) .1, c .before .before .before .before .before .before .before .before .pre .2)
+mul-t15 : tie.Need-mul-t15
+mul-t15 c = omega (arith, few (c .before .before .before .before) .1, c .before .before .before .before .before .before .before .before .pre .2)
 
-add-t15 : tie.Need-add-t15
-add-t15 c = omega (arith, few (c .before .before .before .before) .1, c .before .before .before .before .before .before .before .before .pre .2)
+add-t16 : tie.Need-add-t16
+add-t16 c = omega (arith, few (c .before .before .before .before) .1, c .before .before .before .before .before .before .before .before .pre .2)
 
 same-length : tie.Need-same-length
 same-length c = search needs
@@ -53,8 +53,8 @@ end-rows-spec =
     (tie.spec
     reduce-output-measure-requires
     count-rows-requires
-    add-t13
-    mul-t14
-    add-t15
+    add-t14
+    mul-t15
+    add-t16
     same-length
     returns)

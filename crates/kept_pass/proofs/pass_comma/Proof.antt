@@ -8,7 +8,7 @@ use Rattle.kept_pass.proofs.pass_comma.Tie as tie
 end-measure-requires : tie.Need-end-measure-requires
 end-measure-requires c κs =
     let s = c .before .before .before .before in
-    ((s .pre .0 .0, s .pre .0 .1, omega (arith, s .pre .0 .2), s .pre .0 .3, s .pre .0 .4), s .pre .1 .0)
+    ((s .pre .0 .0, s .pre .0 .1, omega (arith, s .pre .0 .2), s .pre .0 .3, s .pre .0 .4, s .pre .0 .5), s .pre .1 .0)
 
 begin-measure-requires : tie.Need-begin-measure-requires
 begin-measure-requires c κs = search needs

@@ -93,7 +93,7 @@ count-taps-requires c κs =
     let l = known .before .before .before .before in
     let w = few l in
     let free = free-told (known .before .before .free-taps .ensures) (known .mask .given .1) in
-    (w .0, w .1, start l .pre .0 .3, rw (c .is-wide .ensures) (fits-at _ _ _ (wide l) (free .mask)))
+    (w .0, w .1, rw (c .is-wide .ensures) (start l .pre .0 .3), rw (c .is-wide .ensures) (fits-at _ _ _ (wide l) (free .mask)))
 
 enum-told : tie.Need-enum-told Inv-loop μ-loop
 enum-told c = search needs

@@ -3,7 +3,6 @@ use mathlib.Core.Path.{_≡_, refl, sym, subst}
 use mathlib.Core.List.{List, []}
 use Prim.Native.Nat.{_+_, _-_, _*_, _≤_, _<_}
 use native.Mathlib.Omega.{arith}
-use borrow.Author.Needs.{needs}
 use denote.Ref.{now}
 use lib.ListN.{length, take}
 use lib.Seq.{take-all}
@@ -24,14 +23,14 @@ abbrev μ-loop : tie.MeasureT-loop
 μ-loop text start rows lanes counts c₀ i₀ c i = rows - i
 
 abbrev start : tie.At-loop Inv-loop μ-loop → tie.Start Inv-loop μ-loop
-start c = c .before .before .before
+start c = c .before .before
 
 -- a text's length is a number
 text-fits : (c : tie.At-loop Inv-loop μ-loop) → length (now (start c .args .text)) < 18446744073709551616
 text-fits c = omega arith
 
 abbrev at : tie.Else1 Inv-loop μ-loop → tie.At-loop Inv-loop μ-loop
-at c = c .before .before .before .before
+at c = c .before .before .before
 
 -- the row that is not ordinary stands in the text
 room : (c : tie.Else1 Inv-loop μ-loop) →
@@ -53,29 +52,26 @@ few c =
     let grown = counted-grown _ _ _ _ ms 0 (t .result .row) (omega arith) (rw rows-length (t .ensures .0 .1)) (some .counted) x in
     (omega (arith, grown, s .pre .1 .0, c .if1 .left), x .few)
 
-tap-mask-counts-requires : tie.Need-tap-mask-counts-requires Inv-loop μ-loop
-tap-mask-counts-requires c κs = search needs
-
 loop-holds : tie.Need-loop-holds Inv-loop μ-loop
 loop-holds c = (omega arith, λ done x. x)
 
 count-ordinary-requires : tie.Need-count-ordinary-requires Inv-loop μ-loop
 count-ordinary-requires c κs =
-    let s = start (c .before) in
+    let s = start c in
     let a = s .args in
-    let v = c .before .loop in
+    let v = c .loop in
     let ms = rowsOf (a .lanes) (a .rows) (now (a .text)) (a .start) in
     let some = s .pre .1 .1 in
     let x = v .inv .1 (some .done) (some .counted) in
     let grown = counted-grown _ _ _ _ ms 0 (v .i) (omega arith) (rw rows-length (v .inv .0)) (some .counted) x in (
-      (s .pre .0 .1, s .pre .0 .2, v .inv .0, c .before .before .tap-mask-counts .ensures),
+      (s .pre .0 .1, s .pre .0 .2, v .inv .0, s .pre .0 .3),
       (omega (arith, grown, s .pre .1 .0, v .inv .0), record { done = some .done; counted = x }),
     )
 
 returns : tie.Need-returns Inv-loop μ-loop
 returns c =
     let t = c .before .before .count-ordinary in
-    let l = c .before .before .before .before in
+    let l = c .before .before .before in
     let a = start l .args in
     let ms = rowsOf (a .lanes) (a .rows) (now (a .text)) (a .start) in
     let all : length ms ≤ t .result .row = rw rows-length (c .if1 .taken) in
@@ -138,7 +134,6 @@ count-rows-spec =
     (tie.spec
     Inv-loop
     μ-loop
-    tap-mask-counts-requires
     loop-holds
     count-ordinary-requires
     returns

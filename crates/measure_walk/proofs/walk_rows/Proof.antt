@@ -34,7 +34,7 @@ abbrev μ-loop : tie.MeasureT-loop
     first + rows - r .row
 
 abbrev begin : tie.At-loop Inv-loop μ-loop → tie.Start Inv-loop μ-loop
-begin c = c .before .before .before .before .before .before .before .before .before
+begin c = c .before .before .before .before .before .before .before .before
 
 -- the measure's rows
 abbrev all : tie.Start Inv-loop μ-loop → List Row
@@ -49,7 +49,7 @@ text-known : (c : tie.After-shared-slice-known Inv-loop μ-loop) → length (now
 text-known c = omega arith
 
 text-fits : (c : tie.At-loop Inv-loop μ-loop) → length (now (begin c .args .text)) < 18446744073709551616
-text-fits c = text-known (c .before .before .before .before .before .before .before .before)
+text-fits c = text-known (c .before .before .before .before .before .before .before)
 
 -- what is walked so far
 walked : (c : tie.At-loop Inv-loop μ-loop) →
@@ -60,7 +60,7 @@ walked c =
     walked-on (s .args .lanes) _ _ _ _ _ _ _ 0 _ (s .pre .1) (c .loop .inv .2) (c .loop .inv .4) (c .loop .inv .5)
 
 abbrev loop : tie.After-walk-taps Inv-loop μ-loop → tie.At-loop Inv-loop μ-loop
-loop c = c .before .before .before
+loop c = c .before .before
 
 -- and with ordinary rows more
 tapped : (c : tie.After-walk-taps Inv-loop μ-loop) →
@@ -82,10 +82,6 @@ room : (c : tie.Else1 Inv-loop μ-loop) →
 room c =
     let s = begin (loop (taps c)) in
     row-room (s .args .lanes) (s .args .rows) (now (s .args .text)) (s .args .start) (s .pre .0 .2) (taps c .walk-taps .result .row - s .args .counting .rows) _ (c .if1 .left) refl
-
-tap-mask-counts-requires : tie.Need-tap-mask-counts-requires Inv-loop μ-loop
-tap-mask-counts-requires c κs =
-    search needs
 
 phantom-depths-requires : tie.Need-phantom-depths-requires Inv-loop μ-loop
 phantom-depths-requires c κs =
@@ -109,7 +105,7 @@ first-run-requires c κs =
 
 loop-holds : tie.Need-loop-holds Inv-loop μ-loop
 loop-holds c =
-    let s = c .before .before .before .before .before .before .before .before in
+    let s = c .before .before .before .before .before .before .before in
     let a = s .args in
     let p = c .before .before .before .before .phantom-depths .ensures in
     let o = c .before .before .before .object-depths .ensures in
@@ -130,10 +126,9 @@ loop-holds c =
 
 walk-taps-requires : tie.Need-walk-taps-requires Inv-loop μ-loop
 walk-taps-requires c κs =
-    let l = c .before .before in
+    let l = c .before in
     let s = begin l in
-    let counts = l .before .before .before .before .before .before .tap-mask-counts .ensures in
-    ((s .pre .0 .0, s .pre .0 .1, s .pre .0 .2, l .loop .inv .0, l .loop .inv .1, counts), record { rest = rest l; walking = walked l })
+    ((s .pre .0 .0, s .pre .0 .1, s .pre .0 .2, l .loop .inv .0, l .loop .inv .1, s .pre .0 .3), record { rest = rest l; walking = walked l })
 
 sub-i : tie.Need-sub-i Inv-loop μ-loop
 sub-i c =
@@ -268,7 +263,6 @@ walk-rows-spec =
     (tie.spec
     Inv-loop
     μ-loop
-    tap-mask-counts-requires
     phantom-depths-requires
     object-depths-requires
     open-heads-requires

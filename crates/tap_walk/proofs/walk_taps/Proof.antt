@@ -169,7 +169,7 @@ add-taps-requires c κs =
           };
         };
       },
-      s .pre .0 .5,
+      rw (c .before .is-wide .ensures) (s .pre .0 .5),
     )
 
 enum-told : tie.Need-enum-told Inv-loop μ-loop

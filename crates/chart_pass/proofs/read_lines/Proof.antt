@@ -1,4 +1,4 @@
--- `chart_pass::read_chart` meets its contract. The loop's invariant: what the pass holds and has written is that of the lines read.
+-- `chart_pass::read_lines` meets its contract. The loop's invariant: what the pass holds and has written is that of the lines read.
 use Prim.Native.Nat.{_-_, _+_}
 use mathlib.Core.Path.{_≡_, refl}
 use mathlib.Core.Logic.{⊎-elim}
@@ -11,15 +11,15 @@ use Rattle.reader.proofs.Passes.{Over, RowPart, row-part, pass-semi, pass-end}
 use Rattle.reader.proofs.Minimising.{Reduced, Minimising, minimising-start, minimising-few, minimised-few, minimising-room, minimising-passed, comma-room, row-room, minimising-comma, minimising-row}
 use Rattle.chart_pass.specs.ChartPass.{Charted}
 use Rattle.chart_pass.proofs.Charting.{slots-room, chart-all}
-use Rattle.chart_pass.proofs.read_chart.Statement.{statement}
-use Rattle.chart_pass.proofs.read_chart.Tie as tie
+use Rattle.chart_pass.proofs.read_lines.Statement.{statement}
+use Rattle.chart_pass.proofs.read_lines.Tie as tie
 
 abbrev Inv-loop : tie.InvT-loop
-Inv-loop «data» lanes text₀ densities₀ beats₀ slots₀ width off₀ p₀ text densities beats slots off p =
+Inv-loop «data» lanes text₀ densities₀ beats₀ slots₀ counts width off₀ p₀ text densities beats slots off p =
     (length text ≡ length text₀) × (length densities ≡ length densities₀) × (length beats ≡ length beats₀) × (length slots ≡ length slots₀) × (Minimising lanes «data» off (p .pass .out) (Charted lanes p text densities beats slots))
 
 abbrev μ-loop : tie.MeasureT-loop
-μ-loop «data» lanes text₀ densities₀ beats₀ slots₀ width off₀ p₀ text densities beats slots off p = length «data» + 1 - off
+μ-loop «data» lanes text₀ densities₀ beats₀ slots₀ counts width off₀ p₀ text densities beats slots off p = length «data» + 1 - off
 
 few : (c : tie.At-loop Inv-loop μ-loop) → let a = c .before .before .before .before .before .before .before .before .args in Small (a .lanes) (c .loop .p .pass) (length (now (a .«data»)))
 few c =
@@ -66,6 +66,7 @@ chart-comma-requires c κs =
         s .pre .0 .1,
         omega (arith, comma-room _ _ _ _ _ (l .before .loop-test .taken) (l .read-line .ensures) x (c .before .before .before .before .enum-told2 .given .1), at .loop .inv .0, s .pre .1 .0),
         record { done = _; cur = x .pass .cur; charted = x .pass .held },
+        s .pre .1 .4,
       ),
       (
         (omega (arith, w .midx, at .loop .inv .1, s .pre .0 .2, s .pre .1 .1), omega (arith, w .midx, s .pre .0 .2), omega (arith, w .rows, s .pre .0 .2)),
@@ -158,7 +159,7 @@ end-measure-requires c κs =
     let s = at .before .before .before .before .before .before .before .before in
     let x = over l in
     let w = kept-few _ _ _ _ _ _ _ (minimised-few _ _ (s .pre .0 .0) x) (x .held .kept) in (
-      (omega (arith, s .pre .0 .0), s .pre .0 .1, omega (arith, minimising-room _ _ _ _ (at .loop .inv .4), at .loop .inv .0, s .pre .1 .0), record { done = _; cur = x .cur; charted = x .held }),
+      (omega (arith, s .pre .0 .0), s .pre .0 .1, omega (arith, minimising-room _ _ _ _ (at .loop .inv .4), at .loop .inv .0, s .pre .1 .0), record { done = _; cur = x .cur; charted = x .held }, s .pre .1 .4),
       (
         (omega (arith, w .midx, at .loop .inv .1, s .pre .0 .2, s .pre .1 .1), omega (arith, w .midx, s .pre .0 .2), omega (arith, w .rows, s .pre .0 .2)),
         (omega (arith, w .most, at .loop .inv .2, s .pre .1 .2), slots-room _ _ _ _ (w .most) (omega (arith, at .loop .inv .3, s .pre .1 .3))),
@@ -202,8 +203,8 @@ returns c =
     (omega (arith, r .1 .0, room, at .loop .inv .0, s .pre .1 .0, e .end-measure .kept .1 .0))
     (omega (arith, r .1 .0, room))
 
-pub read-chart-spec : {M : Type 1} → statement M
-read-chart-spec =
+pub read-lines-spec : {M : Type 1} → statement M
+read-lines-spec =
     tie.close
     (tie.spec
     Inv-loop

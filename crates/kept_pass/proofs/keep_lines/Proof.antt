@@ -1,4 +1,4 @@
--- `kept_pass::keep_chart` meets its contract. The loop's invariant: what the pass holds and has written is that of the lines read.
+-- `kept_pass::keep_lines` meets its contract. The loop's invariant: what the pass holds and has written is that of the lines read.
 use Prim.Native.Nat.{_-_, _+_}
 use mathlib.Core.Path.{_≡_, refl, ap}
 use mathlib.Core.Logic.{⊎-elim}
@@ -11,15 +11,15 @@ use Rattle.reader.proofs.Minimising.{Reduced, Minimising, minimising-start, min
 use Rattle.kept_pass.specs.KeptPass.{Kept}
 use Rattle.kept_pass.proofs.Passing.{kept-row}
 use Rattle.kept_pass.proofs.Keeping.{Small, kept-few, kept-all}
-use Rattle.kept_pass.proofs.keep_chart.Statement.{statement}
-use Rattle.kept_pass.proofs.keep_chart.Tie as tie
+use Rattle.kept_pass.proofs.keep_lines.Statement.{statement}
+use Rattle.kept_pass.proofs.keep_lines.Tie as tie
 
 abbrev Inv-loop : tie.InvT-loop
-Inv-loop «data» lanes text₀ densities₀ width off₀ p₀ text densities off p =
+Inv-loop «data» lanes text₀ densities₀ counts width off₀ p₀ text densities off p =
     (length text ≡ length text₀) × (length densities ≡ length densities₀) × (Minimising lanes «data» off (p .out) (Kept lanes p text densities))
 
 abbrev μ-loop : tie.MeasureT-loop
-μ-loop «data» lanes text₀ densities₀ width off₀ p₀ text densities off p = length «data» + 1 - off
+μ-loop «data» lanes text₀ densities₀ counts width off₀ p₀ text densities off p = length «data» + 1 - off
 
 few : (c : tie.At-loop Inv-loop μ-loop) → let a = c .before .before .before .before .before .before .args in Small (a .lanes) (c .loop .p) (length (now (a .«data»)))
 few c =
@@ -66,6 +66,7 @@ pass-comma-requires c κs =
         omega (arith, comma-room _ _ _ _ _ (l .before .loop-test .taken) (l .read-line .ensures) x (c .before .before .enum-told2 .given .1), at .loop .inv .0, s .pre .1 .0),
         omega (arith, w .rows, s .pre .0 .2),
         record { done = _; cur = x .pass .cur; open-is = x .pass .held .open-is },
+        s .pre .1 .2,
       ),
       (omega (arith, w .midx, at .loop .inv .1, s .pre .0 .2, s .pre .1 .1), omega (arith, w .midx, s .pre .0 .2)),
     )
@@ -149,7 +150,7 @@ end-measure-requires c κs =
     let s = at .before .before .before .before .before .before in
     let x = over l in
     let w = kept-few _ _ _ _ _ _ _ (minimised-few _ _ (s .pre .0 .0) x) (x .held) in (
-      (omega (arith, s .pre .0 .0), s .pre .0 .1, omega (arith, minimising-room _ _ _ _ (at .loop .inv .2), at .loop .inv .0, s .pre .1 .0), omega (arith, w .rows, s .pre .0 .2), record { done = _; cur = x .cur; open-is = x .held .open-is }),
+      (omega (arith, s .pre .0 .0), s .pre .0 .1, omega (arith, minimising-room _ _ _ _ (at .loop .inv .2), at .loop .inv .0, s .pre .1 .0), omega (arith, w .rows, s .pre .0 .2), record { done = _; cur = x .cur; open-is = x .held .open-is }, s .pre .1 .2),
       omega (arith, w .midx, at .loop .inv .1, s .pre .1 .1, s .pre .0 .2),
     )
 
@@ -176,8 +177,8 @@ returns c =
     (omega (arith, r .1 .0, room, at .loop .inv .0, s .pre .1 .0, e .end-measure .kept .1 .0))
     (omega (arith, r .1 .0, room))
 
-pub keep-chart-spec : {M : Type 1} → statement M
-keep-chart-spec =
+pub keep-lines-spec : {M : Type 1} → statement M
+keep-lines-spec =
     tie.close
     (tie.spec
     Inv-loop
