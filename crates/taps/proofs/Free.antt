@@ -18,7 +18,8 @@ use Rattle.definitions.specs.Cells.{byteAt}
 use Rattle.taps.specs.Taps.{Tells, tapMask, tapLineMask, bit, FreeTaps, freeOf, freeTaps}
 use Rattle.taps.specs.declared.Taps.{Taps}
 use Rattle.taps.specs.declared.Taps.the-variants.{Mask, Other}
-use Rattle.taps.proofs.Masks.{not-other, parts, line-taps, tells-below, line-small}
+use Rattle.taps.proofs.Masks.{not-other, parts, line-taps, line-small}
+use Rattle.taps.proofs.Numbers.{tells-below}
 
 -- ---- bits
 

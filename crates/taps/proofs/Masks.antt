@@ -1,17 +1,16 @@
 -- The masks of rows of taps alone, and that a mask's counts are its row's sum.
 use mathlib.Core.Path.{_≡_, refl, ap, ap₂, sym, subst, _∙_}
 use mathlib.Core.Bool.{Bool, true, false, cond, _||_, _&&_, not}
-use mathlib.Core.List.{List, [], _∷_, _++_}
+use mathlib.Core.List.{[], _∷_, _++_}
 use Prim.Native.Nat.{ℕ, zero, suc, _+_, _*_, _-_, _/_, _%_, _^_, _<_, _≤_}
 use native.Mathlib.Nat.{suc-add, pow-suc, pow-succ', mul-assoc, div-one, div-div-eq-div-mul, div-eq-of-lt, pow-le-pow-right}
 use native.Mathlib.Decide.{decLt}
 use native.Mathlib.Omega.{arith}
 use lib.Bits.{bitAnd, and-mask}
-use lib.Dec.{eqb, ltb}
-use lib.ListN.{length, take, drop, length-take, take-append-drop}
+use lib.Dec.{eqb}
+use lib.ListN.{length}
 use lib.Pow.{pow-lt}
-use lib.Seq.{take-add, length-take-le}
-use borrow.Author.Tests.{eqb-true, ne-eqb, ltb-true}
+use borrow.Author.Tests.{eqb-true}
 use Rattle.definitions.specs.Lines.{Row}
 use Rattle.definitions.specs.Cells.{cellOf, isArrow}
 use Rattle.definitions.specs.Lists.{oneIf, count, sumColumns}
@@ -19,7 +18,7 @@ use Rattle.definitions.specs.declared.Cell.{Cell}
 use Rattle.definitions.specs.declared.Cell.the-variants.{Empty, Tap}
 use Rattle.definitions.specs.Tally.{rowSum, rowSumBy, countFrom, direction}
 use Rattle.definitions.specs.declared.RowSum.{RowSum}
-use Rattle.taps.specs.Taps.{numberOf, Small, Tells, withBit, tapMask, hasMask, tapLineMask, wideRow, Fits, bit, towards, maskCounts, unpack}
+use Rattle.taps.specs.Taps.{Small, withBit, tapMask, hasMask, tapLineMask, wideRow, Fits, bit, towards, maskCounts, unpack}
 use Rattle.taps.specs.declared.Taps.{Taps}
 use Rattle.taps.specs.declared.Taps.the-variants.{Mask, Other}
 
@@ -270,30 +269,6 @@ width n e = go (eqb n 4) (eqb n 8) (eqb n 5) (eqb n 10) (eqb-true n 4) (eqb-true
     go false false false true a b c d f = let k = d refl in (omega arith, omega arith)
     go false false false false a b c d f = let z : _≡_ {A = ℕ} 0 1 = cc in absurd (omega arith)
 
--- the width of a row by the tests of its length
-pub four-up : (n : ℕ) → (eqb n 4 || eqb n 5) ≡ true → 4 ≤ n
-four-up n e = go (eqb n 4) (eqb n 5) (eqb-true n 4) (eqb-true n 5) e
-  where
-    go : (p q : Bool) → (p ≡ true → n ≡ 4) → (q ≡ true → n ≡ 5) → (p || q) ≡ true → 4 ≤ n
-    go true q a b f = omega (arith, a refl)
-    go false true a b f = omega (arith, b refl)
-    go false false a b f = let z : _≡_ {A = ℕ} 0 1 = cc in absurd (omega arith)
-
-pub then-five : (n : ℕ) → (eqb n 4 || eqb n 5) ≡ true → (n ≡ 4 → ⊥) → n ≡ 5
-then-five n e four = go (eqb n 5) (eqb-true n 5) (rw (ne-eqb n 4 four) at e)
-  where
-    go : (q : Bool) → (q ≡ true → n ≡ 5) → q ≡ true → n ≡ 5
-    go true b f = b refl
-    go false b f = let z : _≡_ {A = ℕ} 0 1 = cc in absurd (omega arith)
-
-pub no-width : (n : ℕ) → (eqb n 4 || eqb n 5) ≡ false → (n ≡ 8 → ⊥) → (n ≡ 10 → ⊥) → hasMask n ≡ false
-no-width n e eight ten = rw (ne-eqb n 8 eight, ne-eqb n 10 ten) (go (eqb n 4) (eqb n 5) e)
-  where
-    go : (p q : Bool) → (p || q) ≡ false → (p || false || q || false) ≡ false
-    go true q f = f
-    go false true f = f
-    go false false f = f
-
 module _ (r : Row) where
   -- a row of such a width has the mask of its cells
   pub line-mask : hasMask (length r) ≡ true → tapMask r ≡ tapLineMask r
@@ -392,25 +367,6 @@ and-15 n = and-mask n 4
 
 pub and-3 : (n : ℕ) → bitAnd n 3 ≡ n % 4
 and-3 n = and-mask n 2
-
--- ---- masks as numbers
-
-pub tells-number : (t : Taps) (n : ℕ) → n ≡ numberOf t → Tells n t
-tells-number (Mask m) n e = e
-tells-number Other n e = omega arith
-
--- a number below tells a mask, any other none
-pub tells-below : (t : Taps) (n : ℕ) → Tells n t → n < 65536 → t ≡ Mask n
-tells-below (Mask m) n e h = ap Mask (sym e)
-tells-below Other n e h = absurd (omega arith)
-
-pub tells-past : (t : Taps) (n : ℕ) → Small t → Tells n t → 65536 ≤ n → t ≡ Other
-tells-past (Mask m) n s e h = absurd (omega (arith, s m refl))
-tells-past Other n s e h = refl
-
-pub number-le : (t : Taps) (n : ℕ) → Small t → n ≡ numberOf t → n ≤ 65536
-number-le (Mask m) n s e = omega (arith, s m refl)
-number-le Other n s e = omega arith
 
 pub mask-small : (r : Row) → length r ≤ 10 → Small (tapMask r)
 mask-small r h m e = omega (arith, mask-few 10 r m h e)

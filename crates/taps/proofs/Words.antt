@@ -16,7 +16,7 @@ use Rattle.taps.specs.Taps.{numberOf, Tells, withBit, tapMask, zeroCells
 use Rattle.taps.specs.declared.Taps.{Taps}
 use Rattle.taps.specs.declared.Taps.the-variants.{Mask, Other}
 use Rattle.taps.proofs.Tables.{same-at}
-use Rattle.taps.proofs.Masks.{Parts, parts, not-other, mask-lt, mask-few, beside, mask-append, Sides, sides}
+use Rattle.taps.proofs.Masks.{parts, mask-lt, mask-few, beside, mask-append, sides}
 
 -- ---- a byte
 

@@ -1,9 +1,10 @@
 // Rows of taps alone: their masks, the table of what a mask counts, and which of ten columns differ from a number.
 mod counts;
+mod five_counts;
 
-use counts::FIVE_COUNTS;
 use counts::TAP_MASK_COUNTS;
 use definitions::RowSum;
+use five_counts::FIVE_COUNTS;
 use lines::words;
 ghost use mathlib.Core.Path.{_≡_};
 ghost use mathlib.Core.List.{_++_};

@@ -1,12 +1,10 @@
 -- `chart_pass::end_measure` meets its contract.
 use mathlib.Core.Path.{refl}
-use mathlib.Core.List.{List}
 use Prim.Native.Nat.{_+_, _*_, _≤_, _<_}
 use native.Mathlib.Omega.{arith}
 use denote.Ref.{now}
-use Rattle.definitions.specs.Lines.{Row}
 use Rattle.definitions.specs.Reduction.{reduce}
-use Rattle.kept_pass.specs.KeptPass.{SomeOpen, Kept}
+use Rattle.kept_pass.specs.KeptPass.{SomeOpen}
 use Rattle.kept_pass.proofs.Passing.{open-size, closed-rows, closed-few, ended-rows}
 use Rattle.chart_pass.proofs.Charting.{charted-end, walk-room}
 use borrow.Author.Needs.{needs}

@@ -1,5 +1,5 @@
 -- `measure_tally::count_rows` meets its contract. The loop's invariant: the rows before row `i` are counted.
-use mathlib.Core.Path.{_≡_, refl, sym, subst}
+use mathlib.Core.Path.{refl, sym, subst}
 use mathlib.Core.List.{List, []}
 use Prim.Native.Nat.{_+_, _-_, _*_, _≤_, _<_}
 use native.Mathlib.Omega.{arith}
@@ -9,7 +9,7 @@ use lib.Seq.{take-all}
 use Rattle.definitions.specs.Sizes.{rowsBound}
 use Rattle.definitions.specs.Lines.{Row}
 use Rattle.reduction.proofs.RowsAt.{rows-length}
-use Rattle.measure_tally.specs.Counted.{Few, Counted, SomeCounted}
+use Rattle.measure_tally.specs.Counted.{Few, Counted}
 use Rattle.measure_tally.proofs.Rows.{counted-grown}
 use Rattle.measure_tally.proofs.Places.{rowsOf, row-room, row-wide, row-more}
 use Rattle.measure_tally.proofs.count_rows.Statement.{statement}

@@ -8,7 +8,8 @@ use lib.ListN.{length, take}
 use lib.Seq.{take-all}
 use Rattle.definitions.specs.Lines.{Row}
 use Rattle.taps.specs.Taps.{numberOf, Tells, tapMask, hasMask, tapLineMask}
-use Rattle.taps.proofs.Masks.{four-up, then-five, no-width, line-mask, line-other, tells-number}
+use Rattle.taps.proofs.Masks.{line-mask, line-other}
+use Rattle.taps.proofs.Numbers.{four-up, then-five, no-width, tells-number}
 use Rattle.taps.proofs.line_number.Statement.{statement}
 use Rattle.taps.proofs.line_number.Tie as tie
 

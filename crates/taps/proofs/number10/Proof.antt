@@ -1,12 +1,12 @@
 -- `taps::number10` meets its contract: eight cells and the two after them.
 use borrow.Author.Needs.{needs}
-use mathlib.Core.Path.{_≡_, sym, ap, ap₂, subst, _∙_}
 use native.Mathlib.Omega.{arith}
-use lib.ListN.{length, take, drop, length-take, length-drop, take-append-drop}
+use lib.ListN.{take, drop, length-take}
 use Rattle.lines.specs.Words.{wordOf}
 use Rattle.lines.proofs.RowWords.{bytes-of}
-use Rattle.taps.specs.Taps.{Tells, tapMask, zeroCells, BitsPlaced}
-use Rattle.taps.proofs.Masks.{mask-small, number-le}
+use Rattle.taps.specs.Taps.{tapMask}
+use Rattle.taps.proofs.Masks.{mask-small}
+use Rattle.taps.proofs.Numbers.{number-le}
 use Rattle.taps.proofs.Words.{bytes-drop, rest-of, two-word, last-placed}
 use Rattle.taps.proofs.number10.Statement.{statement}
 use Rattle.taps.proofs.number10.Tie as tie

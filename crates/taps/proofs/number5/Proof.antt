@@ -1,13 +1,13 @@
 -- `taps::number5` meets its contract: four cells and the one after them.
 use borrow.Author.Needs.{needs}
-use mathlib.Core.Path.{_≡_, sym, ap, ap₂, subst, _∙_}
+use mathlib.Core.Path.{_∙_}
 use native.Mathlib.Omega.{arith}
-use lib.ListN.{length, take, drop, length-take, length-drop, take-append-drop}
-use lib.Seq.{length-take-le, take-all}
+use lib.ListN.{take, drop, length-take}
 use Rattle.lines.specs.Words.{wordOf}
 use Rattle.lines.proofs.RowWords.{bytes-of}
-use Rattle.taps.specs.Taps.{Tells, tapMask, zeroCells, BitsPlaced}
-use Rattle.taps.proofs.Masks.{mask-small, number-le}
+use Rattle.taps.specs.Taps.{tapMask}
+use Rattle.taps.proofs.Masks.{mask-small}
+use Rattle.taps.proofs.Numbers.{number-le}
 use Rattle.taps.proofs.Words.{bytes-drop, rest-of, one-word, fifth-placed}
 use Rattle.taps.proofs.number5.Statement.{statement}
 use Rattle.taps.proofs.number5.Tie as tie

@@ -1,7 +1,7 @@
 -- `taps::tap_counts` meets its contract: the table has the counts of a mask of up to eight columns, or those of five columns and five.
 use borrow.Author.Needs.{needs}
-use mathlib.Core.Path.{_≡_, ap, ap₂, subst, _∙_}
-use Prim.Native.Nat.{_+_, _*_, _/_, _%_, _<_}
+use mathlib.Core.Path.{_≡_, ap₂, subst, _∙_}
+use Prim.Native.Nat.{_+_, _/_, _%_, _<_}
 use native.Mathlib.Omega.{arith}
 use lib.ListN.{getD}
 use Rattle.taps.specs.Taps.{TapCounts, maskCounts}

@@ -3,7 +3,8 @@ use borrow.Author.Needs.{needs}
 use native.Mathlib.Omega.{arith}
 use lib.ListN.{take, length-take}
 use Rattle.taps.specs.Taps.{tapMask}
-use Rattle.taps.proofs.Masks.{mask-small, tells-number}
+use Rattle.taps.proofs.Masks.{mask-small}
+use Rattle.taps.proofs.Numbers.{tells-number}
 use Rattle.taps.proofs.tap_mask4.Statement.{statement}
 use Rattle.taps.proofs.tap_mask4.Tie as tie
 

@@ -2,7 +2,7 @@
 use borrow.Author.Needs.{needs}
 use mathlib.Core.Path.{sym}
 use native.Mathlib.Omega.{arith}
-use Rattle.taps.proofs.Masks.{tells-below, tells-past}
+use Rattle.taps.proofs.Numbers.{tells-below, tells-past}
 use Rattle.taps.proofs.taps_of.Statement.{statement}
 use Rattle.taps.proofs.taps_of.Tie as tie
 

@@ -1,10 +1,9 @@
 -- `taps::with_rest` meets its contract: the word passes where every byte does, and then its bits stand after the mask's.
 use borrow.Author.Needs.{needs}
-use mathlib.Core.Path.{_≡_, ap, sym, subst, _∙_}
-use Prim.Native.Nat.{_*_, _+_, _<_, _≤_}
+use mathlib.Core.Path.{sym}
+use Prim.Native.Nat.{_*_, _<_}
 use native.Mathlib.Omega.{arith}
 use lib.Bits.{bitAnd, and-le-r}
-use Rattle.taps.specs.Taps.{Tells, tapMask}
 use Rattle.taps.proofs.Words.{product-lt, rest-mask, rest-other}
 use Rattle.taps.proofs.with_rest.Statement.{statement}
 use Rattle.taps.proofs.with_rest.Tie as tie
