@@ -9,6 +9,9 @@ use oracle::entry::MAX_LEN;
 /// What is printed as 1.00 or more is at least this.
 const ROUNDED_ONE: f64 = 0.995;
 
+/// What is printed as 1.20 or more, the main call's goal, is at least this.
+const MAIN_GOAL: f64 = 1.195;
+
 /// One cell: a call made in one way on one load, the best times in seconds.
 pub struct Cell {
     pub way: Way,
@@ -36,6 +39,15 @@ impl Cell {
     /// Whether it is printed as less than 1.00.
     fn is_under(&self) -> bool {
         self.ratio() < ROUNDED_ONE
+    }
+
+    /// Whether it is printed as less than its goal.
+    fn misses_goal(&self) -> bool {
+        let goal = match self.call {
+            Call::MinimizeChartCountRowsNotes => MAIN_GOAL,
+            _ => ROUNDED_ONE,
+        };
+        self.ratio() < goal
     }
 
     /// Millions of bytes of text a second.
@@ -183,12 +195,14 @@ pub fn print_ratios(cells: &[Cell], lanes: &[usize]) {
     println!();
 }
 
-/// A ratio; under 1.00 it is bold, with what it is less the zeros in brackets.
+/// A ratio; under 1.00 it is bold, and under its goal what it is less the zeros follows in brackets.
 fn ratio_words(cell: &Cell) -> String {
-    let ratio = cell.ratio();
-    match (cell.is_under(), cell.less_zeros()) {
-        (false, _) => format!("{ratio:.2}"),
-        (true, None) => format!("**{ratio:.2}**"),
-        (true, Some(less)) => format!("**{ratio:.2}** ({less:.2})"),
+    let mut words = format!("{:.2}", cell.ratio());
+    if cell.is_under() {
+        words = format!("**{words}**");
+    }
+    match cell.less_zeros() {
+        Some(less) if cell.misses_goal() => format!("{words} ({less:.2})"),
+        _ => words,
     }
 }
