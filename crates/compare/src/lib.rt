@@ -104,6 +104,23 @@ pub fn same_numbers(slice: &[u32], want: &[u8]) -> bool
     true
 }
 
+// The numbers of eight bytes of an answer, and zeros to the slice's end.
+pub fn same_longs(slice: &[u64], want: &[u8]) -> bool
+    ensures { λ r. ⌜ r ≡ hasAnswer (now (slice .entry)) (longs (now (want .entry))) ⌝ }
+{
+    if slice.len() < want.len() / 8 {
+        return false;
+    }
+    let mut i = 0;
+    while i < slice.len() {
+        if slice[i] != wanted_long(want, i) {
+            return false; // a long number differs
+        }
+        i += 1;
+    }
+    true
+}
+
 // The floats of an answer, and zeros to the slice's end.
 pub fn same_floats(floats: &[f32], want: &[u8]) -> bool
     ensures { λ r. ⌜ r ≡ hasAnswer (bitsOf (now (floats .entry))) (numbers (now (want .entry))) ⌝ }

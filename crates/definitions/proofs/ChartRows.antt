@@ -127,11 +127,11 @@ minimised-rows L text w = reduced-rows (chart-rows L text w)
 
 -- ---- Few bytes
 -- the bytes of some lines, each with its newline
-abbrev lineBytes : List (List ℕ) → ℕ
+abbrev pub lineBytes : List (List ℕ) → ℕ
 lineBytes [] = 0
 lineBytes (l ∷ ls) = length l + 1 + lineBytes ls
 
-cut-bytes : (text : List ℕ) → lineBytes (cut text) ≡ length text + 1
+pub cut-bytes : (text : List ℕ) → lineBytes (cut text) ≡ length text + 1
 cut-bytes [] = refl
 cut-bytes (b ∷ s) = go (eqb b 10) (cut s) (cut-bytes s)
   where

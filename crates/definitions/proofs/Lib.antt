@@ -14,3 +14,4 @@ pub mod ReadBack
 pub mod WriterMakes
 pub mod Damage
 pub mod Figures
+pub mod SmBlocks

@@ -1,5 +1,6 @@
 -- The entries callable from outside: for every input the number that each returns, 0 for accepted, and what it leaves in each lent slice and
 -- in the 32 figures. `lanes` is the caller's lane number; the lists named after slices are what those held before the call.
+-- The entry that is lent a file is in SmFile.antt.
 use mathlib.Core.List.{List, [], _∷_, _++_}
 use Prim.Native.Nat.{ℕ, _+_}
 use lib.Ieee.{Float, binary64, toBits}

@@ -1,4 +1,4 @@
--- Document 01 written down, in its order: a reader who believes these files, and the examples at their end, needs no other.
+-- Documents 01 and 02 written down, in document 01's order: a reader who believes these files, and the examples at their end, needs no other.
 pub mod Lists
 pub mod Sizes
 pub mod Lanes
@@ -19,7 +19,10 @@ pub mod ReadBack
 pub mod Judged
 pub mod TimingRows
 pub mod Entries
+pub mod SmFile
+pub mod SmBlocks
 pub mod WriterMakes
 pub mod Examples
+pub mod RequestExamples
 pub mod Damage
 pub mod DamageExample

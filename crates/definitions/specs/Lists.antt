@@ -1,9 +1,9 @@
 -- Words on lists that the other files use.
-use mathlib.Core.Bool.{Bool, true, false, _||_}
+use mathlib.Core.Bool.{Bool, true, false, cond, _||_, _&&_}
 use mathlib.Core.List.{List, [], _∷_, _++_}
 use Prim.Native.Nat.{ℕ, zero, suc, _+_, _-_}
 use lib.Dec.{eqb}
-use lib.ListN.{length, replicate}
+use lib.ListN.{length, take, drop, replicate}
 
 -- 1 where the test holds, else 0
 abbrev pub oneIf : Bool → ℕ
@@ -54,3 +54,34 @@ sumColumns (suc n) f = sumColumns n f + f n
 abbrev pub among : ℕ → List ℕ → Bool
 among b [] = false
 among b (x ∷ xs) = eqb b x || among b xs
+
+-- a list up to the first b in it, or all of it
+unfoldable pub upTo : ℕ → List ℕ → List ℕ
+upTo b [] = []
+upTo b (x ∷ s) = cond (eqb x b) [] (x ∷ upTo b s)
+
+-- a list through the first b in it, or all of it
+unfoldable pub through : ℕ → List ℕ → List ℕ
+through b s = take (suc (length (upTo b s))) s
+
+-- what follows the first b in a list, nothing where it has none
+unfoldable pub after : ℕ → List ℕ → List ℕ
+after b s = drop (suc (length (upTo b s))) s
+
+-- what follows the first n of them
+abbrev pub afterEach : ℕ → ℕ → List ℕ → List ℕ
+afterEach b zero s = s
+afterEach b (suc n) s = afterEach b n (after b s)
+
+-- whether a list begins with a word
+abbrev pub startsWith : List ℕ → List ℕ → Bool
+startsWith [] s = true
+startsWith (b ∷ word) [] = false
+startsWith (b ∷ word) (x ∷ s) = eqb x b && startsWith word s
+
+-- whether two lists are the same, byte for byte
+abbrev pub same : List ℕ → List ℕ → Bool
+same [] [] = true
+same [] (y ∷ t) = false
+same (x ∷ s) [] = false
+same (x ∷ s) (y ∷ t) = eqb x y && same s t

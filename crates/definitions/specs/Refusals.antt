@@ -1,5 +1,5 @@
 -- Document 01, "What a call can be told": the conditions of the refusals 1 to 6, their order, and what a call leaves in a lent slice.
--- 7 and 8 are in Records.antt.
+-- 7 and 8 are in Records.antt, 9 to 11 in SmFile.antt.
 use mathlib.Core.Bool.{Bool, cond}
 use mathlib.Core.List.{List, [], _∷_}
 use Prim.Native.Nat.{ℕ, _+_, _*_, _/_}

@@ -1,4 +1,4 @@
-// The types that document 01 speaks of. The definitions over them are in specs/, in document 01's order, and their laws in proofs/.
+// The types that documents 01 and 02 speak of. The definitions over them are in specs/, in document 01's order, and their laws in proofs/.
 
 // The longest text that is accepted, in bytes.
 pub const MOST_BYTES: usize = 16777215;
@@ -113,4 +113,10 @@ pub struct ArrowStats {
 pub enum ReadNote {
     Found(Note),
     Refused(u32),
+}
+
+// A tag with which a line begins, after blanks: where its line begins in the file, and the place just past the tag.
+pub struct Tag {
+    pub line: usize,
+    pub end: usize,
 }

@@ -1,10 +1,12 @@
-// The figures that an entry leaves, each in its place: 32 for a call on a text, 4 for a note. What a call does not answer is 0.
+// The figures that an entry leaves, each in its place: 32 for a call on a text, 4 for a note, 3 for a chart of a file. What a call does not answer
+// is 0.
 use definitions::ArrowStats;
 use definitions::Note;
 use definitions::Tail;
 use note_records::NO_TAIL_ROW;
 use note_records::kind_number;
 ghost use mathlib.Core.Path.{_≡_};
+ghost use mathlib.Core.List.{[], _∷_};
 ghost use Rattle.definitions.specs.Entries.{figures as figuresOf, noTally, tallyFigures, noteFigures};
 ghost use Rattle.definitions.specs.Lists.{oneIf};
 ghost use Rattle.definitions.specs.Records.{tailNumber};
@@ -102,4 +104,11 @@ pub fn note_figures(n: Note) -> [u64; 4]
         wide(n.column),
         kind_number(kind) as u64,
     ]
+}
+
+// The three places of a chart of a file: its lane count, where its data begins, and the data's length.
+pub fn chart_figures(lanes: usize, start: usize, len: usize) -> [u64; 3]
+    ensures { λ r. ⌜ r ≡ lanes ∷ start ∷ len ∷ [] ⌝ }
+{
+    [lanes as u64, start as u64, len as u64]
 }

@@ -21,6 +21,8 @@ use Rattle.kept.specs.Answers.{refusedOrKept}
 use Rattle.kept.specs.declared.KeptAnswer.the-variants as kept
 use Rattle.chart.specs.Answers.{refusedOrChart}
 use Rattle.chart.specs.declared.ChartAnswer.the-variants as chart
+use Rattle.files.specs.Sm.{refusedOrPlace}
+use Rattle.files.specs.declared.sm.SmAnswer.the-variants as sm
 
 -- `answer` is by a call's number and by what it has if accepted, for which `left` gives the figures; its cases are `refused` and `accepted`.
 pub record Told {A B : Type 0} (answer : ℕ → B → A) (refused : ℕ → A) (accepted : B → A) (left : B → List ℕ) : Type 0 where
@@ -59,3 +61,7 @@ kept-told = record { number = λ k b m e. cc; not-refused = λ b m e. cc; not-ac
 
 pub chart-told : Told refusedOrChart chart.Refused chart.Chart (λ f. figures (f .bytes) (f .measures) (f .rows) (f .notes) (f .«last_bits») 0 (f .«last_row») (tallyFigures (f .stats)))
 chart-told = record { number = λ k b m e. cc; not-refused = λ b m e. cc; not-accepted = λ k b c e. cc; same-left = λ b c e. cc }
+
+-- the three places of a chart of a file are by more than its answer has: the data's length
+pub sm-told : (places : List ℕ) → Told {B = ℕ × ℕ} (λ k b. refusedOrPlace k (b .0) (b .1)) sm.Refused (λ b. sm.Chart (b .0) (b .1)) (λ b. places)
+sm-told places = record { number = λ k b m e. cc; not-refused = λ b m e. cc; not-accepted = λ k b c e. cc; same-left = λ b c e. refl }

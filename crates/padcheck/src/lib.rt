@@ -1,9 +1,11 @@
-// The entries for callers in Rust and C. Each returns document 01's number, 0 for accepted, and is thin over the proved crates below.
+// The entries for callers in Rust and C. Each returns the papers' number, 0 for accepted, and is thin over the proved crates below.
 use chart::ChartAnswer;
 use definitions::ReadNote;
+use figures::chart_figures;
 use figures::figures_of;
 use figures::note_figures;
 use figures::without_tally;
+use files::sm::SmAnswer;
 use judged::JudgedAnswer;
 use kept::KeptAnswer;
 use last_beat::LastBeat;
@@ -12,6 +14,7 @@ use scans::MeasuresAnswer;
 use timing::TimingAnswer;
 ghost use mathlib.Core.Path.{_≡_};
 ghost use Rattle.definitions.specs.Entries.{measuresNumber, densitiesLeft, spacingsLeft, measuresFigures, lastNumber, lastFigures, mainNumber, mainText, mainDensities, mainBeats, mainWork, mainNotes, mainFigures, judgedNumber, judgedWork, judgedFigures, flaggedFigures, keptNumber, keptText, keptDensities, keptWork, keptFigures, timingNumber, timingText, timingBeats, timingFigures, readNumber, readFigures};
+ghost use Rattle.definitions.specs.SmFile.{smNumber, smPlaces};
 
 #[no_mangle]
 pub extern "C" fn padcheck_minimize_chart_count_rows_notes(
@@ -206,6 +209,21 @@ pub extern "C" fn padcheck_read_note(records: &[u8], index: usize, note: &mut [u
         ReadNote::Refused(number) => number,
         ReadNote::Found(n) => {
             *note = note_figures(n);
+            0
+        }
+    }
+}
+
+#[no_mangle]
+pub extern "C" fn padcheck_sm_chart(file: &[u8], k: usize, chart: &mut [u64; 3]) -> u32
+    ensures { λ r. ⌜ r ≡ smNumber (now (file .entry)) k ⌝ }
+    ensures { λ _. ⌜ now (chart .exit) ≡ smPlaces (now (file .entry)) k (now (chart .entry)) ⌝ }
+{
+    match files::sm::sm_chart(file, k) {
+        SmAnswer::Refused(number) => number,
+        SmAnswer::Chart { lanes, start } => {
+            let data = files::sm::chart_data(file, start);
+            *chart = chart_figures(lanes, start, data.len());
             0
         }
     }

@@ -4,13 +4,13 @@ use mathlib.Core.Bool.{Bool, true, false, cond}
 use mathlib.Core.List.{List, [], _∷_}
 use Prim.Native.Nat.{ℕ, suc, _+_, _-_, _≤_}
 use native.Mathlib.Omega.{arith}
-use lib.Dec.{eqb}
 use lib.ListN.{length, take, drop, length-drop}
 use lib.Seq.{take-take, take-add, drop-at, drop-drop, length-take-le}
 use Rattle.definitions.specs.Lines.{isBlank, trim, kindOf, lineKind}
 use Rattle.definitions.specs.declared.LineKind.{LineKind}
 use Rattle.definitions.specs.declared.LineKind.the-variants as line
 pub use Rattle.definitions.proofs.ChartRows.{trim-short}
+use Rattle.definitions.proofs.Lists.{upTo-front}
 use Rattle.lines.specs.Lines.{firstLine}
 use Rattle.lines.proofs.Lines.{line-within}
 use Rattle.reader.proofs.LineKinds.{row-length}
@@ -31,12 +31,7 @@ trim-drop (b ∷ l) = go (isBlank b) (trim-drop l)
 -- the first line is the text's front
 pub line-front : (s : List ℕ) → firstLine s ≡ take (length (firstLine s)) s
 unfolding firstLine
-line-front [] = refl
-line-front (x ∷ xs) = go (eqb x 10) (line-front xs)
-  where
-    go : (t : Bool) → firstLine xs ≡ take (length (firstLine xs)) xs → cond t [] (x ∷ firstLine xs) ≡ take (length (cond t [] (x ∷ firstLine xs))) (x ∷ xs)
-    go true h = refl
-    go false h = ap (λ l. x ∷ l) h
+line-front s = upTo-front 10 s
 
 drop-take : (k n : ℕ) (s : List ℕ) → k ≤ n → n ≤ length s → drop k (take n s) ≡ take (n - k) (drop k s)
 drop-take k n s h w =

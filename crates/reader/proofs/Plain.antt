@@ -11,6 +11,7 @@ use borrow.Author.Tests.{eqb-true, eqb-false, eq-eqb, ne-eqb, ltb-true, leb-true
 use lib.Dec.{eqb, ltb, leb}
 use lib.ListN.{length, getD, take, drop, length-drop}
 use lib.Seq.{getD-take, length-take-le}
+use Rattle.definitions.specs.Lists.{upTo}
 use Rattle.definitions.specs.Lines.{isBlank, trim, isRow, kindOf}
 use Rattle.definitions.specs.declared.LineKind.the-variants as line
 use Rattle.definitions.proofs.Bools.{and-left, and-right, and-false}
@@ -24,11 +25,11 @@ use Rattle.reader.proofs.Parts.{line-front, line-read}
 
 -- the first line ends at the first newline
 line-place : (s : List ℕ) → length (firstLine s) ≡ firstIn 10 s
-unfolding firstLine firstIn
+unfolding firstLine upTo firstIn
 line-place [] = refl
 line-place (x ∷ s) = go (eqb x 10) (line-place s)
   where
-    go : (t : Bool) → length (firstLine s) ≡ firstIn 10 s → length (cond t [] (x ∷ firstLine s)) ≡ cond t 0 (suc (firstIn 10 s))
+    go : (t : Bool) → length (upTo 10 s) ≡ firstIn 10 s → length (cond t [] (x ∷ upTo 10 s)) ≡ cond t 0 (suc (firstIn 10 s))
     go true h = refl
     go false h = ap suc h
 

@@ -104,7 +104,7 @@ fn next_agrees() -> Compared {
 const CALLS: u64 = 2;
 
 fn main() {
-    let head = sample::read_head(STDIN_FILENO);
+    let head = sample::read_head(STDIN_FILENO, b"ANSWERS1");
     let texts = head.texts;
     let mut index = 0;
     while index < texts && sample::go_on(next_agrees(), index) {

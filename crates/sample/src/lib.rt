@@ -1,6 +1,7 @@
 // The file of the stored sample: its head, its records one after the other, and what a replay says of them.
 use libc::STDOUT_FILENO;
 use stored::Compared;
+use stored::long_at;
 use stored::number_at;
 ghost use Prim.Native.Nat.{_<_};
 
@@ -29,14 +30,13 @@ pub struct Head {
     pub texts: u64,
 }
 
-// Reads the head, and says where it is not a sample's.
-pub fn read_head(fd: i32) -> Head
+// Reads the head, and says where it does not begin with the eight bytes of `mark`.
+pub fn read_head(fd: i32, mark: &[u8]) -> Head
     ensures { λ r. ⌜ r .texts < 4294967296 ⌝ }
 {
     let mut head = [0u8; 24];
     let got = io::read_full(fd, &mut head);
-    // The first eight bytes are `ANSWERS1`.
-    if got != 24 || number_at(&head, 0) != 0x57534E41 || number_at(&head, 4) != 0x31535245 {
+    if got != 24 || long_at(&head, 0) != long_at(mark, 0) {
         say(b"standard input is no stored sample\n");
         return Head {
             is_sample: false,

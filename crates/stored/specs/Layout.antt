@@ -26,9 +26,13 @@ figuresOf s at = partOf s at (afterPlace at 256)
 abbrev pub contentOf : List ℕ → ℕ → ℕ → List ℕ
 contentOf s at k = partOf s (contentStart s at k) (contentStart s at (k + 1))
 
+-- the number of the eight bytes from a place on; bytes past the record's end are 0
+abbrev pub longAt : List ℕ → ℕ → ℕ
+longAt s at = halfAt s at + 4294967296 * halfAt s (at + 4)
+
 -- the lane number, the text and the flags of a record
 abbrev pub lanesAt : List ℕ → ℕ
-lanesAt s = halfAt s 8 + 4294967296 * halfAt s 12
+lanesAt s = longAt s 8
 
 abbrev pub textEnd : List ℕ → ℕ
 textEnd s = afterPlace 16 (halfAt s 0)

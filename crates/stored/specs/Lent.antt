@@ -25,3 +25,6 @@ lentNotes = replicate 40960 165
 
 unfoldable pub lentFigures : List ℕ
 lentFigures = replicate 32 165
+
+unfoldable pub lentChart : List ℕ
+lentChart = replicate 3 165

@@ -1,7 +1,7 @@
 // Arrays to lend to an entry: they hold the answers of every text of at most 4,095 bytes, and other numbers before the call.
 ghost use mathlib.Core.Path.{_≡_};
 ghost use lib.ListN.{length};
-ghost use Rattle.stored.specs.Lent.{lentText, lentDensities, lentSpacing, lentBeats, lentWork, lentNotes, lentFigures};
+ghost use Rattle.stored.specs.Lent.{lentText, lentDensities, lentSpacing, lentBeats, lentWork, lentNotes, lentFigures, lentChart};
 
 pub fn text() -> [u8; 4096]
     ensures { λ r. ⌜ (r ≡ lentText) × (4096 ≡ length r) ⌝ }
@@ -43,4 +43,10 @@ pub fn figures() -> [u64; 32]
     ensures { λ r. ⌜ (r ≡ lentFigures) × (32 ≡ length r) ⌝ }
 {
     [165; 32]
+}
+
+pub fn chart() -> [u64; 3]
+    ensures { λ r. ⌜ (r ≡ lentChart) × (3 ≡ length r) ⌝ }
+{
+    [165; 3]
 }

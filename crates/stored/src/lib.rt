@@ -3,7 +3,7 @@ ghost use mathlib.Core.Path.{_≡_};
 ghost use Prim.Native.Nat.{_+_, _*_, _≤_, _<_};
 ghost use lib.ListN.{getD};
 ghost use Rattle.lines.specs.Words.{halfAt};
-ghost use Rattle.stored.specs.Layout.{afterPlace, partOf, contentStart, contentOf, figuresOf, lanesAt, textEnd, flagsEnd, storedText, flagsOf};
+ghost use Rattle.stored.specs.Layout.{afterPlace, partOf, contentStart, contentOf, figuresOf, longAt, lanesAt, textEnd, flagsEnd, storedText, flagsOf};
 
 pub mod lent;
 
@@ -52,8 +52,16 @@ pub fn number_at(s: &[u8], at: usize) -> u64
         + byte_at(s, at + 3) * 0x100_0000
 }
 
+// The number of the eight bytes from `at` on, low byte first; bytes past the record's end are 0.
+pub fn long_at(s: &[u8], at: usize) -> u64
+    requires { ⌜ at ≤ 1999996 ⌝ }
+    ensures { λ r. ⌜ r ≡ longAt (now (s .entry)) at ⌝ }
+{
+    number_at(s, at) + 4294967296 * number_at(s, at + 4)
+}
+
 // The bytes from `start` to `end`; none where the record has not so many.
-fn part(s: &[u8], start: usize, end: usize) -> &[u8]
+pub fn part(s: &[u8], start: usize, end: usize) -> &[u8]
     ensures { λ r. ⌜ now r ≡ partOf (now (s .entry)) start end ⌝ }
 {
     if end <= s.len() {
@@ -105,8 +113,7 @@ pub fn next_answer(s: &[u8], at: usize) -> usize
 pub fn lanes(s: &[u8]) -> usize
     ensures { λ r. ⌜ r ≡ lanesAt (now (s .entry)) ⌝ }
 {
-    let number = number_at(s, 8) + 4294967296 * number_at(s, 12);
-    number as usize
+    long_at(s, 8) as usize
 }
 
 fn text_end(s: &[u8]) -> usize

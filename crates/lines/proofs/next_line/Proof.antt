@@ -6,8 +6,9 @@ use native.Mathlib.Nat.{add-sub-cancel-left, sub-zero}
 use lib.ListN.{length, drop, length-drop, drop-of-length-le}
 use borrow.Author.Needs.{needs}
 use denote.Ref.{now}
+use Rattle.definitions.specs.Lists.{upTo}
 use Rattle.lines.specs.Lines.{firstLine}
-use Rattle.lines.proofs.Lines.{Line-found, line-found, line-none}
+use Rattle.lines.proofs.Search.{Front-found, front-found, front-none}
 use Rattle.lines.proofs.Trims.{part-all}
 use Rattle.lines.proofs.next_line.Statement.{statement}
 use Rattle.lines.proofs.next_line.Tie as tie
@@ -15,10 +16,10 @@ use Rattle.lines.proofs.next_line.Tie as tie
 -- what `At rel` says of the rest of the text
 at-rel : (c : tie.After-known-told) →
     let a = c .before .before .before .before .before .before .before .args in
-    Line-found 0 (c .before .rel .given .0 .0) (drop (a .start) (now (a .«data»))) (firstLine (drop (a .start) (now (a .«data»))))
+    Front-found 0 (c .before .rel .given .0 .0) (drop (a .start) (now (a .«data»))) (upTo 10 (drop (a .start) (now (a .«data»))))
 at-rel c =
     let a = c .before .before .before .before .before .before .before .args in
-    line-found (drop (a .start) (now (a .«data»))) 0 _
+    front-found 10 (drop (a .start) (now (a .«data»))) 0 _
     (rw part-all at (sym (c .before .before .before .find-byte .ensures) ∙ c .before .rel .given .1))
 
 -- so the place lies in the text
@@ -72,18 +73,20 @@ slice-aggregate-result : tie.Need-slice-aggregate-result
 slice-aggregate-result c = search needs
 
 returns : tie.Need-returns
+unfolding firstLine
 returns c =
     let h = at-rel (c .before) in
     rw add-sub-cancel-left (rw sub-zero at (h .2))
 
 returns-2 : tie.Need-returns-2
+unfolding firstLine
 returns-2 c =
     let a = c .before .before .before .before .before .before .before .args in
-    rw part-all (sym (line-none (drop (a .start) (now (a .«data»))) 0
+    rw part-all (sym (front-none 10 (drop (a .start) (now (a .«data»))) 0
     (rw part-all at (sym (c .before .before .before .find-byte .ensures) ∙ c .before .enum-told .given .1))))
 
 returns-3 : tie.Need-returns-3
-unfolding firstLine
+unfolding firstLine upTo
 returns-3 c =
     let a = c .before .before .before .args in
     let past : length (now (a .«data»)) ≤ a .start = omega arith in

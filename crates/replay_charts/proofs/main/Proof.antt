@@ -1,6 +1,7 @@
 -- `replay_charts::main` is safe and ends: a text a turn.
 use Prim.Native.Nat.{_-_}
 use native.Mathlib.Omega.{arith}
+use borrow.Author.Needs.{needs}
 use Rattle.replay_charts.proofs.main.Statement.{statement}
 use Rattle.replay_charts.proofs.main.Tie as tie
 
@@ -9,6 +10,9 @@ Inv-loop head texts index₀ index = Unit {0}
 
 abbrev μ-loop : tie.MeasureT-loop
 μ-loop head texts index₀ index = texts - index
+
+slice-aggregate-read-head : tie.Need-slice-aggregate-read-head Inv-loop μ-loop
+slice-aggregate-read-head c = search needs
 
 read-head-requires : tie.Need-read-head-requires Inv-loop μ-loop
 read-head-requires c κs = tt
@@ -46,6 +50,7 @@ main-spec =
     (tie.spec
     Inv-loop
     μ-loop
+    slice-aggregate-read-head
     read-head-requires
     loop-holds
     next-agrees-requires
