@@ -5,20 +5,16 @@ use mathlib.Core.Bool.{Bool, true, false, cond, _&&_}
 use mathlib.Core.List.{List, [], _∷_}
 use Prim.Native.Nat.{ℕ, zero, suc, _+_, _-_, _≤_, _<_}
 use native.Mathlib.Numerals.{add-one}
-use native.Mathlib.Nat.{sub-zero}
 use native.Mathlib.Omega.{arith}
 use lib.Dec.{eqb}
 use lib.ListN.{length, getD, take, drop, drop-of-length-le}
-use lib.Seq.{drop-cons, take-all, length-take-le}
+use lib.Seq.{drop-cons, take-all}
 use borrow.Author.Tests.{eq-eqb, ne-eqb, eqb-true}
 use Rattle.definitions.specs.Lists.{upTo, through, startsWith, same}
 use Rattle.definitions.specs.Lines.{isBlank}
 use Rattle.definitions.specs.SmFile.{beforeTrimmed, trimEnd}
 use Rattle.definitions.proofs.Bools.{and-false}
 use Rattle.definitions.proofs.Lists.{through-nil, through-cons, startsWith-length}
-use Rattle.lines.specs.Search.{findFrom}
-use Rattle.lines.specs.declared.Found.the-variants.{At, Nothing}
-use Rattle.lines.proofs.Search.{Front-found, front-found, front-none}
 
 -- a list shorter than a word does not begin with it
 pub starts-short : (w s : List ℕ) → length s < length w → startsWith w s ≡ false
@@ -54,21 +50,14 @@ same-starts [] (y ∷ w) h = absurd (omega arith)
 same-starts (x ∷ s) [] h = absurd (omega arith)
 same-starts (x ∷ s) (y ∷ w) h = rw (same-starts s w (omega arith))
 
--- the part before a byte that a search found at r, and where it found none
-pub front-at : (b : ℕ) (s : List ℕ) (r : ℕ) → findFrom b 0 s ≡ At r → (r < length s) × (upTo b s ≡ take r s)
-front-at b s r e = let f = front-found b s 0 r e in (omega (arith, f .1), sym (rw sub-zero at (f .2)))
-
--- the part through a byte that a search found at r, and where it found none
-pub through-found : (b : ℕ) (s : List ℕ) (r : ℕ) → findFrom b 0 s ≡ At r → (r < length s) × (through b s ≡ take (r + 1) s)
+-- the part through a byte, by what stands before it
+pub through-more : (b : ℕ) (s : List ℕ) → length (upTo b s) < length s → through b s ≡ take (length (upTo b s) + 1) s
 unfolding through
-through-found b s r e =
-    let f = front-at b s r e in
-    let n : length (upTo b s) ≡ r = ap length (f .1) ∙ length-take-le r s (omega (arith, f .0)) in
-    (f .0, rw (n, add-one))
+through-more b s h = rw add-one
 
-pub through-none : (b : ℕ) (s : List ℕ) → findFrom b 0 s ≡ Nothing → through b s ≡ s
+pub through-all : (b : ℕ) (s : List ℕ) → length s ≤ length (upTo b s) → through b s ≡ s
 unfolding through
-through-none b s e = take-all (suc (length (upTo b s))) s (omega (arith, ap length (front-none b s 0 e)))
+through-all b s h = take-all (suc (length (upTo b s))) s (omega arith)
 
 -- a blank at the end is taken off
 end-blank : (s : List ℕ) (n : ℕ) → n < length s → isBlank (getD s n 0) ≡ true → trimEnd (take (suc n) s) ≡ trimEnd (take n s)
@@ -144,3 +133,16 @@ drop-head (y ∷ l) (suc k) x d r e =
     let h = drop-head l k x d r e in
     let z : suc k + 1 ≡ suc (k + 1) = omega arith in
     (omega (arith, h .0), h .1, rw z (h .2))
+
+-- one byte more that is not the one looked for, the one, and the end
+pub before-other : (b : ℕ) (s : List ℕ) (n : ℕ) → n < length s → (getD s n 0 ≡ b → ⊥) → n + length (upTo b (drop n s)) ≡ n + 1 + length (upTo b (drop (n + 1) s))
+unfolding upTo
+before-other b s n h e = rw (add-one, drop-cons s n 0) (simp (ne-eqb _ _ e) (omega arith))
+
+pub before-met : (b : ℕ) (s : List ℕ) (n : ℕ) → n < length s → getD s n 0 ≡ b → n + length (upTo b (drop n s)) ≡ n
+unfolding upTo
+before-met b s n h e = rw (drop-cons s n 0) (simp (eq-eqb _ _ e) (omega arith))
+
+pub before-end : (b : ℕ) (s : List ℕ) (n : ℕ) → length s ≤ n → n + length (upTo b (drop n s)) ≡ n
+unfolding upTo
+before-end b s n h = rw (drop-of-length-le s h) (omega arith)

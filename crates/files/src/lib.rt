@@ -3,12 +3,11 @@
 pub mod sm;
 
 use definitions::Tag;
-use lines::Found;
 ghost use mathlib.Core.Path.{_≡_};
 ghost use Prim.Native.Nat.{_+_, _≤_};
 ghost use lib.ListN.{length};
 ghost use Rattle.definitions.specs.Sizes.{mostBytes};
-ghost use Rattle.definitions.specs.Lists.{startsWith, same, through};
+ghost use Rattle.definitions.specs.Lists.{startsWith, same, upTo, through};
 ghost use Rattle.definitions.specs.SmFile.{trimEnd, typeOf, typeLanes};
 ghost use Rattle.lines.specs.Lines.{linesFrom};
 ghost use Rattle.files.specs.Tags.{firstTag};
@@ -46,14 +45,27 @@ pub fn is_same(s: &[u8], word: &[u8]) -> bool
     starts_with(s, word)
 }
 
+// How many bytes stand before the first `b`, or in all. Byte by byte: `lines::find_byte` is left to the newline, since the compiler writes the one
+// byte that it looks for into the loops of every other call.
+pub fn before_byte(s: &[u8], b: u8) -> usize
+    ensures { λ r. ⌜ r ≡ length (upTo b (now (s .entry))) ⌝ }
+{
+    let mut n = 0;
+    while n < s.len() {
+        if s[n] == b {
+            return n;
+        }
+        n += 1;
+    }
+    n
+}
+
 // The part through the first `b`, or all of it.
 pub fn through_byte(s: &[u8], b: u8) -> &[u8]
     ensures { λ r. ⌜ now r ≡ through b (now (s .entry)) ⌝ }
 {
-    match lines::find_byte(s, b) {
-        Found::At(place) => &s[..place + 1],
-        Found::Nothing => s,
-    }
+    let n = before_byte(s, b);
+    if n < s.len() { &s[..n + 1] } else { s }
 }
 
 // The part without the blanks at its end.
@@ -74,10 +86,8 @@ pub fn trim_end(s: &[u8]) -> &[u8]
 pub fn type_name(fields: &[u8]) -> &[u8]
     ensures { λ r. ⌜ now r ≡ typeOf (now (fields .entry)) ⌝ }
 {
-    match lines::find_byte(fields, b':') {
-        Found::At(place) => trim_end(lines::skip_ws(&fields[..place])),
-        Found::Nothing => trim_end(lines::skip_ws(fields)),
-    }
+    let n = before_byte(fields, b':');
+    trim_end(lines::skip_ws(&fields[..n]))
 }
 
 // The lane count of a type; 0 for another type name.
