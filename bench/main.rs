@@ -4,6 +4,7 @@ mod chart;
 mod clock;
 #[path = "../tests/differential/entries.rs"]
 mod entries;
+mod files;
 mod loads;
 mod loans;
 mod once;
@@ -32,6 +33,7 @@ fn main() -> ExitCode {
             report::print_memory(&options.calls, &options.lanes);
             Ok(())
         }
+        Ok(Some(options)) if options.files => files::run(&options),
         Ok(Some(options)) if options.growth => growth(&options),
         Ok(Some(options)) => table(&options),
         Err(message) => Err(message),

@@ -1,7 +1,9 @@
 //! Makes each call once on each of a list of short texts, for callgrind, which counts the instructions of every call by itself
 //! (`instructions.sh`). It prints a line for each, in the order in which they are made: call, text, line ends, lane count, rows.
+//! For `sm_chart` these are the call, the file, line ends, 4 lanes, and the file's lines.
 
 use crate::entries::ENTRIES;
+use crate::files::{self, File};
 use crate::loads::{LANES, Lines, Load, Text};
 use crate::loans::lent;
 
@@ -16,7 +18,31 @@ const TEXTS: [(Text, Lines); 4] = [
     (Text::Unclosed, Lines::Lf),
 ];
 
+/// The files that are counted, each asked for the block past its last, so that all of it is read.
+const FILES: [(File, Lines); 5] = [
+    (File::One, Lines::Lf),
+    (File::One, Lines::Crlf),
+    (File::Pack, Lines::Lf),
+    (File::Short, Lines::Lf),
+    (File::None, Lines::Lf),
+];
+
 pub fn run() {
+    run_texts();
+    run_files();
+}
+
+fn run_files() {
+    for (file, lines) in FILES {
+        let data = file.bytes(LEN, lines.bytes());
+        let answer = files::enter(&data, usize::MAX);
+        assert_eq!(answer, Err(11), "no file has so many blocks");
+        let count = data.split(|&byte| byte == b'\n').count();
+        println!("sm_chart {} {} 4 {count}", file.name(), lines.name());
+    }
+}
+
+fn run_texts() {
     for entry in ENTRIES {
         for (text, lines) in TEXTS {
             for lanes in LANES {

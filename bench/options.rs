@@ -6,7 +6,7 @@ use crate::ways::Way;
 use oracle::calls::{CALLS, Call};
 
 pub const HELP: &str = "\
-bench [--runs N] [--thread] [--ways LIST] [--lanes LIST] [--texts LIST] [--lines LIST] [--speeds | --growth | --memory | --once] [CALL..]
+bench [--runs N] [--thread] [--ways LIST] [--lanes LIST] [--texts LIST] [--lines LIST] [--speeds | --growth | --memory | --files | --once] [CALL..]
 
 Times each call, or those of the given names, beside the Rust: both in one process, on the same texts, in turns, the best
 of N runs each (N is 7). A ratio is ours to the Rust's: over 1.00 ours is faster. It prints the cells under 1.00,
@@ -32,6 +32,9 @@ A LIST has its words parted by commas, and leaves out the others:
   --growth prints instead what a byte costs an entry in texts of 1, 4 and 16 MB, as many as make 16 MB, each with slices
            of its own
   --memory prints instead how many bytes an entry is lent for the longest text
+  --files  times instead sm_chart beside its plain reference in the oracle, which the Rust does not have: files of 16 MB with
+           one chart, a pack of charts of 20,000 bytes, charts of one line, and none, asked for the first block, the last and
+           the one past it; then what files of 1, 4 and 16 MB cost
   --once   makes each call once on short texts instead, for callgrind; `instructions.sh` runs it
 
 The entries' answers are compared with the Rust's before anything is timed. Run it on a machine that does nothing else.
@@ -49,6 +52,7 @@ pub struct Options {
     pub speeds: bool,
     pub growth: bool,
     pub memory: bool,
+    pub files: bool,
     pub once: bool,
 }
 
@@ -69,6 +73,7 @@ pub fn parse(mut args: impl Iterator<Item = String>) -> Result<Option<Options>, 
         speeds: false,
         growth: false,
         memory: false,
+        files: false,
         once: false,
     };
     while let Some(arg) = args.next() {
@@ -86,6 +91,7 @@ pub fn parse(mut args: impl Iterator<Item = String>) -> Result<Option<Options>, 
             "--speeds" => options.speeds = true,
             "--growth" => options.growth = true,
             "--memory" => options.memory = true,
+            "--files" => options.files = true,
             "--once" => options.once = true,
             _ => options
                 .calls

@@ -6,12 +6,13 @@
  *
  * What a caller owes. A slice is a pointer and how many elements stand behind it. A pointer is not NULL, also
  * where its length is 0, and is aligned for its type. What is lent for writing overlaps nothing else that is lent,
- * and nobody else touches it until the call returns. `figures` has 32 numbers, `note` has 4. The library keeps no
- * pointer, has no state and allocates nothing, so calls in several threads do not meet.
+ * and nobody else touches it until the call returns. `figures` has 32 numbers, `note` has 4, `chart` has 3. The library
+ * keeps no pointer, has no state and allocates nothing, so calls in several threads do not meet.
  *
  * What a caller gets. Each call returns 0 for accepted, else the number of a refusal, and then it has written nothing.
  * After an accepted call every entry past the answer in a slice lent for writing is 0, the work slice is 0 throughout,
- * and every place of `figures` that the call does not answer is 0. No chart text is refused for its content.
+ * and every place of `figures` that the call does not answer is 0. No chart text is refused for its content; a chart
+ * inside an SM file is, by 9 and 10.
  */
 #ifndef PADCHECK_H
 #define PADCHECK_H
@@ -23,10 +24,13 @@
 extern "C" {
 #endif
 
-/* What a call returns. Refusals are checked in rising order, each only where the call is lent that thing. */
+/*
+ * What a call returns. Refusals are checked in the order that stands above the call, which is the rising one but for
+ * padcheck_sm_chart, each only where the call is lent that thing.
+ */
 enum padcheck_number {
     PADCHECK_ACCEPTED = 0,
-    /* Caused by whoever wires up the call; len is the text's length, R and L are given below. */
+    /* Caused by whoever wires up the call; len is the length of the text or SM file, R and L are given below. */
     PADCHECK_TEXT_TOO_LONG = 1,  /* len is over 16,777,215 */
     PADCHECK_TEXT_SHORT = 2,     /* the text slice is shorter than len + 1 */
     PADCHECK_MEASURES_SHORT = 3, /* the measure slice (densities or spacing) is shorter than (len + 1) div 2 + 1 */
@@ -35,7 +39,12 @@ enum padcheck_number {
     PADCHECK_NOTES_SHORT = 6,    /* the note slice is shorter than 10 * L * R */
     /* Caused by whoever stores note records. */
     PADCHECK_NO_RECORD = 7, /* the records' length is no multiple of 10, or the record's number not below length div 10 */
-    PADCHECK_BAD_RECORD = 8 /* that record breaks a limit of what the writer makes */
+    PADCHECK_BAD_RECORD = 8, /* that record breaks a limit of what the writer makes */
+    /* Caused by whoever writes the SM file. */
+    PADCHECK_FEW_FIELDS = 9,  /* fewer than five `:` stand in the chart's block after its tag */
+    PADCHECK_OTHER_TYPE = 10, /* the chart's type is not dance-single, pump-single, dance-double or pump-double */
+    /* Caused by whoever asks. */
+    PADCHECK_NO_CHART = 11 /* the chart's number, counted from 0, is not below the number of blocks in the SM file */
 };
 
 /* A number that a call returned, in words. */
@@ -60,21 +69,28 @@ static inline const char *padcheck_meaning(uint32_t number)
         return "there is no such note record";
     case PADCHECK_BAD_RECORD:
         return "the note record breaks a limit";
+    case PADCHECK_FEW_FIELDS:
+        return "the SM file's author gave this chart fewer than five fields";
+    case PADCHECK_OTHER_TYPE:
+        return "the SM file's author gave this chart a type that is not read";
+    case PADCHECK_NO_CHART:
+        return "the caller asked for a chart that the SM file does not have";
     default:
         return "no number of this library";
     }
 }
 
-/* The longest text that is accepted, in bytes. */
+/* The longest text that is accepted, and the longest SM file, in bytes. */
 #define PADCHECK_MAX_LEN ((size_t)16777215)
 
 /* Bytes of a note record, and the tail that stands for none. */
 #define PADCHECK_NOTE_BYTES ((size_t)10)
 #define PADCHECK_NO_TAIL ((uint64_t)4294967295)
 
-/* How many numbers `figures` and `note` have. */
+/* How many numbers `figures`, `note` and `chart` have. */
 #define PADCHECK_FIGURES 32
 #define PADCHECK_NOTE_FIGURES 4
+#define PADCHECK_CHART_FIGURES 3
 
 /* L, the lane count in force: 5, 8 or 10 where the caller gives that number, otherwise 4. */
 static inline size_t padcheck_lanes_in_force(size_t lanes)
@@ -148,6 +164,13 @@ enum padcheck_kind {
     PADCHECK_MINE = 3,
     PADCHECK_LIFT = 4,
     PADCHECK_FAKE = 5
+};
+
+/* Places in `chart`. The data is PADCHECK_CHART_LEN bytes of the file, from the byte at PADCHECK_CHART_START on. */
+enum padcheck_chart_figure {
+    PADCHECK_CHART_LANES = 0,
+    PADCHECK_CHART_START = 1,
+    PADCHECK_CHART_LEN = 2
 };
 
 /*
@@ -225,6 +248,20 @@ uint32_t padcheck_process_timing_rows(const uint8_t *data, size_t data_len, size
  * Refusals: 7 8. An accepted call sets the 4 numbers of `note`.
  */
 uint32_t padcheck_read_note(const uint8_t *records, size_t records_len, size_t index, uint64_t *note);
+
+/*
+ * Chart number `k`, counted from 0, of an SM file: its lane count, and where its note data stands in the file. With
+ * these, file + chart[PADCHECK_CHART_START] is the `data` of every call above, chart[PADCHECK_CHART_LEN] its length and
+ * chart[PADCHECK_CHART_LANES] the `lanes`.
+ *
+ * A chart is a block: it starts at a line that begins, after blanks, with `#NOTES:` and whose first byte lies in no
+ * earlier block, and runs through the first `;` after that tag, or to the end of the file. Five fields follow the tag,
+ * each ended by `:`; the first, without the blanks at its ends, is the type, and the data is what follows the fifth,
+ * the `;` too. Lines end with byte 10, blanks are the bytes 9, 10, 12, 13 and 32. Comments are not known: a `;` or `:`
+ * counts wherever it stands in a block.
+ * Refusals, in this order: 1 11 9 10. An accepted call sets the 3 numbers of `chart`.
+ */
+uint32_t padcheck_sm_chart(const uint8_t *file, size_t file_len, size_t k, uint64_t *chart);
 
 #ifdef __cplusplus
 }

@@ -12,7 +12,7 @@ source=src/refusal.rs
 
 awk '
 /^#\[cfg\(test\)\]/ { exit }
-/^    [A-Z][A-Za-z]+ = [0-9],$/ { print NR "s/= [0-9]/= " ($3 + 10) "/" }
+/^    [A-Z][A-Za-z]+ = [0-9]+,$/ { print NR "s/= [0-9]*/= " ($3 + 100) "/" }
 /^        Self::[A-Za-z]+,$/ { print NR "s/Self::.*,/Self::" (/BadRecord/ ? "NoRecord" : "BadRecord") ",/" }
 /^            Self::[A-Za-z]+ => "/ { print NR "s/=> \"/=> \"x/"; print NR "s/\",$/x\",/" }
 /"refused \{\}: \{\}"/ { print NR "s/: {}/; {}/"; print NR "s/refused/Refused/" }

@@ -38,10 +38,21 @@ sheet_case 0 "measures 4" "$chart" 4
 diff "$out" ../../examples/first-steps.sheet.txt
 passed=$((passed + 1))
 sheet_case 0 "rows 0" "$chart" 10
+sm=../../examples/first-steps.sm
+sheet_case 1 "chart 1 lights-cabinet refused 10: the SM file's author gave this chart a type that is not read" "$sm"
+diff "$out" ../../examples/first-steps.sm.sheet.txt
+passed=$((passed + 1))
+sed '/-lights-cabinet /,/^;/d' "$sm" >"$CARGO_TARGET_DIR/two-charts.sm"
+sheet_case 0 "chart 1 dance-double" "$CARGO_TARGET_DIR/two-charts.sm"
+sheet_case 1 "has no chart: none of its lines begins with #NOTES:" "$chart"
+sheet_case 2 "leave LANES out" "$sm" 4
 sheet_case 0 "sheet FILE LANES" --help
 sheet_case 1 "refused 1: the text is longer than 16777215 bytes" /dev/zero 4
+sheet_case 1 "refused 1: the text is longer than 16777215 bytes" /dev/zero
 sheet_case 2 "cannot read \`no/such/file\`" no/such/file 4
+sheet_case 2 "cannot read \`no/such/file\`" no/such/file
 sheet_case 2 "cannot read" . 4
 sheet_case 2 "\`four\` is no lane number" "$chart" four
-sheet_case 2 "a lane number are wanted" "$chart"
+sheet_case 2 "an SM file, or a file of note data and a lane number" "$chart" 4 4
+sheet_case 2 "an SM file, or a file of note data and a lane number"
 echo "$passed passed, 0 failed"

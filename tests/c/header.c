@@ -1,5 +1,5 @@
 /*
- * Every name of padcheck.h is tied twice: to document 01's number, where the header is compiled, and to what the
+ * Every name of padcheck.h is tied twice: to the documents' number, where the header is compiled, and to what the
  * library answers, where it runs. mutants.sh changes them one at a time; with CALLS_ALONE the first tie is left out.
  */
 #include "header.h"
@@ -10,7 +10,7 @@
 #include <string.h>
 
 #ifndef CALLS_ALONE
-/* "What a call can be told" */
+/* "What a call can be told", and document 02's numbers for SM files */
 _Static_assert(PADCHECK_ACCEPTED == 0, "accepted");
 _Static_assert(PADCHECK_TEXT_TOO_LONG == 1, "len is over 16,777,215");
 _Static_assert(PADCHECK_TEXT_SHORT == 2, "the text slice is short");
@@ -20,6 +20,9 @@ _Static_assert(PADCHECK_WORK_SHORT == 5, "the work slice is short");
 _Static_assert(PADCHECK_NOTES_SHORT == 6, "the note slice is short");
 _Static_assert(PADCHECK_NO_RECORD == 7, "no such record");
 _Static_assert(PADCHECK_BAD_RECORD == 8, "the record breaks a limit");
+_Static_assert(PADCHECK_FEW_FIELDS == 9, "fewer than five fields");
+_Static_assert(PADCHECK_OTHER_TYPE == 10, "another type name");
+_Static_assert(PADCHECK_NO_CHART == 11, "no such chart");
 _Static_assert(PADCHECK_MAX_LEN == 16777215, "the longest text");
 
 /* The places of `figures` in Entries.antt. */
@@ -60,6 +63,12 @@ _Static_assert(PADCHECK_ROLL == 2, "2 roll");
 _Static_assert(PADCHECK_MINE == 3, "3 mine");
 _Static_assert(PADCHECK_LIFT == 4, "4 lift");
 _Static_assert(PADCHECK_FAKE == 5, "5 fake");
+
+/* What is answered for a chart of an SM file. */
+_Static_assert(PADCHECK_CHART_LANES == 0, "lane count");
+_Static_assert(PADCHECK_CHART_START == 1, "where the data begins");
+_Static_assert(PADCHECK_CHART_LEN == 2, "how long the data is");
+_Static_assert(PADCHECK_CHART_FIGURES == 3, "the figures of a chart in a file");
 #endif
 
 /* Room for the texts below, more than any name of the header could ask for. */
@@ -226,6 +235,22 @@ static void check_kinds(void)
     }
 }
 
+/* An SM file of two charts: lane count, place and length of the second one's data are all different. */
+static void check_chart_places(void)
+{
+    static const char text[] = "#NOTES:pump-double:::::;\n#NOTES:dance-double:::::00000001\n;\n";
+    uint64_t place[8];
+    memset(place, 0xA5, sizeof place);
+    uint32_t number = padcheck_sm_chart((const uint8_t *)text, sizeof text - 1, 1, place);
+    check(number == PADCHECK_ACCEPTED, "a chart of an SM file: returns %u", number);
+    check(place[PADCHECK_CHART_LANES] == 8, "a chart of an SM file: lanes");
+    check(place[PADCHECK_CHART_START] == 49, "a chart of an SM file: where the data begins");
+    check(place[PADCHECK_CHART_LEN] == 10, "a chart of an SM file: how long the data is");
+    check(place[PADCHECK_CHART_FIGURES - 1] != 0xA5A5A5A5A5A5A5A5 &&
+              place[PADCHECK_CHART_FIGURES] == 0xA5A5A5A5A5A5A5A5,
+          "a chart of an SM file has %d figures", PADCHECK_CHART_FIGURES);
+}
+
 /* L, and the lengths at each of its values: each is refused one element short and accepted as it is. */
 static void check_lengths(void)
 {
@@ -262,7 +287,10 @@ static void check_words(void)
         {6, "the note slice is too short"},
         {7, "there is no such note record"},
         {8, "the note record breaks a limit"},
-        {9, "no number of this library"},
+        {9, "the SM file's author gave this chart fewer than five fields"},
+        {10, "the SM file's author gave this chart a type that is not read"},
+        {11, "the caller asked for a chart that the SM file does not have"},
+        {12, "no number of this library"},
         {UINT32_MAX, "no number of this library"},
     };
     for (size_t i = 0; i < sizeof meanings / sizeof meanings[0]; i++) {
@@ -277,6 +305,12 @@ static void check_refusal(const char *name, uint32_t number, uint32_t want, cons
 {
     check(number == want, "%s: returns %u, the header has %u", name, number, want);
     check(strstr(padcheck_meaning(number), words) != NULL, "%s: the words are '%s'", name, padcheck_meaning(number));
+}
+
+/* The first chart of an SM file. */
+static uint32_t ask_file(const char *file, uint64_t *place)
+{
+    return padcheck_sm_chart((const uint8_t *)file, strlen(file), 0, place);
 }
 
 static void check_refusals(void)
@@ -302,6 +336,13 @@ static void check_refusals(void)
     check_refusal("no record", padcheck_read_note(data, 0, 0, note), PADCHECK_NO_RECORD, "no such note record");
     check_refusal("a bad record", padcheck_read_note(data, PADCHECK_NOTE_BYTES, 0, note), PADCHECK_BAD_RECORD,
                   "note record breaks a limit");
+    check_refusal("few fields", ask_file("#NOTES:dance-single::::", note), PADCHECK_FEW_FIELDS, "five fields");
+    check_refusal("another type", ask_file("#NOTES:lights-cabinet:::::", note), PADCHECK_OTHER_TYPE, "a type that");
+    check_refusal("no chart", ask_file("#TITLE:none;", note), PADCHECK_NO_CHART, "does not have");
+    check_refusal("an SM file too long", padcheck_sm_chart(longest, PADCHECK_MAX_LEN + 1, 0, note),
+                  PADCHECK_TEXT_TOO_LONG, "longer than 16777215 bytes");
+    check_refusal("the longest SM file", padcheck_sm_chart(longest, PADCHECK_MAX_LEN, 0, note), PADCHECK_NO_CHART,
+                  "does not have");
 }
 
 void check_header(void)
@@ -309,6 +350,7 @@ void check_header(void)
     check_places();
     check_figure_count();
     check_kinds();
+    check_chart_places();
     check_lengths();
     check_words();
     check_refusals();

@@ -1,8 +1,9 @@
-/* Every entry of padcheck.h from C: the header's names, document 01's example, its limits, note records, and the stored
-   sample. */
+/* Every entry of padcheck.h from C: the header's names, document 01's example, its limits, note records, SM files, and
+   the stored sample. */
 #include "calls.h"
 #include "checks.h"
 #include "header.h"
+#include "sm.h"
 #include "stored.h"
 
 #include <stdio.h>
@@ -190,6 +191,7 @@ int main(int count, char **args)
     check_example();
     check_longest();
     check_records();
+    check_sm_files();
     check_stored(args[1]);
     return checks_end() ? 0 : 1;
 }

@@ -13,7 +13,8 @@ fi
 out=target/c
 mkdir -p "$out"
 cc -std=c11 -O1 -g -Wall -Wextra -Werror -I include -o "$out/check" \
-    tests/c/main.c tests/c/header.c tests/c/calls.c tests/c/checks.c tests/c/stored.c "$PADCHECK_LIB_DIR/libpadcheck.a"
+    tests/c/main.c tests/c/header.c tests/c/calls.c tests/c/checks.c tests/c/sm.c tests/c/stored.c \
+    "$PADCHECK_LIB_DIR/libpadcheck.a"
 
 # Shows what a run writes and adds its count to `total`.
 total=0

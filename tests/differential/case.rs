@@ -8,9 +8,9 @@ use std::time::{Duration, Instant};
 const SHOWN: u64 = 3;
 const SHRINKING: Duration = Duration::from_secs(3);
 
-/// The lane counts, and how many numbers an entry can return: 0 for accepted and the refusals 1 to 8.
+/// The lane counts, and how many numbers an entry can return: 0 for accepted and the refusals 1 to 11.
 pub const LANE_COUNTS: [usize; 4] = [4, 5, 8, 10];
-pub const NUMBERS: usize = 9;
+pub const NUMBERS: usize = 12;
 
 /// How often an entry returned each number, for each lane count.
 pub type Answers = [[u64; NUMBERS]; LANE_COUNTS.len()];
@@ -43,6 +43,11 @@ impl Compare {
     /// Compares the number that an entry returned, and keeps it.
     pub fn number(&mut self, lanes: usize, ours: u32, rust: u32) {
         self.same("number", ours, rust);
+        self.returned(lanes, ours);
+    }
+
+    /// Keeps the number that an entry returned.
+    pub fn returned(&mut self, lanes: usize, ours: u32) {
         if let Some(count) = self.answers[lane_place(lanes)].get_mut(ours as usize) {
             *count += 1;
         }

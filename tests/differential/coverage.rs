@@ -1,7 +1,9 @@
 //! What a run must have compared: every entry of the header with each of its numbers at each lane count, every export of `leaves`, every
-//! kind of text at each lane count, and as many comparisons as the caller asks for.
+//! kind of text at each lane count, every kind of file, each call on a chart of a file at each lane count, and as many comparisons as the
+//! caller asks for.
 
 use crate::case::{Answers, Check, LANE_COUNTS};
+use crate::file_checks::Files;
 use crate::kinds::Kinds;
 use oracle::calls::CALLS;
 use oracle::entry;
@@ -18,12 +20,16 @@ const LEAVES: [&str; 4] = [
 ];
 
 /// Prints what is missing; returns how many things are.
-pub fn missing(checks: &[&Check], kinds: &Kinds) -> u64 {
+pub fn missing(checks: &[&Check], kinds: &Kinds, files: &Files) -> u64 {
     let mut missing = missing_answers(checks);
     missing.extend(missing_leaves(checks));
     for (kind, lanes) in kinds.missing() {
         missing.push(format!("no text of this kind at {lanes} lanes: {kind}"));
     }
+    for kind in files.kinds.missing() {
+        missing.push(format!("no file of this kind: {kind}"));
+    }
+    missing.extend(missing_charts(&files.charts));
     for line in &missing {
         println!("failed: {line}");
     }
@@ -44,11 +50,38 @@ fn missing_answers(checks: &[&Check]) -> Vec<String> {
             missing.push(format!("{entry} is in the header and not known here"));
             continue;
         };
-        for (counts, lanes) in answers(checks, entry).iter().zip(LANE_COUNTS) {
-            for number in &numbers {
-                if counts[*number as usize] == 0 {
-                    missing.push(format!("{entry} never returned {number} at {lanes} lanes"));
-                }
+        let answers = answers(checks.iter().copied(), entry);
+        for number in numbers {
+            let counts = answers.map(|counts| counts[number as usize]);
+            missing.extend(missing_number(entry, number, counts));
+        }
+    }
+    missing
+}
+
+/// The lane counts at which a number was never returned; a file that is refused has no lane count.
+fn missing_number(entry: &str, number: u32, counts: [u64; LANE_COUNTS.len()]) -> Vec<String> {
+    let never = format!("{entry} never returned {number}");
+    if entry == "sm_chart" && number != 0 {
+        let is_missing = counts.iter().all(|&count| count == 0);
+        return is_missing.then_some(never).into_iter().collect();
+    }
+    let counts = counts.iter().zip(LANE_COUNTS);
+    let missing = counts.filter(|(count, _)| **count == 0);
+    missing
+        .map(|(_, lanes)| format!("{never} at {lanes} lanes"))
+        .collect()
+}
+
+/// The calls that accepted no chart of a file, with the lane count.
+fn missing_charts(charts: &[Check]) -> Vec<String> {
+    let mut missing = Vec::new();
+    for call in CALLS {
+        let accepted = answers(charts, call.name()).map(|counts| counts[0]);
+        for (count, lanes) in accepted.iter().zip(LANE_COUNTS) {
+            if *count == 0 {
+                let name = call.name();
+                missing.push(format!("{name} had no chart of a file at {lanes} lanes"));
             }
         }
     }
@@ -87,15 +120,17 @@ fn numbers(entry: &str) -> Option<Vec<u32>> {
     let refusals = match CALLS.into_iter().find(|call| call.name() == entry) {
         Some(call) => entry::refusals(call),
         None if entry == "read_note" => &[7, 8],
+        None if entry == "sm_chart" => &[1, 9, 10, 11],
         None => return None,
     };
     Some([&[0], refusals].concat())
 }
 
 /// What all checks of this name returned.
-fn answers(checks: &[&Check], name: &str) -> Answers {
+fn answers<'a>(checks: impl IntoIterator<Item = &'a Check>, name: &str) -> Answers {
     let mut sums = Answers::default();
-    for check in checks.iter().filter(|check| check.name() == name) {
+    let alike = checks.into_iter().filter(|check| check.name() == name);
+    for check in alike {
         for (sums, counts) in sums.iter_mut().zip(check.answers()) {
             for (sum, count) in sums.iter_mut().zip(counts) {
                 *sum += count;

@@ -1,10 +1,14 @@
-//! The differential run: libpadcheck.a and libleaves.a beside the Rust, in one process, on random, short and long texts.
+//! The differential run: libpadcheck.a and libleaves.a beside the Rust, in one process, on random, short and long texts and SM files.
 //! Ends with `N passed, M failed`; the exit status is not 0 if anything differs or was left out.
 
 mod beat_checks;
 mod case;
 mod coverage;
 mod entries;
+mod file_checks;
+mod file_kinds;
+mod file_limits;
+mod files;
 mod kinds;
 mod limits;
 mod long_texts;
@@ -14,6 +18,7 @@ mod row_checks;
 mod text_checks;
 
 use case::{Case, Check};
+use file_checks::Files;
 use kinds::Kinds;
 use random::Rng;
 use std::process::ExitCode;
@@ -24,9 +29,12 @@ differential [--long | --cases N] [--at-least COUNT] [SEED..]
 Compares the exported entries and the leaves with the Rust. For each SEED (1 where none is given): N random
 texts, N random lists of rows, which are read as texts too, N beats, and random texts of 10,000 to 1,000,000
 bytes. Then every short text over a few letters, texts for each case of the correction, each entry with every
-combination of its slices one entry too short, and texts of the greatest length. N is 200000, or 10000000 with
---long. A text that differs is shown as short as it can be made. An entry, a leaf, a number that an entry can
-return, a lane count or a kind of text that was not met is a failure, and so are fewer comparisons than COUNT.
+combination of its slices one entry too short, and texts of the greatest length. SM files are compared with the
+reference in Rust, every block and the numbers past them: for each SEED N random files, then every short file over
+a few tokens, a file by hand with each byte struck or changed, and files of the greatest length; the calls are made
+on the data of each accepted block. N is 200000, or 10000000 with --long. A text or file that differs is shown as
+short as it can be made. An entry, a leaf, a number that an entry can return, a lane count or a kind of text or
+file that was not met is a failure, and so are fewer comparisons than COUNT.
 The last line is 'N passed, M failed', counted in comparisons.";
 
 struct Options {
@@ -87,6 +95,7 @@ fn run(options: &Options) -> ExitCode {
     let mut rows = row_checks::checks();
     let mut beats = beat_checks::drawn();
     let mut bytes = beat_checks::bytes();
+    let mut files = Files::new();
     for &seed in &options.seeds {
         let mut rng = Rng::new(seed);
         for _ in 0..options.cases {
@@ -99,6 +108,7 @@ fn run(options: &Options) -> ExitCode {
         long_texts::run(&mut rng, options.cases, |case| {
             run_text(case, &mut texts, &mut kinds);
         });
+        files::run(&mut rng, options.cases, &mut files);
     }
     for seed in 0..256 {
         let case = Case {
@@ -111,21 +121,29 @@ fn run(options: &Options) -> ExitCode {
     limits::corrections(&mut texts, &mut kinds);
     let mut shortages: Vec<_> = text_checks::shortages().collect();
     limits::every_lane(&mut shortages);
+    file_limits::short_files(&mut files);
+    file_limits::written(&mut files);
     let mut longest: Vec<_> = text_checks::entries().collect();
-    if case::any_differs(&texts) {
-        println!("the longest texts are left out: shorter ones differ already");
+    if case::any_differs(&texts) || files.any_differs() {
+        println!("the longest texts and files are left out: shorter ones differ already");
     } else {
         limits::long_texts(&mut longest);
+        file_limits::longest_files(&mut files);
     }
-    let groups = [
-        ("texts", texts),
-        ("rows", rows),
-        ("beats", beats),
-        ("bytes", bytes),
-        ("every combination of slices one entry too short", shortages),
-        ("longest texts", longest),
+    let groups: [(&str, &[Check]); 8] = [
+        ("texts", &texts),
+        ("rows", &rows),
+        ("beats", &beats),
+        ("bytes", &bytes),
+        (
+            "every combination of slices one entry too short",
+            &shortages,
+        ),
+        ("longest texts", &longest),
+        ("files", &files.entry),
+        ("charts of files", &files.charts),
     ];
-    report(options, &groups, &kinds)
+    report(options, &groups, &kinds, &files)
 }
 
 fn run_text(case: &Case, texts: &mut [Check], kinds: &mut Kinds) {
@@ -134,7 +152,12 @@ fn run_text(case: &Case, texts: &mut [Check], kinds: &mut Kinds) {
 }
 
 /// Prints the totals and what was left out.
-fn report(options: &Options, groups: &[(&str, Vec<Check>)], kinds: &Kinds) -> ExitCode {
+fn report(
+    options: &Options,
+    groups: &[(&str, &[Check])],
+    kinds: &Kinds,
+    files: &Files,
+) -> ExitCode {
     let (mut passed, mut failed) = (0, 0);
     for (title, checks) in groups {
         println!("{title}:");
@@ -142,8 +165,8 @@ fn report(options: &Options, groups: &[(&str, Vec<Check>)], kinds: &Kinds) -> Ex
         passed += same;
         failed += differ;
     }
-    let checks: Vec<&Check> = groups.iter().flat_map(|(_, checks)| checks).collect();
-    failed += coverage::missing(&checks, kinds);
+    let checks: Vec<&Check> = groups.iter().flat_map(|(_, checks)| *checks).collect();
+    failed += coverage::missing(&checks, kinds, files);
     if passed < options.at_least {
         println!("failed: fewer than {} comparisons passed", options.at_least);
         failed += 1;

@@ -1,4 +1,4 @@
-//! The leaves of libleaves.a, and the entry that reads a note record, as safe functions.
+//! The leaves of libleaves.a, and the entries that read a note record and an SM file, as safe functions.
 //! What a leaf does not take comes back as `None`.
 
 mod symbols {
@@ -47,6 +47,12 @@ mod symbols {
             len: usize,
             index: usize,
             note: *mut u64,
+        ) -> u32;
+        pub fn padcheck_sm_chart(
+            file: *const u8,
+            file_len: usize,
+            k: usize,
+            chart: *mut u64,
         ) -> u32;
     }
 }
@@ -136,6 +142,11 @@ pub fn calc_last_beat(m: u32, r: u32, n: u32, last: &mut [u64; 2]) -> Option<()>
 /// The entry that reads a note record: its number, and the note where that is 0.
 pub fn read_note(records: &[u8], index: usize, note: &mut [u64; 4]) -> u32 {
     unsafe { padcheck_read_note(records.as_ptr(), records.len(), index, note.as_mut_ptr()) }
+}
+
+/// The entry that finds a chart in an SM file: its number, and lane count, start and length where that is 0.
+pub fn sm_chart(file: &[u8], k: usize, chart: &mut [u64; 3]) -> u32 {
+    unsafe { padcheck_sm_chart(file.as_ptr(), file.len(), k, chart.as_mut_ptr()) }
 }
 
 fn place(number: usize) -> Option<usize> {

@@ -1,8 +1,10 @@
-//! Self-check of the oracle: document 01's examples, refusals, leaves, and the stored sample.
+//! Self-check of the oracle: document 01's examples, refusals, leaves, the charts inside an SM file, and the stored samples.
 //! Ends with `N passed, M failed`; the exit status is not 0 if anything failed.
 
 mod check_examples;
+mod check_files;
 mod check_sample;
+mod check_sm;
 #[path = "../vectors/reader.rs"]
 mod reader;
 
@@ -44,6 +46,9 @@ impl Checks {
 /// The stored sample: each program that replays it reads a copy of its own.
 const COPIES: [&str; 2] = ["tests/vectors/answers.bin", "crates/replay_figures/stdin"];
 
+/// The stored sample of SM files.
+const FILES: &str = "tests/vectors/files.bin";
+
 fn main() -> ExitCode {
     let mut stored: Vec<String> = env::args().skip(1).collect();
     if stored.iter().any(|path| path.starts_with('-')) {
@@ -65,7 +70,9 @@ fn main() -> ExitCode {
     checks.group("reduction", reduction);
     checks.group("beats", beats);
     checks.group("object rows", object_rows);
+    checks.group("charts in files", check_sm::run);
     checks.group("sample", |checks| check_sample::run(checks, &stored));
+    checks.group("files", |checks| check_files::run(checks, FILES));
     println!("{} passed, {} failed", checks.passed, checks.failed);
     ExitCode::from(u8::from(checks.failed != 0))
 }

@@ -26,7 +26,8 @@ pub fn run(checks: &mut Checks, copies: &[String]) {
     agreement(checks, &samples);
 }
 
-fn stored_bytes(checks: &mut Checks, path: &str, stored: &[u8], written: &[u8]) {
+/// That a stored sample has the bytes that the oracle writes.
+pub fn stored_bytes(checks: &mut Checks, path: &str, stored: &[u8], written: &[u8]) {
     let differs = stored.iter().zip(written).position(|(a, b)| a != b);
     checks.same(&format!("first place where {path} differs"), differs, None);
     checks.same(&format!("length of {path}"), stored.len(), written.len());

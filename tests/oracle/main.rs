@@ -1,9 +1,12 @@
-//! The oracle as a program: figures of a text, the card's sheet, and the stored sample.
+//! The oracle as a program: figures of a text, the charts of an SM file, the card's sheet, and the stored samples.
 
 use oracle::calls::{self, Answer, CALLS, Call, TALLY_NAMES};
 use oracle::card::{card, note_lines};
 use oracle::deciding::TEXTS;
-use oracle::vectors;
+use oracle::entry::MAX_LEN;
+use oracle::sm::{SmChart, charts};
+use oracle::sm_deciding::FILES;
+use oracle::{sm_vectors, vectors};
 use std::env;
 use std::fs;
 use std::io::{self, Read, Write};
@@ -11,13 +14,17 @@ use std::process::ExitCode;
 
 const HELP: &str = "\
 oracle figures LANES [FLAGSFILE] < TEXT   every figure of the eight chart calls
+oracle sm < FILE                          the charts of an SM file
 oracle card < TEXT                        what the program card prints
 oracle vectors SEED OUT                   write the sample of answers to the file OUT
-oracle differing SAMPLE                   the texts of a sample that are answered differently
+oracle files SEED OUT                     write the sample of SM files to the file OUT
+oracle differing SAMPLE                   the texts or files of a sample that are answered differently
 oracle --help                             this help
 
 LANES is the lane number as a caller has it. FLAGSFILE holds one byte a row,
-0 for unjudged; without it every row is judged.
+0 for unjudged; without it every row is judged. `oracle sm` has a line for each
+block: its number from 0, then lane count, start and length of its data, or the
+refusal.
 ";
 
 fn main() -> ExitCode {
@@ -37,8 +44,10 @@ fn run(args: &[&str]) -> Result<(), String> {
         ["--help" | "-h"] => print(HELP.as_bytes()),
         ["figures", lanes] => figures(lanes, &[]),
         ["figures", lanes, flags] => figures(lanes, &read_file(flags)?),
+        ["sm"] => print_charts(),
         ["card"] => print(card(&read_text()?).as_bytes()),
-        ["vectors", seed, out] => write_vectors(seed, out),
+        ["vectors", seed, out] => write_sample(vectors::file, seed, out),
+        ["files", seed, out] => write_sample(sm_vectors::sample, seed, out),
         ["differing", sample] => print_differing(sample),
         [] => Err(String::from("what to do? `oracle --help` lists it")),
         _ => Err(format!(
@@ -151,21 +160,46 @@ fn listed<T: ToString>(name: &str, values: &[T]) -> String {
     words.join(" ")
 }
 
-fn write_vectors(seed: &str, out: &str) -> Result<(), String> {
-    let bytes = vectors::file(parse_number("SEED", seed)?);
+/// What is answered for each block of a file; a file that is too long has one answer for all.
+fn print_charts() -> Result<(), String> {
+    let file = read_text()?;
+    if file.len() > MAX_LEN {
+        return print(b"refused 1\n");
+    }
+    let line = |(k, answer): (usize, Result<SmChart, u32>)| match answer {
+        Ok(chart) => format!(
+            "{k} lanes {} start {} length {}\n",
+            chart.lanes, chart.start, chart.len
+        ),
+        Err(refusal) => format!("{k} refused {refusal}\n"),
+    };
+    let lines: String = charts(&file).enumerate().map(line).collect();
+    print(lines.as_bytes())
+}
+
+fn write_sample(sample: fn(u64) -> Vec<u8>, seed: &str, out: &str) -> Result<(), String> {
+    let bytes = sample(parse_number("SEED", seed)?);
     fs::write(out, bytes).map_err(|error| format!("cannot write `{out}`: {error}"))
 }
 
-/// The number of each text, and its name where one rule decides it.
+/// The number of each text or file, and its name where one rule decides it.
 fn print_differing(sample: &str) -> Result<(), String> {
-    let file = read_file(sample)?;
-    let first = vectors::samples(vectors::SEED).len() - TEXTS.len();
-    let line = |number: usize| {
-        let name = number.checked_sub(first).map(|i| TEXTS[i].name);
-        format!("{number} {}\n", name.unwrap_or("-"))
+    let stored = read_file(sample)?;
+    let lines: String = if stored.starts_with(sm_vectors::MARK) {
+        let name = |number: usize| FILES.get(number).map(|file| file.name);
+        let numbers = sm_vectors::differing(&stored).into_iter();
+        numbers.map(|n| differing_line(n, name(n))).collect()
+    } else {
+        let first = vectors::samples(vectors::SEED).len() - TEXTS.len();
+        let name = |number: usize| number.checked_sub(first).map(|i| TEXTS[i].name);
+        let numbers = vectors::differing(&stored).into_iter();
+        numbers.map(|n| differing_line(n, name(n))).collect()
     };
-    let lines: String = vectors::differing(&file).into_iter().map(line).collect();
     print(lines.as_bytes())
+}
+
+fn differing_line(number: usize, name: Option<&str>) -> String {
+    format!("{number} {}\n", name.unwrap_or("-"))
 }
 
 fn parse_number(name: &str, text: &str) -> Result<u64, String> {

@@ -44,13 +44,25 @@ const BLANKS: [u8; 5] = [9, 10, 12, 13, 32];
 #[must_use]
 pub fn file(seed: u64) -> Vec<u8> {
     let samples = samples(seed);
-    let mut out = MARK.to_vec();
-    out.extend(seed.to_le_bytes());
-    out.extend((samples.len() as u64).to_le_bytes());
+    let mut out = head(MARK, seed, samples.len());
     for sample in &samples {
         out.extend(record(sample));
     }
     out
+}
+
+/// What a sample begins with.
+pub(crate) fn head(mark: &[u8; 8], seed: u64, records: usize) -> Vec<u8> {
+    let mut head = mark.to_vec();
+    head.extend(seed.to_le_bytes());
+    head.extend((records as u64).to_le_bytes());
+    head
+}
+
+/// A record with its length before it.
+pub(crate) fn sized(rest: &[u8]) -> Vec<u8> {
+    let total = (rest.len() + 4) as u32;
+    [&total.to_le_bytes()[..], rest].concat()
 }
 
 /// One record of the file.
@@ -66,10 +78,7 @@ pub fn record(sample: &Sample) -> Vec<u8> {
         let answer = answer(call, &sample.text, sample.lanes, &sample.flags);
         push_answer(&mut rest, &answer);
     }
-    let total = (rest.len() + 4) as u32;
-    let mut record = total.to_le_bytes().to_vec();
-    record.extend(rest);
-    record
+    sized(&rest)
 }
 
 fn push_answer(out: &mut Vec<u8>, answer: &Answer) {
@@ -106,6 +115,14 @@ fn push_length(out: &mut Vec<u8>, bytes: &[u8]) {
 /// The numbers of the texts of a file whose answers are not those that are stored.
 #[must_use]
 pub fn differing(file: &[u8]) -> Vec<usize> {
+    numbers_of_differing(file, |_, stored| record(&question(stored)))
+}
+
+/// The numbers of the records that are written otherwise now, by their number and what is stored.
+pub(crate) fn numbers_of_differing(
+    file: &[u8],
+    written: impl Fn(usize, &[u8]) -> Vec<u8>,
+) -> Vec<usize> {
     let mut rest = &file[24..];
     let mut numbers = Vec::new();
     for index in 0.. {
@@ -113,7 +130,7 @@ pub fn differing(file: &[u8]) -> Vec<usize> {
             break;
         };
         let (stored, after) = rest.split_at(u32::from_le_bytes(*head) as usize);
-        if record(&question(stored)) != stored {
+        if written(index, stored) != stored {
             numbers.push(index);
         }
         rest = after;
@@ -378,7 +395,7 @@ fn mixed_line(numbers: &mut Numbers, lanes: usize, cells: &[u8]) -> Vec<u8> {
 }
 
 /// A small generator of numbers (splitmix64), the same for a seed everywhere.
-struct Numbers(u64);
+pub(crate) struct Numbers(pub(crate) u64);
 
 impl Numbers {
     fn next(&mut self) -> u64 {
@@ -389,11 +406,11 @@ impl Numbers {
         z ^ (z >> 31)
     }
 
-    fn below(&mut self, bound: usize) -> usize {
+    pub(crate) fn below(&mut self, bound: usize) -> usize {
         (self.next() % bound as u64) as usize
     }
 
-    fn pick<'a, T>(&mut self, from: &'a [T]) -> &'a T {
+    pub(crate) fn pick<'a, T>(&mut self, from: &'a [T]) -> &'a T {
         &from[self.below(from.len())]
     }
 }

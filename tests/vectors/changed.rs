@@ -1,6 +1,8 @@
-//! Shows that the replays are not blind: in copies of the stored sample one compared part is changed, and the program
-//! that compares it must say which call differs. Arguments: the sample, `replay_charts`, `replay_figures`.
+//! Shows that the replays are not blind: in copies of the stored samples one compared part is changed, and the program
+//! that compares it must say which call differs. Arguments: the sample of texts, `replay_charts`, `replay_figures`, the
+//! sample of files, `replay_files`.
 
+mod changed_files;
 mod reader;
 
 use reader::Reader;
@@ -28,33 +30,39 @@ struct Replays {
 }
 
 impl Replays {
-    /// What the program that compares this call says of a sample.
-    fn say(&self, call: usize, sample: &[u8]) -> String {
+    /// What the program that compares this call must say of a sample.
+    fn expect(&mut self, what: &str, call: usize, sample: &[u8], want: &str) {
         let program = if call < CHART_CALLS {
             &self.charts
         } else {
             &self.figures
         };
-        let mut child = Command::new(program)
-            .stdin(Stdio::piped())
-            .stdout(Stdio::piped())
-            .spawn()
-            .unwrap_or_else(|error| panic!("cannot run `{program}`: {error}"));
-        // A program that has seen a difference reads no further.
-        let _ = child.stdin.take().expect("a pipe").write_all(sample);
-        let out = child.wait_with_output().expect("its output");
-        String::from_utf8_lossy(&out.stdout).into_owned()
+        let said = said(program, sample);
+        self.same(&format!("{what} of call {call}"), &said, want);
     }
 
-    fn expect(&mut self, what: &str, call: usize, sample: &[u8], want: &str) {
-        let said = self.say(call, sample);
+    /// Compares what a program said with what it must say.
+    fn same(&mut self, what: &str, said: &str, want: &str) {
         if said == want {
             self.passed += 1;
         } else {
             self.failed += 1;
-            println!("failed: {what} of call {call}: said {said:?}, should be {want:?}");
+            println!("failed: {what}: said {said:?}, should be {want:?}");
         }
     }
+}
+
+/// What a program says of a sample.
+fn said(program: &str, sample: &[u8]) -> String {
+    let mut child = Command::new(program)
+        .stdin(Stdio::piped())
+        .stdout(Stdio::piped())
+        .spawn()
+        .unwrap_or_else(|error| panic!("cannot run `{program}`: {error}"));
+    // A program that has seen a difference reads no further.
+    let _ = child.stdin.take().expect("a pipe").write_all(sample);
+    let out = child.wait_with_output().expect("its output");
+    String::from_utf8_lossy(&out.stdout).into_owned()
 }
 
 /// Where an answer of a record begins, and the places of its four contents.
@@ -199,8 +207,10 @@ fn change_ends(replays: &mut Replays, file: &[u8], records: &[&[u8]]) {
 
 fn main() -> ExitCode {
     let args: Vec<String> = env::args().skip(1).collect();
-    let [path, charts, figures] = args.try_into().expect("a sample and two programs");
+    let [path, charts, figures, files, replay_files] =
+        args.try_into().expect("two samples and three programs");
     let file = fs::read(path).expect("the stored sample");
+    let files = fs::read(files).expect("the stored sample of files");
     let records = records(&file);
     let mut replays = Replays {
         charts,
@@ -212,6 +222,7 @@ fn main() -> ExitCode {
     let full = shown.expect("a text with something at the end of every contents");
     change_each(&mut replays, &file, full);
     change_ends(&mut replays, &file, &records);
+    changed_files::run(&mut replays, &replay_files, &files);
     println!("{} passed, {} failed", replays.passed, replays.failed);
     if replays.failed == 0 {
         ExitCode::SUCCESS

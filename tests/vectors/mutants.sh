@@ -1,13 +1,13 @@
 #!/bin/sh
-# Shows that each rule is decided by the stored text that README.md names for it: each change of mutants.txt goes into a copy of the Rust,
-# and the copy must answer that text differently. Takes some fifteen minutes; 'mutants.sh TEXT' runs those of one text. Ends with 'N passed, M failed'.
+# Shows that each rule is decided by the stored text or file that README.md names for it: each change of mutants.txt goes into a copy of the Rust,
+# or of the reference for SM files, and the copy must answer that text differently. Takes some twenty minutes; 'mutants.sh TEXT' runs those of
+# one text. Ends with 'N passed, M failed'.
 set -u
 only=${1-}
 cd "$(dirname "$0")/../.."
 . tests/need.sh
 need "the oracle is built with it" rustc
 copy=target/vectors/mutant
-sample=tests/vectors/answers.bin
 passed=0
 failed=0
 
@@ -21,6 +21,10 @@ while IFS='|' read -r text file edit; do
     if [ -n "$only" ] && [ "$only" != "$text" ]; then
         continue
     fi
+    case $file in
+    */sm.rs) sample=tests/vectors/files.bin ;;
+    *) sample=tests/vectors/answers.bin ;;
+    esac
     rm -rf "$copy"
     mkdir -p "$copy/docs" "$copy/tests"
     cp -R docs/src "$copy/docs/src"

@@ -1,6 +1,6 @@
 //! How long the slices must be that are lent to a call.
 
-/// The longest text that is accepted, in bytes.
+/// The longest text that is accepted, and the longest SM file, in bytes.
 pub const MAX_LEN: usize = 16_777_215;
 
 /// Bytes of a note record.

@@ -21,7 +21,7 @@
 use crate::symbols::*;
 use crate::{Figures, Refusal};
 
-// In each call below a pointer goes with the length of its slice, and `figures` and `note` have the size that the entry names.
+// In each call below a pointer goes with the length of its slice, and `figures`, `note` and `chart` have the size that the entry names.
 
 /// The main call: minimised text, densities, row beats, note records, last beat, and the tally corrected over the
 /// minimised text read back.
@@ -208,4 +208,13 @@ pub fn process_timing_rows(
 /// Refusals 7 and 8.
 pub fn read_note(records: &[u8], index: usize, note: &mut [u64; 4]) -> Result<(), Refusal> {
     Refusal::of(unsafe { padcheck_read_note(records.as_ptr(), records.len(), index, note) })
+}
+
+/// Chart number `k` of an SM file, counted from 0: its lane count, where its note data begins in the file, how long that is.
+///
+/// # Errors
+///
+/// Refusals 1, 11, 9 and 10, checked in this order.
+pub fn sm_chart(file: &[u8], k: usize, chart: &mut [u64; 3]) -> Result<(), Refusal> {
+    Refusal::of(unsafe { padcheck_sm_chart(file.as_ptr(), file.len(), k, chart) })
 }

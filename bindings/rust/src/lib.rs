@@ -1,8 +1,8 @@
 //! The chart figures of StepMania charts, proved: safe Rust over libpadcheck.a.
 //!
-//! Every answer is proved equal to definitions written from a specification, document 01; this side lends slices, hands
-//! on what is in them, and takes the four numbers of a note out of the ten bytes of its record. Four ways to call, from
-//! the least to the most control:
+//! Every answer is proved equal to definitions written from a specification, documents 01 and 02; this side lends slices,
+//! hands on what is in them, takes the four numbers of a note out of the ten bytes of its record, and goes on in an SM
+//! file behind each chart it has shown ([`sm_charts`]). Four ways to call, from the least to the most control:
 //!
 //! - [`stats`] has items of rssp's `stats.rs` under their own names and signatures, for a loader that changes one `use`
 //!   line; it says which.
@@ -10,6 +10,9 @@
 //!   text longer than [`MAX_LEN`]. What they lend besides their answers is kept by the thread: [`release_buffers`].
 //! - [`Buffers`] does the same over buffers that are kept from one chart to the next.
 //! - [`lent`] has the entries as they are, over slices of the caller's.
+//!
+//! [`sm_chart`] and [`sm_charts`] find what any of these is given: the note data of each chart inside an SM file, and its
+//! lane count. They copy nothing, and what they refuse is a [`Refusal`] too.
 //!
 //! `lanes` is the lane number as the caller has it: 5, 8 and 10 are taken as such, every other number as 4.
 //!
@@ -26,6 +29,7 @@ pub mod lent;
 mod note;
 mod owned;
 mod refusal;
+mod sm;
 pub mod stats;
 mod symbols;
 
@@ -39,3 +43,4 @@ pub use owned::{
     process_rows_judgable, process_timing_rows,
 };
 pub use refusal::Refusal;
+pub use sm::{SmChart, SmCharts, sm_chart, sm_charts};

@@ -3,10 +3,11 @@
 use std::error::Error;
 use std::fmt;
 
-/// A refusal of document 01. A refused call has written nothing.
+/// A refusal of documents 01 and 02. A refused call has written nothing.
 ///
-/// With slices that the binding allocates only [`Refusal::TextTooLong`] can happen. 2 to 6 are met by whoever
-/// lends slices of his own ([`crate::lent`]), 7 and 8 by whoever stores note records.
+/// With slices that the binding allocates a chart can only be refused by [`Refusal::TextTooLong`]. 2 to 6 are met by
+/// whoever lends slices of his own ([`crate::lent`]), 7 and 8 by whoever stores note records. A chart inside an SM file
+/// ([`crate::sm_chart`]) is refused by 9 and 10 for what the file's author wrote, by 11 for what the caller asked.
 ///
 /// ```
 /// use padcheck::Refusal;
@@ -18,7 +19,7 @@ use std::fmt;
 #[non_exhaustive]
 #[repr(u32)]
 pub enum Refusal {
-    /// The text is longer than [`MAX_LEN`](crate::MAX_LEN).
+    /// The text or the SM file is longer than [`MAX_LEN`](crate::MAX_LEN).
     TextTooLong = 1,
     /// The text slice is shorter than len + 1.
     TextShort = 2,
@@ -34,11 +35,17 @@ pub enum Refusal {
     NoRecord = 7,
     /// That record breaks one of the limits of what the writer makes.
     BadRecord = 8,
+    /// Fewer than five `:` stand in the chart's block of the SM file after its tag.
+    FewFields = 9,
+    /// The chart's type in the SM file is not `dance-single`, `pump-single`, `dance-double` or `pump-double`.
+    OtherType = 10,
+    /// The asked chart's number is not below the number of blocks in the SM file.
+    NoChart = 11,
 }
 
 impl Refusal {
     /// Every refusal, in rising order.
-    pub const ALL: [Self; 8] = [
+    pub const ALL: [Self; 11] = [
         Self::TextTooLong,
         Self::TextShort,
         Self::MeasuresShort,
@@ -47,9 +54,12 @@ impl Refusal {
         Self::NotesShort,
         Self::NoRecord,
         Self::BadRecord,
+        Self::FewFields,
+        Self::OtherType,
+        Self::NoChart,
     ];
 
-    /// Document 01's number.
+    /// The documents' number.
     #[must_use]
     pub const fn number(self) -> u32 {
         self as u32
@@ -67,6 +77,9 @@ impl Refusal {
             Self::NotesShort => "the note slice is too short",
             Self::NoRecord => "there is no such note record",
             Self::BadRecord => "the note record breaks a limit",
+            Self::FewFields => "the SM file's author gave this chart fewer than five fields",
+            Self::OtherType => "the SM file's author gave this chart a type that is not read",
+            Self::NoChart => "the caller asked for a chart that the SM file does not have",
         }
     }
 
@@ -101,9 +114,9 @@ mod tests {
     use super::*;
 
     #[test]
-    fn numbers_are_those_of_document_01() {
+    fn numbers_are_those_of_the_documents() {
         let numbers = Refusal::ALL.map(Refusal::number);
-        assert_eq!(numbers, [1, 2, 3, 4, 5, 6, 7, 8]);
+        assert_eq!(numbers, [1, 2, 3, 4, 5, 6, 7, 8, 9, 10, 11]);
         for refusal in Refusal::ALL {
             assert_eq!(Refusal::of(refusal.number()), Err(refusal));
         }
@@ -111,7 +124,7 @@ mod tests {
     }
 
     /// Each name with its number and its words.
-    const SAID: [(Refusal, u32, &str); 8] = [
+    const SAID: [(Refusal, u32, &str); 11] = [
         (
             Refusal::TextTooLong,
             1,
@@ -124,6 +137,21 @@ mod tests {
         (Refusal::NotesShort, 6, "the note slice is too short"),
         (Refusal::NoRecord, 7, "there is no such note record"),
         (Refusal::BadRecord, 8, "the note record breaks a limit"),
+        (
+            Refusal::FewFields,
+            9,
+            "the SM file's author gave this chart fewer than five fields",
+        ),
+        (
+            Refusal::OtherType,
+            10,
+            "the SM file's author gave this chart a type that is not read",
+        ),
+        (
+            Refusal::NoChart,
+            11,
+            "the caller asked for a chart that the SM file does not have",
+        ),
     ];
 
     #[test]

@@ -87,4 +87,10 @@ unsafe extern "C" {
         index: usize,
         note: *mut [u64; 4],
     ) -> u32;
+    pub fn padcheck_sm_chart(
+        file: *const u8,
+        file_len: usize,
+        k: usize,
+        chart: *mut [u64; 3],
+    ) -> u32;
 }

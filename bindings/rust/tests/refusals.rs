@@ -301,6 +301,37 @@ fn records_are_read_or_refused() {
     }
 }
 
+/// Where two things are wrong with an SM file, the first in the order 1, 11, 9, 10 is said.
+#[test]
+fn charts_of_sm_files_are_found_or_refused() {
+    let find = padcheck::sm_chart;
+    let file =
+        b"#NOTES:pump-single:::::00100\n;\n#NOTES:lights-cabinet:;\n#NOTES:lights-cabinet:::::;\n";
+    let mut chart = [7; 3];
+    assert_eq!(lent::sm_chart(file, 0, &mut chart), Ok(()));
+    assert_eq!(chart, [5, 23, 7]);
+    assert_eq!(
+        find(file, 0).map(|chart| (chart.lanes, chart.data)),
+        Ok((5, &file[23..30]))
+    );
+    assert_eq!(find(file, 1), Err(Refusal::FewFields));
+    assert_eq!(find(file, 2), Err(Refusal::OtherType));
+    assert_eq!(find(file, 3), Err(Refusal::NoChart));
+    assert_eq!(find(&file[30..], 2), Err(Refusal::NoChart));
+    assert_eq!(find(&[], 0), Err(Refusal::NoChart));
+    for block in [
+        &b"#NOTES:dance-single:::::;"[..],
+        b"#NOTES:;",
+        b"#NOTES::::::;",
+    ] {
+        let mut long = block.to_vec();
+        long.resize(MAX_LEN + 1, b'\n');
+        assert_eq!(find(&long, 0), Err(Refusal::TextTooLong));
+        assert_eq!(find(&long, 1), Err(Refusal::TextTooLong));
+        assert_ne!(find(&long[1..], 0), Err(Refusal::TextTooLong));
+    }
+}
+
 /// Each refusal as the archive gives it, by its name, its number and its words.
 #[test]
 fn every_refusal_that_is_met_says_its_number_and_its_words() {
@@ -369,4 +400,26 @@ fn every_refusal_that_is_met_says_its_number_and_its_words() {
         Refusal::BadRecord,
         "refused 8: the note record breaks a limit",
     );
+    let mut chart = [7; 3];
+    said(
+        lent::sm_chart(b"#NOTES:dance-single::::;", 0, &mut chart),
+        Refusal::FewFields,
+        "refused 9: the SM file's author gave this chart fewer than five fields",
+    );
+    said(
+        lent::sm_chart(b"#NOTES:lights-cabinet:::::;", 0, &mut chart),
+        Refusal::OtherType,
+        "refused 10: the SM file's author gave this chart a type that is not read",
+    );
+    said(
+        lent::sm_chart(b"#NOTES:dance-single:::::;", 1, &mut chart),
+        Refusal::NoChart,
+        "refused 11: the caller asked for a chart that the SM file does not have",
+    );
+    said(
+        lent::sm_chart(&long, 0, &mut chart),
+        Refusal::TextTooLong,
+        "refused 1: the text is longer than 16777215 bytes",
+    );
+    assert_eq!((note, chart), ([7; 4], [7; 3]));
 }
