@@ -1,5 +1,6 @@
 // Row beats and the last beat (document 01, "Row beat" and "Last beat"). `mul_add` and `round_ties_even` are worked out here by
 // whole numbers and by float operations that are exact but for the last.
+#![tactic(auto)]
 
 ghost use Rattle.std.specs.Prelude.{◌≡◌, ℕ, ◌+◌, ◌*◌, ◌^◌, ◌<◌, ◌≤◌, false, ◌++◌, length, take, drop, to_bits};
 ghost use Rattle.std.specs.Float.{binary32, binary64};
@@ -164,7 +165,7 @@ pub fn note_row_to_beat(row: u64) -> f64
 }
 
 // The last object row: none, or its measure, its row and the rows of that measure.
-#[derive(Drop)]
+#[derive(Clone, Copy)]
 pub enum LastObject {
     Nothing,
     At(u32, u32, u32),

@@ -1,12 +1,21 @@
 // Document 01's program card: reads standard input, 4 lanes, at most 4,095 bytes, and prints the sheet; for more it prints `refused 1`.
+#![tactic(auto)]
+
 ghost use Rattle.std.specs.Prelude.{◌≡◌, ◌≤◌, length, take};
 ghost use Rattle.sheet.specs.Card.{card};
 ghost use Rattle.sheet.specs.Card.{sheet as sheetLines};
 
-use libc::{STDIN_FILENO, STDOUT_FILENO};
 use sheet::put_text;
+use std::io;
+use std::io::{Print, Read};
 
 // Zeros, as many as a text of 4,095 bytes asks for. The contracts tell the lengths alone, so that no proof goes over the elements.
+fn room_for_text() -> [u8; 4096]
+    ensures { 4096 ≡ length result }
+{
+    [0; 4096]
+}
+
 fn room_for_densities() -> [u32; 2049]
     ensures { 2049 ≡ length result }
 {
@@ -51,7 +60,7 @@ fn put_chart(data: &[u8], out: &mut [u8]) -> usize
     ensures upper_bound { result ≤ length out.new }
     ensures out_after { take result out.new ≡ sheetLines 4 «data».now }
 {
-    let mut text = io::buffer();
+    let mut text = room_for_text();
     let mut densities = room_for_densities();
     let mut spacing = room_for_spacing();
     let mut beats = room_for_beats();
@@ -85,10 +94,11 @@ fn put_card(data: &[u8], out: &mut [u8]) -> usize
     put_chart(data, out)
 }
 
-fn main() {
-    let mut data = io::buffer();
-    let n = io::read_full(STDIN_FILENO, &mut data);
+// One byte more than is accepted tells a longer text.
+fn main(rt: HostRuntime) -> io::Result<()> {
+    let mut data = Vec::new(rt.alloc());
+    rt.reader().take(4096).read_to_end(&mut data)?;
     let mut out = room_for_sheet();
-    let r = put_card(&data[..n], &mut out);
-    io::write_all(STDOUT_FILENO, &out[..r]);
+    let n = put_card(&data, &mut out);
+    rt.write_all(&out[..n])
 }

@@ -1,5 +1,7 @@
 // One cell of a row that is not ordinary: what it does to the phantom depth, the object depth and the notes of its column, told by one match
 // over the letters.
+#![tactic(auto)]
+
 ghost use Rattle.std.specs.Prelude.{◌≡◌, ℕ, ◌≤◌};
 ghost use Rattle.definitions.specs.Lists.{oneIf};
 ghost use Rattle.definitions.specs.Cells.{cell_of, isArrow};
@@ -15,7 +17,7 @@ use objects::ObjectCell;
 use phantoms::PhantomCell;
 
 // Where a cell stands: the phantom depth, the object depth and the open head of its column, the number of records, its row and its column.
-#[derive(Drop)]
+#[derive(Clone, Copy)]
 pub struct CellAt {
     pub depth: u32,
     pub low: u32,
@@ -27,7 +29,7 @@ pub struct CellAt {
 
 // What a cell leaves: its phantom and its object depth, the open head of its column, the number of records, whether it dropped one, and the
 // kind of its note.
-#[derive(Drop)]
+#[derive(Clone, Copy)]
 pub struct WalkCell {
     pub phantom: PhantomCell,
     pub object: ObjectCell,

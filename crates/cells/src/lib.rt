@@ -1,4 +1,6 @@
 // The cells of a row, byte by byte: what a byte stands for and what it does.
+#![tactic(auto)]
+
 ghost use Rattle.std.specs.Prelude.{◌≡◌, List, ℕ, ◌≤◌, length};
 ghost use Rattle.definitions.specs.Lists.{oneIf};
 ghost use Rattle.definitions.specs.Cells.{cell_of, isArrow};

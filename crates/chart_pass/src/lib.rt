@@ -1,5 +1,7 @@
 // The main call's pass over a whole text: rows are written, minimised and counted as in the kept-row pass, and the beats and notes of each
 // measure are written when it ends, and its last object row is kept.
+#![tactic(auto)]
+
 ghost use Rattle.std.specs.Prelude.{◌≡◌, List, [], ◌∷◌, ◌++◌, ℕ, ◌+◌, ◌*◌, ◌/◌, ◌≤◌, ◌<◌, Float, length};
 ghost use Rattle.definitions.specs.Sizes.{measuresBound, mostBytes, rowsBound};
 ghost use Rattle.definitions.specs.Lanes.{mostRows};
@@ -13,7 +15,7 @@ use kept_pass::KeptPass;
 use measure_notes::Noting;
 
 // What the pass has written and counted, and the notes and the last object row of the measures that have ended.
-#[derive(Drop)]
+#[derive(Clone, Copy)]
 pub struct ChartPass {
     pub pass: KeptPass,
     pub noting: Noting,

@@ -1,4 +1,6 @@
 // What an entry left in what it was lent, beside the stored bytes of an answer. Each says true where the two are equal, else false.
+#![tactic(auto)]
+
 ghost use Rattle.std.specs.Prelude.{◌≡◌, [], ◌<◌, length, get_or};
 ghost use Rattle.lines.specs.Words.{halfAt};
 ghost use Rattle.compare.specs.Agreement.{hasAnswer, sameFigures, numbers, longs, floatBits, bitsOf};

@@ -1,4 +1,6 @@
 // A tally counted anew with only tracker-paired heads, over rows that are read back out of minimised text.
+#![tactic(auto)]
+
 ghost use Rattle.std.specs.Prelude.{◌≡◌, ℕ, ◌≤◌, length, get_or, replicate, List};
 ghost use Rattle.definitions.specs.Sizes.{countBound};
 ghost use Rattle.definitions.specs.Tally.{rowSum, addRow, tally};

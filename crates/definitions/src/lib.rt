@@ -1,4 +1,5 @@
 // The types that documents 01 and 02 speak of. The definitions over them are in specs/, in document 01's order, and their laws in proofs/.
+#![tactic(auto)]
 
 // The longest text that is accepted, in bytes.
 pub const MOST_BYTES: usize = 16777215;
@@ -13,7 +14,7 @@ pub const ROWS_BOUND: u32 = 4194304;
 pub const MEASURES_BOUND: u32 = 8388608;
 
 // What a line is to the reader: passed over, the end of a measure, the end of the reading, or a row.
-#[derive(Drop)]
+#[derive(Clone, Copy)]
 pub enum LineKind {
     Passed,
     Comma,
@@ -22,7 +23,7 @@ pub enum LineKind {
 }
 
 // What a byte of a row stands for. The Rust also reads m, l and f, which count as M, L and F only where document 01 says so.
-#[derive(Drop)]
+#[derive(Clone, Copy)]
 pub enum Cell {
     Empty,
     Tap,
@@ -39,7 +40,7 @@ pub enum Cell {
 }
 
 // What a cell does to the holds of its column: to the tracker's stack, the phantom depth and the object depth.
-#[derive(Drop)]
+#[derive(Clone, Copy)]
 pub enum DepthEffect {
     Nothing,
     Blocks,
@@ -48,7 +49,7 @@ pub enum DepthEffect {
 }
 
 // A note's kind.
-#[derive(Drop)]
+#[derive(Clone, Copy)]
 pub enum Kind {
     Tap,
     Hold,
@@ -59,14 +60,14 @@ pub enum Kind {
 }
 
 // A note's tail: none, or the row at which it stands.
-#[derive(Drop)]
+#[derive(Clone, Copy)]
 pub enum Tail {
     Without,
     Row(u32),
 }
 
 // A typed note. Rows are numbered through all minimised rows of the chart.
-#[derive(Drop)]
+#[derive(Clone, Copy)]
 pub struct Note {
     pub row: u32,
     pub tail: Tail,
@@ -75,7 +76,7 @@ pub struct Note {
 }
 
 // What a cell does to the notes: nothing, close the open head of its column, or drop it and be a note or a head itself.
-#[derive(Drop)]
+#[derive(Clone, Copy)]
 pub enum NoteEffect {
     Nothing,
     Closes,
@@ -84,7 +85,7 @@ pub enum NoteEffect {
 }
 
 // What one row adds to a tally. `arrows` counts the row's arrows, and the four after it those of each direction.
-#[derive(Drop)]
+#[derive(Clone, Copy)]
 pub struct RowSum {
     pub arrows: u32,
     pub left: u32,
@@ -100,7 +101,7 @@ pub struct RowSum {
 }
 
 // The tally, with the fields of the Rust's `ArrowStats` in their order.
-#[derive(Drop)]
+#[derive(Clone, Copy)]
 pub struct ArrowStats {
     pub total_arrows: u32,
     pub left: u32,
@@ -119,14 +120,14 @@ pub struct ArrowStats {
 }
 
 // What reading a note record gives: the note, or a refusal's number.
-#[derive(Drop)]
+#[derive(Clone, Copy)]
 pub enum ReadNote {
     Found(Note),
     Refused(u32),
 }
 
 // A tag with which a line begins, after blanks: where its line begins in the file, and the place just past the tag.
-#[derive(Drop)]
+#[derive(Clone, Copy)]
 pub struct Tag {
     pub line: usize,
     pub end: usize,

@@ -1,5 +1,7 @@
 // The figures that an entry leaves, each in its place: 32 for a call on a text, 4 for a note, 3 for a chart of a file. What a call does not answer
 // is 0.
+#![tactic(auto)]
+
 ghost use Rattle.std.specs.Prelude.{◌≡◌, [], ◌∷◌};
 ghost use Rattle.definitions.specs.Entries.{figures as figuresOf, noTally, tallyFigures, noteFigures};
 ghost use Rattle.definitions.specs.Lists.{oneIf};

@@ -1,16 +1,16 @@
 -- From what was found in a file to the answer: of the loop over blocks, of a block's text, and of the whole call.
 use mathlib.Core.Path.{◌≡◌, refl, ap, sym, ◌∙◌}
 use mathlib.Core.Bool.{Bool, true, false, cond}
-use mathlib.Core.List.{List, [], ◌∷◌}
-use Prim.Native.Nat.{ℕ, suc, ◌+◌, ◌-◌, ◌≤◌, ◌<◌}
+use mathlib.Core.List.{List}
+use Prim.Native.Nat.{ℕ, suc, ◌+◌, ◌≤◌, ◌<◌}
 use native.Mathlib.Omega.{arith}
-use lib.Dec.{eqb, ltb, leb}
+use lib.Dec.{ltb}
 use lib.ListN.{length, get_or, drop, length-drop}
 use borrow.Author.Tests.{eq-eqb, ne_eqb, lt-ltb, le-ltb, le-leb, lt-leb, ltb-true, ltb-false}
 use Rattle.definitions.specs.Sizes.{mostBytes}
-use Rattle.definitions.specs.Lists.{up_to, through}
+use Rattle.definitions.specs.Lists.{through}
 use Rattle.definitions.specs.Lines.{trim}
-use Rattle.definitions.specs.SmFile.{notesTag, blockText, blockEnd, blocks_from, blocks, colons, data_of, trimEnd, type_of, typeLanes, smTag, smText, smLanes, smData, smStart, smNumber}
+use Rattle.definitions.specs.SmFile.{notesTag, blockText, blockEnd, blocks_from, blocks, colons, trimEnd, type_of, typeLanes, smTag, smText, smLanes, smData, smStart, smNumber}
 use Rattle.definitions.specs.SmBlocks.{BlocksApart}
 use Rattle.definitions.specs.declared.Tag.{Tag}
 use Rattle.definitions.proofs.SmBlocks.{blocks-apart}
@@ -121,3 +121,5 @@ module _ (file : List ℕ) (k : ℕ) where
       let f = found-tag t e in
       let ends = (blocks-apart file).within k f.0 in
       omega (arith, ends, ap (λ (u : Tag). u.end) f.1)
+
+pub ruleset long_refused = (sm-long)

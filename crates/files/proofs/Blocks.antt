@@ -2,7 +2,7 @@
 -- block, and the lines on which it stands are passed over.
 use mathlib.Core.Logic.{◌⊎◌, inl, inr, ⊎_elim}
 use mathlib.Core.Path.{◌≡◌, refl, ap, sym, subst, ◌∙◌}
-use mathlib.Core.Bool.{Bool, true, false, cond, ◌&&◌}
+use mathlib.Core.Bool.{Bool, true, false, cond}
 use mathlib.Core.List.{List, [], ◌∷◌, ◌++◌}
 use Prim.Native.Nat.{ℕ, zero, suc, ◌+◌, ◌-◌, ◌≤◌, ◌<◌}
 use native.Mathlib.Decide.{dec_lt}
@@ -11,16 +11,16 @@ use lib.Dec.{leb}
 use lib.ListN.{length, get_or, drop, length-drop, drop_of_length-le}
 use lib.Seq.{drop-drop, get_or-drop}
 use borrow.Author.Tests.{le-leb, lt-leb}
-use Rattle.definitions.specs.Lists.{up_to, through, starts_with, only_if}
+use Rattle.definitions.specs.Lists.{up_to, through, only_if}
 use Rattle.definitions.specs.Lines.{trim}
-use Rattle.definitions.specs.SmFile.{isTagged, tag_of, notesTag, blockText, blockEnd, startsBlock, blocks_from, blocks}
+use Rattle.definitions.specs.SmFile.{isTagged, tag_of, notesTag, blockText, blockEnd, startsBlock, blocks_from}
 use Rattle.definitions.specs.declared.Tag.{Tag}
 use Rattle.definitions.proofs.Bools.{and-false}
 use Rattle.definitions.proofs.Lists.{startsWith-length}
 use Rattle.definitions.proofs.SmBlocks.{end-within}
 use Rattle.definitions.proofs.ChartRows.{trim-short}
 use Rattle.lines.specs.Lines.{firstLine, lines_from}
-use Rattle.lines.proofs.Lines.{lines_start, lines_next, lines_end, line-within}
+use Rattle.lines.proofs.Lines.{lines_next, lines_end, line-within}
 use Rattle.files.specs.Tags.{firstTag}
 use Rattle.files.specs.Sm.{pastBlock}
 use Rattle.files.specs.declared.FoundTag.TheVariants.{At, Nothing}

@@ -1,14 +1,14 @@
 -- Laws of the fields at the start of a text, as the loop of `fields_end` meets them: what was counted so far, and what is left of the block.
-use mathlib.Core.Path.{◌≡◌, refl, ap, sym, ◌∙◌}
+use mathlib.Core.Path.{◌≡◌, refl, ap, ◌∙◌}
 use mathlib.Core.Bool.{Bool, true, false, cond}
 use mathlib.Core.List.{List, [], ◌∷◌}
 use Prim.Native.Nat.{ℕ, zero, suc, ◌+◌, ◌-◌, ◌≤◌, ◌<◌}
 use native.Mathlib.Numerals.{add-one}
 use native.Mathlib.Omega.{arith}
 use lib.Dec.{eqb, ltb}
-use lib.ListN.{length, get_or, take, drop, drop_of_length-le}
+use lib.ListN.{length, get_or, drop, drop_of_length-le}
 use lib.Seq.{drop-cons}
-use borrow.Author.Tests.{eq-eqb, ne_eqb, lt-ltb, le-ltb}
+use borrow.Author.Tests.{ne_eqb, lt-ltb, le-ltb}
 use Rattle.definitions.specs.Lists.{oneIf, up_to, through, after, afterEach}
 use Rattle.definitions.specs.SmFile.{colons, data_of}
 use Rattle.definitions.proofs.Lists.{through-cons, after-cons}
@@ -21,9 +21,6 @@ pub record Fields (text : List ℕ) (left i : ℕ) : Type 0 where
   pub over : afterEach 58 5 (through 59 text) ≡ afterEach 58 left (through 59 (drop i text))
   pub long : length (through 59 text) ≡ i + length (through 59 (drop i text))
   pub some : 0 < left
-
-pub fields-start : (text : List ℕ) → Fields text 5 0
-fields-start text = record { counted = omega arith; over = refl; long = omega arith; some = omega arith }
 
 -- what is left of the block at a `:`, at a `;` and at any other byte
 at-colon : (text : List ℕ) (i : ℕ) → i < length text → get_or text i 0 ≡ 58 → through 59 (drop i text) ≡ 58 ∷ through 59 (drop (i + 1) text)

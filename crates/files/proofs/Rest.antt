@@ -2,24 +2,24 @@
 use mathlib.Core.Path.{◌≡◌, refl, ap, sym, ◌∙◌}
 use mathlib.Core.Bool.{Bool, true, false, cond}
 use mathlib.Core.List.{List, [], ◌∷◌, ◌++◌, map}
-use Prim.Native.Nat.{ℕ, zero, suc, ◌+◌, ◌-◌, ◌≤◌, ◌<◌}
+use Prim.Native.Nat.{ℕ, zero, suc, ◌+◌, ◌≤◌, ◌<◌}
 use native.Mathlib.Decide.{dec_lt}
 use native.Mathlib.Omega.{arith}
-use lib.Dec.{leb, ltb, eqb}
+use lib.Dec.{leb}
 use lib.ListN.{length, get_or, drop, length-drop, length-map, drop_of_length-le}
 use lib.Seq.{drop-drop}
 use borrow.Author.Tests.{le-leb, lt-leb, le-ltb}
 use Rattle.definitions.specs.Sizes.{mostBytes}
 use Rattle.definitions.specs.Lists.{only_if, through}
 use Rattle.definitions.specs.Lines.{cut}
-use Rattle.definitions.specs.SmFile.{isTagged, tag_of, notesTag, blockText, blockEnd, startsBlock, blocks_from, blocks, colons, data_of, type_of, typeLanes, smTag, smText, smLanes, smData, smStart, smNumber}
+use Rattle.definitions.specs.SmFile.{isTagged, tag_of, notesTag, blockText, blockEnd, startsBlock, blocks_from, blocks, data_of, type_of, typeLanes, smTag, smText, smLanes, smData, smStart, smNumber}
 use Rattle.definitions.specs.SmBlocks.{LeastRefused}
 use Rattle.definitions.specs.declared.Tag.{Tag}
 use Rattle.definitions.proofs.SmBlocks.{least-refused}
 use Rattle.lines.specs.Lines.{lines_from}
 use Rattle.files.specs.Tags.{firstTag}
 use Rattle.files.specs.Sm.{pastBlock}
-use Rattle.files.specs.Rest.{SameAnswer, RestAnswered}
+use Rattle.files.specs.Rest.{RestAnswered}
 use Rattle.files.specs.declared.FoundTag.{FoundTag}
 use Rattle.files.specs.declared.FoundTag.TheVariants.{At, Nothing}
 use Rattle.files.proofs.Words.{drop_head}

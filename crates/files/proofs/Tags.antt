@@ -1,5 +1,5 @@
 -- Laws of `firstTag`, as the loop of `next_tag` meets the lines of a file.
-use mathlib.Core.Path.{◌≡◌, sym, ap, ◌∙◌}
+use mathlib.Core.Path.{◌≡◌}
 use mathlib.Core.Bool.{true, false}
 use mathlib.Core.List.{List}
 use Prim.Native.Nat.{ℕ, ◌+◌, ◌-◌, ◌≤◌, ◌<◌}
@@ -7,7 +7,6 @@ use lib.ListN.{length, drop}
 use Rattle.definitions.specs.Lists.{starts_with}
 use Rattle.definitions.specs.Lines.{trim}
 use Rattle.definitions.specs.SmFile.{isTagged, tag_of}
-use Rattle.definitions.specs.declared.Tag.{Tag}
 use Rattle.lines.specs.Lines.{firstLine, lines_from}
 use Rattle.lines.proofs.Lines.{lines_next, lines_end}
 use Rattle.files.specs.Tags.{firstTag}

@@ -1,7 +1,7 @@
 -- Laws of `starts_with`, `same`, `through` and `trimEnd`, as the loops over a part meet them.
 use mathlib.Core.Logic.{◌⊎◌, inl, inr, ⊎_elim}
-use mathlib.Core.Path.{◌≡◌, refl, ap, sym, ◌∙◌}
-use mathlib.Core.Bool.{Bool, true, false, cond, ◌&&◌}
+use mathlib.Core.Path.{◌≡◌, refl, ap}
+use mathlib.Core.Bool.{Bool, true, false, cond}
 use mathlib.Core.List.{List, [], ◌∷◌}
 use Prim.Native.Nat.{ℕ, zero, suc, ◌+◌, ◌-◌, ◌≤◌, ◌<◌}
 use native.Mathlib.Numerals.{add-one}
@@ -23,18 +23,6 @@ starts-short w s h = go (starts_with w s) refl
     go : (t : Bool) → starts_with w s ≡ t → starts_with w s ≡ false
     go true e = absurd (omega (arith, startsWith-length w s e))
     go false e = e
-
--- one byte more that agrees
-pub starts-turn : (w s : List ℕ) (i : ℕ) → i < length w → i < length s → get_or s i 0 ≡ get_or w i 0 → starts_with (drop i w) (drop i s) ≡ starts_with (drop (i + 1) w) (drop (i + 1) s)
-starts-turn w s i hw hs e = rw (add-one, drop-cons w i 0, drop-cons s i 0) (simp (eq-eqb _ _ e))
-
--- one that does not
-pub starts_other : (w s : List ℕ) (i : ℕ) → i < length w → i < length s → (get_or s i 0 ≡ get_or w i 0 → ⊥) → starts_with (drop i w) (drop i s) ≡ false
-starts_other w s i hw hs e = rw (drop-cons w i 0, drop-cons s i 0) (simp (ne_eqb _ _ e))
-
--- none is left
-pub starts-end : (w s : List ℕ) (i : ℕ) → length w ≤ i → starts_with (drop i w) (drop i s) ≡ true
-starts-end w s i h = rw (drop_of_length-le w h)
 
 -- lists of other lengths are not the same
 pub same-other : (s w : List ℕ) → (length s ≡ length w → ⊥) → same s w ≡ false

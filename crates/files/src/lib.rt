@@ -1,5 +1,7 @@
 // Files that hold charts: lines that begin with a tag, the parts of a file between two marks, and the lane count of a type name. Each search is
 // given a part of the caller's file, and the place of that part is added back.
+#![tactic(auto)]
+
 pub mod sm;
 
 ghost use Rattle.std.specs.Prelude.{◌≡◌, ◌+◌, ◌≤◌, length};
@@ -91,6 +93,7 @@ pub fn type_name(fields: &[u8]) -> &[u8]
 }
 
 // The lane count of a type; 0 for another type name.
+#[tactic(auto, unfolding(definitions::specs::SmFile::typeLanes))]
 pub fn type_lanes(name: &[u8]) -> usize
     ensures { result ≡ typeLanes name.now }
 {

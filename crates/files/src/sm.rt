@@ -94,6 +94,7 @@ fn answer_at(file: &[u8], end: usize) -> SmAnswer
 }
 
 // The chart of block `k` of an SM file.
+#[tactic(auto, using(crate::proofs::Answers::long_refused))]
 pub fn sm_chart(file: &[u8], k: usize) -> SmAnswer
     ensures { result ≡ smAnswer file.now k }
 {

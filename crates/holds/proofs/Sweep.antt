@@ -127,7 +127,7 @@ module _
               ∙ ap (endsIn J (length rows)) pairs-here
               ∙ sym (ends-new J rows cells k)
 
-          pub sweep-one : judgedHead ended work ≤ 1
+          sweep-one : judgedHead ended work ≤ 1
           sweep-one = rw (judged-ends J work (length rows) ended sweep-below s.judged) (judged-one J (length rows) ended)
 
           pub sweep-next : Swept J rows cells (k + 1) work₀ t' (marked ended k work) (n + judgedHead ended work)
@@ -200,9 +200,6 @@ module _
     swept : Swept from.judging from.rows cells k work₀ t work n
     swept = s.swept from.judging from.rows from.size from.tracks
 
-    pub sweeping-few : n ≤ k
-    sweeping-few = swept.few
-
     pub sweeping-end : length cells ≤ k → (J : ℕ → Bool) (rows : List Row) → length rows ≡ row → TracksJudged J rows t₀ work₀
         → CellsDone J rows cells work₀ t work n
     sweeping-end h J rows e tracks = let in_row = s.within in sweep-end J rows cells k work₀ t work n (s.swept J rows e tracks) h (omega arith)
@@ -220,9 +217,6 @@ module _
             let size = from.size in
             let in-work = in-room in
             omega (arith, sweep-below from.judging from.rows cells k work₀ t work n swept (omega arith) t' ended row from.size more m h q)
-
-        pub sweeping-one : judgedHead ended work ≤ 1
-        sweeping-one = sweep-one from.judging from.rows cells k work₀ t work n swept (omega arith) t' ended row from.size more m in-room
 
         pub sweeping-next : (work' : List ℕ) (j : ℕ) → work' ≡ marked ended k work → j ≡ judgedHead ended work
             → Sweeping row cells work₀ t₀ t' work' (n + j) (k + 1)

@@ -1,4 +1,6 @@
 // The hold tracker, `track_holds_core` row by row: the open heads of each column, and what their pairs leave in the lent work slice.
+#![tactic(auto)]
+
 ghost use Rattle.std.specs.Prelude.{◌≡◌, true, List, [], ◌∷◌, ◌++◌, ℕ, ◌+◌, ◌*◌, ◌≤◌, ◌<◌, length};
 ghost use Rattle.definitions.specs.Lists.{oneIf};
 ghost use Rattle.definitions.specs.Lines.{Row};
@@ -10,7 +12,7 @@ ghost use Rattle.holds.specs.Tracks.{marked, judgedHead, Tracks, Reached, CellsT
 use definitions::DepthEffect;
 
 // The open heads of ten columns: column c has the places 8 * c to 8 * c + 7, and `depths` says how many of them are in use.
-#[derive(Drop)]
+#[derive(Clone, Copy)]
 pub struct Tracker {
     pub heads: [u32; 80],
     pub depths: [u32; 10],
@@ -27,7 +29,7 @@ pub fn no_tracker() -> Tracker
 }
 
 // The head that a cell pairs with.
-#[derive(Drop)]
+#[derive(Clone, Copy)]
 pub enum Ended {
     Nothing,
     Head(u32),
@@ -39,7 +41,8 @@ fn pushed(heads: &mut [u32; 80], depths: &mut [u32; 10], row: u32, column: usize
     ensures { TrackStepped DepthEffect.Opens row column (tracker heads.old depths.old) (tracker heads.new depths.new) [] }
 {
     let depth = depths[column];
-    if depth < 8 {
+    let room = depth < 8;
+    if room {
         let at = 8 * column + depth as usize;
         heads[at] = row;
         depths[column] = depth + 1;

@@ -1,4 +1,6 @@
 // Judged tallies, over rows read by `parse_minimized_rows`. One definition serves both calls: which rows are judged is a test.
+#![tactic(auto)]
+
 ghost use Rattle.std.specs.Prelude.{◌≡◌, Bool, [], ℕ, ◌+◌, ◌≤◌, length};
 ghost use Rattle.definitions.specs.Sizes.{countBound, mostBytes};
 ghost use Rattle.definitions.specs.Lists.{padded};
@@ -25,7 +27,7 @@ pub enum JudgedAnswer {
 }
 
 // The judged tally of the rows so far, and the holds open before the next one.
-#[derive(Drop)]
+#[derive(Clone, Copy)]
 pub struct TimingStats {
     pub stats: ArrowStats,
     pub active: u32,

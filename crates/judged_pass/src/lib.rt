@@ -1,5 +1,7 @@
 // The judged tally of clean rows in one pass, as `process_rows_judgable` of the Rust counts: while every head is paired, the holds open before a
 // row are the open heads of the columns.
+#![tactic(auto)]
+
 ghost use Rattle.std.specs.Prelude.{◌≡◌, true, ℕ, ◌≤◌, ◌<◌, length, get_or};
 ghost use Rattle.definitions.specs.Sizes.{countBound, mostBytes};
 ghost use Rattle.definitions.specs.Tally.{noStats};
@@ -16,7 +18,7 @@ use taps::Taps;
 
 // What the pass has of the rows so far: the tally, the open heads of each column, of up to ten, the holds open before the next row, the columns
 // that have one as a mask, and whether the rows were clean.
-#[derive(Drop)]
+#[derive(Clone, Copy)]
 pub struct CleanRows {
     pub stats: ArrowStats,
     pub depths: [u32; 10],
@@ -26,21 +28,21 @@ pub struct CleanRows {
 }
 
 // The tally of clean rows, or no answer.
-#[derive(Drop)]
+#[derive(Clone, Copy)]
 pub enum CleanTally {
     Tally(ArrowStats),
     NotClean,
 }
 
 // What a cell leaves of its column's depth, and whether it leaves the column clean.
-#[derive(Drop)]
+#[derive(Clone, Copy)]
 pub struct CleanCell {
     pub depth: u32,
     pub clean: bool,
 }
 
 // What a row's cells add up to, and whether they leave every column clean.
-#[derive(Drop)]
+#[derive(Clone, Copy)]
 struct CleanCells {
     sum: RowSum,
     clean: bool,

@@ -1,4 +1,6 @@
 // The kept-row call: minimised text, densities and tally of a whole text.
+#![tactic(auto)]
+
 ghost use Rattle.std.specs.Prelude.{◌≡◌, [], ◌+◌, ◌/◌, ◌≤◌, length};
 ghost use Rattle.definitions.specs.Sizes.{mostBytes};
 ghost use Rattle.definitions.specs.Lists.{padded};
@@ -10,7 +12,7 @@ ghost use Rattle.kept.specs.Answers.{keptChartFigures, keptAnswer};
 use definitions::ArrowStats;
 
 // What the kept-row call answers: bytes of the minimised text, measures, minimised rows, and the tally.
-#[derive(Drop)]
+#[derive(Clone, Copy)]
 pub struct KeptFigures {
     pub bytes: usize,
     pub measures: usize,

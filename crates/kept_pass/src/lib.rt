@@ -1,5 +1,7 @@
 // The kept-row pass over a whole text: rows are written into the text slice as they are read, and each measure is minimised and counted there when
 // it ends.
+#![tactic(auto)]
+
 ghost use Rattle.std.specs.Prelude.{◌≡◌, List, [], ◌∷◌, ◌++◌, ℕ, ◌+◌, ◌*◌, ◌/◌, ◌≤◌, ◌<◌, length};
 ghost use Rattle.definitions.specs.Sizes.{measuresBound, mostBytes, rowsBound};
 ghost use Rattle.definitions.specs.Lines.{Row};
@@ -11,7 +13,7 @@ use definitions::LineKind;
 use measure_tally::Counting;
 
 // What is counted so far, where the open measure begins, how many bytes are written, and the open measure's rows and number.
-#[derive(Drop)]
+#[derive(Clone, Copy)]
 pub struct KeptPass {
     pub counting: Counting,
     pub start: usize,

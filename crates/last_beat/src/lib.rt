@@ -1,4 +1,6 @@
 // Last beat: the last object row among the raw rows. A row and its measure's row count, divided by the same stride, give the same beat.
+#![tactic(auto)]
+
 ghost use Rattle.std.specs.Prelude.{◌≡◌, List, [], ◌∷◌, ◌++◌, ◌≤◌, ◌<◌, length};
 ghost use Rattle.definitions.specs.Sizes.{mostBytes, rowNumbersBound};
 ghost use Rattle.definitions.specs.Lines.{Row};

@@ -1,4 +1,6 @@
 // The line reader: lines of a chart's text, the trimming of a line, and the search and count of a byte. A line is a part of the caller's text.
+#![tactic(auto)]
+
 pub mod words;
 
 ghost use Rattle.std.specs.Prelude.{◌≡◌, ◌+◌, ◌≤◌, length, take, drop};
@@ -9,6 +11,7 @@ ghost use Rattle.lines.specs.Words.{firstIn};
 ghost use Rattle.lines.specs.Lines.{firstLine};
 
 // The line without one carriage return at its end.
+#[tactic(auto, using(crate::proofs::Trims::trims))]
 pub fn trim_cr(line: &[u8]) -> &[u8]
     ensures { result.now ≡ trimCr line.now }
 {
@@ -24,6 +27,7 @@ pub fn trim_cr(line: &[u8]) -> &[u8]
 }
 
 // Whether a byte is one of the blanks that are taken off a line's start.
+#[tactic(auto, unfolding(definitions::specs::Lines::isBlank))]
 pub fn is_blank(b: u8) -> bool
     ensures { result ≡ isBlank b }
 {

@@ -1,4 +1,6 @@
 // The typed notes and the last object row of minimised rows, one row after the other and measure by measure.
+#![tactic(auto)]
+
 ghost use Rattle.std.specs.Prelude.{List, [], ◌∷◌, ◌++◌, ℕ, ◌≤◌, ◌<◌};
 ghost use Rattle.definitions.specs.Sizes.{measuresBound, rowsBound};
 ghost use Rattle.definitions.specs.Lines.{Row};
@@ -8,7 +10,7 @@ use objects::LastScan;
 use row_notes::ChartNotesScratch;
 
 // A column without its bit in `busy` has no open head.
-#[derive(Drop)]
+#[derive(Clone, Copy)]
 pub struct Noting {
     pub scratch: ChartNotesScratch,
     pub last: LastScan,

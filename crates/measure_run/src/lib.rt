@@ -1,4 +1,6 @@
 // What a walk holds of a measure, taken out of the structs of the layers beneath before it and put back after it.
+#![tactic(auto)]
+
 ghost use Rattle.std.specs.Prelude.{◌≡◌, List, [], ◌∷◌, ◌++◌, ℕ, ◌-◌, ◌≤◌, ◌<◌, length};
 ghost use Rattle.definitions.specs.Sizes.{countBound, measuresBound, rowsBound};
 ghost use Rattle.definitions.specs.Lines.{Row};
@@ -15,7 +17,7 @@ use row_notes::ChartNotesScratch;
 use row_walk::{Marks, Seen};
 
 // What is counted and noted.
-#[derive(Drop)]
+#[derive(Clone, Copy)]
 pub struct Walk {
     pub counting: Counting,
     pub noting: Noting,
@@ -23,7 +25,7 @@ pub struct Walk {
 
 // What ordinary rows change too, in plain numbers: the tally, the number of records, the number of rows, and how many of these there are up to
 // the measure's last object row; where that is no more than before the measure, it has none.
-#[derive(Drop)]
+#[derive(Clone, Copy)]
 pub struct Run {
     pub stats: ArrowStats,
     pub count: usize,

@@ -1,4 +1,6 @@
 // What a whole-chart pass counts of the minimised rows, one row after the other: the tally, the phantom depths and the open measure's density.
+#![tactic(auto)]
+
 ghost use Rattle.std.specs.Prelude.{◌≡◌, List, [], ◌∷◌, ◌++◌, ℕ, ◌+◌, ◌-◌, ◌*◌, ◌≤◌, ◌<◌, length, take, drop};
 ghost use Rattle.definitions.specs.Sizes.{rowsBound};
 ghost use Rattle.definitions.specs.Lines.{Row};
@@ -13,7 +15,7 @@ use taps::Taps;
 
 // `rows` counts all minimised rows so far, `before` the steps of the measures that have ended: those of the open one are its density.
 // A column without its bit in `busy` has the phantom depth 0.
-#[derive(Drop)]
+#[derive(Clone, Copy)]
 pub struct Counting {
     pub stats: ArrowStats,
     pub phantoms: Phantoms,
@@ -138,7 +140,7 @@ pub fn density(c: Counting) -> u32
 }
 
 // What is counted, and the row at which the count stands.
-#[derive(Drop)]
+#[derive(Clone, Copy)]
 struct CountedTo {
     counting: Counting,
     row: usize,

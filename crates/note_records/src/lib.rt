@@ -1,4 +1,6 @@
 // Note records: ten bytes each, row and tail as four bytes with the low byte first, then column and kind. Reading one, and writing its bytes.
+#![tactic(auto)]
+
 ghost use Rattle.std.specs.Prelude.{◌≡◌, ◌+◌, ◌*◌, ◌≤◌, ◌<◌, length};
 ghost use Rattle.std.proofs.lemmas.List.Edits.{sets};
 ghost use Rattle.definitions.specs.Records.{word, bytes4, fields, kindNumber, plain_of, held_of, note_of, readNote};

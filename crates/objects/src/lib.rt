@@ -1,4 +1,6 @@
 // The object rows of the last beat, and the last of them, one row after the other and measure by measure.
+#![tactic(auto)]
+
 ghost use Rattle.std.specs.Prelude.{◌≡◌, true, List, [], ◌∷◌, ◌++◌, ◌≤◌, ◌<◌, length};
 ghost use Rattle.definitions.specs.Sizes.{measuresBound, rowNumbersBound, rowsBound};
 ghost use Rattle.definitions.specs.Lines.{Row};
@@ -11,7 +13,7 @@ use beats::LastObject;
 use definitions::DepthEffect;
 
 // The depth of each column, of up to ten.
-#[derive(Drop)]
+#[derive(Clone, Copy)]
 pub struct Depths {
     pub depths: [u32; 10],
 }
@@ -24,14 +26,14 @@ pub fn no_depths() -> Depths
 }
 
 // Whether a row is an object row, and the depths after it.
-#[derive(Drop)]
+#[derive(Clone, Copy)]
 pub struct Objects {
     pub object: bool,
     pub depths: Depths,
 }
 
 // The same of one cell.
-#[derive(Drop)]
+#[derive(Clone, Copy)]
 pub struct ObjectCell {
     pub object: bool,
     pub depth: u32,
@@ -93,7 +95,7 @@ pub fn row_has_object(row: &[u8], old: Depths) -> Objects
 }
 
 // The last object row of the open measure.
-#[derive(Drop)]
+#[derive(Clone, Copy)]
 pub enum LastRow {
     Nothing,
     At(u32),
@@ -101,7 +103,7 @@ pub enum LastRow {
 
 // The depths of the columns, the last object row of the measures that have ended and that of the open one, the rows of the open one, and its
 // number. A column without its bit in `busy` has the depth 0.
-#[derive(Drop)]
+#[derive(Clone, Copy)]
 pub struct LastScan {
     pub depths: Depths,
     pub busy: u32,

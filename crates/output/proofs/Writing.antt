@@ -1,5 +1,5 @@
 -- One row more, the measure minimised in place, and the measure's end.
-use mathlib.Core.Path.{◌≡◌, refl, ap, ap₂, sym, ◌∙◌}
+use mathlib.Core.Path.{◌≡◌, refl, ap, sym, ◌∙◌}
 use mathlib.Core.List.{List, [], ◌∷◌, ◌++◌, map, append_assoc, append-nil}
 use Prim.Native.Nat.{ℕ, suc, ◌+◌, ◌*◌, ◌≤◌, ◌<◌}
 use native.Mathlib.Nat.{add-zero, zero-mul, add-mul, one-mul}
@@ -13,7 +13,7 @@ use Rattle.definitions.specs.Figures.{rowText, text_of}
 use Rattle.definitions.specs.Reduction.{reduce}
 use Rattle.definitions.proofs.Lists.{none, one, all_append}
 use Rattle.reduction.specs.Rows.{placed, RowsStand, Reduced}
-use Rattle.reduction.proofs.Placed.{placed-front, placed_past}
+use Rattle.reduction.proofs.Placed.{placed-front}
 use Rattle.reduction.proofs.Blocks.{joined-append}
 use Rattle.reduction.proofs.Multiples.{reduce-all}
 use Rattle.reduction.proofs.Forms.{Form, form-length, form-holds, form-after}

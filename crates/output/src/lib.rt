@@ -1,4 +1,6 @@
 // Writing minimised text: a row, a row with its newline, and the `,` line between two measures.
+#![tactic(auto)]
+
 ghost use Rattle.std.specs.Prelude.{◌≡◌, ◌++◌, ◌∷◌, [], ◌+◌, ◌≤◌, length, drop};
 ghost use Rattle.std.proofs.Math.Seq.{paste};
 ghost use Rattle.reduction.specs.Rows.{placed};

@@ -1,4 +1,6 @@
 // The entries for callers in Rust and C. Each returns the papers' number, 0 for accepted, and is thin over the proved crates below.
+#![tactic(auto)]
+
 ghost use Rattle.std.specs.Prelude.{◌≡◌};
 ghost use Rattle.definitions.specs.Entries.{measuresNumber, densitiesLeft, spacingsLeft, measuresFigures, lastNumber, lastFigures, mainNumber, mainText, mainDensities, mainBeats, mainWork, mainNotes, mainFigures, judgedNumber, judgedWork, judgedFigures, flaggedFigures, keptNumber, keptText, keptDensities, keptWork, keptFigures, timingNumber, timingText, timingBeats, timingFigures, readNumber, readFigures};
 ghost use Rattle.definitions.specs.SmFile.{smNumber, smPlaces};

@@ -1,4 +1,6 @@
 // The phantom depths of a chart's rows, its heads and tails, and whether its tally is counted anew.
+#![tactic(auto)]
+
 ghost use Rattle.std.specs.Prelude.{◌≡◌, true, List, [], ℕ, ◌-◌, ◌≤◌, ◌<◌, length, ltb};
 ghost use Rattle.definitions.specs.Lists.{someColumn};
 ghost use Rattle.definitions.specs.Lines.{Row};
@@ -8,7 +10,7 @@ ghost use Rattle.phantoms.specs.Phantoms.{phantomAt, Counts, CellCounted};
 use definitions::DepthEffect;
 
 // The phantom depth of each column, of up to ten; the heads and tails so far; and whether a 1, M, L or F met a phantom depth.
-#[derive(Drop)]
+#[derive(Clone, Copy)]
 pub struct Phantoms {
     pub depths: [u32; 10],
     pub heads: u32,
@@ -36,7 +38,7 @@ pub fn one_less(n: u32) -> u32
 }
 
 // What a cell leaves of its column's phantom depth, the heads and tails that it adds, and whether it met a phantom depth.
-#[derive(Drop)]
+#[derive(Clone, Copy)]
 pub struct PhantomCell {
     pub depth: u32,
     pub heads: u32,

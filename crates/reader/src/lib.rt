@@ -1,4 +1,6 @@
 // Reading a chart's text line by line: what the line at a place is, where its row stands, and where the next line starts.
+#![tactic(auto)]
+
 pub mod back;
 
 ghost use Rattle.std.specs.Prelude.{◌≡◌, ◌+◌, ◌-◌, ◌≤◌, length};
@@ -10,7 +12,7 @@ ghost use Rattle.reader.specs.Reading.{LineWidth, LineRead, justRow, nearRow};
 use definitions::LineKind;
 
 // A line that was read: its row, where it is one, begins at `start`, and the next line at `next`.
-#[derive(Drop)]
+#[derive(Clone, Copy)]
 pub struct ReadLine {
     pub kind: LineKind,
     pub start: usize,
@@ -18,7 +20,7 @@ pub struct ReadLine {
 }
 
 // A line of minimised text that was read back: whether it is a row, which then begins where the line does, and where the next line begins.
-#[derive(Drop)]
+#[derive(Clone, Copy)]
 pub struct BackLine {
     pub row: bool,
     pub next: usize,

@@ -3,21 +3,7 @@ use mathlib.Core.Path.{◌≡◌, refl, ap, sym, ◌∙◌}
 use mathlib.Core.Bool.{Bool, true, false}
 use mathlib.Core.List.{List, ◌++◌, append-nil}
 use Prim.Native.Nat.{ℕ, zero, suc, ◌+◌, ◌*◌, ◌^◌, ◌%◌, ◌/◌, ◌≤◌, ◌<◌}
-use native.Mathlib.Nat.{
-  mul_assoc,
-  add-mul,
-  one-mul,
-  mul-one,
-  mul-le-mul_left,
-  zero-mul,
-  mul-le-mul_right,
-  le-mul_of_pos_right,
-  le_of_dvd,
-  dvd_of_mod-eq-zero,
-  div-mul_cancel,
-  mod-eq_of_lt,
-  pow-le-pow_right,
-}
+use native.Mathlib.Nat.{mul_assoc, add-mul, one-mul, mul-one, mul-le-mul_left, zero-mul, mul-le-mul_right, le_of_dvd, dvd_of_mod-eq-zero, div-mul_cancel, mod-eq_of_lt, pow-le-pow_right}
 use native.Mathlib.Omega.{arith}
 use borrow.Author.Tests.{leb-true, leb-false}
 use lib.Dec.{leb}

@@ -1,8 +1,11 @@
 // Replays the stored sample of the Rust's answers (tests/vectors/README.md), which it reads from standard input, with the timing rows, the scans
 // and the judged calls: asks each about every text, compares all that they left in what they were lent, stops at the first difference, and says
 // how many answers it compared.
+#![tactic(auto)]
+
 use compare::{all_zero, same_bytes, same_figures, same_floats, same_numbers};
-use libc::STDIN_FILENO;
+use sample::Replayed;
+use std::io;
 use stored::{Compared, content, lent, next_answer};
 
 fn timing_rows_agree(data: &[u8], lanes: usize, s: &[u8], at: usize) -> bool {
@@ -112,23 +115,15 @@ fn record_agrees(s: &[u8]) -> Compared {
     )
 }
 
-fn next_agrees() -> Compared {
-    let mut record = io::large_buffer();
-    let n = sample::read_record(STDIN_FILENO, &mut record);
-    if n > record.len() {
-        return Compared::Malformed;
+const CALLS: u32 = 6;
+
+fn replay(record: &[u8]) -> Replayed {
+    Replayed {
+        compared: record_agrees(record),
+        answers: CALLS,
     }
-    record_agrees(&record[..n])
 }
 
-const CALLS: u64 = 6;
-
-fn main() {
-    let head = sample::read_head(STDIN_FILENO, b"ANSWERS1");
-    let texts = head.texts;
-    let mut index = 0;
-    while index < texts && sample::go_on(next_agrees(), index) {
-        index += 1;
-    }
-    sample::say_agreement(STDIN_FILENO, head, index, texts * CALLS);
+fn main(rt: HostRuntime) -> io::Result<()> {
+    sample::replay_sample(&rt, b"ANSWERS1", replay)
 }

@@ -1,10 +1,13 @@
 // Replays the stored sample of SM files (tests/vectors/README.md), which it reads from standard input: asks for each block of every file, for the
 // one past the last and for one far beyond, compares the number and the three places, stops at the first difference, and says how many answers it
 // compared.
+#![tactic(auto)]
+
 ghost use Rattle.std.specs.Prelude.{◌≤◌, length};
 
 use compare::same_longs;
-use libc::STDIN_FILENO;
+use sample::Replayed;
+use std::io;
 use stored::{Compared, lent, long_at, part};
 
 // Bytes of an answer: k, the number that is answered, and what the three places hold then, which held 165 each.
@@ -53,38 +56,22 @@ fn compared(len: usize, start: usize, count: usize) -> Compared
     Compared::Same
 }
 
-// How many answers the next record has; 0 where one differs, which is said.
-fn next_agrees(index: u64) -> usize
-    ensures { result ≤ 65536 }
-{
-    let mut record = io::large_buffer();
-    let n = sample::read_record(STDIN_FILENO, &mut record);
-    if n > record.len() {
-        sample::go_on(Compared::Malformed, index);
-        return 0;
+// A record without the four bytes of its length.
+fn replay(record: &[u8]) -> Replayed {
+    if record.len() > 65536 {
+        return Replayed {
+            compared: Compared::Malformed,
+            answers: 0,
+        };
     }
-    let s = &record[..n];
-    let start = stored::after(4, stored::number_at(s, 0));
-    let count = agreeing(part(s, 4, start), s, start);
-    if sample::go_on(compared(s.len(), start, count), index) {
-        count
-    } else {
-        0
+    let start = stored::after(4, stored::number_at(record, 0));
+    let count = agreeing(part(record, 4, start), record, start);
+    Replayed {
+        compared: compared(record.len(), start, count),
+        answers: count as u32,
     }
 }
 
-fn main() {
-    let head = sample::read_head(STDIN_FILENO, b"SMFILES1");
-    let files = head.texts;
-    let mut index = 0;
-    let mut answers = 0;
-    while index < files {
-        let count = next_agrees(index);
-        if count == 0 {
-            break;
-        }
-        answers += count as u64;
-        index += 1;
-    }
-    sample::say_agreement(STDIN_FILENO, head, index, answers);
+fn main(rt: HostRuntime) -> io::Result<()> {
+    sample::replay_sample(&rt, b"SMFILES1", replay)
 }

@@ -1,10 +1,10 @@
 -- The note writer, row by row, ends in the notes that are defined by looking forward.
-use mathlib.Core.Path.{◌≡◌, refl, sym, ap, ap₂, ◌∙◌}
+use mathlib.Core.Path.{◌≡◌, refl, sym, ap, ap₂, subst, ◌∙◌}
 use mathlib.Core.Bool.{Bool, true, false, cond}
 use mathlib.Core.List.{List, [], ◌∷◌, ◌++◌, map, append-nil, append_assoc}
 use mathlib.Core.Option.{Option, some, none}
 use Prim.Native.Nat.{ℕ, zero, suc, ◌+◌, ◌<◌}
-use native.Mathlib.Nat.{zero-add, add-zero, add-suc, suc-add}
+use native.Mathlib.Nat.{zero-add, add-zero}
 use native.Mathlib.Omega.{arith}
 use lib.Dec.{eqb}
 use borrow.Author.Tests.{eqb-true, eq-eqb, ne_eqb}
@@ -54,7 +54,9 @@ module _ (i : ℕ) (rs : List Row) where
   mid-all j c [] = refl
   mid-all zero c (b ∷ bs) = rw (eq-eqb (c + zero) c (add-zero c))
   mid-all (suc j) c (b ∷ bs) =
-      rw (ne_eqb (c + suc j) c (λ e. omega arith)) (rw (add-suc c j, ← suc-add c j) (mid-all j (suc c) bs))
+      let e : suc c + j ≡ c + suc j = omega arith in
+      rw (ne_eqb (c + suc j) c (λ e. omega arith))
+      (subst (λ k. midTail k (suc c) bs ≡ meets (effectAt (byte_at j bs)) i (tailOf k (suc i) rs)) e (mid-all j (suc c) bs))
 
   mid : ℕ → Row → Draft → List Note
   mid c bs d = noteBy d.row d.column d.kind d.state (midTail d.column c bs)

@@ -1,13 +1,13 @@
 -- What one cell does to the drafts that lie in the record slice, by its effect.
-use mathlib.Core.Path.{◌≡◌, refl, ap, sym, ◌∙◌, subst}
+use mathlib.Core.Path.{◌≡◌, refl, sym, ◌∙◌, subst}
 use mathlib.Core.Bool.{Bool, true, false, cond, ◌||◌, not, or-false}
 use mathlib.Core.List.{List, map, append-nil}
 use mathlib.Core.Option.{some, none}
 use Prim.Native.Nat.{ℕ, ◌+◌, ◌*◌, ◌≤◌, ◌<◌}
 use native.Mathlib.Omega.{arith}
 use lib.Dec.{eqb}
-use lib.ListN.{length, get_or, set, length-set}
-use lib.Seq.{sets, length-sets, get_or-set_same, get_or-set_other, set-set, set-get_or}
+use lib.ListN.{length, get_or, set}
+use lib.Seq.{sets, length-sets, get_or-set_same, set-set, set-get_or}
 use borrow.Author.Tests.{eqb-true}
 use Rattle.definitions.specs.Cells.{cell_of}
 use Rattle.definitions.specs.Notes.{effectAt}
@@ -16,7 +16,7 @@ use Rattle.definitions.specs.declared.Kind.{Kind}
 use Rattle.definitions.specs.declared.NoteEffect.{NoteEffect}
 use Rattle.definitions.specs.declared.NoteEffect.TheVariants.{Nothing, Closes, Single, Head}
 use Rattle.row_notes.specs.Drafts.{State, plain, waiting, Draft, settle, stepCell}
-use Rattle.row_notes.specs.Writer.{noHead, dropped, draftBytes, FineState, Fine, DraftsHeld, Stored, NoteReady, HeadThere, HoldEnded, NotePushed, CellReady, CellNoted, afterCell, end_at, noteAt, endHead, invalidAfter, NoteStepped}
+use Rattle.row_notes.specs.Writer.{noHead, dropped, draftBytes, FineState, Fine, DraftsHeld, Stored, NoteReady, HoldEnded, NotePushed, CellReady, CellNoted, afterCell, end_at, noteAt, endHead, invalidAfter, NoteStepped}
 use Rattle.row_notes.specs.declared.ChartNotesScratch.{ChartNotesScratch}
 use Rattle.row_notes.proofs.Stored.{stored-settle, stored-plain, stored-head}
 

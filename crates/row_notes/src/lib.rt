@@ -1,5 +1,7 @@
 // Typed notes: rows go in one by one, and the notes' records stand in a slice that the caller lends. One open head a column is kept in a
 // struct by value; a head's record stands in the slice from its row on, and a later cell of its column writes the tail or drops the record.
+#![tactic(auto)]
+
 ghost use Rattle.std.specs.Prelude.{◌≡◌, true, List, [], ◌∷◌, ◌++◌, ℕ, ◌+◌, ◌*◌, ◌≤◌, ◌<◌, length};
 ghost use Rattle.std.proofs.lemmas.List.Edits.{sets};
 ghost use Rattle.definitions.specs.Lists.{oneIf};
@@ -21,7 +23,7 @@ pub const NO_HEAD: u32 = 4294967295;
 
 // The writer's state: of each column the number of its open head's record, the number of records, the number of rows, and whether a
 // record was dropped.
-#[derive(Drop)]
+#[derive(Clone, Copy)]
 pub struct ChartNotesScratch {
     pub hold_heads: [u32; 10],
     pub count: usize,
@@ -102,7 +104,7 @@ fn push_tap(row: u32, count: usize, column: usize, tap: bool, notes: &mut [u8]) 
 }
 
 // The lowest column of a mask, that it is a tap's, and the rest of the mask; of an empty mask no tap, in some column.
-#[derive(Drop)]
+#[derive(Clone, Copy)]
 struct LowBit {
     column: usize,
     tap: bool,

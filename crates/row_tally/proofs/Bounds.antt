@@ -36,16 +36,6 @@ heads-le lift = omega arith
 heads-le fake = omega arith
 
 module _ (k : ℕ) (s : RowSum) (c : ℕ) (arrow : Bool) (u : Under k s) where
-  pub under-arrow : Under (k + 1) (addArrow s c arrow)
-  unfolding addArrow
-  under-arrow =
-      let a = one-le arrow in
-      let l = one-le (arrow && eqb (c % 4) 0) in
-      let d = one-le (arrow && eqb (c % 4) 1) in
-      let p = one-le (arrow && eqb (c % 4) 2) in
-      let r = one-le (arrow && eqb (c % 4) 3) in
-      omega arith
-
   pub under-cell : (x : Cell) → Under (k + 1) (addCell s c x arrow)
   unfolding addArrow addCounted
   under-cell x =

@@ -1,19 +1,18 @@
 -- A row's sum as the loops reach it: what is done, and the counts of the rest.
-use mathlib.Core.Path.{◌≡◌, refl}
-use mathlib.Core.Bool.{Bool, true, false, ◌&&◌}
+use mathlib.Core.Path.{◌≡◌}
+use mathlib.Core.Bool.{Bool, false, ◌&&◌}
 use mathlib.Core.List.{[], ◌∷◌}
 use Prim.Native.Nat.{ℕ, suc, ◌+◌}
 use native.Mathlib.Nat.{zero-add, add-zero, add_assoc}
 use lib.Dec.{eqb}
 use Rattle.definitions.specs.Lines.{Row}
-use Rattle.definitions.specs.Cells.{cell_of, isArrow}
+use Rattle.definitions.specs.Cells.{cell_of}
 use Rattle.definitions.specs.Tally.{countFrom, counted, direction, rowSumBy}
 use Rattle.definitions.specs.Tally.{hold, roll, tail, mine, lift, fake}
-use Rattle.definitions.specs.Judged.{isJudgedArrow}
 use Rattle.definitions.specs.declared.Cell.{Cell}
-use Rattle.definitions.specs.declared.Cell.TheVariants.{Empty, Lift, LowerLift}
+use Rattle.definitions.specs.declared.Cell.TheVariants.{Empty}
 use Rattle.definitions.specs.declared.RowSum.{RowSum}
-use Rattle.row_tally.specs.Sums.{noSum, addArrow, addCounted, addCell, arrowOf}
+use Rattle.row_tally.specs.Sums.{noSum, addArrow, addCounted, addCell}
 
 -- the sum s, with the cells of a row from column c on
 unfoldable pub sumFrom : (Cell → Bool) → RowSum → ℕ → Row → RowSum
@@ -45,24 +44,6 @@ pub sum-next : (arrow : Cell → Bool) (s : RowSum) (c b : ℕ) (r : Row)
 unfolding sumFrom addArrow addCounted
 sum-next arrow s c b r = simp add_assoc
 
-pub no-arrow : (s : RowSum) (c : ℕ) → addArrow s c false ≡ s
-unfolding addArrow
-no-arrow s c = simp add-zero
-
 pub no_cell : (s : RowSum) (c : ℕ) → addCell s c Empty false ≡ s
 unfolding addArrow addCounted
 no_cell s c = simp add-zero
-
--- a cell that is an arrow of every row, or of none
-pub arrow-either : (judged : Bool) (x : Cell) (a : Bool) → isArrow x ≡ a → isJudgedArrow x ≡ a → arrowOf judged x ≡ a
-arrow-either true x a p q = q
-arrow-either false x a p q = p
-
--- a lift is an arrow of a judged row
-pub lift-arrow : (judged : Bool) → arrowOf judged Lift ≡ judged
-lift-arrow true = refl
-lift-arrow false = refl
-
-pub lower-lift-arrow : (judged : Bool) → arrowOf judged LowerLift ≡ judged
-lower-lift-arrow true = refl
-lower-lift-arrow false = refl

@@ -14,9 +14,15 @@ use Rattle.definitions.specs.Judged.{isJudgedArrow, onlyFakes, judgedSum}
 use Rattle.definitions.specs.declared.Cell.{Cell}
 use Rattle.taps.specs.Taps.{tapLineMask, bit, maskCounts, unpack}
 use Rattle.taps.specs.declared.Taps.TheVariants.{Mask}
-use Rattle.taps.proofs.Masks.{line-taps, tap-line-sum}
+use Rattle.taps.proofs.Masks.{row_of, mask-row, line-taps, tap-line-sum}
 use Rattle.taps.proofs.Free.{tap-cell}
+use Rattle.row_tally.specs.Bounds.{Under}
+use Rattle.row_tally.proofs.Bounds.{under-row}
 use Rattle.row_tally.proofs.Kept.{unjudged}
+
+-- the counts of a mask are those of a row of ten cells
+pub mask_under : (m : ℕ) → m < 1024 → Under 10 (unpack (maskCounts m))
+mask_under m h = rw (← mask-row m h) (under-row 10 (row_of 10 m) (omega arith))
 
 -- tests that agree on a row's cells count the same
 count_same : (p q : ℕ → Cell → Bool) (c : ℕ) (r : Row) → ((d k : ℕ) → p d (cell_of (byte_at k r)) ≡ q d (cell_of (byte_at k r)))

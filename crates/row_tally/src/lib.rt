@@ -1,4 +1,6 @@
 // Row sums and tallies: what a row adds up to, the tally with one row more, and the same of rows with only paired heads and of judged rows.
+#![tactic(auto)]
+
 ghost use Rattle.std.specs.Prelude.{◌≡◌, true, ◌+◌, ◌-◌, ◌≤◌, ◌<◌, length};
 ghost use Rattle.definitions.specs.Sizes.{countBound};
 ghost use Rattle.definitions.specs.Cells.{cell_of, isArrow};
@@ -36,6 +38,7 @@ pub fn no_sum() -> RowSum
 }
 
 // With an arrow in a column. Column mod 4 gives left, down, up, right.
+#[tactic(auto, unfolding(crate::specs::Sums::addArrow))]
 fn bump_dir(s: RowSum, column: usize) -> RowSum
     requires { Under 10 s }
     ensures { result ≡ addArrow s column true }
@@ -53,6 +56,7 @@ fn bump_dir(s: RowSum, column: usize) -> RowSum
 }
 
 // With a lift, which is an arrow of a judged row.
+#[tactic(auto, unfolding(crate::specs::Sums::addArrow, crate::specs::Sums::addCounted))]
 fn add_lift(s: RowSum, column: usize, judged: bool) -> RowSum
     requires { Under 10 s }
     ensures { result ≡ addCounted (addArrow s column judged) Lift }
@@ -68,6 +72,7 @@ fn add_lift(s: RowSum, column: usize, judged: bool) -> RowSum
 }
 
 // One cell of a row, in a column, by one match: an arrow, what else it is counted as, or both. A judged row has lifts for arrows too.
+#[tactic(auto, unfolding(crate::specs::Sums::addArrow, crate::specs::Sums::addCounted))]
 fn add_cell(s: RowSum, column: usize, b: u8, judged: bool) -> RowSum
     requires { Under 10 s }
     ensures { result ≡ addCell s column (cell_of b) (arrowOf judged (cell_of b)) }
@@ -178,6 +183,7 @@ fn held_after(holding: u32, heads: u32, tails: u32) -> u32
 }
 
 // The tally with one row more, by value. A hand is a step whose arrows plus the holds before the row make 3 or more.
+#[tactic(auto, unfolding(definitions::specs::Tally::addRow))]
 fn add_row(t: ArrowStats, s: RowSum) -> ArrowStats
     requires { Below countBound t × Under 10 s }
     ensures { result ≡ addRow t s }
@@ -208,6 +214,7 @@ pub fn add_row_lent(t: ArrowStats, s: RowSum) -> ArrowStats
 }
 
 // The judged tally with one row more, before which `held` holds are open: a hand is told otherwise than on a plain row, and nothing is held.
+#[tactic(auto, unfolding(definitions::specs::Tally::addRow, definitions::specs::Judged::judgeRow))]
 pub fn add_judged_row(t: ArrowStats, judged: bool, held: u32, s: RowSum) -> ArrowStats
     requires { Below countBound t × Under 10 s × (held ≤ countBound) }
     ensures { result ≡ judgeRow t judged held s }

@@ -1,4 +1,6 @@
 // One row of the main call's walk that is not ordinary: its cells, one after the other.
+#![tactic(auto)]
+
 ghost use Rattle.std.specs.Prelude.{◌+◌, ◌≤◌, ◌<◌, length};
 ghost use Rattle.row_tally.specs.Bounds.{Under};
 ghost use Rattle.row_walk.specs.Rows.{Marked, CellSeen, CellsReady, RowWalked};
@@ -8,7 +10,7 @@ use definitions::RowSum;
 
 // What a cell changes beside its column, the records and the row's sum: heads, tails, whether a phantom depth was met, whether a record was
 // dropped, and the columns in use. A column without its bit in `busy` has the depths 0 and no open head.
-#[derive(Drop)]
+#[derive(Clone, Copy)]
 pub struct Marks {
     pub heads: u32,
     pub tails: u32,
@@ -18,7 +20,7 @@ pub struct Marks {
 }
 
 // What the cells of a row have come to: the marks, the row's sum, the number of records, and whether it is an object row.
-#[derive(Drop)]
+#[derive(Clone, Copy)]
 pub struct Seen {
     pub marks: Marks,
     pub sum: RowSum,

@@ -1,111 +1,100 @@
 // The file of the stored sample: its head, its records one after the other, and what a replay says of them.
-ghost use Rattle.std.specs.Prelude.{◌<◌};
+#![tactic(auto)]
 
-use libc::STDOUT_FILENO;
+ghost use Rattle.std.specs.Prelude.{◌<◌, IfOk, IfSome};
+
+use std::alloc::Global;
+use std::io;
+use std::io::{BufReader, Print, Read};
 use stored::{Compared, long_at, number_at};
 
-fn say(words: &[u8]) {
-    io::write_all(STDOUT_FILENO, words);
-}
+// No record is longer, in bytes.
+const MOST_RECORD_BYTES: u64 = 65536;
 
-// Words, and a number in decimal after them.
-fn say_number(words: &[u8], n: u64) {
-    let mut digits = [0u8; 20];
-    let mut rest = n;
-    let mut at = 20;
-    // The last digit is put also where it is 0.
-    while 0 < at && (0 < rest || at == 20) {
-        at -= 1;
-        digits[at] = 48 + (rest % 10) as u8;
-        rest /= 10;
-    }
-    say(words);
-    say(&digits[at..]);
-}
-
-// What a sample begins with: how many texts it has.
+// What a replay says of one text: how its answers compare, and how many were compared.
 #[derive(Drop)]
-pub struct Head {
-    pub is_sample: bool,
-    pub texts: u64,
+pub struct Replayed {
+    pub compared: Compared,
+    pub answers: u32,
 }
 
-// Reads the head, and says where it does not begin with the eight bytes of `mark`.
-pub fn read_head(fd: i32, mark: &[u8]) -> Head
-    ensures { result.texts < 4294967296 }
+// The next n bytes, or as many as the input has.
+fn read_up_to<R: Read>(alloc: Global, reader: &mut R, n: u64) -> io::Result<Vec<u8>> {
+    let mut bytes = Vec::new(alloc);
+    reader.by_ref().take(n).read_to_end(&mut bytes)?;
+    Ok(bytes)
+}
+
+// How many texts the sample has, by its head; none where it does not begin with the eight bytes of `mark`.
+fn read_head<R: Read>(alloc: Global, reader: &mut R, mark: &[u8]) -> io::Result<Option<u64>>
+    ensures { IfOk result (λ texts. IfSome texts (λ n. n < 4294967296)) }
 {
-    let mut head = [0u8; 24];
-    let got = io::read_full(fd, &mut head);
-    if got != 24 || long_at(&head, 0) != long_at(mark, 0) {
-        say(b"standard input is no stored sample\n");
-        return Head {
-            is_sample: false,
-            texts: 0,
-        };
+    let head = read_up_to(alloc, reader, 24)?;
+    if head.len() != 24 || long_at(&head, 0) != long_at(mark, 0) {
+        return Ok(None);
     }
-    Head {
-        is_sample: true,
-        texts: number_at(&head, 16),
-    }
+    Ok(Some(number_at(&head, 16)))
 }
 
-// Reads n bytes to the start of buf, or fewer where the file ends or buf is shorter.
-fn fill(fd: i32, buf: &mut [u8], n: usize) -> usize {
-    if n <= buf.len() {
-        io::read_full(fd, &mut buf[..n])
-    } else {
-        0
-    }
-}
-
-// Reads the next record to the start of buf, without the four bytes of its length, and answers how long it is; 0 where the file has less.
-pub fn read_record(fd: i32, buf: &mut [u8]) -> usize {
-    let mut head = [0u8; 4];
-    let got = io::read_full(fd, &mut head);
+// The next record, without the four bytes of its length; none where the file has less.
+fn read_record<R: Read>(alloc: Global, reader: &mut R) -> io::Result<Option<Vec<u8>>> {
+    let head = read_up_to(alloc, reader, 4)?;
     let len = number_at(&head, 0);
-    if got != 4 {
-        return 0;
+    if head.len() != 4 || len < 4 || len - 4 > MOST_RECORD_BYTES {
+        return Ok(None);
     }
-    if len < 4 {
-        return 0;
+    let record = read_up_to(alloc, reader, len - 4)?;
+    if record.len() as u64 != len - 4 {
+        return Ok(None);
     }
-    let want = (len - 4) as usize;
-    let n = fill(fd, buf, want);
-    if n != want {
-        return 0;
-    }
-    n
+    Ok(Some(record))
 }
 
 // Says where a text's answers differ, and answers whether to go on.
-pub fn go_on(compared: Compared, index: u64) -> bool {
+fn go_on<P: Print>(out: &P, compared: Compared, index: u64) -> io::Result<bool> {
     match compared {
-        Compared::Same => true,
+        Compared::Same => Ok(true),
         Compared::Differs(call) => {
-            say_number(b"text ", index);
-            say_number(b": call ", call);
-            say(b" differs\n");
-            false
+            println!(out; "text {index}: call {call} differs")?;
+            Ok(false)
         }
         Compared::Malformed => {
-            say_number(b"text ", index);
-            say(b": the record is not as long as it says\n");
-            false
+            println!(out; "text {index}: the record is not as long as it says")?;
+            Ok(false)
         }
     }
 }
 
-// Says how many answers agree, once those of every text do and the file ends there.
-pub fn say_agreement(fd: i32, head: Head, agree: u64, answers: u64) {
-    if !head.is_sample || agree != head.texts {
-        return;
+// Replays the sample that standard input has: compares each record by `replay`, stops at the first that differs, and says how many answers
+// agree, once those of every text do and the file ends there.
+pub fn replay_sample<F: Fn(&[u8]) -> Replayed>(
+    rt: &HostRuntime,
+    mark: &[u8],
+    replay: F,
+) -> io::Result<()>
+    requires { F.IsAlwaysCallable replay }
+{
+    let alloc = rt.alloc();
+    let mut input = BufReader::new(alloc, rt.reader())?;
+    let Some(texts) = read_head(alloc, &mut input, mark)? else {
+        return println!(rt; "standard input is no stored sample");
+    };
+    let mut answers: u64 = 0;
+    for index in 0..texts {
+        let replayed = match read_record(alloc, &mut input)? {
+            Some(record) => replay(&record),
+            None => Replayed {
+                compared: Compared::Malformed,
+                answers: 0,
+            },
+        };
+        if !go_on(rt, replayed.compared, index)? {
+            return Ok(());
+        }
+        answers += u64::from(replayed.answers);
     }
-    let mut rest = [0u8; 1];
-    if io::read_full(fd, &mut rest) != 0 {
-        say(b"something stands after the last record\n");
-        return;
+    if read_up_to(alloc, &mut input, 1)?.len() != 0 {
+        return println!(rt; "something stands after the last record");
     }
-    say_number(b"", answers);
-    say_number(b" answers agree, for ", agree);
-    say(b" texts\n");
+    println!(rt; "{answers} answers agree, for {texts} texts")
 }

@@ -14,7 +14,7 @@ use Rattle.definitions.specs.Records.{kindNumber}
 use Rattle.definitions.specs.declared.Note.{Note}
 use Rattle.reduction.specs.Rows.{placed}
 use Rattle.reduction.proofs.Placed.{placed-front, placed_past, placed-length}
-use Rattle.sheet.specs.Sheet.{ascii, digits, number, numberField, aligned, figureLine, measureLine, tailField, noteLine, recordLine, listed, measureLines, recordLines, headLines, sheetOf}
+use Rattle.sheet.specs.Sheet.{ascii, digits, number, numberField, aligned, figureLine, measureLine, tailField, noteLine, listed, measureLines, recordLines, headLines, sheetOf}
 use Rattle.sheet.specs.declared.SheetFigures.{SheetFigures}
 use Rattle.sheet.specs.Put.{Put}
 

@@ -1,5 +1,7 @@
 // Numbers and words written into a lent slice, and the lines that the program card prints. Each function answers the place after what it wrote.
 // A list of lines asks for its own length and the room of one line more, so that no line needs to know its digits beforehand.
+#![tactic(auto)]
+
 ghost use Rattle.std.specs.Prelude.{◌≡◌, ◌∷◌, [], ◌+◌, ◌-◌, ◌<◌, ◌≤◌, length, replicate};
 ghost use Rattle.definitions.specs.Records.{readNote};
 ghost use Rattle.sheet.specs.Sheet.{digits, number, fieldNames, numberField, aligned, figureLine, measureLine, tailField, noteLine, recordLine, measureLines, recordLines, headLines, sheetOf};

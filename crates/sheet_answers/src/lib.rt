@@ -1,5 +1,7 @@
 // The answers that a sheet is made of: what the main call, the kept-row call, the judged tally of the minimised text and the spacing scan say of one
 // accepted text.
+#![tactic(auto)]
+
 ghost use Rattle.std.specs.Prelude.{◌≡◌, List, [], ℕ, ◌+◌, ◌-◌, ◌*◌, ◌/◌, ◌≤◌, length, take};
 ghost use Rattle.definitions.specs.Sizes.{mostBytes};
 ghost use Rattle.definitions.specs.Lists.{padded};

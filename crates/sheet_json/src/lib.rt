@@ -1,5 +1,7 @@
 // The form `json` of a sheet, written into a lent slice. Each function answers the place after what it wrote.
 // A list of entries asks for its own length and the room of one entry more, so that no entry needs to know its digits beforehand.
+#![tactic(auto)]
+
 ghost use Rattle.std.specs.Prelude.{◌≡◌, ◌+◌, ◌<◌, ◌≤◌, length};
 ghost use Rattle.definitions.specs.Lists.{up_to};
 ghost use Rattle.definitions.specs.Records.{readNote};

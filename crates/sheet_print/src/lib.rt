@@ -1,5 +1,7 @@
 // The form `print` of a sheet, written into a lent slice. Each function answers the place after what it wrote.
 // A list of lines asks for its own length and the room of one line more, so that no line needs to know its digits beforehand.
+#![tactic(auto)]
+
 ghost use Rattle.std.specs.Prelude.{◌≡◌, ◌+◌, ◌<◌, ◌≤◌, length};
 ghost use Rattle.definitions.specs.Records.{readNote};
 ghost use Rattle.sheet.specs.Put.{Put};

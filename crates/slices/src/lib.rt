@@ -1,4 +1,6 @@
 // Zeros past the answer: one filling function for each element type that is lent for writing. Their proofs cite one law, over the element.
+#![tactic(auto)]
+
 ghost use Rattle.std.specs.Prelude.{◌≡◌, ◌≤◌, length};
 ghost use Rattle.definitions.specs.Beats.{f32 as float32};
 ghost use Rattle.slices.specs.Zeroed.{zeroed};

@@ -1,4 +1,6 @@
 // Spacing: for each measure whether its minimised rows all have a 1, 2 or 4, by counting its rows, its steps and the doublings of its stride.
+#![tactic(auto)]
+
 ghost use Rattle.std.specs.Prelude.{◌≡◌, List, [], ◌∷◌, ◌++◌, ◌+◌, ◌/◌, ◌≤◌, ◌<◌, min, length};
 ghost use Rattle.definitions.specs.Sizes.{mostBytes, rowNumbersBound};
 ghost use Rattle.definitions.specs.Lists.{oneIf, padded};
@@ -14,7 +16,7 @@ use scans::MeasuresAnswer;
 
 // What the spacing scan keeps of the open measure: its rows, those with a 1, 2 or 4, and how many times its stride may be doubled as far as
 // its rows allow it. A row that is all zero allows any stride, another one those that divide its number.
-#[derive(Drop)]
+#[derive(Clone, Copy)]
 pub struct MeasureSpacing {
     pub rows: usize,
     pub steps: u32,

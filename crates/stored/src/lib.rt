@@ -1,4 +1,6 @@
 // The stored sample of the Rust's answers: where the parts of a record stand, and the arrays to lend.
+#![tactic(auto)]
+
 ghost use Rattle.std.specs.Prelude.{◌≡◌, ◌+◌, ◌*◌, ◌≤◌, ◌<◌, get_or};
 ghost use Rattle.lines.specs.Words.{halfAt};
 ghost use Rattle.stored.specs.Layout.{afterPlace, part_of, contentStart, contentOf, figuresOf, longAt, lanes_at, textEnd, flagsEnd, storedText, flags_of};
@@ -29,6 +31,7 @@ fn byte_at(s: &[u8], at: usize) -> u64
 }
 
 // The place n bytes after `at`; one that is past every record where either is larger than a record can be.
+#[tactic(auto, unfolding(crate::specs::Layout::afterPlace))]
 pub fn after(at: usize, n: u64) -> usize
     ensures { (result ≡ afterPlace at n) × (result ≤ 2000000) }
 {
@@ -60,6 +63,7 @@ pub fn long_at(s: &[u8], at: usize) -> u64
 }
 
 // The bytes from `start` to `end`; none where the record has not so many.
+#[tactic(auto, unfolding(crate::specs::Layout::part_of))]
 pub fn part(s: &[u8], start: usize, end: usize) -> &[u8]
     ensures { result.now ≡ part_of s.now start end }
 {

@@ -1,4 +1,6 @@
 // Ordinary rows of a measure, which the main call counts and notes by their masks.
+#![tactic(auto)]
+
 ghost use Rattle.std.specs.Prelude.{List, ◌+◌, ◌-◌, ◌*◌, ◌≤◌, ◌<◌, length, take, drop};
 ghost use Rattle.definitions.specs.Lines.{Row};
 ghost use Rattle.taps.specs.Taps.{wideRow, TapCounts};

@@ -1,4 +1,6 @@
 // Rows of taps alone: their masks, the table of what a mask counts, and which of ten columns differ from a number.
+#![tactic(auto)]
+
 mod counts;
 mod five_counts;
 
@@ -14,7 +16,7 @@ use five_counts::FIVE_COUNTS;
 use lines::words;
 
 // A row of `0` and `1` alone as a mask, its first column in the lowest bit, or another row.
-#[derive(Drop)]
+#[derive(Clone, Copy)]
 pub enum Taps {
     Mask(u16),
     Other,

@@ -1,5 +1,7 @@
 // The minimised rows of a chart and their beats: each measure is minimised in the text slice when it ends, its rows back to back, and the
 // beats of those rows are written with it.
+#![tactic(auto)]
+
 ghost use Rattle.std.specs.Prelude.{◌≡◌, List, [], ◌∷◌, ◌++◌, ℕ, ◌+◌, ◌≤◌, ◌<◌, Float, length};
 ghost use Rattle.definitions.specs.Sizes.{measuresBound, mostBytes, rowsBound};
 ghost use Rattle.definitions.specs.Lanes.{mostRows};
@@ -16,7 +18,7 @@ use definitions::LineKind;
 
 // Where the open measure begins, how many bytes are written, the rows of the measures that have ended, those of the open one and its number,
 // and whether a measure that has ended has a 2 or 4.
-#[derive(Drop)]
+#[derive(Clone, Copy)]
 pub struct TimingPass {
     pub start: usize,
     pub out: usize,

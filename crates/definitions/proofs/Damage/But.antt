@@ -45,7 +45,7 @@ module _ {A : Type 0} where
   pub takes : {d k : ℕ} {s t : List A} → But d k s t → (e : ℕ) → k + e ≡ d → take e s ≡ take e t
   takes h zero p = refl
   takes none (suc e) p = refl
-  takes (other {a = a} h) (suc e) p = ap (λ r. a ∷ r) (takes h e (omega arith))
+  takes {d = d} {k = k} (other {a = a} h) (suc e) p = ap (λ r. a ∷ r) (takes {d = d} {k = suc k} h e (omega arith))
   takes (here q h) (suc e) p = absurd (omega arith)
 
   pub drops : {d k : ℕ} {s t : List A} → But d k s t → (e : ℕ) → k + e ≡ d → drop (suc e) s ≡ drop (suc e) t

@@ -1,0 +1,21 @@
+-- `beats::append_rounded` meets its contract. The loop's invariant: the slice is as it was, with the first r beats pasted in at `at`.
+use Rattle.std.proofs.Common.{ℕ, ◌+◌, ap, ◌∙◌, le_antisymm, length-set, rules}
+use lib.Seq.{paste}
+use Rattle.definitions.specs.Beats.{rowBeats}
+use Rattle.beats.proofs.Row.{beat-is}
+use Rattle.beats.proofs.Beats.{beats-next, beats-all}
+use Rattle.beats.proofs.append_rounded.Goals as goal
+
+pub loop-r-preserved : goal.loop-r-preserved
+loop-r-preserved c = (
+  search rules,
+  length-set c.loop-r.beats (c.args.at + c.loop-r.r) c.mul_add.result ∙ c.loop-r.invariant.1,
+  beats-next c.args.beats.now c.loop-r.beats c.args.at c.args.midx c.args.rows c.loop-r.r _ c.loop-r.invariant.2 c.requires.0 c.loop-r-test.true
+      (c.mul_add.ensures ∙ beat-is c.args.midx c.loop-r.r c.args.rows c.args.s c.requires.2),
+)
+
+pub returns : goal.returns
+returns c =
+    c.loop-r.invariant.2
+    ∙ ap (λ (k : ℕ). paste c.args.beats.now c.args.at (rowBeats c.args.midx c.args.rows 0 c.args.rows) k) (le_antisymm c.loop-r.invariant.0 c.loop-r-test.false)
+    ∙ beats-all c.args.beats.now c.args.at c.args.midx c.args.rows

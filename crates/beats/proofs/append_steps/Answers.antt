@@ -1,0 +1,26 @@
+-- `beats::append_steps` meets its contract. The loop's invariant: the slice is as it was, with the first r beats pasted in at `at`.
+use Rattle.std.proofs.Common.{ℕ, ◌+◌, ◌^◌, false, sym, ap, ◌∙◌, subst, le_antisymm, length-set, rules}
+use lib.Ieee.{Float}
+use lib.Ieee.Exact.{HasValue}
+use lib.Seq.{paste}
+use Rattle.definitions.specs.Beats.{rowBeats}
+use Rattle.beats.proofs.Row.{steps-are, beat-is}
+use Rattle.beats.proofs.Beats.{beats-next, beats-all}
+use Rattle.beats.proofs.append_steps.Goals as goal
+
+pub loop-r-preserved : goal.loop-r-preserved
+loop-r-preserved c =
+    let value = subst (λ (x : Float). HasValue x false c.requires.3.units (2 ^ 43)) (sym c.step_of-step.ensures) c.requires.3.value in (
+      search rules,
+      length-set c.loop-r.beats (c.args.at + c.loop-r.r) c.steps_beat.result ∙ c.loop-r.invariant.1,
+      beats-next c.args.beats.now c.loop-r.beats c.args.at c.args.midx c.args.rows c.loop-r.r _ c.loop-r.invariant.2 c.requires.0 c.loop-r-test.true
+          (c.steps_beat.ensures c.requires.3.units value
+          ∙ steps-are c.args.midx c.loop-r.r c.args.rows c.requires.3.units c.requires.3.whole
+          ∙ beat-is c.args.midx c.loop-r.r c.args.rows c.requires.3.units c.requires.3.value),
+    )
+
+pub returns : goal.returns
+returns c =
+    c.loop-r.invariant.2
+    ∙ ap (λ (k : ℕ). paste c.args.beats.now c.args.at (rowBeats c.args.midx c.args.rows 0 c.args.rows) k) (le_antisymm c.loop-r.invariant.0 c.loop-r-test.false)
+    ∙ beats-all c.args.beats.now c.args.at c.args.midx c.args.rows

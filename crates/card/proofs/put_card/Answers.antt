@@ -1,0 +1,15 @@
+-- A text that is too long gets the refusal, any other its sheet.
+use lib.ListN.{length}
+use borrow.Author.Tests.{lt-ltb, le-ltb}
+use Rattle.sheet.specs.Card.{card}
+use Rattle.card.proofs.Sheet.{put-taken}
+use Rattle.card.proofs.put_card.Goals as goal
+
+pub returns-then-data-gt4095-clause-out_after : goal.returns-then-data-gt4095-clause-out_after
+unfolding card
+returns-then-data-gt4095-clause-out_after c =
+    rw (lt-ltb 4095 (length c.args.data.now) c.if-data-gt4095.true) (put-taken c.put_text.ensures c.put_text.auto.out).1
+
+pub returns-clause-out_after : goal.returns-clause-out_after
+unfolding card
+returns-clause-out_after c = rw (le-ltb 4095 (length c.args.data.now) c.if-data-gt4095.false) c.put_chart.ensures.out_after

@@ -1,0 +1,16 @@
+-- `cell_walk::walk_closing` meets its contract.
+use mathlib.Core.Path.{refl}
+use Rattle.row_notes.proofs.Steps.{noted-closes}
+use Rattle.cell_walk.proofs.walk_closing.Goals as goal
+
+pub returns : goal.returns
+returns c = record {
+  depth = c.one_less.ensures;
+  heads = refl;
+  tails = refl;
+  met = refl;
+  object = refl;
+  low = c.one_less-2.ensures;
+  noted = noted-closes _ _ _ _ _ c.requires.ready _ _ refl c.end_note.ensures;
+  kind = refl;
+}

@@ -1,0 +1,13 @@
+-- `cells::cells_have_note` meets its contract. The loop's invariant: the row is a step where `has` is true or the cells from `i` on are one.
+use mathlib.Core.Path.{◌≡◌}
+use mathlib.Core.Bool.{◌||◌}
+use Prim.Native.Nat.{◌≤◌, ◌-◌}
+use lib.ListN.{length, drop}
+use Rattle.definitions.specs.Figures.{isStep}
+use Rattle.cells.proofs.cells_have_note.Given as goal
+
+abbrev pub invariant-loop-i : goal.invariant-loop-i
+invariant-loop-i l = (l.i ≤ length l.row) × (isStep l.row ≡ (l.has || isStep (drop l.i l.row)))
+
+abbrev pub decreases-loop-i : goal.decreases-loop-i
+decreases-loop-i l = length l.row - l.i

@@ -1,0 +1,20 @@
+-- `files::type_name` meets its contract: the first field is what stands before the first `:`. Assumes nothing.
+use mathlib.Core.Path.{sym, ap}
+use mathlib.Core.List.{List}
+use Prim.Native.Nat.{ℕ}
+use native.Mathlib.Omega.{arith}
+use lib.Seq.{length-take-le}
+use Rattle.definitions.specs.Lines.{trim}
+use Rattle.definitions.specs.SmFile.{trimEnd, type_of}
+use Rattle.definitions.proofs.Lists.{upTo-front, upTo-short}
+use Rattle.files.proofs.type_name.Goals as goal
+
+pub slice_bounds-skip_ws-end : goal.slice_bounds-skip_ws-end
+slice_bounds-skip_ws-end c =
+    sym (length-take-le _ _ (omega (arith, c.before_byte-n.ensures, upTo-short 58 c.args.fields.now)))
+
+pub returns : goal.returns
+unfolding type_of
+returns c =
+    rw (c.trim_end.ensures, c.skip_ws.ensures, c.before_byte-n.ensures)
+    (sym (ap {B = List ℕ} (λ l. trimEnd (trim l)) (upTo-front 58 c.args.fields.now)))

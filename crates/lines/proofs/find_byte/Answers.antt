@@ -1,0 +1,38 @@
+-- `lines::find_byte` meets its contract: what the search of the rest finds is what the search of the whole finds. Assumes nothing.
+use Rattle.std.proofs.Common.{◌≡◌, ℕ, ◌+◌, ◌/◌, ◌<◌, ◌≤◌, take, drop, sym, ap, ◌∙◌, arith}
+use lib.Count.{count_trailing_zeros, trailing_of_zero}
+use Rattle.lines.specs.Words.{firstIn}
+use Rattle.lines.specs.declared.Found.TheVariants.{At}
+use Rattle.lines.proofs.Search.{find-hit, find-miss, find-end}
+use Rattle.lines.proofs.Hits.{trailing_lt}
+use Rattle.lines.proofs.SliceWords.{of_word, word_in, word_out}
+use Rattle.lines.proofs.find_byte.Goals as goal
+use Rattle.lines.proofs.find_byte.Goals.{After-byte_hits-hits}
+
+-- the place of the lowest bit is that of the first such byte
+first : (c : After-byte_hits-hits) → count_trailing_zeros 64 c.byte_hits-hits.result / 8 ≡ firstIn c.args.needle (take 8 (drop c.loop-i.i c.args.slice.now))
+first c =
+    of_word c.args.needle c.args.slice.now c.loop-i.i c.loop-i-test.true c.word_at.result
+    (λ xs. count_trailing_zeros 64 c.byte_hits-hits.result / 8 ≡ firstIn c.args.needle xs)
+    (λ k. (c.type_inv.slice k).fits) c.word_at.ensures c.byte_hits-hits.ensures
+
+pub returns-then-hits-ne0 : goal.returns-then-hits-ne0
+returns-then-hits-ne0 c =
+    let e = first (goal.at.returns-then-hits-ne0 c).After-byte_hits-hits in
+    let h : count_trailing_zeros 64 c.byte_hits-hits.result / 8 < 8 = omega (arith, trailing_lt 64 c.byte_hits-hits.result (omega arith) c.if-hits-ne0.true) in
+    sym (c.loop-i.invariant.1 ∙ word_in _ _ _ c.loop-i-test.true (rw e at h) ∙ ap (λ (n : ℕ). At (c.loop-i.i + n)) (sym e))
+
+pub loop-i-preserved : goal.loop-i-preserved
+loop-i-preserved c =
+    let e = first (goal.at.loop-i-preserved c).After-byte_hits-hits in
+    let h : 8 ≤ count_trailing_zeros 64 c.byte_hits-hits.result / 8 = rw (c.if-hits-ne0.false, trailing_of_zero) (omega arith) in
+    (c.loop-i-test.true, c.loop-i.invariant.1 ∙ word_out _ _ _ c.loop-i-test.true (rw e at h))
+
+pub returns-then-slice-i : goal.returns-then-slice-i
+returns-then-slice-i c = sym (c.loop-i-2.invariant.1 ∙ find-hit _ _ _ c.loop-i-2-test.true c.if-slice-i.true)
+
+pub loop-i-2-preserved : goal.loop-i-2-preserved
+loop-i-2-preserved c = (omega arith, c.loop-i-2.invariant.1 ∙ find-miss _ _ _ c.loop-i-2-test.true c.if-slice-i.false)
+
+pub returns : goal.returns
+returns c = sym (c.loop-i-2.invariant.1 ∙ find-end _ _ _ c.loop-i-2-test.false)

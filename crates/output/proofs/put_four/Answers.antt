@@ -1,0 +1,7 @@
+-- `output::put_four` meets its contract.
+use Rattle.reduction.proofs.Moves.{four-pasted}
+use Rattle.output.proofs.put_four.Goals as goal
+
+pub returns : goal.returns
+returns c =
+    four-pasted c.args.text.now c.args.at c.args.row.now c.args.from c.requires.0 c.requires.1

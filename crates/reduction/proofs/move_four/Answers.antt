@@ -1,0 +1,7 @@
+-- `reduction::move_four` meets its contract.
+use Rattle.reduction.proofs.Moves.{four-pasted}
+use Rattle.reduction.proofs.move_four.Goals as goal
+
+pub returns : goal.returns
+returns c =
+    four-pasted c.args.text.now c.args.to c.args.text.now c.args.from c.requires.0 c.requires.1

@@ -1,0 +1,22 @@
+-- `row_tally::judged_taps` meets its contract: the mask's counts are the sum of a row of taps, whose arrows are its only cells.
+use mathlib.Core.Path.{ap, ◌∙◌}
+use native.Mathlib.Omega.{arith}
+use Rattle.definitions.specs.Judged.{onlyFakes}
+use Rattle.row_tally.specs.Bounds.{Under}
+use Rattle.row_tally.proofs.Taps.{mask_under, taps-judged, taps-unjudged}
+use Rattle.row_tally.proofs.judged_taps.Goals as goal
+
+pub returns-then-judged : goal.returns-then-judged
+returns-then-judged c = (
+  rw c.tap_sum-s.ensures (mask_under _ c.requires.1.0),
+  λ row e. rw c.if-judged.true (c.tap_sum-s.ensures ∙ taps-judged row _ e),
+)
+
+pub returns : goal.returns
+returns c =
+    let u : Under 10 c.tap_sum-s.result = rw c.tap_sum-s.ensures (mask_under _ c.requires.1.0) in (
+      rw c.only_fakes.ensures (omega arith),
+      λ row e.
+          rw c.if-judged.false
+          (c.only_fakes.ensures ∙ ap (λ s. onlyFakes s.arrows) c.tap_sum-s.ensures ∙ taps-unjudged row _ e),
+    )

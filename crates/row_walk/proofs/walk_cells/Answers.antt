@@ -1,0 +1,51 @@
+-- `row_walk::walk_cells` meets its contract. The loop's invariant: the cells before column `i` are done.
+use Prim.Native.Nat.{◌<◌}
+use native.Mathlib.Omega.{arith}
+use Rattle.definitions.specs.Sizes.{countBound}
+use Rattle.phantoms.proofs.Loop.{one-head, one-tail}
+use Rattle.objects.proofs.Scan.{scan-depth}
+use Rattle.row_tally.proofs.Bounds.{under_more}
+use Rattle.row_notes.proofs.Rows.{mid-ready}
+use Rattle.row_walk.proofs.Cells.{cells-start, cells-zero, cells-next, cells-end, counted-cell}
+use Rattle.row_walk.proofs.walk_cells.Goals as goal
+use Rattle.row_walk.proofs.walk_cells.Goals.{in-48, in_default}
+
+pub loop-i-init : goal.loop-i-init
+loop-i-init c =
+    cells-start _ _ _ _ _ _ _ _ c.requires _ c.no_sum-sum.ensures
+
+pub walk_cell-w-requires : goal.walk_cell-w-requires
+walk_cell-w-requires c =
+    let m : c.loop-i.i < 10 = omega (arith, c.requires.room.narrow) in
+    let few = c.loop-i.invariant.passed.low countBound c.requires.phantoms in
+    let R = mid-ready _ _ _ _ _ _ c.loop-i.invariant.mid c.requires.room c.loop-i-test.true in
+    record {
+      depth = omega (arith, few.depths c.loop-i.i m, m);
+      low = omega (arith, scan-depth _ _ _ _ _ c.loop-i.invariant.scanned, c.requires.objects c.loop-i.i m);
+      ready = record { inside = R.inside; low = R.low; room = R.room; few = R.few; there = R.head };
+    }
+
+pub with_cell-s-requires : goal.with_cell-s-requires
+with_cell-s-requires c =
+    let m : c.loop-i.i < 10 = omega (arith, c.requires.room.narrow) in
+    let w = counted-cell _ _ _ _ _ c.walk_cell-w.ensures in
+    let few = c.loop-i.invariant.passed.low countBound c.requires.phantoms in
+    record {
+      column_bound = (m, under_more c.loop-i.i 10 _ (omega (arith, m)) c.loop-i.invariant.summed.under, one-tail _ _ _ w);
+      heads_bound = (omega (arith, m, few.heads, one-head _ _ _ w), omega (arith, m, few.tails, one-tail _ _ _ w));
+    }
+
+pub loop-i-preserved : goal.loop-i-preserved
+loop-i-preserved c =
+    let m : c.loop-i.i < 10 = omega (arith, c.requires.room.narrow) in
+    elim c.match-b.branch [
+      | in-48 w ↦
+          rw (w.depths-is, w.low-is, w.hold_heads-is, w.slots-is, w.s-is)
+          (cells-zero _ _ _ _ _ _ _ _ _ _ _ _ _ _ c.loop-i.invariant c.loop-i-test.true m w.in-48.is)
+      | in_default w ↦
+          rw (w.depths-is, w.low-is, w.hold_heads-is, w.slots-is, w.s-is)
+          (cells-next _ _ _ _ _ _ _ _ _ _ _ _ _ _ c.loop-i.invariant c.loop-i-test.true m _ _ w.walk_cell-w.auto.slots w.walk_cell-w.ensures _ w.with_cell-s.ensures)
+    ]
+
+pub returns : goal.returns
+returns c = cells-end _ _ _ _ _ _ _ _ _ _ _ _ _ _ c.requires c.loop-i.invariant c.loop-i-test.false
