@@ -8,6 +8,7 @@ use native.Mathlib.Omega.{arith}
 use lib.Dec.{eqb}
 use lib.ListN.{length, get_or, take, drop, length-append}
 use lib.Pow.{field, mod-mod-pow}
+use Rattle.definitions.specs.Sizes.{countBound, mostBytes}
 use Rattle.definitions.specs.Lists.{oneIf}
 use Rattle.definitions.specs.Lanes.{mostRows}
 use Rattle.definitions.specs.Lines.{Row}
@@ -74,6 +75,12 @@ module _ (J : ℕ → Bool) (L : ℕ) (text : List ℕ) (off row : ℕ) (t : Tim
   -- at most ten holds are opened in a row
   pub tallying-active : L ≤ 10 → t.active ≤ 10 * row
   tallying-active m = le_trans (rw x.active (opens-most L J (readBack L text) m (rows_short L text) row)) (mul-le-mul_right row m)
+
+  -- the tally so far may have a row more
+  pub tallying-few : off ≤ length text + 1 → length text ≤ mostBytes → L ≤ 10 → Below countBound t.stats × (t.active ≤ countBound)
+  tallying-few h b m =
+      let few : 10 * row ≤ countBound = omega (arith, x.reading.few, x.size) in
+      (below_more (10 * row) countBound t.stats few x.below, le_trans (tallying-active m) few)
 
   pub tallying-end : length text < off → t.stats ≡ judgedRows L J (readBack L text)
   unfolding judgedRows

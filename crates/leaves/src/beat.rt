@@ -5,6 +5,7 @@ ghost use Rattle.leaves.specs.Answers.{measureTaken, rowTaken, beatNumber, beatL
 
 use beats::LastObject;
 
+#[tactic(auto, unfolding(crate::specs::Answers::measureTaken))]
 fn measure_taken(m: u32, n: u32) -> bool
     ensures { result ≡ measureTaken m n }
 {
@@ -14,6 +15,7 @@ fn measure_taken(m: u32, n: u32) -> bool
     n < definitions::ROWS_BOUND
 }
 
+#[tactic(auto, unfolding(crate::specs::Answers::rowTaken))]
 fn row_taken(m: u32, r: u32, n: u32) -> bool
     ensures { result ≡ rowTaken m r n }
 {
@@ -36,6 +38,7 @@ pub extern "C" fn leaves_row_beat(m: u32, r: u32, n: u32, beat: &mut [f32; 1]) -
 }
 
 // Whether the beats of a measure have room in `len` places from `at` on.
+#[tactic(auto, unfolding(crate::specs::Answers::beatsTaken))]
 fn beats_taken(len: usize, at: usize, m: u32, n: u32) -> bool
     ensures { result ≡ beatsTaken len at m n }
 {

@@ -80,6 +80,7 @@ fn taps_number(taps: Taps) -> u32
 }
 
 // 257 for a row of fewer cells.
+#[tactic(auto, unfolding(crate::specs::Answers::maskNumber))]
 #[unsafe(no_mangle)]
 pub extern "C" fn leaves_tap_mask4(row: &[u8]) -> u32
     ensures { result ≡ maskNumber 4 row.now }
@@ -90,6 +91,7 @@ pub extern "C" fn leaves_tap_mask4(row: &[u8]) -> u32
     taps_number(taps::tap_mask4(row))
 }
 
+#[tactic(auto, unfolding(crate::specs::Answers::maskNumber))]
 #[unsafe(no_mangle)]
 pub extern "C" fn leaves_tap_mask8(row: &[u8]) -> u32
     ensures { result ≡ maskNumber 8 row.now }
