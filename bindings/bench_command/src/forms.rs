@@ -179,7 +179,7 @@ mod tests {
                       chart               2  dance-single\n\
                       lanes               4\n\n\
                       measures\n\n\
-                      library 0.1.0, kit rattle-kit-5b-plain logic 097e4c862dff5811\n\n\
+                      library 0.1.0, kit rattle-kit-13f logic dac8208d650f15bf\n\n\
                       checked by ____________________  date ____________\n";
         assert_eq!(sheet, wanted);
     }

@@ -4,7 +4,7 @@
 pub const LIBRARY: &str = "0.1.0";
 
 /// The identity of the Rattle kit with which the library was proved.
-pub const KIT: &str = "rattle-kit-5b-plain logic 097e4c862dff5811";
+pub const KIT: &str = "rattle-kit-13f logic dac8208d650f15bf";
 
 /// What `--version` prints.
 pub fn version() -> String {

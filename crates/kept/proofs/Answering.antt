@@ -37,21 +37,32 @@ all-figures L data-text p text densities x stats w e = made x.out x.midx x.rows 
 module _ (lanes : ℕ) (text out densities₀ work : List ℕ) where
   -- what its contract says of its answer and of what it leaves in its slices
   abbrev Call : KeptAnswer → List ℕ → List ℕ → List ℕ → Type 0
-  Call a t d w =
-      (a ≡ keptAnswer lanes text out densities₀ work)
-      × ((t ≡ keptText lanes text out densities₀ work)
-      × ((d ≡ keptDensities lanes text out densities₀ work) × (w ≡ keptWork lanes text out densities₀ work)))
+  Call a t d w = record {
+    value : a ≡ keptAnswer lanes text out densities₀ work;
+    text_after : t ≡ keptText lanes text out densities₀ work;
+    densities_after : d ≡ keptDensities lanes text out densities₀ work;
+    work_after : w ≡ keptWork lanes text out densities₀ work;
+  }
 
   -- refused, it answers the number and leaves every slice as it was
   pub kept-refused : (k : ℕ) → keptNumber lanes text out densities₀ work ≡ suc k → Call (Refused (suc k)) out densities₀ work
   unfolding keptAnswer keptText keptDensities keptWork leaves
-  kept-refused k e = let same = eqb-suc-zero k in (rw e, (rw (e, same), (rw (e, same), rw (e, same))))
+  kept-refused k e =
+      let same = eqb-suc-zero k in
+      record { value = rw e; text_after = rw (e, same); densities_after = rw (e, same); work_after = rw (e, same) }
 
   -- accepted, it answers the figures of the lane count in force, with zeros past each answer
   pub kept-accepted : keptNumber lanes text out densities₀ work ≡ 0 → {L : ℕ} → L ≡ lanes_of lanes → {f : KeptFigures} {t d w : List ℕ}
-      → (f ≡ keptChartFigures L text)
-      × ((t ≡ padded 0 (length out) (minimisedText L text))
-      × ((d ≡ padded 0 (length densities₀) (densitiesOf L text)) × (w ≡ padded 0 (length work) [])))
-      → Call (Kept f) t d w
+      → record {
+        value : f ≡ keptChartFigures L text;
+        text_after : t ≡ padded 0 (length out) (minimisedText L text);
+        densities_after : d ≡ padded 0 (length densities₀) (densitiesOf L text);
+        work_after : w ≡ padded 0 (length work) [];
+      } → Call (Kept f) t d w
   unfolding keptAnswer keptText keptDensities keptWork leaves
-  kept-accepted e l r = (rw (e, ← l) (ap Kept r.0), (rw (e, ← l) r.1.0, (rw (e, ← l) r.1.1.0, rw e r.1.1.1)))
+  kept-accepted e l r = record {
+    value = rw (e, ← l) (ap Kept r.value);
+    text_after = rw (e, ← l) r.text_after;
+    densities_after = rw (e, ← l) r.densities_after;
+    work_after = rw e r.work_after;
+  }

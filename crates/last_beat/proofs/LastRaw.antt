@@ -18,7 +18,6 @@ use Rattle.definitions.specs.Reduction.{allZero, multiple, offZero, atMultiples,
 use Rattle.definitions.specs.Objects.{Depths, afterRow, afterRows, objectRow, Place, objectsIn, objectsFrom, last_of, lastObject, place48, last48}
 use Rattle.definitions.specs.Beats.{lastRow}
 use Rattle.definitions.specs.Damage.{Each, end, next}
-use Rattle.definitions.specs.declared.DepthEffect.TheVariants as depth
 use Rattle.definitions.proofs.Bools.{and_left, and_right}
 use Rattle.definitions.proofs.Reduction.{stride-is}
 use Rattle.definitions.proofs.Thinned.{Thinned, none as thin-none, keep, leave, reduce-thin}

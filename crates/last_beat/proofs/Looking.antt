@@ -1,38 +1,20 @@
--- The loop of the last-beat scan: what is kept of the lines read is few, and tells the last object row in the end.
+-- The loop of the last-beat scan: what is kept of the lines read tells the last object row in the end.
 use mathlib.Core.Path.{◌≡◌, refl, sym, ap, ◌∙◌}
 use mathlib.Core.List.{List, [], ◌∷◌, ◌++◌}
 use mathlib.Core.Option.{some}
-use Prim.Native.Nat.{ℕ, ◌+◌, ◌*◌, ◌≤◌, ◌<◌}
+use Prim.Native.Nat.{ℕ, ◌≤◌, ◌<◌}
 use native.Mathlib.Omega.{arith}
-use lib.ListN.{length}
 use Rattle.definitions.specs.Sizes.{rowsBound}
-use Rattle.definitions.specs.Lists.{joined}
 use Rattle.definitions.specs.Lines.{Row}
 use Rattle.definitions.specs.Measures.{chart}
 use Rattle.definitions.specs.Objects.{Place, objectsFrom, last_of, place48, last48}
 use Rattle.beats.specs.declared.LastObject.{LastObject}
 use Rattle.beats.specs.declared.LastObject.TheVariants as last
 use Rattle.beats.specs.Places.{place_of, Placed}
-use Rattle.objects.specs.Rows.{DepthsLow}
-use Rattle.objects.proofs.Scan.{low-more}
-use Rattle.reader.proofs.Passes.{Over, Few}
+use Rattle.reader.proofs.Passes.{Over}
 use Rattle.objects.specs.declared.LastScan.{LastScan}
 use Rattle.objects.specs.LastKept.{LastKept}
 use Rattle.last_beat.proofs.LastRaw.{last-raw}
-
--- rows and measures are few
-pub record Small (s : LastScan) (b : ℕ) : Type 0 where
-  pub rows : 5 * s.rows ≤ b
-  pub midx : 2 * s.midx ≤ b
-  pub low : DepthsLow b s.depths
-
-pub looking-few : (s : LastScan) (L len : ℕ) (done : List (List Row)) (cur : List Row) → Few L len done cur → LastKept s done cur → Small s (len + 1)
-looking-few s L len done cur f x =
-    record {
-      rows = omega (arith, f.fifth, x.rows);
-      midx = omega (arith, f.measures, x.midx);
-      low = low-more (length (joined done) + length cur) (len + 1) s.depths (omega (arith, f.fifth)) x.low;
-    }
 
 -- with the last measure ended, the last object row of the chart is found
 pub looked-last : (s t : LastScan) (L : ℕ) (text : List ℕ) → ((done : List (List Row)) (cur : List Row) → LastKept s done cur → LastKept t (done ++ (cur ∷ [])) []) → Over L text (LastKept s)

@@ -35,7 +35,7 @@ pub fn walk_rows(
     let mut hold_heads = measure_run::open_heads(noting.scratch);
     let mut m = measure_run::first_marks(counting, noting);
     let mut r = measure_run::first_run(counting, noting);
-    loop {
+    'walk: loop {
         r = tap_walk::walk_taps(r, m, first, text, start, rows, lanes, slots, counts);
         let i = (r.row - first) as usize;
         if rows <= i {

@@ -57,7 +57,9 @@ fn compared(len: usize, start: usize, count: usize) -> Compared
 }
 
 // A record without the four bytes of its length.
-fn replay(record: &[u8]) -> Replayed {
+fn replay(record: &[u8]) -> Replayed
+    ensures { result.answers ≤ 65536 }
+{
     if record.len() > 65536 {
         return Replayed {
             compared: Compared::Malformed,

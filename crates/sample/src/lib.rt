@@ -1,7 +1,7 @@
 // The file of the stored sample: its head, its records one after the other, and what a replay says of them.
 #![tactic(auto)]
 
-ghost use Rattle.std.specs.Prelude.{◌<◌, IfOk, IfSome};
+ghost use Rattle.std.specs.Prelude.{◌<◌, ◌≤◌, IfOk, IfSome, vec_len};
 
 use std::alloc::Global;
 use std::io;
@@ -26,7 +26,7 @@ fn read_up_to<R: Read>(alloc: Global, reader: &mut R, n: u64) -> io::Result<Vec<
 }
 
 // How many texts the sample has, by its head; none where it does not begin with the eight bytes of `mark`.
-fn read_head<R: Read>(alloc: Global, reader: &mut R, mark: &[u8]) -> io::Result<Option<u64>>
+pub fn read_head<R: Read>(alloc: Global, reader: &mut R, mark: &[u8]) -> io::Result<Option<u64>>
     ensures { IfOk result (λ texts. IfSome texts (λ n. n < 4294967296)) }
 {
     let head = read_up_to(alloc, reader, 24)?;
@@ -37,7 +37,9 @@ fn read_head<R: Read>(alloc: Global, reader: &mut R, mark: &[u8]) -> io::Result<
 }
 
 // The next record, without the four bytes of its length; none where the file has less.
-fn read_record<R: Read>(alloc: Global, reader: &mut R) -> io::Result<Option<Vec<u8>>> {
+pub fn read_record<R: Read>(alloc: Global, reader: &mut R) -> io::Result<Option<Vec<u8>>>
+    ensures { IfOk result (λ r. IfSome r (λ bytes. vec_len bytes ≤ 65536)) }
+{
     let head = read_up_to(alloc, reader, 4)?;
     let len = number_at(&head, 0);
     if head.len() != 4 || len < 4 || len - 4 > MOST_RECORD_BYTES {
@@ -51,7 +53,7 @@ fn read_record<R: Read>(alloc: Global, reader: &mut R) -> io::Result<Option<Vec<
 }
 
 // Says where a text's answers differ, and answers whether to go on.
-fn go_on<P: Print>(out: &P, compared: Compared, index: u64) -> io::Result<bool> {
+pub fn go_on<P: Print>(out: &P, compared: Compared, index: u64) -> io::Result<bool> {
     match compared {
         Compared::Same => Ok(true),
         Compared::Differs(call) => {

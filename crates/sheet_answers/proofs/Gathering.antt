@@ -1,7 +1,7 @@
 -- What the calls leave of a text, put together.
 use mathlib.Core.Path.{◌≡◌, ap, sym, ◌∙◌}
 use mathlib.Core.List.{List}
-use Prim.Native.Nat.{ℕ, ◌+◌, ◌-◌, ◌/◌, ◌≤◌}
+use Prim.Native.Nat.{ℕ, ◌+◌, ◌-◌, ◌≤◌}
 use native.Mathlib.Nat.{mul-le-mul_right}
 use native.Mathlib.Omega.{arith}
 use lib.Ieee.Nearest.{div_mono}
@@ -10,7 +10,6 @@ use lib.Seq.{take_at}
 use Rattle.definitions.specs.Lists.{padded}
 use Rattle.definitions.specs.Lanes.{mostRows}
 use Rattle.definitions.specs.Figures.{minimisedText}
-use Rattle.definitions.specs.Judged.{judgedTally}
 use Rattle.definitions.specs.Entries.{figures, tallyFigures}
 use Rattle.definitions.specs.declared.ArrowStats.{ArrowStats}
 use Rattle.definitions.proofs.ChartRows.{minimised-short}
@@ -32,6 +31,10 @@ module _ (L : ℕ) (text : List ℕ) where
   pub bytes-are : {k : KeptFigures} → k ≡ keptChartFigures L text → k.bytes ≡ length (minimisedText L text)
   unfolding keptChartFigures
   bytes-are e = ap (λ (f : KeptFigures). f.bytes) e
+
+  -- and a slice that has room for the text and one byte more has room for them
+  pub bytes-within : {k : KeptFigures} → k ≡ keptChartFigures L text → (n : ℕ) → length text + 1 ≤ n → k.bytes ≤ n
+  bytes-within e n h = omega (arith, bytes-are e, minimised-short L text)
 
   -- those bytes of the text slice are the minimised text
   pub minimised-part : (n : ℕ) {k : KeptFigures} {out : List ℕ} → k ≡ keptChartFigures L text → out ≡ padded 0 n (minimisedText L text)

@@ -1,5 +1,5 @@
 -- The parts of the form `json`, put one after the other, and how its room is shared out.
-use mathlib.Core.Path.{◌≡◌, refl, ap, sym, ◌∙◌}
+use mathlib.Core.Path.{◌≡◌, ap, sym, ◌∙◌}
 use mathlib.Core.List.{List, [], ◌∷◌, ◌++◌, append_assoc, append-nil}
 use Prim.Native.Nat.{ℕ, ◌+◌, ◌*◌, ◌/◌, ◌%◌, ◌<◌, ◌≤◌}
 use native.Mathlib.Numerals.{add-one}
@@ -13,15 +13,8 @@ use Rattle.definitions.specs.declared.Note.{Note}
 use Rattle.definitions.specs.declared.ReadNote.{ReadNote}
 use Rattle.sheet.specs.Put.{Put}
 use Rattle.sheet.specs.Sheet.{number, numberField, fieldNames}
-use Rattle.sheet.proofs.Putting.{put-none, put_then}
+use Rattle.sheet.proofs.Putting.{put_then}
 use Rattle.sheet_json.specs.Json.{json, separator, figure, jsonHeads, member, members, jsonTallies, densityEntry, densityEntries, truth, spacingEntry, spacingEntries, tailValue, noteValue, recordValue, recordEntry, recordEntries, jsonLists, jsonOf}
-
--- nothing before the first entry, a comma before each later one
-pub put_first : (k at : ℕ) (d : List ℕ) → k ≡ 0 → at ≤ length d → Put at (separator k) d at d
-put_first k at d e h = rw (eq-eqb k 0 e) (put-none at d h)
-
-pub put-later : (k : ℕ) {at next : ℕ} {d d₁ : List ℕ} → (k ≡ 0 → ⊥) → Put at (44 ∷ []) d next d₁ → Put at (separator k) d next d₁
-put-later k e p = rw (ne_eqb k 0 e) p
 
 pub put-figure : (n : ℕ) {at next last : ℕ} {before d d₁ d₂ : List ℕ} → Put at before d next d₁ → Put next (number n) d₁ last d₂
     → Put at (figure before n) d last d₂
@@ -37,9 +30,6 @@ unfolding jsonHeads
 put-json-heads main a b c e g h = put_then a (put_then b (put_then c (put_then e (put_then g h))))
 
 -- a name up to its first blank: what is put, and what stands before the blank in the rest
-pub word-start : (name : List ℕ) → up_to 32 name ≡ take 0 name ++ up_to 32 (drop 0 name)
-word-start name = refl
-
 pub word_more : (name : List ℕ) (i : ℕ) → i < length name → (get_or name i 0 ≡ 32 → ⊥) → up_to 32 name ≡ take i name ++ up_to 32 (drop i name)
     → up_to 32 name ≡ take (i + 1) name ++ up_to 32 (drop (i + 1) name)
 unfolding up_to
@@ -78,12 +68,6 @@ pub put-density : (k density : ℕ) {at next last : ℕ} {d d₁ d₂ : List ℕ
     → Put at (densityEntry k density) d last d₂
 unfolding densityEntry
 put-density k density p q = put_then p q
-
-pub put-false : (spaced : ℕ) {at next : ℕ} {d d₁ : List ℕ} → spaced ≡ 0 → Put at (json "false") d next d₁ → Put at (truth spaced) d next d₁
-put-false spaced e p = rw (eq-eqb spaced 0 e) p
-
-pub put-true : (spaced : ℕ) {at next : ℕ} {d d₁ : List ℕ} → (spaced ≡ 0 → ⊥) → Put at (json "true") d next d₁ → Put at (truth spaced) d next d₁
-put-true spaced e p = rw (ne_eqb spaced 0 e) p
 
 pub put-spacing : (k spaced : ℕ) {at next last : ℕ} {d d₁ d₂ : List ℕ} → Put at (separator k) d next d₁ → Put next (truth spaced) d₁ last d₂
     → Put at (spacingEntry k spaced) d last d₂

@@ -1,0 +1,24 @@
+-- `kept::keep_figures` meets its contract, by what the pass leaves.
+use mathlib.Core.Path.{◌∙◌}
+use native.Mathlib.Omega.{arith}
+use lib.ListN.{length}
+use Rattle.kept_pass.proofs.Answering.{all-text, all-densities, all-recount, none-off}
+use Rattle.kept.proofs.Answering.{all-figures}
+use Rattle.kept.proofs.keep_figures.Goals as goal
+
+pub corrected_stats-corrected-requires : goal.corrected_stats-corrected-requires
+corrected_stats-corrected-requires c =
+    let pre = c.requires.le_lanes in
+    all-recount _ _ _ _ _ c.keep_chart-p.ensures _ c.args.work.now pre.0 pre.1 pre.2 c.requires.data_in_bounds.2
+
+pub returns : goal.returns
+returns c =
+    let k = c.keep_chart-p in
+    let x = k.ensures in
+    let r = c.corrected_stats-corrected.ensures in
+    record {
+      value = all-figures _ _ _ _ _ x _ (omega (arith, c.requires.le_lanes.0)) (r.value _ x.phantoms x.stats);
+      text_after = c.zero_u8.ensures ∙ all-text _ _ _ _ _ x (length c.args.text.now) k.auto.text c.requires.data_in_bounds.0;
+      densities_after = c.zero_u32.ensures ∙ all-densities _ _ _ _ _ x (length c.args.densities.now) k.auto.densities;
+      work_after = r.work_after ∙ none-off (length c.args.work.now);
+    }

@@ -1,0 +1,2 @@
+-- The statements of the examples.
+pub mod Examples

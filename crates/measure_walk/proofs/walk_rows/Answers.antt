@@ -1,0 +1,146 @@
+-- `measure_walk::walk_rows` meets its contract. Ordinary rows are walked first; then either no row is left and the measure ends,
+-- or the next row is walked by its cells, and the invariant holds of one row more.
+use mathlib.Core.Path.{◌≡◌, refl, ap, sym, ◌∙◌, subst}
+use mathlib.Core.List.{List}
+use Prim.Native.Nat.{ℕ, ◌+◌, ◌-◌, ◌*◌, ◌≤◌, ◌<◌}
+use native.Mathlib.Omega.{arith}
+use lib.ListN.{length, take}
+use lib.Seq.{take_all}
+use Rattle.definitions.specs.Lines.{Row}
+use Rattle.reduction.proofs.RowsAt.{rows-length}
+use Rattle.measure_tally.specs.Counted.{Counted}
+use Rattle.measure_notes.specs.Noted.{NotedRows}
+use Rattle.measure_run.specs.declared.Run.{Run}
+use Rattle.measure_run.specs.Held.{Rest, rest_of, countingOf, notingOf}
+use Rattle.measure_run.proofs.Starts.{counted_start, noted-start}
+use Rattle.tap_walk.specs.Walked.{Walking}
+use Rattle.measure_tally.proofs.Places.{rows_of, part, row-wide, row_more}
+use Rattle.tap_walk.proofs.Walks.{walked_on, count-few, note-ready, measure-ready}
+use Rattle.tap_walk.proofs.Runs.{stats-few}
+use Rattle.measure_walk.proofs.Runs.{counted-cells, noted-cells, cells-asked}
+use Rattle.measure_walk.proofs.walk_rows.Goals as goal
+use Rattle.measure_walk.proofs.walk_rows.Goals.{After-walk_taps-r}
+
+pub walk-init : goal.walk-init
+walk-init c =
+    let a = c.args in
+    let p = c.phantom_depths-depths.ensures in
+    let o = c.object_depths-low.ensures in
+    let h = c.open_heads-hold_heads.ensures in
+    let r = c.first_run-r.ensures in
+    let row : c.first_run-r.result.row ≡ a.counting.rows = ap (λ (x : Run). x.row) r in
+    let number : a.noting.scratch.row_index ≡ a.counting.rows = c.requires.walking.noted.written.row ∙ sym c.requires.walking.counted.rows in (
+      omega (arith, row),
+      omega (arith, row),
+      refl,
+      (rw p.0 p.1, rw o.0 o.1, rw h.0 h.1),
+      (λ done x. counted_start _ a.counting a.noting a.slots.now _ _ _ c.object_depths-low.result c.open_heads-hold_heads.result _ _ r c.first_marks-m.ensures p.0 x),
+      (λ done x. noted-start _ a.counting _ _ _ _ c.phantom_depths-depths.result _ _ _ _ r c.first_marks-m.ensures o.0 h.0 number x),
+    )
+
+pub walk_taps-r-requires : goal.walk_taps-r-requires
+walk_taps-r-requires c =
+    let pre = c.requires.lanes_nonzero in
+    let v = c.walk.invariant in
+    record {
+      lanes_nonzero = (pre.0, pre.1, pre.2, v.0, v.1, pre.3);
+      running = record {
+        rest = rest_of c.args.counting c.args.noting c.walk.depths c.walk.low c.walk.hold_heads;
+        walking = walked_on _ _ _ _ _ _ _ _ 0 _ c.requires.walking v.2 v.4 v.5;
+      };
+    }
+
+-- ---- with ordinary rows more
+
+-- the measure's rows
+abbrev all : After-walk_taps-r → List Row
+all c = rows_of c.args.lanes c.args.rows c.args.text.now c.args.start
+
+-- what ordinary rows leave
+abbrev rest : After-walk_taps-r → Rest
+rest c = rest_of c.args.counting c.args.noting c.walk.depths c.walk.low c.walk.hold_heads
+
+-- the number of the next row in the measure
+abbrev number : After-walk_taps-r → ℕ
+number c = c.walk_taps-r.result.row - c.args.counting.rows
+
+-- what is walked
+walked : (c : After-walk_taps-r) →
+    let t = c.walk_taps-r in
+    Walking c.args.lanes (countingOf (rest c) c.walk.m t.result) (notingOf c.args.counting.rows (rest c) c.walk.m t.result) t.new.slots (all c) (number c)
+walked c =
+    let t = c.walk_taps-r in
+    let v = c.walk.invariant in
+    walked_on _ _ _ _ _ _ _ _ 0 _ c.requires.walking (t.auto.slots ∙ v.2) (λ done x. t.ensures.counted (rest c) done (v.4 done x)) (λ done x. t.ensures.noted_rows (rest c) done (v.5 done x))
+
+-- ---- no row is left
+
+pub end_walk-requires : goal.end_walk-requires
+end_walk-requires c =
+    let k = (goal.at.end_walk-requires c).After-walk_taps-r in
+    let h : number k ≤ length (all k) = rw rows-length (omega (arith, c.walk_taps-r.ensures.row_le_row.1)) in
+    let ready = measure-ready _ _ _ _ _ _ (walked k) h in
+    (omega (arith, c.walk_taps-r.ensures.row_le_row.0, c.walk.invariant.0), ready.0, ready.1)
+
+pub returns-then-rows-i : goal.returns-then-rows-i
+returns-then-rows-i c =
+    let k = (goal.at.returns-then-rows-i c).After-walk_taps-r in
+    let v = c.walk.invariant in
+    let t = c.walk_taps-r.ensures in
+    let whole = take_all (number k) (all k) (rw rows-length c.if-rows-i.true) in
+    record {
+      counted = λ done x. rw c.end_walk.ensures.counting_value (subst (Counted c.args.lanes _ done) whole (t.counted (rest k) done (v.4 done x)));
+      noted = λ done x. c.end_walk.ensures.by_index c.args.lanes _ done (all k) (subst (NotedRows c.args.lanes _ _ done) whole (t.noted_rows (rest k) done (v.5 done x)));
+    }
+
+-- ---- the next row is not ordinary
+
+pub walk_cells-s-requires : goal.walk_cells-s-requires
+walk_cells-s-requires c =
+    let k = (goal.at.walk_cells-s-requires c).After-walk_taps-r in
+    let a = c.args in
+    let pre = c.requires.lanes_nonzero in
+    let ten = c.walk.invariant.3 in
+    let h : number k < length (all k) = rw rows-length c.if-rows-i.false in
+    let few = count-few _ _ _ _ _ _ (walked k) h in
+    let at = a.start + number k * (a.lanes + 1) in
+    let row = part a.lanes a.text.now at in
+    let wide = row-wide a.lanes a.rows a.text.now a.start pre.2 (number k) at c.if-rows-i.false refl in
+    let ready = note-ready _ _ _ _ _ _ (walked k) h row wide pre.1 in
+    cells-asked a.counting.rows (rest k) c.walk.m c.walk_taps-r.result row _ few.0 few.1 ready ten.0 ten.1 ten.2
+
+pub add_cells-r-requires : goal.add_cells-r-requires
+add_cells-r-requires c =
+    let k = (goal.at.add_cells-r-requires c).After-walk_taps-r in
+    let h : number k < length (all k) = rw rows-length c.if-rows-i.false in
+    let few = count-few _ _ _ _ _ _ (walked k) h in
+    (stats-few (rest k) c.walk.m c.walk_taps-r.result few.0 few.1, c.walk_cells-s.ensures.under, few.0)
+
+pub walk-preserved : goal.walk-preserved
+walk-preserved c =
+    let k = (goal.at.walk-preserved c).After-walk_taps-r in
+    let a = c.args in
+    let pre = c.requires.lanes_nonzero in
+    let v = c.walk.invariant in
+    let m = c.walk.m in
+    let t = c.walk_taps-r in
+    let w = c.walk_cells-s in
+    let e = c.add_cells-r.ensures in
+    let q = rest k in
+    let i = number k in
+    let ms = all k in
+    let at = a.start + i * (a.lanes + 1) in
+    let above : a.counting.rows ≤ t.result.row = omega (arith, t.ensures.row_le_row.0, v.0) in
+    let row : c.add_cells-r.result.row ≡ t.result.row + 1 = ap (λ (x : Run). x.row) e in
+    let next : c.add_cells-r.result.row - a.counting.rows ≡ i + 1 = omega (arith, above, row) in
+    let more = ap (λ n. take n ms) next ∙ row_more a.lanes a.rows a.text.now a.start pre.2 i at c.if-rows-i.false refl in
+    let wide = row-wide a.lanes a.rows a.text.now a.start pre.2 i at c.if-rows-i.false refl in (
+      omega (arith, above, row),
+      omega (arith, c.if-rows-i.false, above, row),
+      w.auto.slots ∙ t.auto.slots ∙ v.2,
+      w.ensures.ten,
+      (λ done x. subst (Counted a.lanes _ done) (sym more)
+          (counted-cells a.lanes q m t.result _ _ done (take i ms) _ _ _ _ _ w.ensures (omega (arith, wide)) _ e pre.1 (t.ensures.counted q done (v.4 done x)))),
+      (λ done x. subst (NotedRows a.lanes _ _ done) (sym more)
+          (noted-cells a.lanes q m t.result _ _ done (take i ms) _ _ _ _ _ w.ensures (omega (arith, wide)) _ e a.counting.rows above (t.ensures.noted_rows q done (v.5 done x)))),
+    )

@@ -1,0 +1,15 @@
+-- `padcheck::padcheck_process_timing_rows` meets its contract, from the answer of the tally by cases.
+use Rattle.definitions.specs.Entries.{flaggedFigures}
+use Rattle.judged.specs.Answers.{flaggedAnswer}
+use Rattle.padcheck.proofs.Answers.{refused-told, accepted-told, tally-told}
+use Rattle.padcheck.proofs.padcheck_process_timing_rows.Goals as goal
+
+pub returns-in-Refused : goal.returns-in-Refused
+unfolding flaggedAnswer flaggedFigures
+returns-in-Refused c =
+    let t = refused-told tally-told _ _ _ c.process_timing_rows.ensures.value c.in-Refused.is in record { value = t.0; work_after = c.process_timing_rows.ensures.work_after; figures_after = t.1 _ }
+
+pub returns-in-Tally : goal.returns-in-Tally
+unfolding flaggedAnswer flaggedFigures
+returns-in-Tally c =
+    let t = accepted-told tally-told _ _ _ c.process_timing_rows.ensures.value c.in-Tally.is in record { value = t.0; work_after = c.process_timing_rows.ensures.work_after; figures_after = t.1 _ _ c.figures_of.ensures }

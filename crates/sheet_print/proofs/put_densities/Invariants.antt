@@ -1,0 +1,13 @@
+-- `sheet_print::put_densities` meets its contract: the entries so far are put, one more a turn.
+use Prim.Native.Nat.{◌-◌, ◌≤◌}
+use mathlib.Core.Path.{◌≡◌}
+use lib.ListN.{length}
+use Rattle.sheet.specs.Put.{Put}
+use Rattle.sheet_print.specs.Print.{densityLines}
+use Rattle.sheet_print.proofs.put_densities.Given as goal
+
+abbrev pub invariant-loop-i : goal.invariant-loop-i
+invariant-loop-i l = (l.i ≤ length l.densities) × (length l.out ≡ length l.initial.out) × Put l.at (densityLines l.densities l.spacing l.i) l.initial.out l.next l.out
+
+abbrev pub decreases-loop-i : goal.decreases-loop-i
+decreases-loop-i l = length l.densities - l.i

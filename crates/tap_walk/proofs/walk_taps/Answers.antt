@@ -1,0 +1,113 @@
+-- `tap_walk::walk_taps` meets its contract. The row at hand is one of the measure's, it has `lanes` bytes, and what is walked so far has room for it:
+-- so it may be added, and after it the invariant holds of one row more.
+use mathlib.Core.Path.{◌≡◌, refl, ap, sym, subst, ◌∙◌}
+use mathlib.Core.List.{List}
+use Prim.Native.Nat.{ℕ, ◌+◌, ◌-◌, ◌*◌, ◌≤◌, ◌<◌}
+use native.Mathlib.Omega.{arith}
+use lib.ListN.{length, take}
+use Rattle.definitions.specs.Sizes.{rowsBound}
+use Rattle.definitions.specs.Lines.{Row}
+use Rattle.taps.proofs.Masks.{fits-at}
+use Rattle.taps.proofs.Free.{free-told}
+use Rattle.reduction.proofs.RowsAt.{rows-length}
+use Rattle.reduction.proofs.Powers.{next-at}
+use Rattle.row_walk.specs.declared.Marks.{Marks}
+use Rattle.measure_tally.specs.Counted.{Counted}
+use Rattle.measure_notes.specs.Noted.{NotedRows}
+use Rattle.measure_run.specs.declared.Run.{Run}
+use Rattle.measure_run.specs.Held.{countingOf, notingOf}
+use Rattle.tap_walk.specs.Walked.{Running, Walking}
+use Rattle.measure_tally.proofs.Places.{rows_of, part, row-wide, row_more}
+use Rattle.tap_walk.proofs.Walks.{walked_on, count-few, note-ready}
+use Rattle.tap_walk.proofs.Runs.{counted-taps, noted-taps, stats-few, run-few}
+use Rattle.tap_walk.proofs.walk_taps.Goals as goal
+use Rattle.tap_walk.proofs.walk_taps.Goals.{In-Mask}
+
+-- the rows are numbers
+few : {lanes first rows : ℕ} {m : Marks} {old : Run} {slots : List ℕ} {ms : List Row} → first ≤ old.row → old.row ≤ first + rows → length ms ≡ rows
+    → Running lanes first m old slots ms → first + rows < rowsBound
+few below above size W = omega (arith, run-few _ _ W.rest _ _ _ _ W.walking below (omega arith))
+
+pub overflow_cast-stop : goal.overflow_cast-stop
+overflow_cast-stop c = omega (arith, few c.requires.lanes_nonzero.3 c.requires.lanes_nonzero.4 (rows-length _ _ _ _) c.requires.running)
+
+pub overflow_add-stop : goal.overflow_add-stop
+overflow_add-stop c = omega (arith, few c.requires.lanes_nonzero.3 c.requires.lanes_nonzero.4 (rows-length _ _ _ _) c.requires.running)
+
+-- the measure's rows
+abbrev all : In-Mask → List Row
+all c = rows_of c.args.lanes c.args.rows c.args.text.now c.args.start
+
+-- the number of the row in the measure
+abbrev number : In-Mask → ℕ
+number c = c.loop-r.r.row - c.args.first
+
+below : (c : In-Mask) → number c < c.args.rows
+below c = omega (arith, c.loop-r-test.true, c.requires.lanes_nonzero.3, c.loop-r.invariant.0)
+
+-- it has `lanes` bytes
+wide : (c : In-Mask) → length (part c.args.lanes c.args.text.now c.loop-r.at) ≡ c.args.lanes
+wide c = row-wide c.args.lanes c.args.rows c.args.text.now c.args.start c.requires.lanes_nonzero.2 (number c) c.loop-r.at (below c) c.loop-r.invariant.2
+
+-- what is walked so far
+walked : (c : In-Mask) →
+    let q = c.requires.running.rest in
+    Walking c.args.lanes (countingOf q c.args.m c.loop-r.r) (notingOf c.args.first q c.args.m c.loop-r.r) c.loop-r.slots (all c) (number c)
+walked c =
+    let q = c.requires.running.rest in
+    walked_on c.args.lanes _ _ _ _ _ _ _ _ _ c.requires.running.walking c.loop-r.invariant.3 (c.loop-r.invariant.4 q) (c.loop-r.invariant.5 q)
+
+-- it is one of the measure's
+within : (c : In-Mask) → number c < length (all c)
+within c = rw rows-length (below c)
+
+pub add_taps-r-requires : goal.add_taps-r-requires
+add_taps-r-requires c =
+    let k = (goal.at.add_taps-r-requires c).In-Mask in
+    let counted = count-few _ _ _ _ _ _ (walked k) (within k) in
+    let noted = note-ready _ _ _ _ _ _ (walked k) (within k) _ (wide k) c.requires.lanes_nonzero.1 in
+    let free = free-told c.free_taps.ensures c.in-Mask.is in (
+      record {
+        few = stats-few c.requires.running.rest c.args.m c.loop-r.r counted.0 counted.1;
+        rows = counted.0;
+        fits = rw c.is_wide.ensures (fits-at _ _ _ (wide k) free.mask);
+        some = record {
+          scratch = (notingOf c.args.first c.requires.running.rest c.args.m c.loop-r.r).scratch;
+          cells = part c.args.lanes c.args.text.now c.loop-r.at;
+          fits = record {
+            row = refl;
+            count = refl;
+            room = noted.room;
+            heads = record { busy = c.args.m.busy; mask = c.in-Mask.mask; taps = free; free = noted.free };
+            mask = free.mask;
+          };
+        };
+      },
+      rw c.is_wide.ensures c.requires.lanes_nonzero.5,
+    )
+
+pub loop-r-preserved : goal.loop-r-preserved
+loop-r-preserved c =
+    let k = (goal.at.loop-r-preserved c).In-Mask in
+    let pre = c.requires.lanes_nonzero in
+    let v = c.loop-r in
+    let a = c.args in
+    let i = v.r.row - a.first in
+    let ms = all k in
+    let t = c.add_taps-r.ensures in
+    let free = free-told c.free_taps.ensures c.in-Mask.is in
+    let next : c.add_taps-r.result.row - a.first ≡ i + 1 = omega (arith, t.row, pre.3, v.invariant.0) in
+    let more = ap (λ n. take n ms) next ∙ row_more a.lanes a.rows a.text.now a.start pre.2 i v.at (below k) v.invariant.2 in
+    let above : a.first ≤ v.r.row = omega (arith, pre.3, v.invariant.0) in
+    let counted = count-few _ _ _ _ _ _ (walked k) (within k) in
+    let width = wide k in
+    let noted = note-ready _ _ _ _ _ _ (walked k) (within k) (part a.lanes a.text.now v.at) width pre.1 in (
+      omega (arith, v.invariant.0, t.row),
+      omega (arith, t.row, c.loop-r-test.true),
+      next-at v.at a.start i a.lanes v.invariant.2 ∙ ap (λ n. a.start + n * (a.lanes + 1)) (sym next),
+      c.add_taps-r.auto.slots ∙ v.invariant.3,
+      (λ q done x. subst (Counted a.lanes _ done) (sym more)
+          (counted-taps a.lanes q a.m v.r _ _ done (take i ms) _ _ _ t free (omega (arith, width)) pre.1 (v.invariant.4 q done x))),
+      (λ q done x. subst (NotedRows a.lanes _ _ done) (sym more)
+          (noted-taps a.lanes q a.m v.r _ _ done (take i ms) _ _ _ t free (omega (arith, width)) a.first above counted.0 (omega (arith, width, pre.1)) noted.room.room (v.invariant.5 q done x))),
+    )

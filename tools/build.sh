@@ -1,0 +1,58 @@
+#!/bin/sh
+# build.sh [lib|leaves|programs]: builds what is linked and run, and proves first what is not proved yet.
+#   lib       target/staticlib/libpadcheck.a, the library for Rust and C
+#   leaves    target/staticlib/libleaves.a, for the tests
+#   programs  the programs card, replay_charts, replay_figures and replay_files, in target/bin
+# With no word it builds all of them.
+set -eu
+cd "$(dirname "$0")/.."
+. tests/need.sh
+need "what is built here is proved with it" rt
+
+# A static library exports what its own crate does, and a program cannot stand on one, as the replays stand on padcheck. So each is built in a copy
+# of the crates in which its line says staticlib, over the libraries that checks left.
+static() {
+    room=$(mktemp -d)
+    trap 'rm -rf "$room"' EXIT
+    for crate in crates/*; do
+        case $(basename "$crate") in card | sample | replay_*) continue ;; esac
+        mkdir -p "$room/$crate/out"
+        for part in src specs proofs; do
+            [ ! -d "$crate/$part" ] || cp -r "$crate/$part" "$room/$crate/$part"
+        done
+        [ ! -d "$crate/out/rlib" ] || cp -r "$crate/out/rlib" "$room/$crate/out/rlib"
+    done
+    grep -v '^card:\|^sample:\|^replay_' crates.txt | sed "s/^$1:/$1 staticlib:/" >"$room/crates.txt"
+    (cd "$room/crates/$1" && rt lib)
+    mkdir -p target/staticlib
+    mv "$room/crates/$1/out/lib$1.a" "target/staticlib/lib$1.a"
+    rm -rf "$room"
+    trap - EXIT
+}
+
+program() {
+    (cd "crates/$1" && rt run </dev/null >/dev/null)
+    mkdir -p target/bin
+    cp "crates/$1/out/$1" "target/bin/$1"
+}
+
+programs() {
+    for it in card replay_charts replay_figures replay_files; do
+        program "$it"
+    done
+}
+
+case ${1:-all} in
+lib) static padcheck ;;
+leaves) static leaves ;;
+programs) programs ;;
+all)
+    static padcheck
+    static leaves
+    programs
+    ;;
+*)
+    echo "build.sh: $1 is not known; lib, leaves and programs are" >&2
+    exit 2
+    ;;
+esac
