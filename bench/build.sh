@@ -7,7 +7,7 @@ cd "$(dirname "$0")/.."
 need "the timing program is built with it" rustc
 if [ -z "${PADCHECK_LIB_DIR:-}" ]; then
     need "the library is built with it" rt
-    rt staticlib padcheck
+    sh tools/build.sh lib
     PADCHECK_LIB_DIR=target/staticlib
 fi
 oracle=target/oracle/liboracle.rlib

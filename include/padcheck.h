@@ -1,7 +1,7 @@
 /*
  * padcheck.h: the chart figures of libpadcheck.a, for C and C++.
  *
- * `rt staticlib padcheck` writes target/staticlib/libpadcheck.a; link it after the object files that use it:
+ * `sh tools/build.sh lib` writes target/staticlib/libpadcheck.a; link it after the object files that use it:
  *     cc -I include program.c target/staticlib/libpadcheck.a
  *
  * What a caller owes. A slice is a pointer and how many elements stand behind it. A pointer is not NULL, also

@@ -45,7 +45,7 @@ else
     [ -z "$(git status --porcelain)" ] || refuse "there are changes that are in no commit"
 fi
 lib=${PADCHECK_LIB_DIR:-$PWD/target/staticlib}/libpadcheck.a
-[ -f "$lib" ] || refuse "libpadcheck.a is missing: rt staticlib padcheck makes it"
+[ -f "$lib" ] || refuse "libpadcheck.a is missing: sh tools/build.sh lib makes it"
 
 version=$(sed -n 's/^#define PADCHECK_VERSION "\(.*\)"$/\1/p' include/padcheck.h)
 name=padcheck-$version

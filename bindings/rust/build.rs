@@ -1,4 +1,4 @@
-//! Finds libpadcheck.a: in the folder that `PADCHECK_LIB_DIR` names, else where `rt staticlib padcheck` writes it.
+//! Finds libpadcheck.a: in the folder that `PADCHECK_LIB_DIR` names, else where `sh tools/build.sh lib` writes it.
 
 use std::env;
 use std::path::{Path, PathBuf};
@@ -13,7 +13,7 @@ fn main() -> ExitCode {
     let archive = folder.join(ARCHIVE);
     if !archive.is_file() {
         println!(
-            "cargo::error={ARCHIVE} is not in {}: make it with `rt staticlib padcheck`, or name its folder in {VARIABLE}",
+            "cargo::error={ARCHIVE} is not in {}: make it with `sh tools/build.sh lib`, or name its folder in {VARIABLE}",
             folder.display()
         );
         return ExitCode::FAILURE;

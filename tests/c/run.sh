@@ -7,7 +7,7 @@ cd "$(dirname "$0")/../.."
 . tests/need.sh
 need "the C test needs it" cc valgrind
 if [ -z "${PADCHECK_LIB_DIR:-}" ]; then
-    rt staticlib padcheck
+    sh tools/build.sh lib
     PADCHECK_LIB_DIR=target/staticlib
 fi
 out=target/c

@@ -1,12 +1,12 @@
 #!/bin/sh
-# Runs the program card (target/bin/card, built by `rt check`) beside the oracle's card: document 01's example, an empty input, 4,095 and
+# Runs the program card (target/bin/card, built by tools/build.sh) beside the oracle's card: document 01's example, an empty input, 4,095 and
 # 4,096 bytes, holds with tails, a chart of several measures. The last line is 'N passed, 0 failed'.
 set -eu
 cd "$(dirname "$0")/../.."
 card=target/bin/card oracle=target/oracle/oracle
 for program in "$card" "$oracle"; do
     if [ ! -x "$program" ]; then
-        echo "run.sh: $program is missing; rt check and tests/oracle/build.sh build both programs" >&2
+        echo "run.sh: $program is missing; tools/build.sh programs and tests/oracle/build.sh build them" >&2
         exit 1
     fi
 done

@@ -5,8 +5,8 @@ cd "$(dirname "$0")/../.."
 . tests/need.sh
 need "the differential run is built with it" rt rustc
 sh tests/oracle/build.sh
-rt staticlib padcheck
-rt staticlib leaves
+sh tools/build.sh lib
+sh tools/build.sh leaves
 out=target/differential
 mkdir -p "$out"
 rustc --edition 2024 -O --extern oracle=target/oracle/liboracle.rlib \

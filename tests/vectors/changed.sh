@@ -1,5 +1,5 @@
 #!/bin/sh
-# Shows that the replays notice a changed sample, with the programs of target/bin as rt check leaves them. Ends with 'N passed, M failed'.
+# Shows that the replays notice a changed sample, with the programs of target/bin as tools/build.sh leaves them. Ends with 'N passed, M failed'.
 set -eu
 cd "$(dirname "$0")/../.."
 . tests/need.sh

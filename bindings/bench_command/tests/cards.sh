@@ -2,7 +2,7 @@
 card=target/bin/card oracle=target/oracle/oracle
 [ -x "$oracle" ] || sh tests/oracle/build.sh
 if [ ! -x "$card" ]; then
-    echo "test.sh: $card is missing; rt check builds it" >&2
+    echo "test.sh: $card is missing; sh tools/build.sh programs builds it" >&2
     exit 1
 fi
 

@@ -21,7 +21,7 @@
 //! # Linking
 //!
 //! The build script looks for libpadcheck.a in the folder that `PADCHECK_LIB_DIR` names (an absolute path), else in `target/staticlib` of
-//! the repository, where `rt staticlib padcheck` writes it. The archive is for x86-64 Linux.
+//! the repository, where `sh tools/build.sh lib` writes it. The archive is for x86-64 Linux.
 
 mod buffers;
 mod figures;

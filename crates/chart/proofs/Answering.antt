@@ -23,9 +23,9 @@ use Rattle.definitions.specs.Correction.{corrected}
 use Rattle.definitions.specs.ReadBack.{mainTally}
 use Rattle.definitions.specs.Entries.{mainNumber, mainText, mainDensities, mainBeats, mainWork, mainNotes}
 use Rattle.definitions.specs.declared.ArrowStats.{ArrowStats}
-use Rattle.beats.specs.Places.{place_of, Placed}
+use Rattle.beats.specs.Places.{place_of}
 use Rattle.kept_pass.proofs.Answering.{own-part}
-use Rattle.row_notes.specs.Written.{Written, SomeRows, Finished}
+use Rattle.row_notes.specs.Written.{Written, Finished}
 use Rattle.reader.specs.BackReading.{rowsBack}
 use Rattle.reader.proofs.BackReading.{back-trimmed}
 use Rattle.slices.specs.Zeroed.{zeroed}
@@ -42,20 +42,10 @@ module _ (L : ℕ) (data-text : List ℕ) (p : ChartPass) (text densities : List
   all-beats n size h =
       zeroed-answer (f32 0) beats p.pass.counting.rows n (λ L. beatsOf L data-text) refl size (omega (arith, x.kept.rows_few, size, h)) x.beats-are
 
-  pub rows-small : p.pass.counting.rows ≤ length data-text + 1
-  unfolding mostRows
-  rows-small = le_trans x.kept.rows_few (div-le_self (length data-text + 1) (L + 1))
-
   written : Written (joined (minimised L data-text)) p.noting.scratch slots
   written = subst (λ rs. Written rs p.noting.scratch slots) (append-nil (joined (minimised L data-text))) x.noted.written
 
-  pub some-rows : SomeRows p.noting.scratch slots
-  some-rows = record { rows = joined (minimised L data-text); written = written }
-
   -- the last object row is that of the definition
-  pub found-placed : Placed p.noting.last.found
-  found-placed = x.noted.last.placed
-
   pub found-48 : place48 (place_of p.noting.last.found) ≡ last48 L data-text
   unfolding last48 lastObject
   found-48 = ap place48 x.noted.last.found
@@ -104,30 +94,48 @@ notes-few l len h w =
 module _ (lanes : ℕ) (text out densities₀ : List ℕ) (beats₀ : List Float) (work slots : List ℕ) where
   -- what its contract says of its answer and of what it leaves in its slices
   abbrev Call : ChartAnswer → List ℕ → List ℕ → List Float → List ℕ → List ℕ → Type 0
-  Call a t d b w n =
-      (a ≡ chartAnswer lanes text out densities₀ beats₀ work slots)
-      × ((t ≡ mainText lanes text out densities₀ beats₀ work slots)
-      × ((d ≡ mainDensities lanes text out densities₀ beats₀ work slots)
-      × ((b ≡ mainBeats lanes text out densities₀ beats₀ work slots)
-      × ((w ≡ mainWork lanes text out densities₀ beats₀ work slots)
-      × (n ≡ mainNotes lanes text out densities₀ beats₀ work slots)))))
+  Call a t d b w n = record {
+    value : a ≡ chartAnswer lanes text out densities₀ beats₀ work slots;
+    text_after : t ≡ mainText lanes text out densities₀ beats₀ work slots;
+    densities_after : d ≡ mainDensities lanes text out densities₀ beats₀ work slots;
+    beats_after : b ≡ mainBeats lanes text out densities₀ beats₀ work slots;
+    work_after : w ≡ mainWork lanes text out densities₀ beats₀ work slots;
+    slots_after : n ≡ mainNotes lanes text out densities₀ beats₀ work slots;
+  }
 
   -- refused, it answers the number and leaves every slice as it was
   pub main-refused : (k : ℕ) → mainNumber lanes text out densities₀ beats₀ work slots ≡ suc k → Call (Refused (suc k)) out densities₀ beats₀ work slots
   unfolding chartAnswer mainText mainDensities mainBeats mainWork mainNotes leaves
   main-refused k e =
       let same = eqb-suc-zero k in
-      (rw e, (rw (e, same), (rw (e, same), (rw (e, same), (rw (e, same), rw (e, same))))))
+      record {
+        value = rw e;
+        text_after = rw (e, same);
+        densities_after = rw (e, same);
+        beats_after = rw (e, same);
+        work_after = rw (e, same);
+        slots_after = rw (e, same);
+      }
 
   -- accepted, it answers the figures of the lane count in force, with zeros past each answer
   pub main-accepted : mainNumber lanes text out densities₀ beats₀ work slots ≡ 0 → {L : ℕ} → L ≡ lanes_of lanes
       → {f : ChartFigures} {t d : List ℕ} {b : List Float} {w n : List ℕ}
-      → (f ≡ chartFigures L text)
-      × ((t ≡ padded 0 (length out) (minimisedText L text))
-      × ((d ≡ padded 0 (length densities₀) (densitiesOf L text))
-      × ((b ≡ padded (f32 0) (length beats₀) (beatsOf L text))
-      × ((w ≡ padded 0 (length work) []) × (n ≡ padded 0 (length slots) (records (notes L text)))))))
+      → record {
+        value : f ≡ chartFigures L text;
+        text_after : t ≡ padded 0 (length out) (minimisedText L text);
+        densities_after : d ≡ padded 0 (length densities₀) (densitiesOf L text);
+        beats_after : b ≡ padded (f32 0) (length beats₀) (beatsOf L text);
+        work_after : w ≡ padded 0 (length work) [];
+        slots_after : n ≡ padded 0 (length slots) (records (notes L text));
+      }
       → Call (Chart f) t d b w n
   unfolding chartAnswer mainText mainDensities mainBeats mainWork mainNotes leaves
   main-accepted e l r =
-      (rw (e, ← l) (ap Chart r.0), (rw (e, ← l) r.1.0, (rw (e, ← l) r.1.1.0, (rw (e, ← l) r.1.1.1.0, (rw e r.1.1.1.1.0, rw (e, ← l) r.1.1.1.1.1)))))
+      record {
+        value = rw (e, ← l) (ap Chart r.value);
+        text_after = rw (e, ← l) r.text_after;
+        densities_after = rw (e, ← l) r.densities_after;
+        beats_after = rw (e, ← l) r.beats_after;
+        work_after = rw e r.work_after;
+        slots_after = rw (e, ← l) r.slots_after;
+      }
