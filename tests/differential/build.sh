@@ -1,14 +1,19 @@
 #!/bin/sh
-# Builds the differential run into target/differential: the static libraries (rt), the oracle and the program (rustc 1.88 or later).
+# Builds the differential run into target/differential: the oracle and the program (rustc 1.88 or later). The static libraries padcheck and
+# leaves are built first (rt), or taken from PADCHECK_LIB_DIR where that is set.
 set -eu
 cd "$(dirname "$0")/../.."
 . tests/need.sh
-need "the differential run is built with it" rt rustc
+need "the differential run is built with it" rustc
 sh tests/oracle/build.sh
-sh tools/build.sh lib
-sh tools/build.sh leaves
+if [ -z "${PADCHECK_LIB_DIR:-}" ]; then
+    need "the libraries are built with it" rt
+    sh tools/build.sh lib
+    sh tools/build.sh leaves
+    PADCHECK_LIB_DIR=target/staticlib
+fi
 out=target/differential
 mkdir -p "$out"
 rustc --edition 2024 -O --extern oracle=target/oracle/liboracle.rlib \
-    -L native=target/staticlib -l static=padcheck -l static=leaves \
+    -L native="$PADCHECK_LIB_DIR" -l static=padcheck -l static=leaves \
     -o "$out/differential" tests/differential/main.rs

@@ -34,6 +34,7 @@ fn sheet_among(figures: &[u64; 32]) -> SheetFigures
 }
 
 // The form that was asked for, from the slice's first place on.
+#[tactic(auto, unfolding(crate::specs::Forms::form_of))]
 fn put_form(
     out: &mut [u8],
     form: usize,
@@ -107,6 +108,7 @@ fn write_sheet(
 }
 
 // The number of the first refusal that holds, by the lengths of the text and of the lent slices, or 0.
+#[tactic(auto, unfolding(crate::specs::Entry::firstRefusal, definitions::specs::Lanes::mostRows))]
 fn sheet_refusal(
     lanes: usize,
     form: usize,
