@@ -259,7 +259,7 @@ static void check_records(void)
 int main(int count, char **args)
 {
     if (count != 2) {
-        fprintf(stderr, "usage: check ANSWERS\nANSWERS is the stored sample, tests/vectors/answers.bin.\n");
+        fprintf(stderr, "usage: check ANSWERS\nANSWERS is the stored sample, crates/replay_charts/stdin.\n");
         return 2;
     }
     check_header();

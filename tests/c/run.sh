@@ -30,7 +30,7 @@ counted() {
     total=$((total + ${passed:?the run did not end with its count}))
 }
 
-counted "from C" "$out/check" tests/vectors/answers.bin
+counted "from C" "$out/check" crates/replay_charts/stdin
 counted "from C under valgrind" valgrind --quiet --error-exitcode=3 --leak-check=full --errors-for-leak-kinds=all \
-    "$out/check" tests/vectors/answers.bin
+    "$out/check" crates/replay_charts/stdin
 echo "$total passed, 0 failed"

@@ -1,4 +1,4 @@
-/* The stored sample of the Rust's answers, tests/vectors/answers.bin. */
+/* The stored sample of the Rust's answers, crates/replay_charts/stdin. */
 #ifndef STORED_H
 #define STORED_H
 

@@ -45,10 +45,10 @@ impl Checks {
 }
 
 /// The stored sample: each program that replays it reads a copy of its own.
-const COPIES: [&str; 2] = ["tests/vectors/answers.bin", "crates/replay_figures/stdin"];
+const COPIES: [&str; 2] = ["crates/replay_charts/stdin", "crates/replay_figures/stdin"];
 
 /// The stored sample of SM files.
-const FILES: &str = "tests/vectors/files.bin";
+const FILES: &str = "crates/replay_files/stdin";
 
 fn main() -> ExitCode {
     let mut stored: Vec<String> = env::args().skip(1).collect();

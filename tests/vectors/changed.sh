@@ -7,4 +7,4 @@ need "the test of the replays is built with it" rustc
 out=target/vectors
 mkdir -p "$out"
 rustc --edition 2024 -O -o "$out/changed" tests/vectors/changed.rs
-"$out/changed" tests/vectors/answers.bin target/bin/replay_charts target/bin/replay_figures tests/vectors/files.bin target/bin/replay_files
+"$out/changed" crates/replay_charts/stdin target/bin/replay_charts target/bin/replay_figures crates/replay_files/stdin target/bin/replay_files

@@ -22,8 +22,8 @@ while IFS='|' read -r text file edit; do
         continue
     fi
     case $file in
-    */sm.rs) sample=tests/vectors/files.bin ;;
-    *) sample=tests/vectors/answers.bin ;;
+    */sm.rs) sample=crates/replay_files/stdin ;;
+    *) sample=crates/replay_charts/stdin ;;
     esac
     rm -rf "$copy"
     mkdir -p "$copy/docs" "$copy/tests"

@@ -78,7 +78,7 @@ signatures!(signatures_of_the_binding, stats);
 
 /// Shows each text with its lane number to a test: those of the stored sample, then random ones.
 fn each_text(mut test: impl FnMut(&[u8], usize)) {
-    let path = Path::new(env!("CARGO_MANIFEST_DIR")).join("../../tests/vectors/answers.bin");
+    let path = Path::new(env!("CARGO_MANIFEST_DIR")).join("../../crates/replay_charts/stdin");
     let file = fs::read(path).expect("the stored sample is in the repository");
     let mut reader = Reader(&file);
     reader.bytes(16);

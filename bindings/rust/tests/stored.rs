@@ -1,4 +1,4 @@
-//! Every function beside the stored sample of the Rust's answers, `tests/vectors/answers.bin` of the repository.
+//! Every function beside the stored sample of the Rust's answers, `crates/replay_charts/stdin` of the repository.
 //! One set of buffers serves all texts, so that what one chart leaves in them meets the next.
 
 #[path = "../../../tests/vectors/reader.rs"]
@@ -85,7 +85,7 @@ fn bits(beats: &[f32]) -> Vec<u32> {
 
 /// Shows each record of the sample to a test.
 fn each_record(mut test: impl FnMut(&Record)) {
-    let path = Path::new(env!("CARGO_MANIFEST_DIR")).join("../../tests/vectors/answers.bin");
+    let path = Path::new(env!("CARGO_MANIFEST_DIR")).join("../../crates/replay_charts/stdin");
     let file = fs::read(path).expect("the stored sample is in the repository");
     let mut reader = Reader(&file);
     assert_eq!(reader.bytes(8), b"ANSWERS1");
