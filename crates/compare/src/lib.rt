@@ -1,18 +1,10 @@
 // What an entry left in what it was lent, beside the stored bytes of an answer. Each says true where the two are equal, else false.
 #![tactic(auto)]
 
-ghost use Rattle.std.specs.Prelude.{◌≡◌, [], ◌<◌, length, get_or};
-ghost use Rattle.lines.specs.Words.{halfAt};
+ghost use Rattle.std.specs.Prelude.{◌≡◌, [], get_or};
 ghost use Rattle.compare.specs.Agreement.{hasAnswer, sameFigures, numbers, longs, floatBits, bitsOf};
 
 use lines::words;
-
-// A number of an entry as one of the stored numbers.
-fn wide(n: u32) -> u64
-    ensures { result ≡ n }
-{
-    n as u64
-}
 
 // Byte `i` of an answer; past its end 0.
 fn wanted_byte(want: &[u8], i: usize) -> u8
@@ -48,106 +40,66 @@ fn bits_of(x: f32) -> u64
     ensures { result ≡ floatBits x }
 {
     if x != x {
-        return 4294967296;
+        4294967296
+    } else {
+        u64::from(f32::to_bits(x))
     }
-    wide(f32::to_bits(x))
 }
 
 // The 32 figures, eight bytes each.
 pub fn same_figures(figures: &[u64; 32], want: &[u8]) -> bool
     ensures { result ≡ sameFigures figures.now (longs want.now) }
 {
-    if want.len() / 8 != 32 {
-        return false;
-    }
-    let mut i = 0;
-    while i < 32 {
-        if figures[i] != wanted_long(want, i) {
-            return false; // a figure differs
-        }
-        i += 1;
-    }
-    true
+    want.len() / 8 == 32 && same_longs(figures, want)
 }
 
 // The bytes of an answer, and zeros to the slice's end.
 pub fn same_bytes(bytes: &[u8], want: &[u8]) -> bool
     ensures { result ≡ hasAnswer bytes.now want.now }
 {
-    if bytes.len() < want.len() {
-        return false;
-    }
-    let mut i = 0;
-    while i < bytes.len() {
-        if bytes[i] != wanted_byte(want, i) {
-            return false; // a byte differs
-        }
-        i += 1;
-    }
-    true
+    want.len() <= bytes.len()
+        && bytes
+            .iter()
+            .enumerate()
+            .all(|(i, x)| *x == wanted_byte(want, i))
 }
 
 // The numbers of an answer, and zeros to the slice's end.
 pub fn same_numbers(slice: &[u32], want: &[u8]) -> bool
     ensures { result ≡ hasAnswer slice.now (numbers want.now) }
 {
-    if slice.len() < want.len() / 4 {
-        return false;
-    }
-    let mut i = 0;
-    while i < slice.len() {
-        if wide(slice[i]) != wanted_number(want, i) {
-            return false; // a number differs
-        }
-        i += 1;
-    }
-    true
+    want.len() / 4 <= slice.len()
+        && slice
+            .iter()
+            .enumerate()
+            .all(|(i, x)| u64::from(*x) == wanted_number(want, i))
 }
 
 // The numbers of eight bytes of an answer, and zeros to the slice's end.
 pub fn same_longs(slice: &[u64], want: &[u8]) -> bool
     ensures { result ≡ hasAnswer slice.now (longs want.now) }
 {
-    if slice.len() < want.len() / 8 {
-        return false;
-    }
-    let mut i = 0;
-    while i < slice.len() {
-        if slice[i] != wanted_long(want, i) {
-            return false; // a long number differs
-        }
-        i += 1;
-    }
-    true
+    want.len() / 8 <= slice.len()
+        && slice
+            .iter()
+            .enumerate()
+            .all(|(i, x)| *x == wanted_long(want, i))
 }
 
 // The floats of an answer, and zeros to the slice's end.
 pub fn same_floats(floats: &[f32], want: &[u8]) -> bool
     ensures { result ≡ hasAnswer (bitsOf floats.now) (numbers want.now) }
 {
-    if floats.len() < want.len() / 4 {
-        return false;
-    }
-    let mut i = 0;
-    while i < floats.len() {
-        if bits_of(floats[i]) != wanted_number(want, i) {
-            return false; // a float differs
-        }
-        i += 1;
-    }
-    true
+    want.len() / 4 <= floats.len()
+        && floats
+            .iter()
+            .enumerate()
+            .all(|(i, x)| bits_of(*x) == wanted_number(want, i))
 }
 
 // No answer, and zeros throughout.
 pub fn all_zero(work: &[u16]) -> bool
     ensures { result ≡ hasAnswer work.now [] }
 {
-    let mut i = 0;
-    while i < work.len() {
-        if work[i] != 0 {
-            return false; // an entry is not 0
-        }
-        i += 1;
-    }
-    true
+    work.iter().all(|x| *x == 0)
 }

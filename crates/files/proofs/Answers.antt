@@ -19,6 +19,7 @@ use Rattle.lines.specs.declared.Found.TheVariants as found
 use Rattle.lines.proofs.Lines.{lines_start}
 use Rattle.files.specs.Tags.{firstTag}
 use Rattle.files.specs.Sm.{pastBlock, blockAt, fieldsEnd, textAnswer, smAnswer}
+use Rattle.files.specs.declared.FoundTag.{FoundTag}
 use Rattle.files.specs.declared.FoundTag.TheVariants.{At, Nothing}
 use Rattle.files.specs.declared.sm.SmAnswer.TheVariants.{Refused, Chart}
 use Rattle.files.proofs.Words.{drop_head}
@@ -40,7 +41,7 @@ module _ (file : List ℕ) (off passed : ℕ) where
 
   module _ (t : Tag) (l : Left) (e : firstTag notesTag off (lines_from file off) ≡ At t) where
     -- the one that is found
-    pub at-found : (k : ℕ) → passed ≡ k → At t ≡ blockAt file k
+    at-found : (k : ℕ) → passed ≡ k → At t ≡ blockAt file k
     unfolding blockAt smTag
     at-found k same =
         let h = drop_head (blocks file) passed t (record { line = 0; end = 0 }) _ (l ∙ (block-met file off t e).starts) in
@@ -50,6 +51,11 @@ module _ (file : List ℕ) (off passed : ℕ) where
     -- those after it
     pub at_next : drop (passed + 1) (blocks file) ≡ from file 0 (pastBlock file t)
     at_next = (drop_head (blocks file) passed t t _ (l ∙ (block-met file off t e).starts)).2
+
+  -- what the search finds where k are passed
+  pub at_last : (k : ℕ) → Left → passed ≡ k → (f : FoundTag) → firstTag notesTag off (lines_from file off) ≡ f → f ≡ blockAt file k
+  at_last k l same Nothing e = at_none k l (omega arith) e
+  at_last k l same (At t) e = at-found t l e k same
 
 -- all are left at first
 pub at_first : (file : List ℕ) → Left file 0 0

@@ -123,7 +123,6 @@ module _ (file : List ℕ) where
 
   -- What is known of the first tag from `off` on.
   pub record TagMet (off : ℕ) (t : Tag) : Type 0 where
-    pub later : off ≤ t.line
     pub within : t.line ≤ length file
     pub tagged : isTagged notesTag (line_at t.line) ≡ true
     pub is : t ≡ tag_of notesTag t.line (line_at t.line)
@@ -136,11 +135,10 @@ module _ (file : List ℕ) where
   met off t h true tagged e later =
       let here = tag-here notesTag file off (line_at off) (trim (line_at off)) h refl refl tagged in
       let is : tag_of notesTag off (line_at off) ≡ t = cc in
-      subst (TagMet off) is (record { later = omega arith; within = h; tagged = tagged; is = refl; starts = refl })
+      subst (TagMet off) is (record { within = h; tagged = tagged; is = refl; starts = refl })
   met off t h false other e later =
       let m = later (sym (tag-next notesTag file off (line_at off) (trim (line_at off)) h refl refl other) ∙ e) in
       record {
-        later = omega (arith, m.later);
         within = m.within;
         tagged = m.tagged;
         is = m.is;
@@ -166,7 +164,6 @@ module _ (file : List ℕ) where
   -- What the first tag from `off` on says of the blocks from there on.
   pub record BlockMet (off : ℕ) (t : Tag) : Type 0 where
     pub tag_in : t.end ≤ length file
-    pub further : off < pastBlock file t
     pub in-file : pastBlock file t ≤ length file + 1
     pub starts : from 0 off ≡ t ∷ from 0 (pastBlock file t)
 
@@ -206,7 +203,6 @@ module _ (file : List ℕ) where
       let inside = sym (step-inside (blockEnd file t) t.line m.within (omega (arith, p.0))) in
       record {
         tag_in = p.1;
-        further = omega (arith, p.0, m.later);
         in-file = omega (arith, line-within file (blockEnd file t) ends);
         starts =
             m.starts

@@ -1,42 +1,43 @@
--- Laws of `starts_with`, `same`, `through` and `trimEnd`, as the loops over a part meet them.
+-- Laws of `starts_with`, `up_to`, `through` and `trimEnd`, as std's functions on slices meet them.
 use mathlib.Core.Logic.{◌⊎◌, inl, inr, ⊎_elim}
-use mathlib.Core.Path.{◌≡◌, refl, ap}
+use mathlib.Core.Path.{◌≡◌, refl, ap, sym, ◌∙◌}
 use mathlib.Core.Bool.{Bool, true, false, cond}
 use mathlib.Core.List.{List, [], ◌∷◌}
 use Prim.Native.Nat.{ℕ, zero, suc, ◌+◌, ◌-◌, ◌≤◌, ◌<◌}
 use native.Mathlib.Numerals.{add-one}
 use native.Mathlib.Omega.{arith}
 use lib.Dec.{eqb}
-use lib.ListN.{length, get_or, take, drop, drop_of_length-le}
-use lib.Seq.{drop-cons, take_all}
+use lib.ListN.{length, get_or, take, drop}
+use lib.Seq.{take_all}
 use borrow.Author.Tests.{eq-eqb, ne_eqb, eqb-true}
-use Rattle.definitions.specs.Lists.{up_to, through, starts_with, same}
+use Rattle.std.specs.Char.{is_ascii_whitespace}
+use Rattle.std.specs.List.{starts_with as std_starts}
+use Rattle.std.specs.Str.{IsTrimAsciiEnd}
+use Rattle.std.proofs.lemmas.Bool.Decides.{nat_tests}
+use Rattle.definitions.specs.Lists.{up_to, through, starts_with}
 use Rattle.definitions.specs.Lines.{isBlank}
-use Rattle.definitions.specs.SmFile.{beforeTrimmed, trimEnd}
-use Rattle.definitions.proofs.Bools.{and-false}
-use Rattle.definitions.proofs.Lists.{through-nil, through-cons, startsWith-length}
+use Rattle.definitions.specs.SmFile.{trimEnd}
+use Rattle.definitions.proofs.Lists.{through-nil, through-cons}
 
--- a list shorter than a word does not begin with it
-pub starts-short : (w s : List ℕ) → length s < length w → starts_with w s ≡ false
-starts-short w s h = go (starts_with w s) refl
-  where
-    go : (t : Bool) → starts_with w s ≡ t → starts_with w s ≡ false
-    go true e = absurd (omega (arith, startsWith-length w s e))
-    go false e = e
+-- std's test for a word at the start
+pub starts_std : (s w : List ℕ) → std_starts eqb s w ≡ starts_with w s
+starts_std s [] = refl
+starts_std [] (y ∷ w) = refl
+starts_std (x ∷ s) (y ∷ w) = grind (arith, nat_tests, starts_std s w)
 
--- lists of other lengths are not the same
-pub same-other : (s w : List ℕ) → (length s ≡ length w → ⊥) → same s w ≡ false
-same-other [] [] h = absurd (h refl)
-same-other [] (y ∷ w) h = refl
-same-other (x ∷ s) [] h = refl
-same-other (x ∷ s) (y ∷ w) h = rw (same-other s w (λ e. h (ap suc e))) (and-false (eqb x y))
+-- the place of the first b, or else the length
+pub before-at : (b : ℕ) (s : List ℕ) (n : ℕ) → n ≤ length s → ((k : ℕ) → k < n → get_or s k 0 ≡ b → ⊥) → (n < length s → get_or s n 0 ≡ b) → n ≡ length (up_to b s)
+unfolding up_to
+before-at b [] n h none there = omega arith
+before-at b (x ∷ s) zero h none there = simp (eq-eqb x b (there (omega arith)))
+before-at b (x ∷ s) (suc n) h none there =
+    simp (ne_eqb x b (none 0 (omega arith)))
+    (ap suc (before-at b s n (omega arith) (λ k p. none (suc k) (omega arith)) (λ p. there (omega arith))))
 
--- of one length: where the one begins with the other
-pub same-starts : (s w : List ℕ) → length s ≡ length w → same s w ≡ starts_with w s
-same-starts [] [] h = refl
-same-starts [] (y ∷ w) h = absurd (omega arith)
-same-starts (x ∷ s) [] h = absurd (omega arith)
-same-starts (x ∷ s) (y ∷ w) h = rw (same-starts s w (omega arith))
+-- std's white space
+blank-std : (b : ℕ) → is_ascii_whitespace b ≡ isBlank b
+unfolding isBlank
+blank-std b = grind (arith, nat_tests)
 
 -- the part through a byte, by what stands before it
 pub through-more : (b : ℕ) (s : List ℕ) → length (up_to b s) < length s → through b s ≡ take (length (up_to b s) + 1) s
@@ -47,34 +48,25 @@ pub through-all : (b : ℕ) (s : List ℕ) → length s ≤ length (up_to b s) �
 unfolding through
 through-all b s h = take_all (suc (length (up_to b s))) s (omega arith)
 
--- a blank at the end is taken off
-end-blank : (s : List ℕ) (n : ℕ) → n < length s → isBlank (get_or s n 0) ≡ true → trimEnd (take (suc n) s) ≡ trimEnd (take n s)
-end-blank [] n h e = absurd (omega arith)
-end-blank (b ∷ s) zero h e = simp e
-end-blank (b ∷ s) (suc n) h e = ap (beforeTrimmed b) (end-blank s n (omega arith) e)
+pub ruleset throughs = (through-more, through-all)
 
--- any other byte stays, with what is before it
-kept-before : (b x : ℕ) (s t : List ℕ) (n : ℕ) → n < length s → t ≡ take (suc n) s → beforeTrimmed b t ≡ b ∷ take (suc n) s
-kept-before b x [] t n h e = absurd (omega arith)
-kept-before b x (y ∷ s) t n h e = rw e
+-- a list that is blank from n on, and not at the place before n
+trim-at : (s : List ℕ) (n : ℕ) → n ≤ length s → ((k : ℕ) → n ≤ k → k < length s → isBlank (get_or s k 0) ≡ true) → ((k : ℕ) → suc k ≡ n → isBlank (get_or s k 0) ≡ false) → take n s ≡ trimEnd s
+trim-at [] zero h all last = refl
+trim-at [] (suc n) h all last = absurd (omega arith)
+trim-at (b ∷ s) zero h all last =
+    rw (← trim-at s zero (omega arith) (λ k p q. all (suc k) (omega arith) (omega arith)) (λ k e. absurd (omega arith))) (simp (all 0 (omega arith) (omega arith)))
+trim-at (b ∷ s) (suc zero) h all last =
+    rw (← trim-at s zero (omega arith) (λ k p q. all (suc k) (omega arith) (omega arith)) (λ k e. absurd (omega arith))) (simp (last 0 refl))
+trim-at (b ∷ []) (suc (suc n)) h all last = absurd (omega arith)
+trim-at (b ∷ x ∷ s) (suc (suc n)) h all last =
+    rw (← trim-at (x ∷ s) (suc n) (omega arith) (λ k p q. all (suc k) (omega arith) (omega arith)) (λ k e. last (suc k) (ap suc e))) refl
 
-pub end_stays : (s : List ℕ) (n : ℕ) → n < length s → isBlank (get_or s n 0) ≡ false → trimEnd (take (suc n) s) ≡ take (suc n) s
-end_stays [] n h e = absurd (omega arith)
-end_stays (b ∷ s) zero h e = simp e
-end_stays (b ∷ s) (suc n) h e = kept-before b b s (trimEnd (take (suc n) s)) n (omega arith) (end_stays s n (omega arith) e)
-
-pub end-blank-at : (s : List ℕ) (n : ℕ) → 0 < n → n ≤ length s → isBlank (get_or s (n - 1) 0) ≡ true → trimEnd (take n s) ≡ trimEnd (take (n - 1) s)
-end-blank-at s zero p h e = absurd (omega arith)
-end-blank-at s (suc n) p h e = let z : suc n - 1 ≡ n = omega arith in rw z (end-blank s n (omega arith) (rw z at e))
-
-pub end-stays-at : (s : List ℕ) (n : ℕ) → 0 < n → n ≤ length s → isBlank (get_or s (n - 1) 0) ≡ false → trimEnd (take n s) ≡ take n s
-end-stays-at s zero p h e = absurd (omega arith)
-end-stays-at s (suc n) p h e = let z : suc n - 1 ≡ n = omega arith in end_stays s n (omega arith) (rw z at e)
-
--- nothing is left
-pub none_left : (s : List ℕ) (n : ℕ) → n ≤ 0 → trimEnd (take n s) ≡ take n s
-none_left s zero h = refl
-none_left s (suc n) h = absurd (omega arith)
+-- std's list without the white space at its end
+pub trim_std : (s r : List ℕ) → IsTrimAsciiEnd s r → r ≡ trimEnd s
+trim_std s r e =
+    e.1 ∙ trim-at s e.0 e.3 (λ k p q. sym (blank-std (get_or s k 0)) ∙ e.4 k p q)
+    (λ k p. let z : e.0 - 1 ≡ k = omega arith in sym (blank-std (get_or s k 0)) ∙ rw z at (e.5 (omega arith)))
 
 -- the part through a byte ends with it, or is all
 pub through-ends : (b : ℕ) (s : List ℕ) → (length (through b s) ≡ length s) ⊎ ((0 < length (through b s)) × (get_or s (length (through b s) - 1) 0 ≡ b))
@@ -121,16 +113,3 @@ drop_head (y ∷ l) (suc k) x d r e =
     let h = drop_head l k x d r e in
     let z : suc k + 1 ≡ suc (k + 1) = omega arith in
     (omega (arith, h.0), h.1, rw z h.2)
-
--- one byte more that is not the one looked for, the one, and the end
-pub before-other : (b : ℕ) (s : List ℕ) (n : ℕ) → n < length s → (get_or s n 0 ≡ b → ⊥) → n + length (up_to b (drop n s)) ≡ n + 1 + length (up_to b (drop (n + 1) s))
-unfolding up_to
-before-other b s n h e = rw (add-one, drop-cons s n 0) (simp (ne_eqb _ _ e) (omega arith))
-
-pub before-met : (b : ℕ) (s : List ℕ) (n : ℕ) → n < length s → get_or s n 0 ≡ b → n + length (up_to b (drop n s)) ≡ n
-unfolding up_to
-before-met b s n h e = rw (drop-cons s n 0) (simp (eq-eqb _ _ e) (omega arith))
-
-pub before-end : (b : ℕ) (s : List ℕ) (n : ℕ) → length s ≤ n → n + length (up_to b (drop n s)) ≡ n
-unfolding up_to
-before-end b s n h = rw (drop_of_length-le s h) (omega arith)

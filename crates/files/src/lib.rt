@@ -21,30 +21,18 @@ pub enum FoundTag {
 }
 
 // Whether `s` begins with `word`.
+#[tactic(auto, using(crate::proofs::Words::starts_std))]
 pub fn starts_with(s: &[u8], word: &[u8]) -> bool
     ensures { result ≡ starts_with word.now s.now }
 {
-    if s.len() < word.len() {
-        return false;
-    }
-    let mut i = 0;
-    while i < word.len() {
-        if s[i] != word[i] {
-            return false;
-        }
-        i += 1;
-    }
-    true
+    s.starts_with(word)
 }
 
 // Whether the two are the same, byte for byte.
 pub fn is_same(s: &[u8], word: &[u8]) -> bool
     ensures { result ≡ same s.now word.now }
 {
-    if s.len() != word.len() {
-        return false;
-    }
-    starts_with(s, word)
+    s == word
 }
 
 // How many bytes stand before the first `b`, or in all. Byte by byte: `lines::find_byte` is left to the newline, since the compiler writes the one
@@ -52,17 +40,11 @@ pub fn is_same(s: &[u8], word: &[u8]) -> bool
 pub fn before_byte(s: &[u8], b: u8) -> usize
     ensures { result ≡ length (up_to b s.now) }
 {
-    let mut n = 0;
-    while n < s.len() {
-        if s[n] == b {
-            return n;
-        }
-        n += 1;
-    }
-    n
+    s.iter().position(|x| *x == b).unwrap_or(s.len())
 }
 
 // The part through the first `b`, or all of it.
+#[tactic(auto, using(crate::proofs::Words::throughs))]
 pub fn through_byte(s: &[u8], b: u8) -> &[u8]
     ensures { result.now ≡ through b s.now }
 {
@@ -70,18 +52,11 @@ pub fn through_byte(s: &[u8], b: u8) -> &[u8]
     if n < s.len() { &s[..n + 1] } else { s }
 }
 
-// The part without the blanks at its end.
+// The part without the blanks at its end: ASCII's white space is what `lines::is_blank` takes as blank.
 pub fn trim_end(s: &[u8]) -> &[u8]
     ensures { result.now ≡ trimEnd s.now }
 {
-    let mut n = s.len();
-    while 0 < n {
-        if !lines::is_blank(s[n - 1]) {
-            break;
-        }
-        n -= 1;
-    }
-    &s[..n]
+    s.trim_ascii_end()
 }
 
 // The first field without blanks at its ends: what stands before the first `:`.
@@ -98,18 +73,16 @@ pub fn type_lanes(name: &[u8]) -> usize
     ensures { result ≡ typeLanes name.now }
 {
     if is_same(name, b"dance-single") {
-        return 4;
+        4
+    } else if is_same(name, b"pump-single") {
+        5
+    } else if is_same(name, b"dance-double") {
+        8
+    } else if is_same(name, b"pump-double") {
+        10
+    } else {
+        0
     }
-    if is_same(name, b"pump-single") {
-        return 5;
-    }
-    if is_same(name, b"dance-double") {
-        return 8;
-    }
-    if is_same(name, b"pump-double") {
-        return 10;
-    }
-    0
 }
 
 // The tag of the first line from the one at `start` on that begins, after blanks, with `word`.

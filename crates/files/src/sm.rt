@@ -28,25 +28,19 @@ fn past_block(file: &[u8], tag: Tag) -> usize
     past + rest.len() + 1
 }
 
-// The tag of block `k`.
+// The tag of block `k`: `k` of them are passed over.
 fn block_at(file: &[u8], k: usize) -> FoundTag
     requires { length file.now ≤ mostBytes }
     ensures { result ≡ blockAt file.now k }
 {
     let mut off = 0;
-    let mut passed = 0;
-    loop {
+    for passed in 0..k {
         match crate::next_tag(file, off, b"#NOTES:") {
             FoundTag::Nothing => return FoundTag::Nothing,
-            FoundTag::At(tag) => {
-                if passed == k {
-                    return FoundTag::At(tag);
-                }
-                off = past_block(file, tag);
-                passed += 1;
-            }
+            FoundTag::At(tag) => off = past_block(file, tag),
         }
     }
+    crate::next_tag(file, off, b"#NOTES:")
 }
 
 // Where the five fields at the start of `text` end, each by a `:`; nothing where a `;` or the end comes first.
@@ -54,19 +48,16 @@ fn fields_end(text: &[u8]) -> Found
     ensures { result ≡ fieldsEnd text.now }
 {
     let mut left: usize = 5;
-    let mut i = 0;
-    while i < text.len() {
-        let next = i + 1;
-        match text[i] {
+    for (i, b) in text.iter().enumerate() {
+        match *b {
             b':' => {
                 if left == 1 {
-                    return Found::At(next);
+                    return Found::At(i + 1);
                 }
                 left -= 1;
-                i = next;
             }
             b';' => return Found::Nothing,
-            _ => i = next,
+            _ => {}
         }
     }
     Found::Nothing

@@ -1,34 +1,11 @@
--- `compare::same_longs` meets its contract: what is left of the comparison from place i on. Assumes nothing.
-use Prim.Native.Nat.{◌<◌}
-use mathlib.Core.Path.{sym, ◌∙◌}
-use native.Mathlib.Omega.{arith}
-use lib.ListN.{length}
-use Rattle.compare.specs.Agreement.{longs}
-use Rattle.compare.proofs.Comparing.{has-start, has-turn, has-stop, has_end, has-long}
+-- `compare::same_longs` meets its contract: each place has its number, and an answer that is too long is refused. Assumes nothing.
+use Rattle.std.proofs.Common.{rules, arith}
+use Rattle.compare.proofs.Comparing.{has_by, has-long}
 use Rattle.compare.proofs.Reading.{longs-length}
 use Rattle.compare.proofs.same_longs.Goals as goal
 
-pub returns-then-slice-want : goal.returns-then-slice-want
-returns-then-slice-want c =
-    let h : length c.args.slice.now < length (longs c.args.want.now) = omega (arith, longs-length c.args.want.now) in
-    sym (has-long _ _ h)
+pub returns-then-want-slice : goal.returns-then-want-slice
+returns-then-want-slice c = has_by _ _ _ (omega (arith, longs-length c.args.want.now)) (search rules)
 
-pub loop-i-init : goal.loop-i-init
-loop-i-init c = (omega arith, omega (arith, longs-length c.args.want.now), has-start _ _)
-
-pub returns-then-slice-i : goal.returns-then-slice-i
-returns-then-slice-i c =
-    sym
-    (c.loop-i.invariant.2
-    ∙ has-stop _ _ c.loop-i.invariant.1 c.loop-i.i 0 c.loop-i-test.true (λ e. c.if-slice-i.true (e ∙ sym c.wanted_long.ensures)))
-
-pub loop-i-preserved : goal.loop-i-preserved
-loop-i-preserved c = (
-  omega arith,
-  c.loop-i.invariant.1,
-  c.loop-i.invariant.2
-      ∙ has-turn _ _ c.loop-i.invariant.1 c.loop-i.i 0 c.loop-i-test.true (c.if-slice-i.false ∙ c.wanted_long.ensures),
-)
-
-pub returns : goal.returns
-returns c = sym (c.loop-i.invariant.2 ∙ has_end _ _ c.loop-i.invariant.1 c.loop-i.i c.loop-i-test.false)
+pub returns-else-want-slice : goal.returns-else-want-slice
+returns-else-want-slice c = has-long _ _ _ c.if-want-slice.false (longs-length _)

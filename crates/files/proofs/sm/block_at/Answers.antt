@@ -6,43 +6,38 @@ use Rattle.lines.specs.Lines.{lines_from}
 use Rattle.files.specs.Tags.{firstTag}
 use Rattle.files.specs.declared.FoundTag.TheVariants.{At}
 use Rattle.files.proofs.Blocks.{from, BlockMet, block-met}
-use Rattle.files.proofs.Answers.{at_none, at-found, at_next, at_first}
+use Rattle.files.proofs.Answers.{at_none, at_next, at_first, at_last}
 use Rattle.files.proofs.sm.block_at.Goals as goal
 use Rattle.files.proofs.sm.block_at.Goals.{In-At}
 
 -- the tag that was found
-tag-found : (c : In-At) → firstTag notesTag c.loop-tag.off (lines_from c.args.file.now c.loop-tag.off) ≡ At c.in-At.tag
+tag-found : (c : In-At) → firstTag notesTag c.loop-passed.off (lines_from c.args.file.now c.loop-passed.off) ≡ At c.in-At.tag
 unfolding notesTag
 tag-found c = sym c.next_tag.ensures ∙ c.in-At.is
 
-met : (c : In-At) → BlockMet c.args.file.now c.loop-tag.off c.in-At.tag
-met c = block-met c.args.file.now c.loop-tag.off c.in-At.tag (tag-found c)
+met : (c : In-At) → BlockMet c.args.file.now c.loop-passed.off c.in-At.tag
+met c = block-met c.args.file.now c.loop-passed.off c.in-At.tag (tag-found c)
 
-pub loop-tag-init : goal.loop-tag-init
-loop-tag-init c = (omega arith, omega arith, at_first c.args.file.now)
+pub loop-passed-init : goal.loop-passed-init
+loop-passed-init c = (omega arith, at_first c.args.file.now)
 
 pub returns-in-Nothing : goal.returns-in-Nothing
 unfolding notesTag
 returns-in-Nothing c =
-    at_none c.args.file.now c.loop-tag.off c.loop-tag.passed c.args.k c.loop-tag.invariant.2 c.loop-tag.invariant.1 (sym c.next_tag.ensures ∙ c.in-Nothing.is)
-
-pub returns-then-passed-k : goal.returns-then-passed-k
-returns-then-passed-k c =
-    at-found c.args.file.now c.loop-tag.off c.loop-tag.passed c.in-At.tag c.loop-tag.invariant.2 (tag-found (goal.at.returns-then-passed-k c).In-At) c.args.k c.if-passed-k.true
+    at_none c.args.file.now c.loop-passed.off c.loop-passed.passed c.args.k c.loop-passed.invariant.1 (omega arith) (sym c.next_tag.ensures ∙ c.in-Nothing.is)
 
 pub past_block-off-requires : goal.past_block-off-requires
 past_block-off-requires c = (omega arith, (met (goal.at.past_block-off-requires c).In-At).tag_in)
 
-pub loop-tag-smaller : goal.loop-tag-smaller
-loop-tag-smaller c =
-    let m = met (goal.at.loop-tag-smaller c).In-At in
-    omega (arith, c.past_block-off.ensures, m.further, m.in-file)
-
-pub loop-tag-preserved : goal.loop-tag-preserved
-loop-tag-preserved c =
-    let m = met (goal.at.loop-tag-preserved c).In-At in (
+pub loop-passed-preserved : goal.loop-passed-preserved
+loop-passed-preserved c =
+    let m = met (goal.at.loop-passed-preserved c).In-At in (
       omega (arith, c.past_block-off.ensures, m.in-file),
-      omega (arith, c.if-passed-k.false),
-      at_next c.args.file.now c.loop-tag.off c.loop-tag.passed c.in-At.tag c.loop-tag.invariant.2 (tag-found (goal.at.loop-tag-preserved c).In-At)
+      at_next c.args.file.now c.loop-passed.off c.loop-passed.passed c.in-At.tag c.loop-passed.invariant.1 (tag-found (goal.at.loop-passed-preserved c).In-At)
           ∙ sym (ap (λ n. from c.args.file.now 0 n) c.past_block-off.ensures),
     )
+
+pub returns : goal.returns
+unfolding notesTag
+returns c =
+    at_last c.args.file.now c.loop-passed.off c.loop-passed.passed c.args.k c.loop-passed.invariant.1 (omega arith) c.next_tag-2.result (sym c.next_tag-2.ensures)
