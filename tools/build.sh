@@ -1,5 +1,5 @@
 #!/bin/sh
-# build.sh [lib|leaves|programs]: builds what is linked and run, and proves first what is not proved yet.
+# build.sh [lib|leaves|programs]: builds what is linked and run. What no check has proved since it last changed is proved first.
 #   lib       target/staticlib/libpadcheck.a, the library for Rust and C
 #   leaves    target/staticlib/libleaves.a, for the tests
 #   programs  the programs card, replay_charts, replay_figures and replay_files, in target/bin
