@@ -1,11 +1,11 @@
 // Document 01's program card: reads standard input, 4 lanes, at most 4,095 bytes, and prints the sheet; for more it prints `refused 1`.
 #![tactic(auto)]
 
-ghost use Rattle.std.specs.Prelude.{◌≡◌, ◌≤◌, length, take};
+ghost use Rattle.std.specs.Prelude.{◌≡◌, ◌≤◌, length, take, codes};
 ghost use Rattle.sheet.specs.Card.{card};
 ghost use Rattle.sheet.specs.Card.{sheet as sheetLines};
 
-use sheet::put_text;
+use sheet::Page;
 use std::io;
 use std::io::{Print, Read};
 
@@ -66,8 +66,7 @@ fn put_chart(data: &[u8], out: &mut [u8]) -> usize
     let mut beats = room_for_beats();
     let mut work = room_for_work();
     let mut notes = room_for_notes();
-    let mut figures = [0u64; 32];
-    chart_sheet::chart_sheet(
+    match chart_sheet::chart_sheet(
         data,
         4,
         0,
@@ -78,9 +77,23 @@ fn put_chart(data: &[u8], out: &mut [u8]) -> usize
         &mut work,
         &mut notes,
         out,
-        &mut figures,
-    );
-    figures[7] as usize
+    ) {
+        Ok(figures) => figures[7] as usize,
+        Err(_) => unreachable!(),
+    }
+}
+
+// The line of a text that is too long.
+fn put_refusal(out: &mut [u8]) -> usize
+    requires { 10 ≤ length out.old }
+    ensures upper_bound { result ≤ length out.new }
+    ensures out_after { take result out.new ≡ codes "refused 1\n" }
+{
+    let mut page = Page::new(out);
+    match page.text("refused 1\n") {
+        Ok(()) => page.len(),
+        Err(_) => unreachable!(),
+    }
 }
 
 fn put_card(data: &[u8], out: &mut [u8]) -> usize
@@ -89,7 +102,7 @@ fn put_card(data: &[u8], out: &mut [u8]) -> usize
     ensures out_after { take result out.new ≡ card «data».now }
 {
     if data.len() > 4095 {
-        return put_text(out, 0, b"refused 1\n");
+        return put_refusal(out);
     }
     put_chart(data, out)
 }

@@ -9,29 +9,9 @@ ghost use Rattle.definitions.specs.Figures.{minimisedText, densities as densitie
 ghost use Rattle.definitions.specs.Beats.{f32, beats as beatsOf};
 ghost use Rattle.definitions.specs.Notes.{notes as notesOf};
 ghost use Rattle.definitions.specs.Records.{records};
-ghost use Rattle.definitions.specs.Entries.{mainText, mainDensities, mainBeats, mainWork, mainNotes};
-ghost use Rattle.chart.specs.Answers.{chartFigures, chartAnswer};
+ghost use Rattle.definitions.specs.Entries.{chartFigures, mainAnswer, mainText, mainDensities, mainBeats, mainWork, mainNotes};
 
-use definitions::ArrowStats;
-
-// What the main call answers beside its slices: bytes of the minimised text, measures, minimised rows, note records, the last beat as the
-// bits of its float and in 48ths, and the tally.
-#[derive(Drop)]
-pub struct ChartFigures {
-    pub bytes: usize,
-    pub measures: usize,
-    pub rows: u32,
-    pub notes: usize,
-    pub last_bits: u64,
-    pub last_row: u64,
-    pub stats: ArrowStats,
-}
-
-#[derive(Drop)]
-pub enum ChartAnswer {
-    Refused(u32),
-    Chart(ChartFigures),
-}
+use definitions::{ChartFigures, Refusal};
 
 // The main call where it is accepted: the pass, the tally corrected over the minimised text read back, and zeros past each answer.
 pub fn chart_figures(
@@ -71,9 +51,9 @@ pub fn chart_figures(
     let scan = noting.last;
     let last = scan.found;
     let count = row_notes::finish(noting.scratch, slots);
-    slices::zero_u8(text, out);
-    slices::zero_u32(densities, measures);
-    slices::zero_f32(beats, rows as usize);
+    slices::zero_past(text, out, 0);
+    slices::zero_past(densities, measures, 0);
+    slices::zero_past(beats, rows as usize, 0.0);
     ChartFigures {
         bytes: out,
         measures,
@@ -86,6 +66,7 @@ pub fn chart_figures(
 }
 
 // Minimised text, densities, row beats, note records, tally and last beat of a text.
+#[tactic(auto, unfolding(definitions::specs::Entries::mainAnswer))]
 pub fn minimize_chart_count_rows_notes(
     data: &[u8],
     lanes: usize,
@@ -94,8 +75,8 @@ pub fn minimize_chart_count_rows_notes(
     beats: &mut [f32],
     work: &mut [u16],
     slots: &mut [u8],
-) -> ChartAnswer
-    ensures value { result ≡ chartAnswer lanes «data».now text.old densities.old beats.old work.old slots.old }
+) -> Result<ChartFigures, Refusal>
+    ensures value { result ≡ mainAnswer lanes «data».now text.old densities.old beats.old work.old slots.old }
     ensures text_after { text.new ≡ mainText lanes «data».now text.old densities.old beats.old work.old slots.old }
     ensures densities_after { densities.new ≡ mainDensities lanes «data».now text.old densities.old beats.old work.old slots.old }
     ensures beats_after { beats.new ≡ mainBeats lanes «data».now text.old densities.old beats.old work.old slots.old }
@@ -103,26 +84,12 @@ pub fn minimize_chart_count_rows_notes(
     ensures slots_after { slots.new ≡ mainNotes lanes «data».now text.old densities.old beats.old work.old slots.old }
 {
     let len = data.len();
-    if definitions::MOST_BYTES < len {
-        return ChartAnswer::Refused(1);
-    }
-    if text.len() < len + 1 {
-        return ChartAnswer::Refused(2);
-    }
-    if densities.len() < (len + 1) / 2 + 1 {
-        return ChartAnswer::Refused(3);
-    }
+    refusals::text_fits(len)?;
+    refusals::room_for_text(len, text.len())?;
+    refusals::room_for_measures(len, densities.len())?;
     let columns = reader::lanes_of(lanes);
-    let rows = (len + 1) / (columns + 1);
-    if beats.len() < rows {
-        return ChartAnswer::Refused(4);
-    }
-    if work.len() < rows {
-        return ChartAnswer::Refused(5);
-    }
-    if slots.len() < 10 * columns * rows {
-        return ChartAnswer::Refused(6);
-    }
-    let figures = chart_figures(data, columns, text, densities, beats, work, slots);
-    ChartAnswer::Chart(figures)
+    refusals::room_for_beats(columns, len, beats.len())?;
+    refusals::room_for_work(columns, len, work.len())?;
+    refusals::room_for_notes(columns, len, slots.len())?;
+    Ok(chart_figures(data, columns, text, densities, beats, work, slots))
 }

@@ -25,8 +25,7 @@ use Rattle.reduction.proofs.RowsAt.{rows-length}
 use Rattle.measure_notes.specs.declared.Noting.{Noting}
 use Rattle.measure_notes.specs.Noted.{Noted}
 use Rattle.output.proofs.Writing.{wrote-holds}
-use Rattle.reader.specs.Reading.{ReadAll}
-use Rattle.reader.proofs.Passes.{Few}
+use Rattle.reader.proofs.ChartLoops.{Few}
 use Rattle.chart_pass.specs.declared.ChartPass.{ChartPass}
 use Rattle.chart_pass.specs.ChartPass.{Charted, SomeCharted, ChartEnded, ChartAll}
 
@@ -96,12 +95,12 @@ slots-room L rows most size h room =
     le_trans (mul-le-mul_right 10 (mul-le-mul_right L h)) (le_trans (le_of_eq (mul_comm (most * L) 10 ∙ ap (λ n. 10 * n) (mul_comm most L) ∙ sym (mul_assoc 10 L most))) room)
 
 -- The last measure has ended too: all of the chart's.
-pub chart-all : (L : ℕ) (e : ChartPass) (data-text text densities : List ℕ) (beats : List Float) (slots : List ℕ) (done : List (List Row)) (cur : List Row) → ReadAll L data-text done cur
+pub chart-all : (L : ℕ) (e : ChartPass) (data-text text densities : List ℕ) (beats : List Float) (slots : List ℕ) (done : List (List Row)) (cur : List Row) → chart L data-text ≡ done ++ (cur ∷ [])
     → Few L (length data-text) (map reduce done) cur → ChartEnded L e text densities beats slots (map reduce done) (reduce cur) → e.pass.out ≤ length text → e.pass.out ≤ length data-text + 1
     → ChartAll L data-text e text densities beats slots
 unfolding beatsOf measureBeats minimised
 chart-all L e data-text text densities beats slots done cur read few x fits short =
-    let all : map reduce (chart L data-text) ≡ map reduce done ++ (reduce cur ∷ []) = ap (map reduce) read.chart-is ∙ map-append reduce done (cur ∷ []) in
+    let all : map reduce (chart L data-text) ≡ map reduce done ++ (reduce cur ∷ []) = ap (map reduce) read ∙ map-append reduce done (cur ∷ []) in
     record {
       kept = kept-all L e.pass data-text text densities done cur read few x.ended fits short;
       noted = subst (Noted L e.noting slots) (sym all) x.noted;

@@ -10,9 +10,9 @@ ghost use Rattle.taps.specs.Taps.{wideRow, TapCounts};
 ghost use Rattle.definitions.specs.Reduction.{reduce};
 ghost use Rattle.chart_pass.specs.ChartPass.{Charted, SomeCharted, ChartEnded, ChartAll};
 
-use definitions::LineKind;
 use kept_pass::KeptPass;
 use measure_notes::Noting;
+use reader::charts::ChartLine;
 
 // What the pass has written and counted, and the notes and the last object row of the measures that have ended.
 #[derive(Clone, Copy)]
@@ -115,28 +115,16 @@ fn read_lines(
     requires data_in_bounds { (length «data».now + 1 ≤ length text.old) × ((length «data».now + 1) / 2 + 1 ≤ length densities.old) × (mostRows lanes (length «data».now) ≤ length beats.old) × (10 * lanes * mostRows lanes (length «data».now) ≤ length slots.old) × TapCounts (wideRow lanes) counts.now }
     ensures { ChartAll lanes «data».now result text.new densities.new beats.new slots.new }
 {
-    let width = reader::line_width(data, lanes);
-    let mut off = 0;
     let mut p = no_chart();
-    while off <= data.len() {
-        let line = reader::read_line(data, off, lanes, width);
-        let kind = line.kind;
-        let start = line.start;
-        let next = line.next;
-        match kind {
-            LineKind::Passed => {}
-            LineKind::Comma => {
+    for line in reader::charts::chart_lines(data, lanes) {
+        match line {
+            ChartLine::Row(row) => {
+                p = chart_row(p, text, row);
+            }
+            ChartLine::Comma => {
                 p = chart_comma(p, text, densities, beats, slots, lanes, counts);
             }
-            LineKind::Semi => {
-                break;
-            }
-            LineKind::Row => {
-                let end = start + lanes;
-                p = chart_row(p, text, &data[start..end]);
-            }
         }
-        off = next;
     }
     end_measure(p, text, densities, beats, slots, lanes, counts)
 }

@@ -7,12 +7,11 @@ use lib.Dec.{eqb}
 use lib.ListN.{length}
 use Rattle.definitions.specs.Sizes.{mostBytes}
 use Rattle.definitions.specs.Lanes.{lanes_of}
-use Rattle.definitions.specs.Figures.{minimisedText, densities, spacings}
+use Rattle.definitions.specs.Figures.{densities, spacings}
 use Rattle.definitions.specs.Notes.{notes}
 use Rattle.definitions.specs.Records.{records}
-use Rattle.sheet_answers.specs.Answers.{mainAnswer, keptAnswer, judgedAnswer}
+use Rattle.sheet_answers.specs.Answers.{sheetFigures}
 use Rattle.chart_sheet.specs.Forms.{form_of, printed, jsonObject, chartSheet}
-use Rattle.sheet.specs.Card.{sheetFigures as cardFigures}
 use Rattle.chart_sheet.proofs.Lines.{card-lines}
 use Rattle.chart_sheet.proofs.CardRoom.{card-room}
 use Rattle.chart_sheet.proofs.PrintRoom.{print-room}
@@ -20,9 +19,9 @@ use Rattle.chart_sheet.proofs.JsonRoom.{json-room}
 
 -- a form of all answers of a text is the text's sheet
 pub form-sheet : (form lanes : ℕ) (text : List ℕ) → length text ≤ mostBytes
-    → form_of form (mainAnswer (lanes_of lanes) text) (keptAnswer (lanes_of lanes) text) (judgedAnswer (lanes_of lanes) (minimisedText (lanes_of lanes) text)) (densities (lanes_of lanes) text) (spacings (lanes_of lanes) text) (records (notes (lanes_of lanes) text))
+    → form_of form (sheetFigures (lanes_of lanes) text) (densities (lanes_of lanes) text) (spacings (lanes_of lanes) text) (records (notes (lanes_of lanes) text))
     ≡ chartSheet form (lanes_of lanes) text
-unfolding form_of chartSheet printed jsonObject
+unfolding form_of chartSheet printed jsonObject sheetFigures
 form-sheet form lanes text short = rw (card-lines lanes text short)
 
 -- one of three lists has room where each has
@@ -33,11 +32,11 @@ pick-room n false false a b c p q r = r
 
 -- every form of them has room
 pub form-room : (form lanes : ℕ) (text : List ℕ) → length text ≤ mostBytes
-    → length (form_of form (mainAnswer (lanes_of lanes) text) (keptAnswer (lanes_of lanes) text) (judgedAnswer (lanes_of lanes) (minimisedText (lanes_of lanes) text)) (densities (lanes_of lanes) text) (spacings (lanes_of lanes) text) (records (notes (lanes_of lanes) text))) + 300
+    → length (form_of form (sheetFigures (lanes_of lanes) text) (densities (lanes_of lanes) text) (spacings (lanes_of lanes) text) (records (notes (lanes_of lanes) text))) + 300
     ≤ 42 * (length text + 1) + 3000
-unfolding form_of mainAnswer cardFigures
+unfolding form_of sheetFigures
 form-room form lanes text short =
     pick-room (42 * (length text + 1) + 3000) (eqb form 0) (eqb form 1) _ _ _
     (card-room lanes text short)
-    (print-room _ _ _ lanes text short)
-    (json-room _ _ _ lanes text short)
+    (print-room _ lanes text short)
+    (json-room _ lanes text short)

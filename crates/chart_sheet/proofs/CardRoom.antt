@@ -1,23 +1,23 @@
 -- The room that a sheet is lent is enough for the lines of the card.
 use mathlib.Core.List.{List}
+use mathlib.Core.Path.{◌≡◌, ap, ◌∙◌}
 use Prim.Native.Nat.{ℕ, ◌+◌, ◌*◌, ◌<◌, ◌≤◌}
 use native.Mathlib.Omega.{arith}
 use lib.ListN.{length, get_or, length-append}
+use Rattle.std.specs.Prelude.{codes}
 use Rattle.definitions.specs.Sizes.{mostBytes}
 use Rattle.definitions.specs.Lanes.{lanes_of}
 use Rattle.definitions.specs.Figures.{densities, spacings}
 use Rattle.definitions.specs.Notes.{notes}
 use Rattle.definitions.specs.Records.{kindNumber, records, readNote}
-use Rattle.definitions.specs.Entries.{measureCount}
+use Rattle.definitions.specs.Entries.{measureCount, chartFigures}
 use Rattle.definitions.specs.WriterMakes.{TailMade, Made}
 use Rattle.definitions.specs.declared.Kind.{Kind}
 use Rattle.definitions.specs.declared.Tail.{Tail}
 use Rattle.definitions.specs.declared.Tail.TheVariants.{Without, Row}
 use Rattle.definitions.specs.declared.Note.{Note}
-use Rattle.sheet.specs.Sheet.{ascii, figureLine, measureLine, tailField, noteLine, recordLine, measureLines, recordLines, headLines, sheetOf}
-use Rattle.sheet.specs.Card.{sheetFigures}
-use Rattle.sheet.specs.declared.SheetFigures.{SheetFigures}
-use Rattle.sheet.proofs.Putting.{sheet-parts}
+use Rattle.sheet.specs.Sheet.{figureLine, measureLine, tailField, noteLine, recordLine, measureLines, recordLines, headLines, sheetOf}
+use Rattle.definitions.specs.declared.ChartFigures.{ChartFigures}
 use Rattle.chart_sheet.proofs.Lengths.{field-digit, field-short, field-length, listed-most}
 use Rattle.chart_sheet.proofs.Counts.{measure-below, density-below, spacing-below, tail-below, reads, room-enough}
 
@@ -26,18 +26,18 @@ head-line : (name : List ℕ) (n c : ℕ) → length name ≤ c → length (figu
 unfolding figureLine
 head-line name n c h = rw length-append (omega (arith, field-length n 10))
 
-head-lines : (f : SheetFigures) → length (headLines f) ≤ 164
+head-lines : (f : ChartFigures) → length (headLines f) ≤ 164
 unfolding headLines
 head-lines f =
     simp length-append
     (omega (
       arith,
-      head-line (ascii "measures ") f.measures 9 (omega arith),
-      head-line (ascii "rows ") f.rows 5 (omega arith),
-      head-line (ascii "arrows ") f.arrows 7 (omega arith),
-      head-line (ascii "steps ") f.steps 6 (omega arith),
-      head-line (ascii "notes ") f.notes 6 (omega arith),
-      head-line (ascii "last ") f.last 5 (omega arith),
+      head-line (codes "measures ") f.measures 9 (omega arith),
+      head-line (codes "rows ") f.rows 5 (omega arith),
+      head-line (codes "arrows ") f.stats.total_arrows 7 (omega arith),
+      head-line (codes "steps ") f.stats.total_steps 6 (omega arith),
+      head-line (codes "notes ") f.notes 6 (omega arith),
+      head-line (codes "last ") f.last_row 5 (omega arith),
     ))
 
 -- a measure's line has at most 22 bytes
@@ -64,18 +64,25 @@ note-line n made =
       tail-field n.row n.kind n.tail made.tail,
     ))
 
+-- how the room of a sheet is shared out
+sheet-parts : (f : ChartFigures) (densities spacings records : List ℕ)
+    → length (sheetOf f densities spacings records) ≡ length (headLines f) + (length (measureLines densities spacings f.measures) + length (recordLines records f.notes))
+unfolding sheetOf
+sheet-parts f densities spacings records =
+    length-append (headLines f) _ ∙ ap (λ (k : ℕ). length (headLines f) + k) (length-append (measureLines densities spacings f.measures) _)
+
 module _ (lanes : ℕ) (text : List ℕ) (short : length text ≤ mostBytes) where
   record-line : (k : ℕ) → k < length (notes (lanes_of lanes) text) → length (recordLine (readNote (records (notes (lanes_of lanes) text)) k)) ≤ 24
   record-line k h =
       let back = reads lanes text short k h in
       rw back.read (note-line back.note back.limits)
 
-  pub card-room : length (sheetOf (sheetFigures (lanes_of lanes) text) (densities (lanes_of lanes) text) (spacings (lanes_of lanes) text) (records (notes (lanes_of lanes) text))) + 300
+  pub card-room : length (sheetOf (chartFigures (lanes_of lanes) text) (densities (lanes_of lanes) text) (spacings (lanes_of lanes) text) (records (notes (lanes_of lanes) text))) + 300
       ≤ 42 * (length text + 1) + 3000
-  unfolding sheetFigures
+  unfolding chartFigures
   card-room =
       let L = lanes_of lanes in
-      let f = sheetFigures L text in
+      let f = chartFigures L text in
       let ds = densities L text in
       let ss = spacings L text in
       let rs = records (notes L text) in

@@ -1,10 +1,12 @@
 -- The room that a sheet is lent is enough for the form `json`.
+use Rattle.std.specs.Prelude.{Ok}
 use mathlib.Core.Bool.{Bool, true, false, cond}
-use mathlib.Core.List.{List, [], ◌∷◌, ◌++◌}
+use mathlib.Core.List.{List, [], ◌∷◌}
 use Prim.Native.Nat.{ℕ, ◌+◌, ◌*◌, ◌/◌, ◌%◌, ◌<◌, ◌≤◌}
 use native.Mathlib.Omega.{arith}
 use lib.Dec.{eqb}
-use lib.ListN.{length, get_or, take, drop, length-append, length-take}
+use lib.ListN.{length, get_or, length-append}
+use Rattle.std.specs.Prelude.{codes}
 use Rattle.definitions.specs.Sizes.{mostBytes}
 use Rattle.definitions.specs.Lanes.{lanes_of}
 use Rattle.definitions.specs.Figures.{densities, spacings}
@@ -15,31 +17,46 @@ use Rattle.definitions.specs.declared.Kind.{Kind}
 use Rattle.definitions.specs.declared.Tail.{Tail}
 use Rattle.definitions.specs.declared.Tail.TheVariants.{Without, Row}
 use Rattle.definitions.specs.declared.Note.{Note}
-use Rattle.definitions.specs.declared.ReadNote.TheVariants.{Found}
-use Rattle.definitions.proofs.Lists.{upTo-short}
-use Rattle.sheet.specs.Sheet.{fieldNames}
-use Rattle.sheet.proofs.Putting.{number-length}
-use Rattle.sheet_json.specs.Json.{json, separator, figure, jsonHeads, member, members, jsonTallies, densityEntry, densityEntries, truth, spacingEntry, spacingEntries, tailValue, noteValue, recordEntry, recordEntries, jsonLists, jsonOf}
+use Rattle.definitions.specs.declared.ArrowStats.{ArrowStats}
+use Rattle.definitions.specs.declared.ChartFigures.{ChartFigures}
+use Rattle.sheet.specs.Sheet.{fieldAt}
+use Rattle.sheet.specs.declared.SheetFigures.{SheetFigures}
+use Rattle.sheet.proofs.Numbers.{number-length}
+use Rattle.sheet.proofs.Names.{field-name}
+use Rattle.sheet_json.specs.Json.{separator, named, figure, lastBeat, jsonHeads, member, members, jsonTallies, densityEntry, densityEntries, truth, spacingEntry, spacingEntries, tailValue, noteValue, recordEntry, recordEntries, jsonLists, jsonOf}
 use Rattle.chart_sheet.proofs.Lengths.{number_short, field-digit, field-short, listed-most}
 use Rattle.chart_sheet.proofs.Counts.{densities-count, spacings-count, records-count, density-below, tail-below, reads, room-enough}
 
 -- ---- Heads and tallies, with numbers of at most twenty digits
-figure-length : (before : List ℕ) (n c : ℕ) → length before ≤ c → length (figure before n) ≤ c + 20
-unfolding figure
-figure-length before n c h = rw length-append (omega (arith, number-length n))
+named-length : (name : List ℕ) (n c : ℕ) → length name ≤ c → length (named name n) ≤ c + 23
+unfolding named
+named-length name n c h = simp length-append (omega (arith, number-length n))
 
-json-heads : (main : List ℕ) → length (jsonHeads main) ≤ 200
-unfolding jsonHeads
-json-heads main =
+figure-length : (name : List ℕ) (n c : ℕ) → length name ≤ c → length (figure name n) ≤ c + 24
+unfolding figure
+figure-length name n c h = rw length-append (omega (arith, named-length name n c h))
+
+last-length : (last : ℕ) → length (lastBeat last) ≤ 106
+unfolding lastBeat
+last-length last =
     simp length-append
     (omega (
       arith,
-      figure-length (json "{'measures':") (get_or main 1 0) 12 (omega arith),
-      figure-length (json ",'rows':") (get_or main 2 0) 8 (omega arith),
-      figure-length (json ",'notes':") (get_or main 3 0) 9 (omega arith),
-      figure-length (json ",'last_beat':{'beats':") (get_or main 6 0 / 48) 22 (omega arith),
-      figure-length (json ",'over_48':") (get_or main 6 0 % 48) 11 (omega arith),
-      figure-length (json ",'in_48ths':") (get_or main 6 0) 12 (omega arith),
+      named-length (codes "beats") (last / 48) 5 (omega arith),
+      figure-length (codes "over_48") (last % 48) 7 (omega arith),
+      figure-length (codes "in_48ths") last 8 (omega arith),
+    ))
+
+json-heads : (f : ChartFigures) → length (jsonHeads f) ≤ 200
+unfolding jsonHeads
+json-heads f =
+    simp length-append
+    (omega (
+      arith,
+      named-length (codes "measures") f.measures 8 (omega arith),
+      figure-length (codes "rows") f.rows 4 (omega arith),
+      figure-length (codes "notes") f.notes 5 (omega arith),
+      last-length f.last_row,
     ))
 
 separator-length : (k : ℕ) → length (separator k) ≤ 1
@@ -49,25 +66,18 @@ separator-length k = go (eqb k 0)
     go true = omega arith
     go false = omega arith
 
-member-length : (names figures : List ℕ) (i : ℕ) → length (member names figures i) ≤ 36
+member-length : (i : ℕ) (name : List ℕ) (count : ℕ) → length name ≤ 12 → length (member i name count) ≤ 36
 unfolding member
-member-length names figures i =
-    let name = take 12 (drop (i * 12) names) in
-    rw (length-append, length-append)
-    (omega (arith, separator-length i, upTo-short 32 name, length-take 12 (drop (i * 12) names), number-length (get_or figures (i + 8) 0)))
+member-length i name count h = rw length-append (omega (arith, separator-length i, named-length name count 12 h))
 
-members-length : (figures : List ℕ) (n : ℕ) → length (members fieldNames figures n) ≤ 36 * n
-members-length figures n = listed-most (member fieldNames figures) n 36 (λ i h. member-length fieldNames figures i)
+members-length : (t : ArrowStats) → length (members t) ≤ 504
+unfolding members
+members-length t =
+    listed-most (λ (i : ℕ). member i (fieldAt t i).0 (fieldAt t i).1) 14 36 (λ i h. member-length i (fieldAt t i).0 (fieldAt t i).1 (field-name t i))
 
-three-tallies : (a b c : List ℕ) (k : ℕ) → length a ≤ k → length b ≤ k → length c ≤ k
-    → length (json "},'main':{" ++ (a ++ (json "},'kept':{" ++ (b ++ (json "},'judged':{" ++ c))))) ≤ 32 + 3 * k
-three-tallies a b c k p q r = simp length-append (omega arith)
-
-json-tallies : (main kept judged : List ℕ) → length (jsonTallies main kept judged) ≤ 1544
+json-tallies : (f : SheetFigures) → length (jsonTallies f) ≤ 1544
 unfolding jsonTallies
-json-tallies main kept judged =
-    three-tallies (members fieldNames main 14) (members fieldNames kept 14) (members fieldNames judged 14) 504
-    (members-length main 14) (members-length kept 14) (members-length judged 14)
+json-tallies f = simp length-append (omega (arith, members-length f.chart.stats, members-length f.kept.stats, members-length f.judged))
 
 -- ---- Measures: at most nine bytes for a density and six for a spacing
 density-entry : (k density : ℕ) → density < 100000000 → length (densityEntry k density) ≤ 9
@@ -77,7 +87,7 @@ density-entry k density h = rw length-append (omega (arith, separator-length k, 
 truth-length : (spaced : ℕ) → length (truth spaced) ≤ 5
 truth-length spaced = go (eqb spaced 0)
   where
-    go : (t : Bool) → length (cond t (json "false") (json "true")) ≤ 5
+    go : (t : Bool) → length (cond t (codes "false") (codes "true")) ≤ 5
     go true = omega arith
     go false = omega arith
 
@@ -103,26 +113,26 @@ note-value n made =
     ))
 
 -- a note takes at most 24 bytes
-found-entry : (k : ℕ) (n : Note) → Made n → length (recordEntry k (Found n)) ≤ 24
+found-entry : (k : ℕ) (n : Note) → Made n → length (recordEntry k (Ok n)) ≤ 24
 unfolding recordEntry
 found-entry k n made = rw length-append (omega (arith, separator-length k, note-value n made))
 
-json-parts : (main kept judged densities spacings records : List ℕ)
-    → length (jsonOf main kept judged densities spacings records)
+json-parts : (f : SheetFigures) (densities spacings records : List ℕ)
+    → length (jsonOf f densities spacings records)
     ≤ 1800
     + (length (densityEntries densities (length densities)) + length (spacingEntries spacings (length spacings)))
     + length (recordEntries records (length records / 10))
 unfolding jsonOf jsonLists
-json-parts main kept judged densities spacings records =
-    simp length-append (omega (arith, json-heads main, json-tallies main kept judged))
+json-parts f densities spacings records =
+    simp length-append (omega (arith, json-heads f.chart, json-tallies f))
 
-module _ (main kept judged : List ℕ) (lanes : ℕ) (text : List ℕ) (short : length text ≤ mostBytes) where
+module _ (f : SheetFigures) (lanes : ℕ) (text : List ℕ) (short : length text ≤ mostBytes) where
   record-entry : (k : ℕ) → k < length (notes (lanes_of lanes) text) → length (recordEntry k (readNote (records (notes (lanes_of lanes) text)) k)) ≤ 24
   record-entry k h =
       let back = reads lanes text short k h in
       rw back.read (found-entry k back.note back.limits)
 
-  pub json-room : length (jsonOf main kept judged (densities (lanes_of lanes) text) (spacings (lanes_of lanes) text) (records (notes (lanes_of lanes) text))) + 300
+  pub json-room : length (jsonOf f (densities (lanes_of lanes) text) (spacings (lanes_of lanes) text) (records (notes (lanes_of lanes) text))) + 300
       ≤ 42 * (length text + 1) + 3000
   json-room =
       let L = lanes_of lanes in
@@ -140,7 +150,7 @@ module _ (main kept judged : List ℕ) (lanes : ℕ) (text : List ℕ) (short : 
       in
       omega (
         arith,
-        json-parts main kept judged ds ss rs,
+        json-parts f ds ss rs,
         room-enough lanes text 1800 (length (densityEntries ds (length ds)) + length (spacingEntries ss (length ss))) (length (recordEntries rs (length rs / 10)))
             (omega arith) (omega (arith, densities-count L text, spacings-count L text)) (omega (arith, records-count (notes L text))),
       )

@@ -8,7 +8,7 @@ use borrow.Author.Tests.{lt-ltb}
 use lib.Dec.{ltb}
 use lib.ListN.{length, length-append, length-replicate}
 use Rattle.sheet.specs.Sheet.{digits, number, numberField, aligned, listed}
-use Rattle.sheet.proofs.Putting.{number-length}
+use Rattle.sheet.proofs.Numbers.{number-length}
 
 -- a number below 10 ^ k has at most k digits
 digits-few : (most k n : ℕ) → 1 ≤ k → n < 10 ^ k → length (digits most n) ≤ k

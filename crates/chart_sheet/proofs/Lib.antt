@@ -5,6 +5,5 @@ pub mod CardRoom
 pub mod PrintRoom
 pub mod JsonRoom
 pub mod Lines
-pub mod Rooms
 pub mod Answering
 pub mod Writing

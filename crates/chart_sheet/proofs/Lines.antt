@@ -17,9 +17,8 @@ use Rattle.definitions.specs.declared.Note.{Note}
 use Rattle.reduction.proofs.Blocks.{joined-append}
 use Rattle.definitions.proofs.WriterMakes.{writer-makes}
 use Rattle.sheet.specs.Sheet.{noteLine, recordLines, sheetOf}
-use Rattle.sheet.specs.Card.{sheetFigures, noteLines, sheet}
-use Rattle.sheet_answers.specs.Answers.{mainAnswer}
-use Rattle.chart_sheet.specs.Forms.{sheetAmong}
+use Rattle.sheet.specs.Card.{noteLines, sheet}
+use Rattle.definitions.specs.Entries.{chartFigures}
 
 map_snoc : (ns : List Note) (n : Note) → map noteLine (ns ++ (n ∷ [])) ≡ map noteLine ns ++ (noteLine n ∷ [])
 map_snoc [] n = refl
@@ -45,7 +44,7 @@ module _ (lanes : ℕ) (text : List ℕ) (short : length text ≤ mostBytes) whe
       record-lines (notes (lanes_of lanes) text) (length (notes (lanes_of lanes) text)) (omega arith) (writer-makes lanes text short)
       ∙ ap (λ (l : List Note). joined (map noteLine l)) (take-length (notes (lanes_of lanes) text))
 
-  pub card-lines : sheetOf (sheetAmong (mainAnswer (lanes_of lanes) text)) (densities (lanes_of lanes) text) (spacings (lanes_of lanes) text) (records (notes (lanes_of lanes) text))
+  pub card-lines : sheetOf (chartFigures (lanes_of lanes) text) (densities (lanes_of lanes) text) (spacings (lanes_of lanes) text) (records (notes (lanes_of lanes) text))
       ≡ sheet (lanes_of lanes) text
-  unfolding sheetOf sheet sheetFigures mainAnswer
+  unfolding sheetOf sheet chartFigures
   card-lines = rw note-lines-read

@@ -4,7 +4,8 @@ use mathlib.Core.List.{List, [], ◌∷◌, ◌++◌}
 use Prim.Native.Nat.{ℕ, ◌+◌, ◌*◌, ◌/◌, ◌%◌, ◌<◌, ◌≤◌}
 use native.Mathlib.Omega.{arith}
 use lib.Dec.{eqb}
-use lib.ListN.{length, get_or, drop, length-append, length-take}
+use lib.ListN.{length, get_or, length-append, length-replicate}
+use Rattle.std.specs.Prelude.{codes}
 use Rattle.definitions.specs.Sizes.{mostBytes}
 use Rattle.definitions.specs.Lanes.{lanes_of}
 use Rattle.definitions.specs.Figures.{densities, spacings}
@@ -15,8 +16,11 @@ use Rattle.definitions.specs.declared.Kind.{Kind}
 use Rattle.definitions.specs.declared.Tail.{Tail}
 use Rattle.definitions.specs.declared.Tail.TheVariants.{Without, Row}
 use Rattle.definitions.specs.declared.Note.{Note}
-use Rattle.sheet.specs.Sheet.{ascii, aligned, fieldNames}
-use Rattle.sheet.proofs.Putting.{number-length}
+use Rattle.sheet.specs.Sheet.{aligned, leftAligned, fieldAt}
+use Rattle.sheet.proofs.Numbers.{number-length}
+use Rattle.sheet.proofs.Names.{field-name}
+use Rattle.sheet.specs.declared.SheetFigures.{SheetFigures}
+use Rattle.definitions.specs.declared.ChartFigures.{ChartFigures}
 use Rattle.sheet_print.specs.Print.{countLine, three, lastLine, printHeads, tallyLine, tallyLines, tallyHead, printTallies, lineStart, densityEntry, densityLines, densityHead, heldWord, heldLine, heldRecord, heldLines, heldHead, printOf}
 use Rattle.chart_sheet.proofs.Lengths.{aligned-length, aligned-short, listed-most}
 use Rattle.chart_sheet.proofs.Counts.{densities-count, records-count, measure-below, density-below, tail-below, reads, room-enough}
@@ -30,42 +34,42 @@ last_line : (last : ℕ) → length (lastLine last) ≤ 68
 unfolding lastLine
 last_line last = simp length-append (omega (arith, aligned-length 9 (last / 48), number-length (last % 48)))
 
-print-heads : (main : List ℕ) → length (printHeads main) ≤ 236
+print-heads : (f : ChartFigures) → length (printHeads f) ≤ 236
 unfolding printHeads
-print-heads main =
+print-heads f =
     simp length-append
     (omega (
       arith,
-      count-line (ascii "measures    ") (get_or main 1 0) 12 (omega arith),
-      count-line (ascii "rows        ") (get_or main 2 0) 12 (omega arith),
-      count-line (ascii "notes       ") (get_or main 3 0) 12 (omega arith),
-      last_line (get_or main 6 0),
-      count-line (ascii "in 48ths    ") (get_or main 6 0) 12 (omega arith),
+      count-line (codes "measures    ") f.measures 12 (omega arith),
+      count-line (codes "rows        ") f.rows 12 (omega arith),
+      count-line (codes "notes       ") f.notes 12 (omega arith),
+      last_line f.last_row,
+      count-line (codes "in 48ths    ") f.last_row 12 (omega arith),
     ))
 
 three-length : (a b c : ℕ) → length (three a b c) ≤ 88
 unfolding three
 three-length a b c = simp length-append (omega (arith, aligned-length 9 a, aligned-length 9 b, aligned-length 9 c))
 
-tally-line : (names main kept judged : List ℕ) (i : ℕ) → length (tallyLine names main kept judged i) ≤ 100
+-- a name of at most twelve bytes in twelve columns
+name-columns : (name : List ℕ) → length name ≤ 12 → length (leftAligned 12 name) ≤ 12
+unfolding leftAligned
+name-columns name h = rw (length-append, length-replicate) (omega arith)
+
+tally-line : (name : List ℕ) (main kept judged : ℕ) → length name ≤ 12 → length (tallyLine name main kept judged) ≤ 100
 unfolding tallyLine
-tally-line names main kept judged i =
-    simp length-append
-    (omega (
-      arith,
-      length-take 12 (drop (i * 12) names),
-      three-length (get_or main (i + 8) 0) (get_or kept (i + 8) 0) (get_or judged (i + 8) 0),
-    ))
+tally-line name main kept judged h = rw length-append (omega (arith, name-columns name h, three-length main kept judged))
 
-tally-lines : (main kept judged : List ℕ) (n : ℕ) → length (tallyHead ++ tallyLines fieldNames main kept judged n) ≤ 41 + 100 * n
-unfolding tallyHead
-tally-lines main kept judged n =
-    simp length-append
-    (omega (arith, listed-most (tallyLine fieldNames main kept judged) n 100 (λ i h. tally-line fieldNames main kept judged i)))
+tally-lines : (f : SheetFigures) → length (tallyLines f) ≤ 1400
+unfolding tallyLines
+tally-lines f =
+    let t = f.chart.stats in
+    listed-most (λ (i : ℕ). tallyLine (fieldAt t i).0 (fieldAt t i).1 (fieldAt f.kept.stats i).1 (fieldAt f.judged i).1) 14 100
+    (λ i h. tally-line (fieldAt t i).0 (fieldAt t i).1 (fieldAt f.kept.stats i).1 (fieldAt f.judged i).1 (field-name t i))
 
-print-tallies : (main kept judged : List ℕ) → length (printTallies main kept judged) ≤ 1441
-unfolding printTallies
-print-tallies main kept judged = tally-lines main kept judged 14
+print-tallies : (f : SheetFigures) → length (printTallies f) ≤ 1441
+unfolding printTallies tallyHead
+print-tallies f = simp length-append (omega (arith, tally-lines f))
 
 -- ---- Measures
 line-start : (k : ℕ) → k < 100000000 → length (lineStart k) ≤ 10
@@ -85,7 +89,7 @@ density-entry k density spaced h g =
 held_word : (k : Kind) → length (heldWord k) ≤ 4
 held_word k = go (eqb (kindNumber k) 2)
   where
-    go : (t : Bool) → length (cond t (ascii "roll") (ascii "hold")) ≤ 4
+    go : (t : Bool) → length (cond t (codes "roll") (codes "hold")) ≤ 4
     go true = omega arith
     go false = omega arith
 
@@ -111,20 +115,20 @@ held-line n (Row j) made m =
       three-short n.row n.column j (omega (arith, made.row)) (omega (arith, made.column)) (tail-below n.row n.kind j m),
     ))
 
-print-parts : (main kept judged densities spacings records : List ℕ)
-    → length (printOf main kept judged densities spacings records)
+print-parts : (f : SheetFigures) (densities spacings records : List ℕ)
+    → length (printOf f densities spacings records)
     ≤ 1785 + length (densityLines densities spacings (length densities)) + length (heldLines records (length records / 10))
 unfolding printOf densityHead heldHead
-print-parts main kept judged densities spacings records =
-    simp length-append (omega (arith, print-heads main, print-tallies main kept judged))
+print-parts f densities spacings records =
+    simp length-append (omega (arith, print-heads f.chart, print-tallies f))
 
-module _ (main kept judged : List ℕ) (lanes : ℕ) (text : List ℕ) (short : length text ≤ mostBytes) where
+module _ (f : SheetFigures) (lanes : ℕ) (text : List ℕ) (short : length text ≤ mostBytes) where
   held-record : (k : ℕ) → k < length (notes (lanes_of lanes) text) → length (heldRecord (readNote (records (notes (lanes_of lanes) text)) k)) ≤ 32
   held-record k h =
       let back = reads lanes text short k h in
       rw back.read (held-line back.note back.note.tail back.limits back.limits.tail)
 
-  pub print-room : length (printOf main kept judged (densities (lanes_of lanes) text) (spacings (lanes_of lanes) text) (records (notes (lanes_of lanes) text))) + 300
+  pub print-room : length (printOf f (densities (lanes_of lanes) text) (spacings (lanes_of lanes) text) (records (notes (lanes_of lanes) text))) + 300
       ≤ 42 * (length text + 1) + 3000
   print-room =
       let L = lanes_of lanes in
@@ -140,7 +144,7 @@ module _ (main kept judged : List ℕ) (lanes : ℕ) (text : List ℕ) (short : 
       in
       omega (
         arith,
-        print-parts main kept judged ds ss rs,
+        print-parts f ds ss rs,
         room-enough lanes text 1785 (length (densityLines ds ss (length ds))) (length (heldLines rs (length rs / 10)))
             (omega arith) (omega (arith, densities-count L text)) (omega (arith, records-count (notes L text))),
       )

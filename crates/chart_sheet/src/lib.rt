@@ -1,7 +1,7 @@
 // A chart's sheet from its text: refusals in order, all answers of the text, the form that was asked for, and zeros past each answer.
 #![tactic(auto)]
 
-ghost use Rattle.std.specs.Prelude.{◌≡◌, [], ◌+◌, ◌*◌, ◌/◌, ◌≤◌, length, get_or, set};
+ghost use Rattle.std.specs.Prelude.{◌≡◌, [], ◌+◌, ◌*◌, ◌/◌, ◌≤◌, length, take, OnOk};
 ghost use Rattle.definitions.specs.Sizes.{mostBytes};
 ghost use Rattle.definitions.specs.Lists.{padded};
 ghost use Rattle.definitions.specs.Lanes.{lanes_of, mostRows};
@@ -9,54 +9,57 @@ ghost use Rattle.definitions.specs.Figures.{minimisedText, densities as densitie
 ghost use Rattle.definitions.specs.Beats.{f32, beats as beatsOf};
 ghost use Rattle.definitions.specs.Notes.{notes as notesOf};
 ghost use Rattle.definitions.specs.Records.{records as recordsOf};
-ghost use Rattle.sheet.specs.Put.{Put};
-ghost use Rattle.sheet_answers.specs.Answers.{mainAnswer};
-ghost use Rattle.chart_sheet.specs.Forms.{sheetAmong, form_of, chartSheet};
-ghost use Rattle.chart_sheet.specs.Entry.{firstRefusal, sheetNumber, sheetText, sheetDensities, sheetSpacings, sheetBeats, sheetWork, sheetNotes, sheetLeft, sheetFigures};
+ghost use Rattle.sheet.specs.Page.{Prints};
+ghost use Rattle.chart_sheet.specs.Forms.{form_of, chartSheet};
+ghost use Rattle.chart_sheet.specs.Entry.{shortSheet, otherForm, sheetPlaces, sheetAnswer, sheetText, sheetDensities, sheetSpacings, sheetBeats, sheetWork, sheetNotes, sheetLeft};
 
-use sheet::{SheetFigures, put_sheet};
+use definitions::Refusal;
+use figures::chart_places;
+use sheet::{Full, Page, SheetFigures, print_card};
 use sheet_answers::sheet_answers;
-use sheet_json::put_json;
-use sheet_print::put_print;
+use sheet_json::print_json;
+use sheet_print::print_columns;
 
-// The six figures of a card among those of the main call.
-fn sheet_among(figures: &[u64; 32]) -> SheetFigures
-    ensures { result ≡ sheetAmong figures.now }
+// The form that was asked for, printed on a page.
+#[tactic(auto, unfolding(crate::specs::Forms::form_of))]
+fn print_form(
+    page: &mut Page,
+    form: usize,
+    figures: &SheetFigures,
+    densities: &[u32],
+    spacing: &[u8],
+    records: &[u8],
+) -> Result<(), Full>
+    requires measures_in_bounds { (figures.now.chart.measures ≤ length densities.now) × (length densities.now ≤ length spacing.now) }
+    ensures { Prints page.old (form_of form figures.now densities.now spacing.now records.now) page.new result }
 {
-    SheetFigures {
-        measures: figures[1] as usize,
-        rows: figures[2],
-        arrows: figures[8],
-        steps: figures[13],
-        notes: figures[3] as usize,
-        last: figures[6],
+    match form {
+        0 => print_card(page, &figures.chart, densities, spacing, records),
+        1 => print_columns(page, figures, densities, spacing, records),
+        _ => print_json(page, figures, densities, spacing, records),
     }
 }
 
-// The form that was asked for, from the slice's first place on.
-#[tactic(auto, unfolding(crate::specs::Forms::form_of))]
+// The same from the first place of a slice that has room for it: how many bytes it has.
 fn put_form(
     out: &mut [u8],
     form: usize,
-    main: &[u64; 32],
-    kept: &[u64; 32],
-    judged: &[u64; 32],
+    figures: &SheetFigures,
     densities: &[u32],
     spacing: &[u8],
     records: &[u8],
 ) -> usize
-    requires records_in_bounds { length (form_of form main.now kept.now judged.now densities.now spacing.now records.now) + 300 ≤ length out.old }
-    requires main_in_bounds { (get_or main.now 1 0 ≤ length densities.now) × (length densities.now ≤ length spacing.now) }
-    ensures { Put 0 (form_of form main.now kept.now judged.now densities.now spacing.now records.now) out.old result out.new }
+    requires room { length (form_of form figures.now densities.now spacing.now records.now) ≤ length out.old }
+    requires measures_in_bounds { (figures.now.chart.measures ≤ length densities.now) × (length densities.now ≤ length spacing.now) }
+    ensures value { result ≡ length (form_of form figures.now densities.now spacing.now records.now) }
+    ensures within { result ≤ length out.new }
+    ensures out_after { take result out.new ≡ form_of form figures.now densities.now spacing.now records.now }
 {
-    if form == 0 {
-        let f = sheet_among(main);
-        return put_sheet(out, f, densities, spacing, records);
+    let mut page = Page::new(out);
+    match print_form(&mut page, form, figures, densities, spacing, records) {
+        Ok(()) => page.len(),
+        Err(_) => unreachable!(),
     }
-    if form == 1 {
-        return put_print(out, main, kept, judged, densities, spacing, records);
-    }
-    put_json(out, main, kept, judged, densities, spacing, records)
 }
 
 // The sheet of an accepted text; the figures have its bytes in place 7.
@@ -76,7 +79,7 @@ fn write_sheet(
     requires data_in_bounds { (length «data».now + 1 ≤ length text.old) × ((length «data».now + 1) / 2 + 1 ≤ length densities.old) × ((length «data».now + 1) / 2 + 1 ≤ length spacing.old) }
     requires data_in_bounds_2 { (mostRows (lanes_of lanes) (length «data».now) ≤ length beats.old) × (mostRows (lanes_of lanes) (length «data».now) ≤ length work.old) × (10 * lanes_of lanes * mostRows (lanes_of lanes) (length «data».now) ≤ length notes.old) }
     requires data_in_bounds_3 { (42 * (length «data».now + 1) + 3000 ≤ length sheet.old) × (form ≤ 2) }
-    ensures value { result ≡ set (mainAnswer (lanes_of lanes) «data».now) 7 (length (chartSheet form (lanes_of lanes) «data».now)) }
+    ensures value { result ≡ sheetPlaces form (lanes_of lanes) «data».now }
     ensures text_after { text.new ≡ padded 0 (length text.old) (minimisedText (lanes_of lanes) «data».now) }
     ensures densities_after { densities.new ≡ padded 0 (length densities.old) (densitiesOf (lanes_of lanes) «data».now) }
     ensures spacing_after { spacing.new ≡ padded 0 (length spacing.old) (spacingsOf (lanes_of lanes) «data».now) }
@@ -86,76 +89,50 @@ fn write_sheet(
     ensures sheet_after { sheet.new ≡ padded 0 (length sheet.old) (chartSheet form (lanes_of lanes) «data».now) }
 {
     let columns = reader::lanes_of(lanes);
-    let a = sheet_answers(data, columns, text, densities, spacing, beats, work, notes);
-    let mut main = a.main;
-    let kept = a.kept;
-    let judged = a.judged;
-    let measures = main[1] as usize;
-    let end = main[3] as usize * 10;
+    let figures = sheet_answers(data, columns, text, densities, spacing, beats, work, notes);
+    let measures = figures.chart.measures;
+    let end = figures.chart.notes * 10;
     let bytes = put_form(
         sheet,
         form,
-        &main,
-        &kept,
-        &judged,
+        &figures,
         &densities[..measures],
         &spacing[..measures],
         &notes[..end],
     );
-    slices::zero_u8(sheet, bytes);
-    main[7] = bytes as u64;
-    main
+    slices::zero_past(sheet, bytes, 0);
+    let mut places = chart_places(figures.chart);
+    places[7] = bytes as u64;
+    places
 }
 
-// The number of the first refusal that holds, by the lengths of the text and of the lent slices, or 0.
-#[tactic(auto, unfolding(crate::specs::Entry::firstRefusal, definitions::specs::Lanes::mostRows))]
-fn sheet_refusal(
-    lanes: usize,
-    form: usize,
-    len: usize,
-    text: usize,
-    densities: usize,
-    spacing: usize,
-    beats: usize,
-    work: usize,
-    notes: usize,
-    sheet: usize,
-) -> u32
-    ensures { result ≡ firstRefusal lanes form len text densities spacing beats work notes sheet }
+// The sheet slice has room for every form of such a text.
+#[tactic(auto, unfolding(crate::specs::Entry::shortSheet))]
+fn room_for_sheet(len: usize, room: usize) -> Result<(), Refusal>
+    requires { len ≤ mostBytes }
+    ensures value { result ≡ shortSheet len room }
+    ensures ok { OnOk result (42 * (len + 1) + 3000 ≤ room) }
 {
-    if definitions::MOST_BYTES < len {
-        return 1;
+    if room < 42 * (len + 1) + 3000 {
+        return Err(Refusal::ShortSheet);
     }
-    if text < len + 1 {
-        return 2;
-    }
-    if densities < (len + 1) / 2 + 1 {
-        return 3;
-    }
-    if spacing < (len + 1) / 2 + 1 {
-        return 3;
-    }
-    let columns = reader::lanes_of(lanes);
-    let rows = (len + 1) / (columns + 1);
-    if beats < rows {
-        return 4;
-    }
-    if work < rows {
-        return 5;
-    }
-    if notes < 10 * columns * rows {
-        return 6;
-    }
-    if sheet < 42 * (len + 1) + 3000 {
-        return 19;
-    }
-    if 2 < form {
-        return 20;
-    }
-    0
+    Ok(())
 }
 
-// Form 0 is document 01's card, 1 print, 2 json. The number is 0 for accepted.
+// The form is one of the three.
+#[tactic(auto, unfolding(crate::specs::Entry::otherForm))]
+fn form_known(form: usize) -> Result<(), Refusal>
+    ensures value { result ≡ otherForm form }
+    ensures ok { OnOk result (form ≤ 2) }
+{
+    if 2 < form {
+        return Err(Refusal::OtherForm);
+    }
+    Ok(())
+}
+
+// Form 0 is document 01's card, 1 print, 2 json. The answer has the 32 figures.
+#[tactic(auto, unfolding(crate::specs::Entry::sheetAnswer))]
 pub fn chart_sheet(
     data: &[u8],
     lanes: usize,
@@ -167,9 +144,8 @@ pub fn chart_sheet(
     work: &mut [u16],
     notes: &mut [u8],
     sheet: &mut [u8],
-    figures: &mut [u64; 32],
-) -> u32
-    ensures value { result ≡ sheetNumber lanes form «data».now text.old densities.old spacing.old beats.old work.old notes.old sheet.old }
+) -> Result<[u64; 32], Refusal>
+    ensures value { result ≡ sheetAnswer lanes form «data».now text.old densities.old spacing.old beats.old work.old notes.old sheet.old }
     ensures text_after { text.new ≡ sheetText lanes form «data».now text.old densities.old spacing.old beats.old work.old notes.old sheet.old }
     ensures densities_after { densities.new ≡ sheetDensities lanes form «data».now text.old densities.old spacing.old beats.old work.old notes.old sheet.old }
     ensures spacing_after { spacing.new ≡ sheetSpacings lanes form «data».now text.old densities.old spacing.old beats.old work.old notes.old sheet.old }
@@ -177,25 +153,19 @@ pub fn chart_sheet(
     ensures work_after { work.new ≡ sheetWork lanes form «data».now text.old densities.old spacing.old beats.old work.old notes.old sheet.old }
     ensures notes_after { notes.new ≡ sheetNotes lanes form «data».now text.old densities.old spacing.old beats.old work.old notes.old sheet.old }
     ensures sheet_after { sheet.new ≡ sheetLeft lanes form «data».now text.old densities.old spacing.old beats.old work.old notes.old sheet.old }
-    ensures figures_after { figures.new ≡ sheetFigures lanes form «data».now text.old densities.old spacing.old beats.old work.old notes.old sheet.old figures.old }
 {
-    let number = sheet_refusal(
-        lanes,
-        form,
-        data.len(),
-        text.len(),
-        densities.len(),
-        spacing.len(),
-        beats.len(),
-        work.len(),
-        notes.len(),
-        sheet.len(),
-    );
-    if number != 0 {
-        return number;
-    }
-    *figures = write_sheet(
+    let len = data.len();
+    refusals::text_fits(len)?;
+    refusals::room_for_text(len, text.len())?;
+    refusals::room_for_measures(len, densities.len())?;
+    refusals::room_for_measures(len, spacing.len())?;
+    let columns = reader::lanes_of(lanes);
+    refusals::room_for_beats(columns, len, beats.len())?;
+    refusals::room_for_work(columns, len, work.len())?;
+    refusals::room_for_notes(columns, len, notes.len())?;
+    room_for_sheet(len, sheet.len())?;
+    form_known(form)?;
+    Ok(write_sheet(
         data, lanes, form, text, densities, spacing, beats, work, notes, sheet,
-    );
-    0
+    ))
 }

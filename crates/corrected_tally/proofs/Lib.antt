@@ -1,5 +1,4 @@
 -- Laws of the recount, by topic.
-pub mod Rows
 pub mod Zeros
 pub mod Marking
 pub mod Counting

@@ -23,26 +23,18 @@ fn mark_heads(text: &[u8], lanes: usize, trim: bool, work: &mut [u16])
     requires { Room trim lanes text.now work.old × ((i : ℕ) → get_or work.old i 0 ≡ 0) }
     ensures { Heads (rowsBack trim lanes text.now) work.new }
 {
-    let width = reader::back::back_width(text, lanes, trim);
     let mut t = holds::no_tracker();
     let mut busy: u32 = 0;
-    let mut off = 0;
     let mut row: u32 = 0;
-    while off <= text.len() {
-        let line = reader::back::back_line(text, off, lanes, width, trim);
-        let next = line.next;
-        if line.row {
-            let end = off + lanes;
-            match taps::free_taps(&text[off..end], busy) {
-                Taps::Mask(_) => holds::pass_row(row, false, &mut *work),
-                Taps::Other => {
-                    t = holds::track_row(t, row, &text[off..end], &mut *work);
-                    busy = taps::unlike(&t.depths, 0);
-                }
+    for cells in reader::back::back_rows(text, lanes, trim) {
+        match taps::free_taps(cells, busy) {
+            Taps::Mask(_) => holds::pass_row(row, false, &mut *work),
+            Taps::Other => {
+                t = holds::track_row(t, row, cells, &mut *work);
+                busy = taps::unlike(&t.depths, 0);
             }
-            row += 1;
         }
-        off = next;
+        row += 1;
     }
 }
 
@@ -68,20 +60,12 @@ fn count_kept(text: &[u8], lanes: usize, trim: bool, work: &[u16]) -> ArrowStats
     requires { Room trim lanes text.now work.now × Heads (rowsBack trim lanes text.now) work.now }
     ensures { result ≡ tally (pairedOnly (rowsBack trim lanes text.now)) }
 {
-    let width = reader::back::back_width(text, lanes, trim);
     let counts = taps::tap_mask_counts(lanes);
     let mut stats = row_tally::no_stats();
-    let mut off = 0;
     let mut i = 0;
-    while off <= text.len() {
-        let line = reader::back::back_line(text, off, lanes, width, trim);
-        let next = line.next;
-        if line.row {
-            let end = off + lanes;
-            stats = count_row(stats, &text[off..end], work[i], &counts);
-            i += 1;
-        }
-        off = next;
+    for cells in reader::back::back_rows(text, lanes, trim) {
+        stats = count_row(stats, cells, work[i], &counts);
+        i += 1;
     }
     stats
 }
@@ -91,10 +75,10 @@ pub fn recalc_phantom_stats(text: &[u8], lanes: usize, trim: bool, work: &mut [u
     requires { Room trim lanes text.now work.old }
     ensures { (result ≡ tally (pairedOnly (rowsBack trim lanes text.now))) × (work.new ≡ replicate (length work.old) 0) }
 {
-    slices::zero_u16(&mut *work, 0);
+    slices::zero_past(&mut *work, 0, 0);
     mark_heads(text, lanes, trim, &mut *work);
     let stats = count_kept(text, lanes, trim, &*work);
-    slices::zero_u16(work, 0);
+    slices::zero_past(work, 0, 0);
     stats
 }
 
@@ -117,7 +101,7 @@ pub fn corrected_stats(
         let anew = recalc_phantom_stats(text, lanes, trim, work);
         row_tally::with_steps(anew, steps)
     } else {
-        slices::zero_u16(work, 0);
+        slices::zero_past(work, 0, 0);
         stats
     }
 }

@@ -17,3 +17,4 @@ pub mod WriterMakes
 pub mod Damage
 pub mod Figures
 pub mod SmBlocks
+pub mod Refusals

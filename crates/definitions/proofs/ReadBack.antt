@@ -1,4 +1,5 @@
 -- A record is read back as the note that it was made of.
+use Rattle.std.specs.Prelude.{Ok}
 use mathlib.Core.Path.{◌≡◌, refl, ◌∙◌}
 use mathlib.Core.List.{List, [], ◌∷◌, ◌++◌, map, append-nil}
 use Prim.Native.Nat.{ℕ, zero, suc, ◌+◌, ◌*◌, ◌≤◌, ◌<◌, ◌/◌, ◌%◌}
@@ -14,7 +15,6 @@ use Rattle.definitions.specs.declared.Kind.TheVariants.{Tap, Hold, Roll, Mine, L
 use Rattle.definitions.specs.declared.Tail.{Tail}
 use Rattle.definitions.specs.declared.Tail.TheVariants.{Without, Row}
 use Rattle.definitions.specs.declared.Note.{Note}
-use Rattle.definitions.specs.declared.ReadNote.TheVariants.{Found}
 use Rattle.definitions.proofs.Lists.{All, none, one}
 use Rattle.definitions.specs.WriterMakes.{TailMade, Made}
 use Rattle.definitions.proofs.Blocks.{blocks-length, blocks-get}
@@ -42,7 +42,7 @@ word-tail r t c k h = bytes4-back t h
 
 -- a note that the writer makes is what its fields give
 note-back : (r c : ℕ) (k : Kind) (t : Tail) → c < 10 → r < rowNumbersBound → TailMade r k t
-    → note_of r (tailNumber t) c (kindNumber k) ≡ Found (record { row = r; tail = t; column = c; kind = k })
+    → note_of r (tailNumber t) c (kindNumber k) ≡ Ok (record { row = r; tail = t; column = c; kind = k })
 unfolding note_of
 note-back r c Tap Without p q m = simp (lt-leb 10 c p, lt-leb rowNumbersBound r q)
 note-back r c Tap (Row j) p q m = absurd m
@@ -109,7 +109,7 @@ all-at (n ∷ ns) d zero (one p ps) h = p
 all-at (n ∷ ns) d (suc k) (one p ps) h = all-at ns d k ps (omega arith)
 
 -- record k of the records of notes that the writer makes is note k
-pub read_back : (ns : List Note) (d : Note) (k : ℕ) → All Made ns → k < length ns → readNote (records ns) k ≡ Found (get_or ns k d)
+pub read_back : (ns : List Note) (d : Note) (k : ℕ) → All Made ns → k < length ns → readNote (records ns) k ≡ Ok (get_or ns k d)
 unfolding readNote records
 read_back ns d k all h =
     let m : Made (get_or ns k d) = all-at ns d k all h in

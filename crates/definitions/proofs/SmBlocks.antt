@@ -12,7 +12,10 @@ use lib.Seq.{drop-drop, get_or-drop}
 use Rattle.definitions.specs.Sizes.{mostBytes}
 use Rattle.definitions.specs.Lists.{only_if, through, after, afterEach}
 use Rattle.definitions.specs.Lines.{cut, trim}
-use Rattle.definitions.specs.SmFile.{isTagged, tag_of, notesTag, blockText, blockEnd, startsBlock, blocks_from, blocks, colons, data_of, smTag, smText, smLanes, smData, smStart, smNumber}
+use Rattle.definitions.specs.Refusals.{refusedIf, longText, answered, numberTold}
+use Rattle.definitions.specs.declared.ChartPlace.{ChartPlace}
+use Rattle.definitions.specs.declared.Refusal.TheVariants.{LongText, FewFields, OtherType, NoChart}
+use Rattle.definitions.specs.SmFile.{isTagged, tag_of, notesTag, blockText, blockEnd, startsBlock, blocks_from, blocks, colons, data_of, smTag, smText, smLanes, smData, smStart, smAnswer, smNumber}
 use Rattle.definitions.specs.SmBlocks.{DataInFile, SemicolonLast, BlocksApart, LeastRefused}
 use Rattle.definitions.specs.declared.Tag.{Tag}
 use Rattle.definitions.proofs.Bools.{and_left, and_right}
@@ -143,22 +146,22 @@ semicolon-last file k i h e =
     through-last 59 (drop (smTag file k).end file) (d.from + i) (omega (arith, d.size)) (sym same ∙ e)
 
 -- ---- The number that is answered, by its four tests
-abbrev numberBy : Bool → Bool → Bool → Bool → ℕ
-numberBy a b c d = cond a 1 (cond b 11 (cond c 9 (cond d 10 0)))
+abbrev numberBy : Bool → Bool → Bool → Bool → ChartPlace → ℕ
+numberBy a b c d p = numberTold (answered (refusedIf a LongText ∷ refusedIf b NoChart ∷ refusedIf c FewFields ∷ refusedIf d OtherType ∷ []) p)
 
-none-held : (a b c d : Bool) → numberBy a b c d ≡ 0 → (a ≡ false) × (b ≡ false) × (c ≡ false) × (d ≡ false)
-none-held true b c d e = absurd (omega arith)
-none-held false true c d e = absurd (omega arith)
-none-held false false true d e = absurd (omega arith)
-none-held false false false true e = absurd (omega arith)
-none-held false false false false e = (refl, refl, refl, refl)
+none-held : (a b c d : Bool) (p : ChartPlace) → numberBy a b c d p ≡ 0 → (a ≡ false) × (b ≡ false) × (c ≡ false) × (d ≡ false)
+none-held true b c d p e = absurd (omega arith)
+none-held false true c d p e = absurd (omega arith)
+none-held false false true d p e = absurd (omega arith)
+none-held false false false true p e = absurd (omega arith)
+none-held false false false false p e = (refl, refl, refl, refl)
 
-second-held : (a b c d : Bool) → numberBy a b c d ≡ 11 → b ≡ true
-second-held true b c d e = absurd (omega arith)
-second-held false true c d e = refl
-second-held false false true d e = absurd (omega arith)
-second-held false false false true e = absurd (omega arith)
-second-held false false false false e = absurd (omega arith)
+second-held : (a b c d : Bool) (p : ChartPlace) → numberBy a b c d p ≡ 11 → b ≡ true
+second-held true b c d p e = absurd (omega arith)
+second-held false true c d p e = refl
+second-held false false true d p e = absurd (omega arith)
+second-held false false false true p e = absurd (omega arith)
+second-held false false false false p e = absurd (omega arith)
 
 -- what holds of a block that is accepted
 pub record Accepted (file : List ℕ) (k : ℕ) : Type 0 where
@@ -169,9 +172,9 @@ pub record Accepted (file : List ℕ) (k : ℕ) : Type 0 where
 
 module _ (file : List ℕ) (k : ℕ) where
   pub accepted : smNumber file k ≡ 0 → Accepted file k
-  unfolding smNumber
+  unfolding smAnswer longText
   accepted e =
-      let h = none-held (ltb mostBytes (length file)) (leb (length (blocks file)) k) (ltb (colons (smText file k)) 5) (eqb (smLanes file k) 0) e in
+      let h = none-held (ltb mostBytes (length file)) (leb (length (blocks file)) k) (ltb (colons (smText file k)) 5) (eqb (smLanes file k) 0) _ e in
       record {
         short = ltb-false mostBytes (length file) h.0;
         there = leb-false (length (blocks file)) k h.1;
@@ -191,14 +194,14 @@ module _ (file : List ℕ) (k : ℕ) where
 
   -- 11 is answered from the number of blocks on, and nowhere else
   from-blocks : length file ≤ mostBytes → length (blocks file) ≤ k → smNumber file k ≡ 11
-  unfolding smNumber
+  unfolding smAnswer longText
   from-blocks short h = simp (le-ltb mostBytes (length file) short, le-leb (length (blocks file)) k h)
 
   only-from-blocks : smNumber file k ≡ 11 → length (blocks file) ≤ k
-  unfolding smNumber
+  unfolding smAnswer longText
   only-from-blocks e =
       leb-true (length (blocks file)) k
-      (second-held (ltb mostBytes (length file)) (leb (length (blocks file)) k) (ltb (colons (smText file k)) 5) (eqb (smLanes file k) 0) e)
+      (second-held (ltb mostBytes (length file)) (leb (length (blocks file)) k) (ltb (colons (smText file k)) 5) (eqb (smLanes file k) 0) _ e)
 
 pub least-refused : LeastRefused
 unfolding LeastRefused

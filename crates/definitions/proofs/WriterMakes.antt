@@ -1,4 +1,5 @@
 -- What the writer makes: every note of an accepted text keeps the limits, and its record is read back as that note.
+use Rattle.std.specs.Prelude.{Result, Ok}
 use mathlib.Core.Path.{◌≡◌, refl, ap}
 use mathlib.Core.List.{List, [], ◌∷◌}
 use mathlib.Core.Option.{Option, some, none}
@@ -14,7 +15,8 @@ use Rattle.definitions.specs.Cells.{cell_of}
 use Rattle.definitions.specs.Reduction.{minimised}
 use Rattle.definitions.specs.Notes.{effect_of, effectAt, tailOf, cellNotes, rowNotes, notesFrom, notes}
 use Rattle.definitions.specs.Records.{kindNumber, records, readNote}
-use Rattle.definitions.specs.Entries.{readNumberOf, readLeft, readNumber, readFigures}
+use Rattle.definitions.specs.Refusals.{numberTold, replaces}
+use Rattle.definitions.specs.Entries.{noteFigures}
 use Rattle.definitions.specs.WriterMakes.{TailMade, Made, ReadsBack, WriterMakes}
 use Rattle.definitions.specs.declared.Cell.{Cell}
 use Rattle.definitions.specs.declared.Cell.TheVariants as cell
@@ -22,8 +24,7 @@ use Rattle.definitions.specs.declared.Kind.{Kind}
 use Rattle.definitions.specs.declared.Kind.TheVariants.{Tap, Hold, Roll, Mine, Lift, Fake}
 use Rattle.definitions.specs.declared.Tail.TheVariants as tail
 use Rattle.definitions.specs.declared.Note.{Note}
-use Rattle.definitions.specs.declared.ReadNote.{ReadNote}
-use Rattle.definitions.specs.declared.ReadNote.TheVariants.{Found}
+use Rattle.definitions.specs.declared.Refusal.{Refusal}
 use Rattle.definitions.specs.declared.NoteEffect.{NoteEffect}
 use Rattle.definitions.specs.declared.NoteEffect.TheVariants.{Nothing, Closes, Single, Head}
 use Rattle.definitions.proofs.Lists.{All, none as no_more, one, all_append, all_map, all-joined}
@@ -111,16 +112,15 @@ stands_at (n ∷ ns) zero h = refl
 stands_at (n ∷ ns) (suc k) h = stands_at ns k (omega arith)
 
 reads-back : (ns : List Note) → All Made ns → (k : ℕ) → k < length ns → ReadsBack ns k
-unfolding readNumber readFigures
 reads-back ns all k h =
-    let back : readNote (records ns) k ≡ Found (get_or ns k no_note) = read_back ns no_note k all h in
+    let back : readNote (records ns) k ≡ Ok (get_or ns k no_note) = read_back ns no_note k all h in
     record {
       note = get_or ns k no_note;
       stands = stands_at ns k h;
       limits = all-at ns no_note k all h;
       read = back;
-      number = ap readNumberOf back;
-      places = λ old. ap (λ (r : ReadNote). readLeft r old) back;
+      number = ap numberTold back;
+      places = λ old. ap (λ (r : Result Note Refusal). replaces r noteFigures old) back;
     }
 
 pub writer-makes : WriterMakes

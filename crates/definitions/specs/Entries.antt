@@ -1,25 +1,28 @@
--- The entries callable from outside: for every input the number that each returns, 0 for accepted, and what it leaves in each lent slice and
--- in the 32 figures. `lanes` is the caller's lane number; the lists named after slices are what those held before the call.
+-- The calls: for every input what each answers, a refusal or its value, and what it leaves in each lent slice. The entries callable from outside
+-- return the number told, 0 for accepted, and put the value in the 32 figures. `lanes` is the caller's lane number; the lists named after slices are what those held before the call.
 -- The entry that is lent a file is in SmFile.antt.
-use Rattle.std.specs.Prelude.{List, [], ◌∷◌, ◌++◌, ℕ, ◌+◌, Float, length, replicate}
+use Rattle.std.specs.Prelude.{List, [], ◌∷◌, ◌++◌, ℕ, ◌+◌, Float, length, replicate, Result, Ok, Err}
 use Rattle.std.specs.Float.{binary64}
 use Rattle.std.specs.Float.Ieee.{to_bits}
 use Rattle.definitions.specs.Lists.{oneIf, joined}
 use Rattle.definitions.specs.Lanes.{lanes_of}
-use Rattle.definitions.specs.Refusals.{longText, shortText, shortMeasures, shortBeats, shortWork, shortNotes, firstHeld, leaves, replaces}
+use Rattle.definitions.specs.Refusals.{longText, shortText, shortMeasures, shortBeats, shortWork, shortNotes, answered, leaves}
 use Rattle.definitions.specs.Reduction.{minimised}
 use Rattle.definitions.specs.Figures.{minimisedText, densities, spacings}
 use Rattle.definitions.specs.Beats.{f32, beats}
 use Rattle.definitions.specs.Objects.{last48, lastBeat}
 use Rattle.definitions.specs.Notes.{notes}
-use Rattle.definitions.specs.Records.{records, readNote, tailNumber, kindNumber}
+use Rattle.definitions.specs.Records.{records, tailNumber, kindNumber}
 use Rattle.definitions.specs.ReadBack.{mainTally, keptTally}
 use Rattle.definitions.specs.Judged.{judgedTally, flaggedTally}
 use Rattle.definitions.specs.TimingRows.{timingRows, timingHeads}
 use Rattle.definitions.specs.declared.ArrowStats.{ArrowStats}
+use Rattle.definitions.specs.declared.ChartFigures.{ChartFigures}
+use Rattle.definitions.specs.declared.KeptFigures.{KeptFigures}
+use Rattle.definitions.specs.declared.TimingFigures.{TimingFigures}
+use Rattle.definitions.specs.declared.LastBeat.{LastBeat}
+use Rattle.definitions.specs.declared.Refusal.{Refusal}
 use Rattle.definitions.specs.declared.Note.{Note}
-use Rattle.definitions.specs.declared.ReadNote.{ReadNote}
-use Rattle.definitions.specs.declared.ReadNote.TheVariants.{Found, Refused}
 
 -- the tally in the order of its fields
 abbrev pub tallyFigures : ArrowStats → List ℕ
@@ -61,12 +64,28 @@ rowCount L text = length (joined (minimised L text))
 abbrev pub lastBits : ℕ → List ℕ → ℕ
 lastBits L text = to_bits binary64 (lastBeat L text)
 
--- minimize_chart_count_rows_notes, the main call
+-- minimize_chart_count_rows_notes, the main call: its value, for an accepted text at L lanes
+unfoldable pub chartFigures : ℕ → List ℕ → ChartFigures
+chartFigures L text =
+    record {
+      bytes = length (minimisedText L text);
+      measures = measureCount L text;
+      rows = rowCount L text;
+      notes = length (notes L text);
+      last_bits = lastBits L text;
+      last_row = last48 L text;
+      stats = mainTally L text;
+    }
+
+-- and its places among the figures
+abbrev pub chartPlaces : ChartFigures → List ℕ
+chartPlaces f = figures f.bytes f.measures f.rows f.notes f.last_bits 0 f.last_row (tallyFigures f.stats)
+
 module _ (lanes : ℕ) (text out densities₀ : List ℕ) (beats₀ : List Float) (work notes₀ : List ℕ) where
-  -- the number that the call returns
-  unfoldable pub mainNumber : ℕ
-  mainNumber =
-      firstHeld
+  -- what the call answers
+  unfoldable pub mainAnswer : Result ChartFigures Refusal
+  mainAnswer =
+      answered
       (longText (length text)
       ∷ shortText (length text) (length out)
       ∷ shortMeasures (length text) (length densities₀)
@@ -74,181 +93,150 @@ module _ (lanes : ℕ) (text out densities₀ : List ℕ) (beats₀ : List Float
       ∷ shortWork (lanes_of lanes) (length text) (length work)
       ∷ shortNotes (lanes_of lanes) (length text) (length notes₀)
       ∷ [])
+      (chartFigures (lanes_of lanes) text)
 
   -- what it leaves in the text slice
-  unfoldable pub mainText : List ℕ
-  mainText = leaves 0 mainNumber (minimisedText (lanes_of lanes) text) out
+  abbrev pub mainText : List ℕ
+  mainText = leaves 0 mainAnswer (minimisedText (lanes_of lanes) text) out
 
   -- in the measure slice
-  unfoldable pub mainDensities : List ℕ
-  mainDensities = leaves 0 mainNumber (densities (lanes_of lanes) text) densities₀
+  abbrev pub mainDensities : List ℕ
+  mainDensities = leaves 0 mainAnswer (densities (lanes_of lanes) text) densities₀
 
   -- in the beat slice
-  unfoldable pub mainBeats : List Float
-  mainBeats = leaves (f32 0) mainNumber (beats (lanes_of lanes) text) beats₀
+  abbrev pub mainBeats : List Float
+  mainBeats = leaves (f32 0) mainAnswer (beats (lanes_of lanes) text) beats₀
 
   -- "the work slice is 0 throughout"
-  unfoldable pub mainWork : List ℕ
-  mainWork = leaves 0 mainNumber [] work
+  abbrev pub mainWork : List ℕ
+  mainWork = leaves 0 mainAnswer [] work
 
   -- in the note slice
-  unfoldable pub mainNotes : List ℕ
-  mainNotes = leaves 0 mainNumber (records (notes (lanes_of lanes) text)) notes₀
+  abbrev pub mainNotes : List ℕ
+  mainNotes = leaves 0 mainAnswer (records (notes (lanes_of lanes) text)) notes₀
 
-  -- in the figures, which held `old`
-  unfoldable pub mainFigures : List ℕ → List ℕ
-  mainFigures old =
-      replaces mainNumber
-      (figures
-      (length (minimisedText (lanes_of lanes) text))
-      (measureCount (lanes_of lanes) text)
-      (rowCount (lanes_of lanes) text)
-      (length (notes (lanes_of lanes) text))
-      (lastBits (lanes_of lanes) text)
-      0
-      (last48 (lanes_of lanes) text)
-      (tallyFigures (mainTally (lanes_of lanes) text)))
-      old
+-- process_chart_kept, the kept-row call: its value, and its places
+unfoldable pub keptFigures : ℕ → List ℕ → KeptFigures
+keptFigures L text =
+    record {
+      bytes = length (minimisedText L text);
+      measures = measureCount L text;
+      rows = rowCount L text;
+      stats = keptTally L text;
+    }
 
--- process_chart_kept, the kept-row call
+abbrev pub keptPlaces : KeptFigures → List ℕ
+keptPlaces f = figures f.bytes f.measures f.rows 0 0 0 0 (tallyFigures f.stats)
+
 module _ (lanes : ℕ) (text out densities₀ work : List ℕ) where
-  -- the number that the call returns
-  unfoldable pub keptNumber : ℕ
-  keptNumber =
-      firstHeld
+  -- what the call answers
+  unfoldable pub keptAnswer : Result KeptFigures Refusal
+  keptAnswer =
+      answered
       (longText (length text)
       ∷ shortText (length text) (length out)
       ∷ shortMeasures (length text) (length densities₀)
       ∷ shortWork (lanes_of lanes) (length text) (length work)
       ∷ [])
+      (keptFigures (lanes_of lanes) text)
 
   -- what it leaves in the text slice
-  unfoldable pub keptText : List ℕ
-  keptText = leaves 0 keptNumber (minimisedText (lanes_of lanes) text) out
+  abbrev pub keptText : List ℕ
+  keptText = leaves 0 keptAnswer (minimisedText (lanes_of lanes) text) out
 
   -- in the measure slice
-  unfoldable pub keptDensities : List ℕ
-  keptDensities = leaves 0 keptNumber (densities (lanes_of lanes) text) densities₀
+  abbrev pub keptDensities : List ℕ
+  keptDensities = leaves 0 keptAnswer (densities (lanes_of lanes) text) densities₀
 
   -- in the work slice
-  unfoldable pub keptWork : List ℕ
-  keptWork = leaves 0 keptNumber [] work
+  abbrev pub keptWork : List ℕ
+  keptWork = leaves 0 keptAnswer [] work
 
-  -- in the figures, which held `old`
-  unfoldable pub keptFigures : List ℕ → List ℕ
-  keptFigures old =
-      replaces keptNumber
-      (figures
-      (length (minimisedText (lanes_of lanes) text))
-      (measureCount (lanes_of lanes) text)
-      (rowCount (lanes_of lanes) text)
-      0
-      0
-      0
-      0
-      (tallyFigures (keptTally (lanes_of lanes) text)))
-      old
+-- minimize_timing_rows: its value, and its places
+unfoldable pub timingFigures : ℕ → List ℕ → TimingFigures
+timingFigures L text =
+    record {
+      bytes = length (timingRows L text);
+      rows = rowCount L text;
+      heads = timingHeads L text;
+    }
 
--- minimize_timing_rows
+abbrev pub timingPlaces : TimingFigures → List ℕ
+timingPlaces f = figures f.bytes 0 f.rows 0 0 (oneIf f.heads) 0 noTally
+
 module _ (lanes : ℕ) (text out : List ℕ) (beats₀ : List Float) where
-  -- the number that the call returns
-  unfoldable pub timingNumber : ℕ
-  timingNumber =
-      firstHeld
+  -- what the call answers
+  unfoldable pub timingAnswer : Result TimingFigures Refusal
+  timingAnswer =
+      answered
       (longText (length text)
       ∷ shortText (length text) (length out)
       ∷ shortBeats (lanes_of lanes) (length text) (length beats₀)
       ∷ [])
+      (timingFigures (lanes_of lanes) text)
 
   -- what it leaves in the text slice
-  unfoldable pub timingText : List ℕ
-  timingText = leaves 0 timingNumber (timingRows (lanes_of lanes) text) out
+  abbrev pub timingText : List ℕ
+  timingText = leaves 0 timingAnswer (timingRows (lanes_of lanes) text) out
 
   -- in the beat slice
-  unfoldable pub timingBeats : List Float
-  timingBeats = leaves (f32 0) timingNumber (beats (lanes_of lanes) text) beats₀
+  abbrev pub timingBeats : List Float
+  timingBeats = leaves (f32 0) timingAnswer (beats (lanes_of lanes) text) beats₀
 
-  -- in the figures, which held `old`
-  unfoldable pub timingFigures : List ℕ → List ℕ
-  timingFigures old =
-      replaces timingNumber
-      (figures
-      (length (timingRows (lanes_of lanes) text))
-      0
-      (rowCount (lanes_of lanes) text)
-      0
-      0
-      (oneIf (timingHeads (lanes_of lanes) text))
-      0
-      noTally)
-      old
+-- measure_densities and equally_spaced: how many measures there are, and its place
+abbrev pub measuresPlaces : ℕ → List ℕ
+measuresPlaces n = figures 0 n 0 0 0 0 0 noTally
 
--- measure_densities and equally_spaced
 module _ (lanes : ℕ) (text slice : List ℕ) where
-  -- the number that either call returns
-  unfoldable pub measuresNumber : ℕ
-  measuresNumber = firstHeld (longText (length text) ∷ shortMeasures (length text) (length slice) ∷ [])
+  -- what either call answers
+  unfoldable pub measuresAnswer : Result ℕ Refusal
+  measuresAnswer = answered (longText (length text) ∷ shortMeasures (length text) (length slice) ∷ []) (measureCount (lanes_of lanes) text)
 
   -- what `measure_densities` leaves in the measure slice
-  unfoldable pub densitiesLeft : List ℕ
-  densitiesLeft = leaves 0 measuresNumber (densities (lanes_of lanes) text) slice
+  abbrev pub densitiesLeft : List ℕ
+  densitiesLeft = leaves 0 measuresAnswer (densities (lanes_of lanes) text) slice
 
   -- what `equally_spaced` leaves in the measure slice
-  unfoldable pub spacingsLeft : List ℕ
-  spacingsLeft = leaves 0 measuresNumber (spacings (lanes_of lanes) text) slice
+  abbrev pub spacingsLeft : List ℕ
+  spacingsLeft = leaves 0 measuresAnswer (spacings (lanes_of lanes) text) slice
 
-  -- what either leaves in the figures, which held `old`
-  unfoldable pub measuresFigures : List ℕ → List ℕ
-  measuresFigures old = replaces measuresNumber (figures 0 (measureCount (lanes_of lanes) text) 0 0 0 0 0 noTally) old
+-- chart_last_beat: its value, and its places
+unfoldable pub lastFigures : ℕ → List ℕ → LastBeat
+lastFigures L text =
+    record {
+      beat = lastBeat L text;
+      bits = lastBits L text;
+      row = last48 L text;
+    }
 
--- chart_last_beat
-module _ (lanes : ℕ) (text : List ℕ) where
-  -- the number that the call returns
-  unfoldable pub lastNumber : ℕ
-  lastNumber = firstHeld (longText (length text) ∷ [])
+abbrev pub lastPlaces : LastBeat → List ℕ
+lastPlaces f = figures 0 0 0 0 f.bits 0 f.row noTally
 
-  -- what it leaves in the figures, which held `old`
-  unfoldable pub lastFigures : List ℕ → List ℕ
-  lastFigures old =
-      replaces lastNumber (figures 0 0 0 0 (lastBits (lanes_of lanes) text) 0 (last48 (lanes_of lanes) text) noTally) old
+-- what the call answers
+unfoldable pub lastAnswer : ℕ → List ℕ → Result LastBeat Refusal
+lastAnswer lanes text = answered (longText (length text) ∷ []) (lastFigures (lanes_of lanes) text)
 
--- process_rows_judgable and process_timing_rows
+-- process_rows_judgable and process_timing_rows: a tally, and its places
+abbrev pub judgedPlaces : ArrowStats → List ℕ
+judgedPlaces t = figures 0 0 0 0 0 0 0 (tallyFigures t)
+
 module _ (lanes : ℕ) (text work : List ℕ) where
-  -- the number that either call returns
-  unfoldable pub judgedNumber : ℕ
-  judgedNumber = firstHeld (longText (length text) ∷ shortWork (lanes_of lanes) (length text) (length work) ∷ [])
+  -- what either answers, with this tally of an accepted text
+  unfoldable pub judgedChecked : ArrowStats → Result ArrowStats Refusal
+  judgedChecked t = answered (longText (length text) ∷ shortWork (lanes_of lanes) (length text) (length work) ∷ []) t
+
+  -- what `process_rows_judgable` answers
+  abbrev pub judgedAnswer : Result ArrowStats Refusal
+  judgedAnswer = judgedChecked (judgedTally (lanes_of lanes) text)
+
+  -- what `process_timing_rows` answers, with these flags
+  abbrev pub flaggedAnswer : List ℕ → Result ArrowStats Refusal
+  flaggedAnswer flags = judgedChecked (flaggedTally (lanes_of lanes) flags text)
 
   -- what either leaves in the work slice
-  unfoldable pub judgedWork : List ℕ
-  judgedWork = leaves 0 judgedNumber [] work
+  abbrev pub judgedWork : List ℕ
+  judgedWork = leaves 0 judgedAnswer [] work
 
-  -- what `process_rows_judgable` leaves in the figures, which held `old`
-  unfoldable pub judgedFigures : List ℕ → List ℕ
-  judgedFigures old = replaces judgedNumber (figures 0 0 0 0 0 0 0 (tallyFigures (judgedTally (lanes_of lanes) text))) old
-
-  -- what `process_timing_rows` leaves there, with these flags
-  unfoldable pub flaggedFigures : List ℕ → List ℕ → List ℕ
-  flaggedFigures flags old =
-      replaces judgedNumber (figures 0 0 0 0 0 0 0 (tallyFigures (flaggedTally (lanes_of lanes) flags text))) old
-
--- read_note: the number, and the four places of the note, "row, tail (4294967295 for none), column, kind"
-abbrev pub readNumberOf : ReadNote → ℕ
-readNumberOf (Found n) = 0
-readNumberOf (Refused k) = k
-
--- the four places of a note
+-- read_note: the four places of a note, "row, tail (4294967295 for none), column, kind". What it answers is in Records.antt.
 abbrev pub noteFigures : Note → List ℕ
 noteFigures n = n.row ∷ tailNumber n.tail ∷ n.column ∷ kindNumber n.kind ∷ []
-
--- what is left in four places that held `old`
-abbrev pub readLeft : ReadNote → List ℕ → List ℕ
-readLeft (Found n) old = noteFigures n
-readLeft (Refused k) old = old
-
--- the number that `read_note` returns for record k of s
-unfoldable pub readNumber : List ℕ → ℕ → ℕ
-readNumber s k = readNumberOf (readNote s k)
-
--- what it leaves in the four places, which held `old`
-unfoldable pub readFigures : List ℕ → ℕ → List ℕ → List ℕ
-readFigures s k old = readLeft (readNote s k) old

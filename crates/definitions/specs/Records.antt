@@ -1,5 +1,5 @@
 -- Document 01's note records: ten bytes each, and reading one back with the refusals 7 and 8.
-use Rattle.std.specs.Prelude.{cond, List, [], ◌∷◌, ◌++◌, map, ℕ, ◌+◌, ◌*◌, ◌/◌, ◌%◌, eqb, ltb, leb, length, get_or}
+use Rattle.std.specs.Prelude.{cond, List, [], ◌∷◌, ◌++◌, map, ℕ, ◌+◌, ◌*◌, ◌/◌, ◌%◌, eqb, ltb, leb, length, get_or, Result, Ok, Err}
 use Rattle.definitions.specs.Sizes.{rowNumbersBound}
 use Rattle.definitions.specs.Lists.{joined}
 use Rattle.definitions.specs.declared.Kind.{Kind}
@@ -7,8 +7,8 @@ use Rattle.definitions.specs.declared.Kind.TheVariants.{Tap, Hold, Roll, Mine, L
 use Rattle.definitions.specs.declared.Tail.{Tail}
 use Rattle.definitions.specs.declared.Tail.TheVariants.{Without, Row}
 use Rattle.definitions.specs.declared.Note.{Note}
-use Rattle.definitions.specs.declared.ReadNote.{ReadNote}
-use Rattle.definitions.specs.declared.ReadNote.TheVariants.{Found, Refused}
+use Rattle.definitions.specs.declared.Refusal.{Refusal}
+use Rattle.definitions.specs.declared.Refusal.TheVariants.{NoRecord, BadRecord}
 
 -- a number below 2 ^ 32 as four bytes, "low byte first"
 abbrev pub bytes4 : ℕ → List ℕ
@@ -46,35 +46,35 @@ records ns = joined (map encode ns)
 
 -- What the fields of a record give. "The writer makes only: column below 10, kind below 6, row and tail row below 16,777,216, a tail above
 -- its row for kinds 1 and 2, none for the others." "8: that record breaks one of the limits"
-abbrev pub plain_of : ℕ → ℕ → ℕ → Kind → ReadNote
+abbrev pub plain_of : ℕ → ℕ → ℕ → Kind → Result Note Refusal
 plain_of row tail column kind =
-    cond (eqb tail 4294967295) (Found (record { row = row; tail = Without; column = column; kind = kind })) (Refused 8)
+    cond (eqb tail 4294967295) (Ok (record { row = row; tail = Without; column = column; kind = kind })) (Err BadRecord)
 
 -- of kinds 1 and 2: a tail above its row
-abbrev pub held_of : ℕ → ℕ → ℕ → Kind → ReadNote
+abbrev pub held_of : ℕ → ℕ → ℕ → Kind → Result Note Refusal
 held_of row tail column kind =
     cond (ltb row tail)
-    (cond (ltb tail rowNumbersBound) (Found (record { row = row; tail = Row tail; column = column; kind = kind })) (Refused 8))
-    (Refused 8)
+    (cond (ltb tail rowNumbersBound) (Ok (record { row = row; tail = Row tail; column = column; kind = kind })) (Err BadRecord))
+    (Err BadRecord)
 
 -- of any fields
-unfoldable pub note_of : ℕ → ℕ → ℕ → ℕ → ReadNote
+unfoldable pub note_of : ℕ → ℕ → ℕ → ℕ → Result Note Refusal
 note_of row tail column kind =
-    cond (leb 10 column) (Refused 8)
-    (cond (leb rowNumbersBound row) (Refused 8)
+    cond (leb 10 column) (Err BadRecord)
+    (cond (leb rowNumbersBound row) (Err BadRecord)
     (cond (eqb kind 0) (plain_of row tail column Tap)
     (cond (eqb kind 1) (held_of row tail column Hold)
     (cond (eqb kind 2) (held_of row tail column Roll)
     (cond (eqb kind 3) (plain_of row tail column Mine)
     (cond (eqb kind 4) (plain_of row tail column Lift)
     (cond (eqb kind 5) (plain_of row tail column Fake)
-    (Refused 8))))))))
+    (Err BadRecord))))))))
 
 -- "7: the records' length is not a multiple of 10, or the asked record's number is not below length div 10."
-unfoldable pub readNote : List ℕ → ℕ → ReadNote
+unfoldable pub readNote : List ℕ → ℕ → Result Note Refusal
 readNote s k =
     cond (eqb (length s % 10) 0)
     (cond (ltb k (length s / 10))
     (note_of (word s (k * 10)) (word s (k * 10 + 4)) (get_or s (k * 10 + 8) 0) (get_or s (k * 10 + 9) 0))
-    (Refused 7))
-    (Refused 7)
+    (Err NoRecord))
+    (Err NoRecord)

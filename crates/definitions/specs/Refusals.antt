@@ -1,53 +1,74 @@
--- Document 01, "What a call can be told": the conditions of the refusals 1 to 6, their order, and what a call leaves in a lent slice.
--- 7 and 8 are in Records.antt, 9 to 11 in SmFile.antt.
-use Rattle.std.specs.Prelude.{Bool, cond, List, [], ◌∷◌, ℕ, ◌+◌, ◌*◌, ◌/◌, eqb, ltb, length}
+-- Document 01, "What a call can be told": the refusals by their numbers, the conditions of 1 to 6, their order, and what a call leaves in what it
+-- was lent. 7 and 8 are in Records.antt, 9 to 11 in SmFile.antt.
+use Rattle.std.specs.Prelude.{Bool, cond, List, [], ◌∷◌, ℕ, ◌+◌, ◌*◌, ◌/◌, ltb, length, Result, Ok, Err}
 use Rattle.definitions.specs.Sizes.{mostBytes}
 use Rattle.definitions.specs.Lists.{padded}
 use Rattle.definitions.specs.Lanes.{mostRows}
+use Rattle.definitions.specs.declared.Refusal.{Refusal}
+use Rattle.definitions.specs.declared.Refusal.TheVariants.{LongText, ShortText, ShortMeasures, ShortBeats, ShortWork, ShortNotes, NoRecord, BadRecord, FewFields, OtherType, NoChart, ShortSheet, OtherForm}
 
--- A refusal's number and whether its condition holds.
-pub record Check : Type 0 where
-  pub number : ℕ
-  pub holds : Bool
+-- the papers' number of a refusal
+abbrev pub number_of : Refusal → ℕ
+number_of LongText = 1
+number_of ShortText = 2
+number_of ShortMeasures = 3
+number_of ShortBeats = 4
+number_of ShortWork = 5
+number_of ShortNotes = 6
+number_of NoRecord = 7
+number_of BadRecord = 8
+number_of FewFields = 9
+number_of OtherType = 10
+number_of NoChart = 11
+number_of ShortSheet = 19
+number_of OtherForm = 20
 
--- a check of that number and condition
-abbrev pub check : ℕ → Bool → Check
-check n t = record { number = n; holds = t }
+-- what a check answers: this refusal where the condition holds
+abbrev pub refusedIf : Bool → Refusal → Result Unit Refusal
+refusedIf t r = cond t (Err r) (Ok tt)
 
 -- "1: len is over 16,777,215."
-abbrev pub longText : ℕ → Check
-longText len = check 1 (ltb mostBytes len)
+unfoldable pub longText : ℕ → Result Unit Refusal
+longText len = refusedIf (ltb mostBytes len) LongText
 
 -- "2: the text slice (bytes) is shorter than len + 1."
-abbrev pub shortText : ℕ → ℕ → Check
-shortText len room = check 2 (ltb room (len + 1))
+unfoldable pub shortText : ℕ → ℕ → Result Unit Refusal
+shortText len room = refusedIf (ltb room (len + 1)) ShortText
 
 -- "3: the measure slice (u32 densities, or bytes for spacing, 1 true and 0 false) is shorter than (len + 1) div 2 + 1."
-abbrev pub shortMeasures : ℕ → ℕ → Check
-shortMeasures len room = check 3 (ltb room ((len + 1) / 2 + 1))
+unfoldable pub shortMeasures : ℕ → ℕ → Result Unit Refusal
+shortMeasures len room = refusedIf (ltb room ((len + 1) / 2 + 1)) ShortMeasures
 
 -- "4: the beat slice (f32) is shorter than R."
-abbrev pub shortBeats : ℕ → ℕ → ℕ → Check
-shortBeats L len room = check 4 (ltb room (mostRows L len))
+unfoldable pub shortBeats : ℕ → ℕ → ℕ → Result Unit Refusal
+shortBeats L len room = refusedIf (ltb room (mostRows L len)) ShortBeats
 
 -- "5: the work slice (u16) is shorter than R."
-abbrev pub shortWork : ℕ → ℕ → ℕ → Check
-shortWork L len room = check 5 (ltb room (mostRows L len))
+unfoldable pub shortWork : ℕ → ℕ → ℕ → Result Unit Refusal
+shortWork L len room = refusedIf (ltb room (mostRows L len)) ShortWork
 
 -- "6: the note slice (bytes) is shorter than 10 × L × R."
-abbrev pub shortNotes : ℕ → ℕ → ℕ → Check
-shortNotes L len room = check 6 (ltb room (10 * L * mostRows L len))
+unfoldable pub shortNotes : ℕ → ℕ → ℕ → Result Unit Refusal
+shortNotes L len room = refusedIf (ltb room (10 * L * mostRows L len)) ShortNotes
 
--- "Checked in rising order": the number of the first check that holds, 0 where none does and the call is accepted.
-abbrev pub firstHeld : List Check → ℕ
-firstHeld [] = 0
-firstHeld (c ∷ cs) = cond c.holds c.number (firstHeld cs)
+-- "Checked in rising order": the first check that refuses refuses the call; where none does, it is accepted and answers x.
+abbrev pub answered : {T : Type 0} → List (Result Unit Refusal) → T → Result T Refusal
+answered [] x = Ok x
+answered (Ok u ∷ checks) x = answered checks x
+answered (Err r ∷ checks) x = Err r
+
+-- the number that a call returns: 0 where it is accepted
+abbrev pub numberTold : {T : Type 0} → Result T Refusal → ℕ
+numberTold (Ok x) = 0
+numberTold (Err r) = number_of r
 
 -- What a call leaves in a slice lent for writing that held `old`. "A refusal returns its number alone and writes nothing."
 -- "After an accepted call every entry past the answer in a slice lent for writing is 0"
-unfoldable pub leaves : {A : Type 0} → A → ℕ → List A → List A → List A
-leaves z number answer old = cond (eqb number 0) (padded z (length old) answer) old
+abbrev pub leaves : {A T : Type 0} → A → Result T Refusal → List A → List A → List A
+leaves z (Ok x) answer old = padded z (length old) answer
+leaves z (Err r) answer old = old
 
--- What a call leaves in the figures, or in the places of a note: an accepted call sets them all.
-unfoldable pub replaces : ℕ → List ℕ → List ℕ → List ℕ
-replaces number answer old = cond (eqb number 0) answer old
+-- What a call leaves in the figures, or in the places of a note: an accepted call sets them all, by what it answers.
+abbrev pub replaces : {T : Type 0} → Result T Refusal → (T → List ℕ) → List ℕ → List ℕ
+replaces (Ok x) places old = places x
+replaces (Err r) places old = old

@@ -3,7 +3,8 @@ use Rattle.std.specs.Prelude.{◌≡◌, refl, cond, List, [], ◌∷◌, map, �
 use Prim.Native.String.{String}
 use Rattle.definitions.specs.Lists.{up_to, through, after}
 use Rattle.definitions.specs.Lines.{isBlank}
-use Rattle.definitions.specs.SmFile.{isTagged, tag_of, notesTag, blockText, blockEnd, startsBlock, blocks_from, blocks, colons, data_of, type_of, typeLanes, smTag, smText, smLanes, smData, smStart, smNumber}
+use Rattle.definitions.specs.Refusals.{longText}
+use Rattle.definitions.specs.SmFile.{isTagged, tag_of, notesTag, blockText, blockEnd, startsBlock, blocks_from, blocks, colons, data_of, type_of, typeLanes, smTag, smText, smLanes, smData, smStart, smAnswer, smNumber}
 use Rattle.definitions.specs.Examples.{bytes}
 
 -- One question to a file, and the answer.
@@ -13,8 +14,8 @@ pub record Example : Type 0 where
   pub answer : List ℕ
 
 -- E1's answer for block k of a file: 0, the lane count, where the data begins and the data, or a refusal's number alone
-unfoldable pub smAnswer : List ℕ → ℕ → List ℕ
-smAnswer file k = smNumber file k ∷ cond (eqb (smNumber file k) 0) (smLanes file k ∷ smStart file k ∷ smData file k) []
+unfoldable pub smTold : List ℕ → ℕ → List ℕ
+smTold file k = smNumber file k ∷ cond (eqb (smNumber file k) 0) (smLanes file k ∷ smStart file k ∷ smData file k) []
 
 -- block k of that file has so many lanes, and this data from that place on
 abbrev pub chart : String → ℕ → ℕ → ℕ → String → Example
@@ -51,6 +52,6 @@ table =
     ∷ refused "#NOTES:lights-cabinet:::::;" 1 11
     ∷ []
 
-pub request-examples-hold : map (λ (e : Example). smAnswer (bytes e.file) e.k) table ≡ map (λ (e : Example). e.answer) table
-unfolding table smAnswer smNumber smStart smData smLanes smText smTag typeLanes type_of data_of colons blocks blocks_from startsBlock blockEnd blockText notesTag tag_of isTagged after up_to through isBlank
+pub request-examples-hold : map (λ (e : Example). smTold (bytes e.file) e.k) table ≡ map (λ (e : Example). e.answer) table
+unfolding table smTold smAnswer longText smStart smData smLanes smText smTag typeLanes type_of data_of colons blocks blocks_from startsBlock blockEnd blockText notesTag tag_of isTagged after up_to through isBlank
 request-examples-hold = refl

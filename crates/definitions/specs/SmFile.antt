@@ -1,12 +1,15 @@
 -- Document 02, E1: the charts inside an SM file. What is answered for block k of a file: a refusal's number, or the lane count and the data as a
 -- part of the file. 58 is `:` and 59 `;`.
-use Rattle.std.specs.Prelude.{Bool, cond, ◌&&◌, List, [], ◌∷◌, ◌++◌, ℕ, ◌+◌, ◌-◌, eqb, leb, ltb, length, drop, get_or}
+use Rattle.std.specs.Prelude.{Bool, cond, ◌&&◌, List, [], ◌∷◌, ◌++◌, ℕ, ◌+◌, ◌-◌, eqb, leb, ltb, length, drop, get_or, Result, Ok, Err}
 use Prim.Native.Char.{code}
 use Prim.Native.String.{String, [] as end, ◌∷◌ as ◌then◌}
 use Rattle.definitions.specs.Lists.{only_if, count, up_to, through, afterEach, starts_with, same}
 use Rattle.definitions.specs.Lines.{cut, isBlank, trim}
-use Rattle.definitions.specs.Refusals.{check, longText, firstHeld, replaces}
+use Rattle.definitions.specs.Refusals.{refusedIf, longText, answered, numberTold, replaces}
 use Rattle.definitions.specs.declared.Tag.{Tag}
+use Rattle.definitions.specs.declared.ChartPlace.{ChartPlace}
+use Rattle.definitions.specs.declared.Refusal.{Refusal}
+use Rattle.definitions.specs.declared.Refusal.TheVariants.{FewFields, OtherType, NoChart}
 
 -- the bytes of a word in ASCII
 abbrev pub letters : String → List ℕ
@@ -102,17 +105,28 @@ module _ (file : List ℕ) (k : ℕ) where
   unfoldable pub smStart : ℕ
   smStart = smTag.end + (length smText - length smData)
 
-  -- The number that the call returns. "9 where that block has fewer than five `:` after its tag; 10 for another type name; 11 where k is not
-  -- below the number of blocks; the order is 1, 11, 9, 10."
-  unfoldable pub smNumber : ℕ
-  smNumber =
-      firstHeld
-      (longText (length file)
-      ∷ check 11 (leb (length (blocks file)) k)
-      ∷ check 9 (ltb (colons smText) 5)
-      ∷ check 10 (eqb smLanes 0)
-      ∷ [])
+  -- The checks. "9 where that block has fewer than five `:` after its tag; 10 for another type name; 11 where k is not below the number of blocks;
+  -- the order is 1, 11, 9, 10."
+  abbrev pub smChecks : List (Result Unit Refusal)
+  smChecks =
+      longText (length file)
+      ∷ refusedIf (leb (length (blocks file)) k) NoChart
+      ∷ refusedIf (ltb (colons smText) 5) FewFields
+      ∷ refusedIf (eqb smLanes 0) OtherType
+      ∷ []
+
+  -- the lane count and where the data begins
+  abbrev pub smPlace : ChartPlace
+  smPlace = record { lanes = smLanes; start = smStart }
+
+  -- what the call answers
+  unfoldable pub smAnswer : Result ChartPlace Refusal
+  smAnswer = answered smChecks smPlace
+
+  -- the number that is returned outside
+  abbrev pub smNumber : ℕ
+  smNumber = numberTold smAnswer
 
   -- what it leaves in the three places of the chart, which held `old`: lane count, where the data begins, its length
-  unfoldable pub smPlaces : List ℕ → List ℕ
-  smPlaces old = replaces smNumber (smLanes ∷ smStart ∷ length smData ∷ []) old
+  abbrev pub smPlaces : List ℕ → List ℕ
+  smPlaces old = replaces smAnswer (λ p. p.lanes ∷ p.start ∷ length smData ∷ []) old

@@ -1,19 +1,19 @@
 -- Document 01, "The writer makes only": the limits of a note that the writer makes, and the claim that every record of an accepted text keeps
 -- them and is read back as its note. `writer-makes` in proofs/WriterMakes.antt proves it.
-use Rattle.std.specs.Prelude.{◌≡◌, List, ℕ, ◌≤◌, ◌<◌, length}
+use Rattle.std.specs.Prelude.{◌≡◌, List, ℕ, ◌≤◌, ◌<◌, length, Ok}
 use Rattle.std.proofs.Math.Option.{some}
 use Rattle.std.proofs.Math.ListN.{get_elem?}
 use Rattle.definitions.specs.Sizes.{mostBytes, rowNumbersBound}
 use Rattle.definitions.specs.Lanes.{lanes_of}
 use Rattle.definitions.specs.Notes.{notes}
 use Rattle.definitions.specs.Records.{kindNumber, records, readNote}
-use Rattle.definitions.specs.Entries.{noteFigures, readNumber, readFigures}
+use Rattle.definitions.specs.Refusals.{numberTold, replaces}
+use Rattle.definitions.specs.Entries.{noteFigures}
 use Rattle.definitions.specs.declared.Kind.{Kind}
 use Rattle.definitions.specs.declared.Kind.TheVariants.{Tap, Hold, Roll, Mine, Lift, Fake}
 use Rattle.definitions.specs.declared.Tail.{Tail}
 use Rattle.definitions.specs.declared.Tail.TheVariants.{Without, Row}
 use Rattle.definitions.specs.declared.Note.{Note}
-use Rattle.definitions.specs.declared.ReadNote.TheVariants.{Found}
 
 -- "tail row below 16,777,216, a tail above its row for kinds 1 and 2, none for the others"
 abbrev pub TailMade : ℕ → Kind → Tail → Type 0
@@ -43,9 +43,9 @@ pub record ReadsBack (ns : List Note) (k : ℕ) : Type 0 where
   pub note : Note
   pub stands : get_elem? ns k ≡ some note
   pub limits : Made note
-  pub read : readNote (records ns) k ≡ Found note
-  pub number : readNumber (records ns) k ≡ 0
-  pub places : (old : List ℕ) → readFigures (records ns) k old ≡ noteFigures note
+  pub read : readNote (records ns) k ≡ Ok note
+  pub number : numberTold (readNote (records ns) k) ≡ 0
+  pub places : (old : List ℕ) → replaces (readNote (records ns) k) noteFigures old ≡ noteFigures note
 
 -- For every lane number and every text that no call refuses for its length, this holds of each record of its notes.
 unfoldable pub WriterMakes : Type 0

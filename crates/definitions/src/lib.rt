@@ -1,6 +1,9 @@
 // The types that documents 01 and 02 speak of. The definitions over them are in specs/, in document 01's order, and their laws in proofs/.
 #![tactic(auto)]
 
+ghost use Rattle.std.specs.Prelude.{◌≡◌};
+ghost use Rattle.definitions.specs.Refusals.{number_of};
+
 // The longest text that is accepted, in bytes.
 pub const MOST_BYTES: usize = 16777215;
 
@@ -119,11 +122,76 @@ pub struct ArrowStats {
     pub holding: u32,
 }
 
-// What reading a note record gives: the note, or a refusal's number.
+// Why a call is refused, by the papers' numbers.
+#[derive(Clone, Copy, PartialEq, Eq, Debug)]
+pub enum Refusal {
+    LongText = 1,
+    ShortText = 2,
+    ShortMeasures = 3,
+    ShortBeats = 4,
+    ShortWork = 5,
+    ShortNotes = 6,
+    NoRecord = 7,
+    BadRecord = 8,
+    FewFields = 9,
+    OtherType = 10,
+    NoChart = 11,
+    ShortSheet = 19,
+    OtherForm = 20,
+}
+
+impl Refusal {
+    // The number that is returned outside.
+    pub fn number(self) -> u32
+        ensures { result ≡ number_of self }
+    {
+        self as u32
+    }
+}
+
+// What the main call answers beside its slices: bytes of the minimised text, measures, minimised rows, note records, the last beat as the
+// bits of its float and in 48ths, and the tally.
 #[derive(Clone, Copy)]
-pub enum ReadNote {
-    Found(Note),
-    Refused(u32),
+pub struct ChartFigures {
+    pub bytes: usize,
+    pub measures: usize,
+    pub rows: u32,
+    pub notes: usize,
+    pub last_bits: u64,
+    pub last_row: u64,
+    pub stats: ArrowStats,
+}
+
+// What the kept-row call answers: bytes of the minimised text, measures, minimised rows, and the tally.
+#[derive(Clone, Copy)]
+pub struct KeptFigures {
+    pub bytes: usize,
+    pub measures: usize,
+    pub rows: u32,
+    pub stats: ArrowStats,
+}
+
+// What `minimize_timing_rows` answers: bytes and rows written and whether any of them has a 2 or 4.
+#[derive(Clone, Copy)]
+pub struct TimingFigures {
+    pub bytes: usize,
+    pub rows: usize,
+    pub heads: bool,
+}
+
+// A last beat: its float, the bits of that, and in 48ths.
+#[derive(Clone, Copy)]
+pub struct LastBeat {
+    pub beat: f64,
+    pub bits: u64,
+    pub row: u64,
+}
+
+// A chart inside a file: its lane count, and where its data begins.
+#[derive(Clone, Copy)]
+pub struct ChartPlace {
+    pub lanes: usize,
+    pub start: usize,
 }
 
 // A tag with which a line begins, after blanks: where its line begins in the file, and the place just past the tag.

@@ -3,11 +3,11 @@
 #![tactic(auto)]
 
 ghost use Rattle.std.specs.Prelude.{◌≡◌, [], ◌∷◌};
-ghost use Rattle.definitions.specs.Entries.{figures as figuresOf, noTally, tallyFigures, noteFigures};
+ghost use Rattle.definitions.specs.Entries.{figures as figuresOf, noTally, tallyFigures, noteFigures, chartPlaces, keptPlaces, timingPlaces, measuresPlaces, lastPlaces, judgedPlaces};
 ghost use Rattle.definitions.specs.Lists.{oneIf};
 ghost use Rattle.definitions.specs.Records.{tailNumber};
 
-use definitions::{ArrowStats, Note, Tail};
+use definitions::{ArrowStats, ChartFigures, KeptFigures, LastBeat, Note, Tail, TimingFigures};
 use note_records::{NO_TAIL_ROW, kind_number};
 
 fn wide(n: u32) -> u64
@@ -18,7 +18,7 @@ fn wide(n: u32) -> u64
 
 // The 32 figures of a call on a text: bytes, measures, rows, notes, the last beat by its bits, whether a row has a 2 or 4, the last beat in 48ths,
 // and from place 8 on the tally in the order of its fields.
-pub fn figures_of(
+fn figures_of(
     bytes: usize,
     measures: usize,
     rows: usize,
@@ -67,7 +67,7 @@ pub fn figures_of(
 }
 
 // Those of a call that answers neither notes nor a tally.
-pub fn without_tally(
+fn without_tally(
     bytes: usize,
     measures: usize,
     rows: usize,
@@ -79,6 +79,59 @@ pub fn without_tally(
 {
     let none = row_tally::no_stats();
     figures_of(bytes, measures, rows, 0, last_bits, heads, last_row, none)
+}
+
+// What the main call answers.
+pub fn chart_places(f: ChartFigures) -> [u64; 32]
+    ensures { result ≡ chartPlaces f }
+{
+    let stats = f.stats;
+    figures_of(
+        f.bytes,
+        f.measures,
+        f.rows as usize,
+        f.notes,
+        f.last_bits,
+        false,
+        f.last_row,
+        stats,
+    )
+}
+
+// What the kept-row call answers.
+pub fn kept_places(f: KeptFigures) -> [u64; 32]
+    ensures { result ≡ keptPlaces f }
+{
+    let stats = f.stats;
+    figures_of(f.bytes, f.measures, f.rows as usize, 0, 0, false, 0, stats)
+}
+
+// What the call for timing rows answers.
+pub fn timing_places(f: TimingFigures) -> [u64; 32]
+    ensures { result ≡ timingPlaces f }
+{
+    without_tally(f.bytes, 0, f.rows, 0, f.heads, 0)
+}
+
+// How many measures there are.
+pub fn measures_places(n: usize) -> [u64; 32]
+    ensures { result ≡ measuresPlaces n }
+{
+    without_tally(0, n, 0, 0, false, 0)
+}
+
+// A last beat.
+pub fn last_places(f: LastBeat) -> [u64; 32]
+    ensures { result ≡ lastPlaces f }
+{
+    without_tally(0, 0, 0, f.bits, false, f.row)
+}
+
+// A judged tally.
+pub fn judged_places(t: ArrowStats) -> [u64; 32]
+    ensures { result ≡ judgedPlaces t }
+{
+    figures_of(0, 0, 0, 0, 0, false, 0, t)
 }
 
 // A tail as the number of its row.

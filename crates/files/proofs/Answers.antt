@@ -10,7 +10,7 @@ use borrow.Author.Tests.{eq-eqb, ne_eqb, lt-ltb, le-ltb, le-leb, lt-leb, ltb-tru
 use Rattle.definitions.specs.Sizes.{mostBytes}
 use Rattle.definitions.specs.Lists.{through}
 use Rattle.definitions.specs.Lines.{trim}
-use Rattle.definitions.specs.SmFile.{notesTag, blockText, blockEnd, blocks_from, blocks, colons, trimEnd, type_of, typeLanes, smTag, smText, smLanes, smData, smStart, smNumber}
+use Rattle.definitions.specs.SmFile.{notesTag, blockText, blockEnd, blocks_from, blocks, colons, trimEnd, type_of, typeLanes, smTag, smText, smLanes, smData, smStart, smAnswer}
 use Rattle.definitions.specs.SmBlocks.{BlocksApart}
 use Rattle.definitions.specs.declared.Tag.{Tag}
 use Rattle.definitions.proofs.SmBlocks.{blocks-apart}
@@ -18,10 +18,14 @@ use Rattle.lines.specs.Lines.{lines_from}
 use Rattle.lines.specs.declared.Found.TheVariants as found
 use Rattle.lines.proofs.Lines.{lines_start}
 use Rattle.files.specs.Tags.{firstTag}
-use Rattle.files.specs.Sm.{pastBlock, blockAt, fieldsEnd, textAnswer, smAnswer}
+use Rattle.files.specs.Sm.{pastBlock, blockAt, fieldsEnd, textAnswer}
 use Rattle.files.specs.declared.FoundTag.{FoundTag}
 use Rattle.files.specs.declared.FoundTag.TheVariants.{At, Nothing}
-use Rattle.files.specs.declared.sm.SmAnswer.TheVariants.{Refused, Chart}
+use Rattle.std.specs.Prelude.{Result, Ok, Err}
+use Rattle.definitions.specs.Refusals.{longText}
+use Rattle.definitions.specs.declared.ChartPlace.{ChartPlace}
+use Rattle.definitions.specs.declared.Refusal.{Refusal}
+use Rattle.definitions.specs.declared.Refusal.TheVariants.{FewFields, OtherType, NoChart}
 use Rattle.files.proofs.Words.{drop_head}
 use Rattle.files.proofs.Fields.{fields-few, fields-five, first_field}
 use Rattle.files.proofs.Blocks.{from, block-met, none-met}
@@ -64,7 +68,7 @@ at_first file = ap (blocks_from file 0 0) (sym (lines_start file))
 
 -- A block's text, by the search for the end of its fields in what follows its tag in the file.
 module _ (s : List ℕ) (end : ℕ) where
-  pub answer-few : fieldsEnd s ≡ found.Nothing → Refused 9 ≡ textAnswer end (through 59 s)
+  pub answer-few : fieldsEnd s ≡ found.Nothing → Err FewFields ≡ textAnswer end (through 59 s)
   unfolding textAnswer
   answer-few e = simp (fields-few s e)
 
@@ -76,11 +80,11 @@ module _ (s : List ℕ) (end : ℕ) where
     known : lanes ≡ typeLanes (type_of (through 59 s))
     known = named ∙ sym (ap typeLanes (same-type (ltb-false _ _ (fields-five s p e).0)))
 
-    pub answer-other : lanes ≡ 0 → Refused 10 ≡ textAnswer end (through 59 s)
+    pub answer-other : lanes ≡ 0 → Err OtherType ≡ textAnswer end (through 59 s)
     unfolding textAnswer
     answer-other z = simp ((fields-five s p e).0, eq-eqb _ 0 (sym known ∙ z))
 
-    pub answer-chart : (lanes ≡ 0 → ⊥) → Chart lanes (end + p) ≡ textAnswer end (through 59 s)
+    pub answer-chart : (lanes ≡ 0 → ⊥) → Ok (record { lanes = lanes; start = end + p }) ≡ textAnswer end (through 59 s)
     unfolding textAnswer
     answer-chart n =
         let f = fields-five s p e in
@@ -93,15 +97,11 @@ module _ (s : List ℕ) (end : ℕ) where
 
 -- The whole call, by the block that is found.
 module _ (file : List ℕ) (k : ℕ) where
-  pub sm-long : mostBytes < length file → Refused 1 ≡ smAnswer file k
-  unfolding smAnswer smNumber
-  sm-long h = simp (lt-ltb mostBytes (length file) h)
-
-  pub sm-none : length file ≤ mostBytes → blockAt file k ≡ Nothing → Refused 11 ≡ smAnswer file k
-  unfolding smAnswer smNumber blockAt
+  pub sm-none : length file ≤ mostBytes → blockAt file k ≡ Nothing → Err NoChart ≡ smAnswer file k
+  unfolding smAnswer longText blockAt
   sm-none h e = go (ltb k (length (blocks file))) refl e
     where
-      go : (t : Bool) → ltb k (length (blocks file)) ≡ t → cond t (At (smTag file k)) Nothing ≡ Nothing → Refused 11 ≡ smAnswer file k
+      go : (t : Bool) → ltb k (length (blocks file)) ≡ t → cond t (At (smTag file k)) Nothing ≡ Nothing → Err NoChart ≡ smAnswer file k
       go true q w = let z : ◌≡◌ {A = ℕ} 0 1 = cc in absurd (omega arith)
       go false q w = simp (le-ltb mostBytes (length file) h, le-leb (length (blocks file)) k (ltb-false k (length (blocks file)) q))
 
@@ -115,7 +115,7 @@ module _ (file : List ℕ) (k : ℕ) where
       go false q w = let z : ◌≡◌ {A = ℕ} 0 1 = cc in absurd (omega arith)
 
   pub sm-block : length file ≤ mostBytes → (t : Tag) → blockAt file k ≡ At t → textAnswer t.end (through 59 (drop t.end file)) ≡ smAnswer file k
-  unfolding smAnswer smNumber smLanes smStart smData smText blockText textAnswer
+  unfolding smAnswer longText smLanes smStart smData smText blockText textAnswer
   sm-block h t e =
       let f = found-tag t e in
       rw (sym f.1) (simp (le-ltb mostBytes (length file) h, lt-leb (length (blocks file)) k f.0))
@@ -127,5 +127,3 @@ module _ (file : List ℕ) (k : ℕ) where
       let f = found-tag t e in
       let ends = (blocks-apart file).within k f.0 in
       omega (arith, ends, ap (λ (u : Tag). u.end) f.1)
-
-pub ruleset long_refused = (sm-long)

@@ -12,8 +12,10 @@ use borrow.Author.Tests.{le-leb, lt-leb, le-ltb}
 use Rattle.definitions.specs.Sizes.{mostBytes}
 use Rattle.definitions.specs.Lists.{only_if, through}
 use Rattle.definitions.specs.Lines.{cut}
-use Rattle.definitions.specs.SmFile.{isTagged, tag_of, notesTag, blockText, blockEnd, startsBlock, blocks_from, blocks, data_of, type_of, typeLanes, smTag, smText, smLanes, smData, smStart, smNumber}
+use Rattle.definitions.specs.SmFile.{isTagged, tag_of, notesTag, blockText, blockEnd, startsBlock, blocks_from, blocks, data_of, type_of, typeLanes, smTag, smText, smLanes, smData, smStart, smChecks, smPlace, smAnswer, smNumber}
+use Rattle.definitions.specs.Refusals.{longText}
 use Rattle.definitions.specs.SmBlocks.{LeastRefused}
+use Rattle.definitions.proofs.Refusals.{told-alike}
 use Rattle.definitions.specs.declared.Tag.{Tag}
 use Rattle.definitions.proofs.SmBlocks.{least-refused}
 use Rattle.lines.specs.Lines.{lines_from}
@@ -159,11 +161,12 @@ module _ (file : List ℕ) (short : length file ≤ mostBytes) (some : 0 < lengt
     start-same h = omega (arith, ap (λ (t : Tag). t.end) (tag_same h), ap length (text_same h), ap length (part_same h))
 
     number-there : k < length (blocks rest) → smNumber rest k ≡ smNumber file (suc k)
-    unfolding smNumber
+    unfolding smAnswer longText
     number-there h =
         let less : length rest ≤ mostBytes = omega (arith, length-drop p file) in
         let more : suc k < length (blocks file) = omega (arith, count) in
-        simp (le-ltb mostBytes (length rest) less, le-ltb mostBytes (length file) short, lt-leb (length (blocks rest)) k h, lt-leb (length (blocks file)) (suc k) more)
+        told-alike (smChecks rest k) (smPlace rest k) (smPlace file (suc k))
+        ∙ simp (le-ltb mostBytes (length rest) less, le-ltb mostBytes (length file) short, lt-leb (length (blocks rest)) k h, lt-leb (length (blocks file)) (suc k) more)
         (rw (text_same h, lanes-same h))
 
     number_same : smNumber rest k ≡ smNumber file (suc k)

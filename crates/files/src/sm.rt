@@ -3,18 +3,12 @@
 ghost use Rattle.std.specs.Prelude.{◌≡◌, ◌≤◌, ◌+◌, length, drop};
 ghost use Rattle.definitions.specs.Sizes.{mostBytes};
 ghost use Rattle.definitions.specs.Lists.{through};
-ghost use Rattle.files.specs.Sm.{pastBlock, blockAt, fieldsEnd, textAnswer, smAnswer};
+ghost use Rattle.definitions.specs.SmFile.{smAnswer};
+ghost use Rattle.files.specs.Sm.{pastBlock, blockAt, fieldsEnd, textAnswer};
 
 use crate::FoundTag;
-use definitions::Tag;
+use definitions::{ChartPlace, Refusal, Tag};
 use lines::Found;
-
-// The answer for a block: the lane count and where its data begins, or the refusal's number.
-#[derive(Drop)]
-pub enum SmAnswer {
-    Refused(u32),
-    Chart { lanes: usize, start: usize },
-}
 
 // Where the first line after the block with this tag begins: a line on which the block ends is passed over.
 fn past_block(file: &[u8], tag: Tag) -> usize
@@ -64,36 +58,34 @@ fn fields_end(text: &[u8]) -> Found
 }
 
 // The answer for the block whose text after its tag begins at `end`.
-fn answer_at(file: &[u8], end: usize) -> SmAnswer
+fn answer_at(file: &[u8], end: usize) -> Result<ChartPlace, Refusal>
     requires { end ≤ length file.now }
     ensures { result ≡ textAnswer end (through 59 (drop end file.now)) }
 {
     let text = &file[end..];
     match fields_end(text) {
-        Found::Nothing => SmAnswer::Refused(9),
+        Found::Nothing => Err(Refusal::FewFields),
         Found::At(fields) => {
             let lanes = crate::type_lanes(crate::type_name(text));
             if lanes == 0 {
-                return SmAnswer::Refused(10);
+                return Err(Refusal::OtherType);
             }
-            SmAnswer::Chart {
+            Ok(ChartPlace {
                 lanes,
                 start: end + fields,
-            }
+            })
         }
     }
 }
 
 // The chart of block `k` of an SM file.
-#[tactic(auto, using(crate::proofs::Answers::long_refused))]
-pub fn sm_chart(file: &[u8], k: usize) -> SmAnswer
+#[tactic(auto, unfolding(definitions::specs::SmFile::smAnswer))]
+pub fn sm_chart(file: &[u8], k: usize) -> Result<ChartPlace, Refusal>
     ensures { result ≡ smAnswer file.now k }
 {
-    if definitions::MOST_BYTES < file.len() {
-        return SmAnswer::Refused(1);
-    }
+    refusals::text_fits(file.len())?;
     match block_at(file, k) {
-        FoundTag::Nothing => SmAnswer::Refused(11),
+        FoundTag::Nothing => Err(Refusal::NoChart),
         FoundTag::At(tag) => answer_at(file, tag.end),
     }
 }

@@ -1,3 +1,2 @@
 -- What the contracts of the judged tallies cite, beside the definitions.
-pub mod Answers
 pub mod Timing

@@ -4,27 +4,19 @@
 ghost use Rattle.std.specs.Prelude.{◌≡◌, Bool, [], ℕ, ◌+◌, ◌≤◌, length};
 ghost use Rattle.definitions.specs.Sizes.{countBound, mostBytes};
 ghost use Rattle.definitions.specs.Lists.{padded};
-ghost use Rattle.definitions.specs.Lanes.{mostRows};
+ghost use Rattle.definitions.specs.Lanes.{lanes_of, mostRows};
 ghost use Rattle.definitions.specs.ReadBack.{readBack};
 ghost use Rattle.definitions.specs.Judged.{judgedRows};
-ghost use Rattle.definitions.specs.Entries.{judgedWork};
+ghost use Rattle.definitions.specs.Entries.{judgedChecked, judgedAnswer, flaggedAnswer, judgedWork};
 ghost use Rattle.definitions.specs.Lines.{Row};
 ghost use Rattle.taps.specs.Taps.{tapLineMask, Fits, TapCounts};
 ghost use Rattle.taps.specs.declared.Taps.TheVariants.{Mask};
 ghost use Rattle.row_tally.specs.Bounds.{Below};
-ghost use Rattle.judged.specs.Answers.{judgedAnswer, flaggedAnswer, answerBy};
 ghost use Rattle.judged.specs.Timing.{judgedBy, endsOf, newHolds, noTiming, timingRow, timingTaps, WorkEntries, SomeWorkEntries};
 
-use definitions::ArrowStats;
+use definitions::{ArrowStats, Refusal};
 use judged_pass::CleanTally;
 use taps::Taps;
-
-// The tally, or the refusal's number.
-#[derive(Drop)]
-pub enum JudgedAnswer {
-    Refused(u32),
-    Tally(ArrowStats),
-}
 
 // The judged tally of the rows so far, and the holds open before the next one.
 #[derive(Clone, Copy)]
@@ -52,28 +44,20 @@ fn track_timing_rows(data: &[u8], lanes: usize, all: bool, flags: &[u8], work: &
     requires { (length «data».now ≤ mostBytes) × (4 ≤ lanes) × (lanes ≤ 10) × (mostRows lanes (length «data».now) ≤ length work.old) }
     ensures { WorkEntries (judgedBy all flags.now) (readBack lanes «data».now) work.new }
 {
-    let width = reader::back::back_width(data, lanes, true);
-    slices::zero_u16(&mut *work, 0);
+    slices::zero_past(&mut *work, 0, 0);
     let mut t = holds::no_tracker();
     let mut busy: u32 = 0;
-    let mut off = 0;
     let mut row: u32 = 0;
-    while off <= data.len() {
-        let line = reader::back::back_line(data, off, lanes, width, true);
-        let next = line.next;
-        if line.row {
-            let end = off + lanes;
-            let judged = is_judged(all, flags, row as usize);
-            match taps::free_taps(&data[off..end], busy) {
-                Taps::Mask(_) => holds::pass_row(row, judged, &mut *work),
-                Taps::Other => {
-                    t = holds::track_judged_row(t, row, &data[off..end], judged, &mut *work);
-                    busy = taps::unlike(&t.depths, 0);
-                }
+    for cells in reader::back::back_rows(data, lanes, true) {
+        let judged = is_judged(all, flags, row as usize);
+        match taps::free_taps(cells, busy) {
+            Taps::Mask(_) => holds::pass_row(row, judged, &mut *work),
+            Taps::Other => {
+                t = holds::track_judged_row(t, row, cells, judged, &mut *work);
+                busy = taps::unlike(&t.depths, 0);
             }
-            row += 1;
         }
-        off = next;
+        row += 1;
     }
 }
 
@@ -128,30 +112,18 @@ fn tally_timing_rows(data: &[u8], lanes: usize, work: &[u16]) -> ArrowStats
     requires some_work_entries { SomeWorkEntries (readBack lanes «data».now) work.now }
     ensures { (J : ℕ → Bool) → WorkEntries J (readBack lanes «data».now) work.now → result ≡ judgedRows lanes J (readBack lanes «data».now) }
 {
-    let width = reader::back::back_width(data, lanes, true);
     let counts = taps::tap_mask_counts(lanes);
     let mut t = no_timing();
-    let mut off = 0;
     let mut row = 0;
-    while off <= data.len() {
-        let line = reader::back::back_line(data, off, lanes, width, true);
-        let next = line.next;
-        if line.row {
-            let end = off + lanes;
-            let entry = work[row];
-            match taps::free_taps(&data[off..end], 0) {
-                Taps::Mask(mask) => t = process_timing_taps(
-                    t,
-                    mask,
-                    taps::is_wide(lanes),
-                    entry,
-                    &counts,
-                ),
-                Taps::Other => t = process_timing_row(t, &data[off..end], entry),
+    for cells in reader::back::back_rows(data, lanes, true) {
+        let entry = work[row];
+        match taps::free_taps(cells, 0) {
+            Taps::Mask(mask) => {
+                t = process_timing_taps(t, mask, taps::is_wide(lanes), entry, &counts)
             }
-            row += 1;
+            Taps::Other => t = process_timing_row(t, cells, entry),
         }
-        off = next;
+        row += 1;
     }
     t.stats
 }
@@ -164,7 +136,7 @@ fn judge_rows(data: &[u8], lanes: usize, all: bool, flags: &[u8], work: &mut [u1
 {
     track_timing_rows(data, lanes, all, flags, &mut *work);
     let stats = tally_timing_rows(data, lanes, &*work);
-    slices::zero_u16(work, 0);
+    slices::zero_past(work, 0, 0);
     stats
 }
 
@@ -184,7 +156,7 @@ pub fn judge_accepted(
     if all {
         match judged_pass::judge_clean(data, lanes) {
             CleanTally::Tally(stats) => {
-                slices::zero_u16(&mut *work, 0);
+                slices::zero_past(&mut *work, 0, 0);
                 return stats;
             }
             CleanTally::NotClean => {}
@@ -193,25 +165,32 @@ pub fn judge_accepted(
     judge_rows(data, lanes, all, flags, work)
 }
 
-// The refusals, in rising order, and the tally of an accepted text.
-fn judge(data: &[u8], lanes: usize, all: bool, flags: &[u8], work: &mut [u16]) -> JudgedAnswer
-    ensures value { result ≡ answerBy (judgedBy all flags.now) lanes «data».now work.old }
+// The judged tally of a text where all rows are judged, or else by the flags.
+#[tactic(auto, unfolding(definitions::specs::Entries::judgedChecked))]
+fn judge(
+    data: &[u8],
+    lanes: usize,
+    all: bool,
+    flags: &[u8],
+    work: &mut [u16],
+) -> Result<ArrowStats, Refusal>
+    ensures value { result ≡ judgedChecked lanes «data».now work.old (judgedRows (lanes_of lanes) (judgedBy all flags.now) (readBack (lanes_of lanes) «data».now)) }
     ensures work_after { work.new ≡ judgedWork lanes «data».now work.old }
 {
-    if definitions::MOST_BYTES < data.len() {
-        return JudgedAnswer::Refused(1);
-    }
+    let len = data.len();
+    refusals::text_fits(len)?;
     let columns = reader::lanes_of(lanes);
-    let rows = (data.len() + 1) / (columns + 1);
-    if work.len() < rows {
-        return JudgedAnswer::Refused(5);
-    }
-    let stats = judge_accepted(data, columns, all, flags, work);
-    JudgedAnswer::Tally(stats)
+    refusals::room_for_work(columns, len, work.len())?;
+    Ok(judge_accepted(data, columns, all, flags, work))
 }
 
 // The tally with every row judged.
-pub fn process_rows_judgable(data: &[u8], lanes: usize, work: &mut [u16]) -> JudgedAnswer
+#[tactic(auto, unfolding(definitions::specs::Judged::judgedTally))]
+pub fn process_rows_judgable(
+    data: &[u8],
+    lanes: usize,
+    work: &mut [u16],
+) -> Result<ArrowStats, Refusal>
     ensures value { result ≡ judgedAnswer lanes «data».now work.old }
     ensures work_after { work.new ≡ judgedWork lanes «data».now work.old }
 {
@@ -219,13 +198,14 @@ pub fn process_rows_judgable(data: &[u8], lanes: usize, work: &mut [u16]) -> Jud
 }
 
 // The tally with one flag byte a row: 0 unjudged, else judged.
+#[tactic(auto, unfolding(definitions::specs::Judged::flaggedTally))]
 pub fn process_timing_rows(
     data: &[u8],
     lanes: usize,
     flags: &[u8],
     work: &mut [u16],
-) -> JudgedAnswer
-    ensures value { result ≡ flaggedAnswer lanes flags.now «data».now work.old }
+) -> Result<ArrowStats, Refusal>
+    ensures value { result ≡ flaggedAnswer lanes «data».now work.old flags.now }
     ensures work_after { work.new ≡ judgedWork lanes «data».now work.old }
 {
     judge(data, lanes, false, flags, work)

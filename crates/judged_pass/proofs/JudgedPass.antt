@@ -1,14 +1,14 @@
 -- The one pass over a text: what it has of the rows read so far. Once they turn out clean to the end, its tally is the judged one.
 use mathlib.Core.Path.{◌≡◌, refl, ap, ap₂, sym, subst, ◌∙◌}
 use mathlib.Core.Bool.{Bool, true, false, not, ◌||◌, or_assoc, or-false, or-true}
-use mathlib.Core.List.{List, [], ◌∷◌, ◌++◌, append_assoc}
+use mathlib.Core.List.{List, [], ◌∷◌, ◌++◌}
 use Prim.Native.Nat.{ℕ, zero, suc, ◌+◌, ◌*◌, ◌≤◌, ◌<◌}
 use native.Mathlib.Decide.{dec_lt}
-use native.Mathlib.Nat.{zero-add, not-suc-le-zero}
+use native.Mathlib.Nat.{zero-add, not-suc-le-zero, le_of_eq}
 use native.Mathlib.Omega.{arith}
 use borrow.Author.Tests.{not-false, lt-ltb}
 use lib.Dec.{ltb}
-use lib.ListN.{length, get_or, take, drop, length-append}
+use lib.ListN.{length, get_or, length-append}
 use Rattle.definitions.specs.Sizes.{countBound, rowNumbersBound}
 use Rattle.definitions.specs.Lists.{someColumn, sumColumns}
 use Rattle.definitions.specs.Lines.{Row}
@@ -16,15 +16,9 @@ use Rattle.definitions.specs.Cells.{byte_at}
 use Rattle.definitions.specs.Tracker.{pairs, holdAt}
 use Rattle.definitions.specs.Tally.{noStats}
 use Rattle.definitions.specs.Correction.{phantomStep, phantomAfter}
-use Rattle.definitions.specs.ReadBack.{readBack}
 use Rattle.definitions.specs.Judged.{judgedSum, judgeRow, openBefore, judgeFrom, judgedRows}
 use Rattle.definitions.specs.declared.ArrowStats.{ArrowStats}
-use Rattle.definitions.proofs.Lists.{All}
-use Rattle.lines.specs.Lines.{lines_from}
-use Rattle.reader.specs.declared.BackLine.{BackLine}
-use Rattle.reader.specs.BackReading.{backRowsBy, BackRead, BackReading}
-use Rattle.reader.proofs.BackReading.{back_start, back-row, back-passed, back_end, back-trimmed}
-use Rattle.reader.proofs.BackRows.{rows_short, bytes_at, bytes-are, bytes-short, all-rows}
+use Rattle.definitions.proofs.Lists.{All, all_map}
 use Rattle.phantoms.proofs.Columns.{column-same, column-none, column-more}
 use Rattle.phantoms.proofs.Rows.{after-snoc}
 use Rattle.holds.proofs.Ends.{sum_same}
@@ -39,26 +33,16 @@ use Rattle.judged_pass.specs.declared.CleanTally.TheVariants.{Tally, NotClean}
 use Rattle.judged_pass.proofs.Paired.{AllClean, clean-kept, clean-active}
 use Rattle.judged_pass.proofs.Rows.{none-unpairs}
 
-pub record Passes (L : ℕ) (text : List ℕ) (off : ℕ) (t : CleanRows) : Type 0 where
-  pub rows : List Row
-  pub reading : BackReading true L text off rows
+-- `all` are the rows of the text, and `rows` those that have come.
+pub record Passes (L : ℕ) (all rows : List Row) (t : CleanRows) : Type 0 where
   pub ready : Ready t
   pub depths : (c : ℕ) → c < 10 → get_or t.depths c 0 ≡ phantomAfter c 0 rows
   pub whole : (c : ℕ) → c < 10 → unpairsFrom c 0 rows ≡ false
-  pub stats : AllClean (readBack L text) → t.stats ≡ judgeFrom L every (pairs (readBack L text)) noStats 0 rows
+  pub stats : AllClean all → t.stats ≡ judgeFrom L every (pairs all) noStats 0 rows
   pub below : Below (10 * length rows) t.stats
 
-pub passes-start : (L : ℕ) (text : List ℕ) (t : CleanRows) → Ready t → t.stats ≡ noStats → ((c : ℕ) → c < 10 → get_or t.depths c 0 ≡ 0) → Passes L text 0 t
-passes-start L text t r s z =
-    record {
-      rows = [];
-      reading = back_start true L text;
-      ready = r;
-      depths = z;
-      whole = λ c h. refl;
-      stats = λ k. s;
-      below = rw s below_none;
-    }
+pub passes-start : (L : ℕ) (all : List Row) (t : CleanRows) → Ready t → t.stats ≡ noStats → ((c : ℕ) → c < 10 → get_or t.depths c 0 ≡ 0) → Passes L all [] t
+passes-start L all t r s z = record { ready = r; depths = z; whole = λ c h. refl; stats = λ k. s; below = rw s below_none }
 
 -- ---- The answer
 -- clean rows, and others
@@ -133,114 +117,76 @@ module _ (L : ℕ) (rows : List Row) (r : Row) (rest : List Row) (m : L ≤ 10) 
   counted : (all : List Row) → rows ++ (r ∷ rest) ≡ all → Counted all
   counted all e = subst (λ (q : List Row). Counted q) e counted-here
 
-module _ (L : ℕ) (text : List ℕ) (off : ℕ) (t : CleanRows) (x : Passes L text off t) where
+module _ (L : ℕ) (all rows : List Row) (t : CleanRows) (x : Passes L all rows t) where
   -- the counts of the tally are low
-  pub passes-few : off ≤ rowNumbersBound → Below countBound t.stats
-  passes-few h = below_more (10 * length x.rows) countBound t.stats (omega (arith, x.reading.few)) x.below
+  pub passes-few : length rows ≤ rowNumbersBound → Below countBound t.stats
+  passes-few h = below_more (10 * length rows) countBound t.stats (omega arith) x.below
 
   -- the open heads are those of the rows so far
-  held : t.active ≡ sumColumns 10 (λ c. phantomAfter c 0 x.rows)
-  held = x.ready.active ∙ sum_same 10 (λ c. get_or t.depths c 0) (λ c. phantomAfter c 0 x.rows) x.depths
+  held : t.active ≡ sumColumns 10 (λ c. phantomAfter c 0 rows)
+  held = x.ready.active ∙ sum_same 10 (λ c. get_or t.depths c 0) (λ c. phantomAfter c 0 rows) x.depths
 
   -- at the end
-  module _ (h : length text < off) where
-    all : readBack L text ≡ x.rows
-    all = sym (back-trimmed L text) ∙ back_end true L text off h x.rows x.reading
-
+  module _ (e : all ≡ rows) where
     -- with no head open
-    all-clean : t.active ≡ 0 → AllClean (readBack L text)
-    all-clean z =
-        rw all
-        (λ c k.
-        record {
-          whole = x.whole c k;
-          closed = sum-none 10 (λ c. phantomAfter c 0 x.rows) (sym held ∙ z) c k;
-        })
+    all-clean : t.active ≡ 0 → AllClean all
+    all-clean z = rw e (λ c k. record { whole = x.whole c k; closed = sum-none 10 (λ c. phantomAfter c 0 rows) (sym held ∙ z) c k })
 
-    pub passes-end : t.active ≡ 0 → Tally t.stats ≡ cleanAnswer L (readBack L text)
+    pub passes-end : t.active ≡ 0 → Tally t.stats ≡ cleanAnswer L all
     unfolding judgedRows
     passes-end z =
         let k = all-clean z in
-        ap Tally (x.stats k ∙ ap (judgeFrom L every (pairs (readBack L text)) noStats 0) (sym all))
-        ∙ answer-clean L (readBack L text) (clean-rows (readBack L text) k)
+        ap Tally (x.stats k ∙ ap (judgeFrom L every (pairs all) noStats 0) (sym e))
+        ∙ answer-clean L all (clean-rows all k)
 
     -- with one
-    pub passes-open : (t.active ≡ 0 → ⊥) → NotClean ≡ cleanAnswer L (readBack L text)
+    pub passes-open : (t.active ≡ 0 → ⊥) → NotClean ≡ cleanAnswer L all
     passes-open z =
-        answer-none L (readBack L text)
-        (unclean-rows (readBack L text)
-        (rw all
-        (column-more 10 (λ c. ltb 0 (phantomAfter c 0 x.rows)) (λ c. unpairsFrom c 0 x.rows || ltb 0 (phantomAfter c 0 x.rows))
-        (λ c k e. rw e (or-true (unpairsFrom c 0 x.rows)))
-        (sum-some 10 (λ c. phantomAfter c 0 x.rows) (λ e. z (held ∙ e))))))
+        answer-none L all
+        (unclean-rows all
+        (rw e
+        (column-more 10 (λ c. ltb 0 (phantomAfter c 0 rows)) (λ c. unpairsFrom c 0 rows || ltb 0 (phantomAfter c 0 rows))
+        (λ c k e. rw e (or-true (unpairsFrom c 0 rows)))
+        (sum-some 10 (λ c. phantomAfter c 0 rows) (λ e. z (held ∙ e))))))
 
-  module _ (r : BackLine) (h : off ≤ length text) (l : BackRead true L text off r) where
-    pub passes-passed : r.row ≡ false → Passes L text r.next t
-    passes-passed e =
+  module _ (row : Row) (rest : List Row) (e : all ≡ rows ++ (row ∷ rest)) (t' : CleanRows) (p : RowPassed row t t') where
+    -- the row leaves a head unpaired in this column
+    here : (c : ℕ) → c < 10 → unpairs (holdAt (byte_at c row)) (get_or t.depths c 0) ≡ true
+        → (unpairsFrom c 0 (rows ++ (row ∷ rest)) || ltb 0 (phantomAfter c 0 (rows ++ (row ∷ rest)))) ≡ true
+    here c n u =
+        let met : unpairs (holdAt (byte_at c row)) (phantomAfter c 0 rows) ≡ true = ap (unpairs (holdAt (byte_at c row))) (sym (x.depths c n)) ∙ u in
+        rw (unpairs-append c 0 rows (row ∷ rest), met, or-true (unpairsFrom c 0 rows))
+
+    pub passes-unclean : t'.clean ≡ false → NotClean ≡ cleanAnswer L all
+    passes-unclean k =
+        answer-none L all
+        (unclean-rows all
+        (rw e
+        (column-more 10 (λ c. unpairs (holdAt (byte_at c row)) (get_or t.depths c 0)) _ here (not-false _ (sym p.cells.clean ∙ k)))))
+
+    pub passes-row : L ≤ 10 → length row ≡ L → All (λ (r : Row). length r ≡ L) all → t'.clean ≡ true → Passes L all (rows ++ (row ∷ [])) t'
+    passes-row m w wide k =
+        let narrow : length row ≤ 10 = omega arith in
         record {
-          rows = x.rows;
-          reading = back-passed true L text off r h l x.rows x.reading e;
-          ready = x.ready;
-          depths = x.depths;
-          whole = x.whole;
-          stats = x.stats;
-          below = x.below;
+          ready = p.ready k;
+          depths =
+              λ c n.
+              p.cells.depths c n
+              ∙ ap (phantomStep (holdAt (byte_at c row))) (x.depths c n)
+              ∙ sym (after-snoc c 0 rows row);
+          whole =
+              λ c n.
+              unpairs-append c 0 rows (row ∷ [])
+              ∙ ap₂ (λ (a b : Bool). a || b) (x.whole c n)
+              (or-false (unpairs (holdAt (byte_at c row)) (phantomAfter c 0 rows))
+              ∙ ap (unpairs (holdAt (byte_at c row))) (sym (x.depths c n))
+              ∙ none-unpairs row t.depths t'.clean p.cells.clean k c n);
+          stats =
+              λ q.
+              p.stats
+              ∙ counted L rows row rest m narrow t.active t.stats all (sym e) (all_map (λ r h. le_of_eq h) wide) q held (x.stats q);
+          below =
+              rw p.stats
+              (below_more (10 * length rows + 10) (10 * length (rows ++ (row ∷ []))) _ (rw length-append (omega arith))
+              (below-judged-line (10 * length rows) t.stats true t.active row narrow x.below));
         }
-
-    module _ (e : r.row ≡ true) (m : L ≤ 10) (t' : CleanRows) (p : RowPassed (bytes_at L text off) t t') where
-      abbrev row : Row
-      row = take L (drop off text)
-
-      passed : RowPassed row t t'
-      passed = rw (bytes-are L text off) at p
-
-      wide : length row ≤ 10
-      wide = rw (bytes-are L text off) at (bytes-short L text off m)
-
-      abbrev rest : List Row
-      rest = backRowsBy true L (lines_from text r.next)
-
-      stands : x.rows ++ (row ∷ rest) ≡ readBack L text
-      stands = sym (all-rows L text off r h l x.rows x.reading e ∙ append_assoc x.rows (row ∷ []) rest)
-
-      -- the row leaves a head unpaired in this column
-      here : (c : ℕ) → c < 10 → unpairs (holdAt (byte_at c row)) (get_or t.depths c 0) ≡ true
-          → (unpairsFrom c 0 (x.rows ++ (row ∷ rest)) || ltb 0 (phantomAfter c 0 (x.rows ++ (row ∷ rest)))) ≡ true
-      here c n u =
-          let met : unpairs (holdAt (byte_at c row)) (phantomAfter c 0 x.rows) ≡ true = ap (unpairs (holdAt (byte_at c row))) (sym (x.depths c n)) ∙ u in
-          rw (unpairs-append c 0 x.rows (row ∷ rest), met, or-true (unpairsFrom c 0 x.rows))
-
-      pub passes-unclean : t'.clean ≡ false → NotClean ≡ cleanAnswer L (readBack L text)
-      passes-unclean k =
-          answer-none L (readBack L text)
-          (unclean-rows (readBack L text)
-          (rw (← stands)
-          (column-more 10 (λ c. unpairs (holdAt (byte_at c row)) (get_or t.depths c 0)) _ here (not-false _ (sym passed.cells.clean ∙ k)))))
-
-      pub passes-row : t'.clean ≡ true → Passes L text r.next t'
-      passes-row k =
-          record {
-            rows = x.rows ++ (row ∷ []);
-            reading = back-row true L text off r h l x.rows x.reading e;
-            ready = passed.ready k;
-            depths =
-                λ c n.
-                passed.cells.depths c n
-                ∙ ap (phantomStep (holdAt (byte_at c row))) (x.depths c n)
-                ∙ sym (after-snoc c 0 x.rows row);
-            whole =
-                λ c n.
-                unpairs-append c 0 x.rows (row ∷ [])
-                ∙ ap₂ (λ (a b : Bool). a || b) (x.whole c n)
-                (or-false (unpairs (holdAt (byte_at c row)) (phantomAfter c 0 x.rows))
-                ∙ ap (unpairs (holdAt (byte_at c row))) (sym (x.depths c n))
-                ∙ none-unpairs row t.depths t'.clean passed.cells.clean k c n);
-            stats =
-                λ q.
-                passed.stats
-                ∙ counted L x.rows row rest m wide t.active t.stats (readBack L text) stands (rows_short L text) q held (x.stats q);
-            below =
-                rw passed.stats
-                (below_more (10 * length x.rows + 10) (10 * length (x.rows ++ (row ∷ []))) _ (rw length-append (omega arith))
-                (below-judged-line (10 * length x.rows) t.stats true t.active row wide x.below));
-          }

@@ -183,20 +183,12 @@ pub fn judge_clean(data: &[u8], lanes: usize) -> CleanTally
 {
     let counts = taps::tap_mask_counts(lanes);
     let mut t = no_rows();
-    let width = reader::back::back_width(data, lanes, true);
-    let mut off = 0;
-    while off <= data.len() {
-        let line = reader::back::back_line(data, off, lanes, width, true);
-        let next = line.next;
-        if line.row {
-            let end = off + lanes;
-            t = count_row(t, &data[off..end], &counts);
-            let clean = t.clean;
-            if !clean {
-                return CleanTally::NotClean;
-            }
+    for row in reader::back::back_rows(data, lanes, true) {
+        t = count_row(t, row, &counts);
+        let clean = t.clean;
+        if !clean {
+            return CleanTally::NotClean;
         }
-        off = next;
     }
     if t.active != 0 {
         return CleanTally::NotClean;

@@ -16,8 +16,7 @@ use Rattle.definitions.proofs.Lists.{joined_snoc}
 use Rattle.definitions.proofs.Shorter.{reduce-short}
 use Rattle.output.proofs.Writing.{text-done}
 use Rattle.phantoms.specs.Phantoms.{Counts}
-use Rattle.reader.specs.Reading.{ReadAll}
-use Rattle.reader.proofs.Passes.{Few}
+use Rattle.reader.proofs.ChartLoops.{Few}
 use Rattle.kept_pass.specs.declared.KeptPass.{KeptPass}
 use Rattle.kept_pass.specs.KeptPass.{Kept, MeasureEnded, KeptAll}
 
@@ -36,13 +35,13 @@ kept-few L p text densities len done cur f x =
     }
 
 -- The last measure has ended too: all of the chart's.
-pub kept-all : (L : ℕ) (e : KeptPass) (data-text text densities₁ : List ℕ) (done : List (List Row)) (cur : List Row) → ReadAll L data-text done cur
+pub kept-all : (L : ℕ) (e : KeptPass) (data-text text densities₁ : List ℕ) (done : List (List Row)) (cur : List Row) → chart L data-text ≡ done ++ (cur ∷ [])
     → Few L (length data-text) (map reduce done) cur → MeasureEnded L e text densities₁ (map reduce done) (reduce cur) → e.out ≤ length text → e.out ≤ length data-text + 1
     → KeptAll L data-text e text densities₁
 unfolding minimisedText densities minimised
 kept-all L e data-text text densities₁ done cur read few x fits short =
     let k = x.closed in
-    let all : map reduce (chart L data-text) ≡ map reduce done ++ (reduce cur ∷ []) = ap (map reduce) read.chart-is ∙ map-append reduce done (cur ∷ []) in
+    let all : map reduce (chart L data-text) ≡ map reduce done ++ (reduce cur ∷ []) = ap (map reduce) read ∙ map-append reduce done (cur ∷ []) in
     let rows_are : joined (map reduce (chart L data-text)) ≡ joined (map reduce done) ++ reduce cur = ap joined all ∙ joined_snoc (map reduce done) (reduce cur) in
     let bytes : take e.out text ≡ text_of (map reduce (chart L data-text)) = k.wrote.bytes ∙ sym (ap text_of all ∙ text-done (map reduce done) (reduce cur)) in
     record {

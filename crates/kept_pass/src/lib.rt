@@ -9,8 +9,8 @@ ghost use Rattle.definitions.specs.Reduction.{reduce};
 ghost use Rattle.taps.specs.Taps.{wideRow, TapCounts};
 ghost use Rattle.kept_pass.specs.KeptPass.{Open, Closed, SomeOpen, Kept, MeasureEnded, KeptAll};
 
-use definitions::LineKind;
 use measure_tally::Counting;
+use reader::charts::ChartLine;
 
 // What is counted so far, where the open measure begins, how many bytes are written, and the open measure's rows and number.
 #[derive(Clone, Copy)]
@@ -140,28 +140,16 @@ fn keep_lines(
     requires data_in_bounds { (length «data».now + 1 ≤ length text.old) × ((length «data».now + 1) / 2 + 1 ≤ length densities.old) × TapCounts (wideRow lanes) counts.now }
     ensures { KeptAll lanes «data».now result text.new densities.new }
 {
-    let width = reader::line_width(data, lanes);
-    let mut off = 0;
     let mut p = no_pass();
-    while off <= data.len() {
-        let line = reader::read_line(data, off, lanes, width);
-        let kind = line.kind;
-        let start = line.start;
-        let next = line.next;
-        match kind {
-            LineKind::Passed => {}
-            LineKind::Comma => {
+    for line in reader::charts::chart_lines(data, lanes) {
+        match line {
+            ChartLine::Row(row) => {
+                p = pass_row(p, text, row);
+            }
+            ChartLine::Comma => {
                 p = pass_comma(p, text, densities, lanes, counts);
             }
-            LineKind::Semi => {
-                break;
-            }
-            LineKind::Row => {
-                let end = start + lanes;
-                p = pass_row(p, text, &data[start..end]);
-            }
         }
-        off = next;
     }
     end_measure(p, text, densities, lanes, counts)
 }

@@ -11,7 +11,7 @@ use Rattle.definitions.specs.Objects.{Place, objectsFrom, last_of, place48, last
 use Rattle.beats.specs.declared.LastObject.{LastObject}
 use Rattle.beats.specs.declared.LastObject.TheVariants as last
 use Rattle.beats.specs.Places.{place_of, Placed}
-use Rattle.reader.proofs.Passes.{Over}
+use Rattle.reader.proofs.ChartLoops.{Over}
 use Rattle.objects.specs.declared.LastScan.{LastScan}
 use Rattle.objects.specs.LastKept.{LastKept}
 use Rattle.last_beat.proofs.LastRaw.{last-raw}
@@ -21,7 +21,7 @@ pub looked-last : (s t : LastScan) (L : ℕ) (text : List ℕ) → ((done : List
     → (Placed t.found) × (place_of t.found ≡ last_of (objectsFrom (λ c. 0) 0 (chart L text)))
 looked-last s t L text f x =
     let k = f x.done x.cur x.held in
-    (k.placed, k.found ∙ ap (λ ms. last_of (objectsFrom (λ c. 0) 0 ms)) (sym x.read.chart-is))
+    (k.placed, k.found ∙ ap (λ ms. last_of (objectsFrom (λ c. 0) 0 ms)) (sym x.chart-is))
 
 -- its beat in 48ths is that of the definitions
 pub looked-48 : (L : ℕ) (text : List ℕ) (o : LastObject) → Placed o → place_of o ≡ last_of (objectsFrom (λ c. 0) 0 (chart L text)) → place48 (place_of o) ≡ last48 L text

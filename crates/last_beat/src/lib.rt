@@ -9,19 +9,13 @@ ghost use Rattle.definitions.specs.Objects.{objectsFrom, last_of};
 ghost use Rattle.beats.specs.Places.{place_of, Placed};
 ghost use Rattle.objects.specs.Rows.{DepthsLow};
 ghost use Rattle.objects.specs.LastKept.{LastKept};
-ghost use Rattle.last_beat.specs.Answers.{lastAnswer};
+ghost use Rattle.definitions.specs.Entries.{lastFigures, lastAnswer};
 
 use beats::LastObject;
-use definitions::LineKind;
+use definitions::{LastBeat, Refusal};
 use objects::LastScan;
+use reader::charts::ChartLine;
 use taps::Taps;
-
-// The answer of the last-beat scan: the beat, its bits and the beat in 48ths, or the refusal's number.
-#[derive(Drop)]
-pub enum LastBeat {
-    Refused(u32),
-    Beat { beat: f64, bits: u64, row: u64 },
-}
 
 // One row more, by its cells.
 fn last_cells(s: LastScan, cells: &[u8]) -> LastScan
@@ -52,44 +46,39 @@ fn scan_last(data: &[u8], lanes: usize) -> LastObject
     requires { (length «data».now ≤ mostBytes) × (4 ≤ lanes) × (lanes ≤ 10) }
     ensures { (Placed result) × (place_of result ≡ last_of (objectsFrom (λ c. 0) 0 (chart lanes «data».now))) }
 {
-    let width = reader::line_width(data, lanes);
-    let mut off = 0;
     let mut s = objects::no_last();
-    while off <= data.len() {
-        let line = reader::read_line(data, off, lanes, width);
-        let kind = line.kind;
-        let start = line.start;
-        let next = line.next;
-        match kind {
-            LineKind::Passed => {}
-            LineKind::Comma => {
+    for line in reader::charts::chart_lines(data, lanes) {
+        match line {
+            ChartLine::Row(row) => {
+                s = last_row(s, row);
+            }
+            ChartLine::Comma => {
                 s = objects::last_measure(s);
             }
-            LineKind::Semi => {
-                break;
-            }
-            LineKind::Row => {
-                let end = start + lanes;
-                s = last_row(s, &data[start..end]);
-            }
         }
-        off = next;
     }
     s = objects::last_measure(s);
     s.found
 }
 
-// The beat of the last object row, 0 where there is none.
-pub fn chart_last_beat_impl(data: &[u8], lanes: usize) -> LastBeat
-    ensures { result ≡ lastAnswer lanes «data».now }
+// The beat of the last object row of an accepted text, 0 where there is none.
+fn last_figures(data: &[u8], lanes: usize) -> LastBeat
+    requires { (length «data».now ≤ mostBytes) × (4 ≤ lanes) × (lanes ≤ 10) }
+    ensures { result ≡ lastFigures lanes «data».now }
 {
-    if definitions::MOST_BYTES < data.len() {
-        return LastBeat::Refused(1);
-    }
-    let last = scan_last(data, reader::lanes_of(lanes));
-    LastBeat::Beat {
+    let last = scan_last(data, lanes);
+    LastBeat {
         beat: beats::calc_last_beat(last),
         bits: beats::last_beat_bits(last),
         row: beats::last_note_row(last),
     }
+}
+
+// The last beat of a text.
+#[tactic(auto, unfolding(definitions::specs::Entries::lastAnswer))]
+pub fn chart_last_beat_impl(data: &[u8], lanes: usize) -> Result<LastBeat, Refusal>
+    ensures { result ≡ lastAnswer lanes «data».now }
+{
+    refusals::text_fits(data.len())?;
+    Ok(last_figures(data, reader::lanes_of(lanes)))
 }

@@ -9,4 +9,4 @@ ExamplesHold = map papers.given-by-definitions papers.table ≡ map papers.said 
 
 -- of each example of the requests: the answer that the definitions give is the one that the table says
 abbrev pub RequestExamplesHold : Type 0
-RequestExamplesHold = map (λ (e : requests.Example). requests.smAnswer (papers.bytes e.file) e.k) requests.table ≡ map (λ (e : requests.Example). e.answer) requests.table
+RequestExamplesHold = map (λ (e : requests.Example). requests.smTold (papers.bytes e.file) e.k) requests.table ≡ map (λ (e : requests.Example). e.answer) requests.table

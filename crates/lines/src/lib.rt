@@ -4,6 +4,7 @@
 pub mod words;
 
 ghost use Rattle.std.specs.Prelude.{◌≡◌, ◌+◌, ◌≤◌, length, take, drop};
+ghost use Rattle.definitions.specs.Lists.{after};
 ghost use Rattle.definitions.specs.Lines.{isBlank, trim};
 ghost use Rattle.definitions.specs.ReadBack.{trimCr};
 ghost use Rattle.lines.specs.Search.{findFrom, count_of};
@@ -123,5 +124,19 @@ pub fn next_line(data: &[u8], start: usize) -> &[u8]
         }
     } else {
         &data[..0]
+    }
+}
+
+// A text's first line, without its newline, and what follows that newline: nothing where there is none.
+pub fn split_line(text: &[u8]) -> (&[u8], &[u8])
+    ensures line { result.0.now ≡ firstLine text.now }
+    ensures rest { result.1.now ≡ after 10 text.now }
+{
+    let line = next_line(text, 0);
+    let end = line.len();
+    if end < text.len() {
+        (line, &text[end + 1..])
+    } else {
+        (line, &text[..0])
     }
 }

@@ -6,7 +6,7 @@ ghost use Rattle.std.proofs.lemmas.List.Edits.{sets};
 ghost use Rattle.definitions.specs.Records.{word, bytes4, fields, kindNumber, plain_of, held_of, note_of, readNote};
 ghost use Rattle.note_records.specs.Fields.{fields_at};
 
-use definitions::{Kind, Note, ReadNote, Tail};
+use definitions::{Kind, Note, Refusal, Tail};
 
 // The tail field of a note without a tail.
 pub const NO_TAIL_ROW: u32 = 4294967295;
@@ -27,50 +27,51 @@ pub fn get_word(s: &[u8], at: usize) -> u32
 }
 
 // A note without a tail.
-fn plain(row: u32, tail: u32, column: u32, kind: Kind) -> ReadNote
+fn plain(row: u32, tail: u32, column: u32, kind: Kind) -> Result<Note, Refusal>
     ensures { result ≡ plain_of row tail column kind }
 {
     if tail == NO_TAIL_ROW {
-        ReadNote::Found(Note {
+        Ok(Note {
             row,
             tail: Tail::Without,
             column,
             kind,
         })
     } else {
-        ReadNote::Refused(8)
+        Err(Refusal::BadRecord)
     }
 }
 
 // A note with a tail, which stands after its row.
-fn held(row: u32, tail: u32, column: u32, kind: Kind) -> ReadNote
+fn held(row: u32, tail: u32, column: u32, kind: Kind) -> Result<Note, Refusal>
     ensures { result ≡ held_of row tail column kind }
 {
     if row < tail {
         if tail < definitions::ROW_NUMBERS_BOUND {
-            ReadNote::Found(Note {
+            Ok(Note {
                 row,
                 tail: Tail::Row(tail),
                 column,
                 kind,
             })
         } else {
-            ReadNote::Refused(8)
+            Err(Refusal::BadRecord)
         }
     } else {
-        ReadNote::Refused(8)
+        Err(Refusal::BadRecord)
     }
 }
 
 // The note of a record's fields, where they keep to the writer's limits.
-fn note_of(row: u32, tail: u32, column: u32, kind: u8) -> ReadNote
+#[tactic(auto, unfolding(definitions::specs::Records::note_of))]
+fn note_of(row: u32, tail: u32, column: u32, kind: u8) -> Result<Note, Refusal>
     ensures { result ≡ note_of row tail column kind }
 {
     if 10 <= column {
-        return ReadNote::Refused(8);
+        return Err(Refusal::BadRecord);
     }
     if definitions::ROW_NUMBERS_BOUND <= row {
-        return ReadNote::Refused(8);
+        return Err(Refusal::BadRecord);
     }
     match kind {
         0 => plain(row, tail, column, Kind::Tap),
@@ -79,19 +80,20 @@ fn note_of(row: u32, tail: u32, column: u32, kind: u8) -> ReadNote
         3 => plain(row, tail, column, Kind::Mine),
         4 => plain(row, tail, column, Kind::Lift),
         5 => plain(row, tail, column, Kind::Fake),
-        _ => ReadNote::Refused(8),
+        _ => Err(Refusal::BadRecord),
     }
 }
 
-// The note of a record, or refusal 7 or 8.
-pub fn read_note(records: &[u8], index: usize) -> ReadNote
+// The note of a record.
+#[tactic(auto, unfolding(definitions::specs::Records::readNote))]
+pub fn read_note(records: &[u8], index: usize) -> Result<Note, Refusal>
     ensures { result ≡ readNote records.now index }
 {
     if records.len() % 10 != 0 {
-        return ReadNote::Refused(7);
+        return Err(Refusal::NoRecord);
     }
     if records.len() / 10 <= index {
-        return ReadNote::Refused(7);
+        return Err(Refusal::NoRecord);
     }
     let at = index * 10;
     let row = get_word(records, at);

@@ -1,23 +1,15 @@
--- One line more of minimised text read back; its start and its end.
+-- A line of minimised text as it counts, and its first byte.
 use mathlib.Core.Path.{◌≡◌, refl, ap, sym, ◌∙◌}
 use mathlib.Core.Bool.{Bool, true, false, ◌&&◌, not, cond}
-use mathlib.Core.List.{List, [], ◌∷◌, ◌++◌, append_assoc, append-nil}
-use Prim.Native.Nat.{ℕ, ◌+◌, ◌≤◌, ◌<◌}
-use native.Mathlib.Nat.{mul-zero, mul-add, mul-one, le_trans, le_of_eq}
+use mathlib.Core.List.{List, [], ◌∷◌, ◌++◌}
+use Prim.Native.Nat.{ℕ, ◌+◌, ◌≤◌}
 use native.Mathlib.Omega.{arith}
-use borrow.Author.Tests.{leb-true}
 use lib.Dec.{eqb}
-use lib.ListN.{length, get_or, take, drop, length-append}
-use lib.Seq.{take-take}
-use Rattle.definitions.specs.Lists.{among, only_if}
-use Rattle.definitions.specs.Lines.{Row, cut, isRow}
+use lib.ListN.{length, get_or, take}
+use Rattle.definitions.specs.Lists.{among}
+use Rattle.definitions.specs.Lines.{cut}
 use Rattle.definitions.specs.ReadBack.{trimCr, beginsMark, backRow, backRows, readBack}
-use Rattle.definitions.proofs.Bools.{and_left}
-use Rattle.lines.specs.Lines.{firstLine, lines_from}
-use Rattle.lines.proofs.Lines.{lines_start, lines_next, lines_end, line-within}
-use Rattle.reader.specs.declared.BackLine.{BackLine}
-use Rattle.reader.specs.BackReading.{trimmedBy, backRowsBy, rowsBack, BackRead, BackReading}
-use Rattle.reader.proofs.Parts.{line-front}
+use Rattle.reader.specs.BackReading.{trimmedBy, backRowsBy, rowsBack}
 
 -- trimmed, the rows are those of the definitions
 pub back-trimmed : (L : ℕ) (text : List ℕ) → rowsBack true L text ≡ readBack L text
@@ -69,7 +61,7 @@ pub by_most : (trim : Bool) (l : List ℕ) → length l ≤ length (trimmedBy tr
 by_most true l = trim-most l
 by_most false l = omega arith
 
-by_less : (trim : Bool) (l : List ℕ) → length (trimmedBy trim l) ≤ length l
+pub by_less : (trim : Bool) (l : List ℕ) → length (trimmedBy trim l) ≤ length l
 by_less true l = trim-less l
 by_less false l = omega arith
 
@@ -90,54 +82,3 @@ marked false b k e m = refl
 pub unmarked : (x : Bool) (b : ℕ) → eqb b 44 ≡ false → eqb b 59 ≡ false → x ≡ (x && not (among b (44 ∷ 59 ∷ [])))
 unmarked true b p q = rw (p, q)
 unmarked false b p q = refl
-
--- What `back_line` works out is what it says of the line.
-pub back_read : (trim : Bool) (L : ℕ) (text : List ℕ) (off : ℕ) → off ≤ length text → (raw bare : List ℕ) (t : Bool)
-    → raw ≡ firstLine (drop off text) → bare ≡ trimmedBy trim raw → t ≡ (isRow L bare && not (beginsMark bare))
-    → BackRead trim L text off (record { row = t; next = off + length raw + 1 })
-unfolding isRow
-back_read trim L text off h raw bare t er eb et =
-    record {
-      next = ap (λ l. off + length l + 1) er;
-      within = rw er (omega (arith, line-within text off h));
-      row = rw (← er, ← eb, ← et) (go t refl);
-      room = λ e. omega (arith, wide e, rw (← eb) at (by_less trim raw));
-    }
-  where
-    wide : t ≡ true → L ≤ length bare
-    wide e = leb-true L (length bare) (and_left (isRow L bare) (not (beginsMark bare)) (sym et ∙ e))
-
-    place : L ≤ length bare → take L bare ≡ take L (drop off text)
-    place w =
-        ap (take L) (eb ∙ by_front trim raw)
-        ∙ take-take L (length (trimmedBy trim raw)) raw (rw (← eb) w)
-        ∙ ap (take L) (er ∙ line-front (drop off text))
-        ∙ take-take L (length (firstLine (drop off text))) (drop off text) (omega (arith, w, ap length eb, by_less trim raw, ap length er))
-
-    go : (u : Bool) → t ≡ u → only_if u (take L bare ∷ []) ≡ only_if u (take L (drop off text) ∷ [])
-    go true e = ap (λ r. r ∷ []) (place (wide e))
-    go false e = refl
-
-pub back_start : (trim : Bool) (L : ℕ) (text : List ℕ) → BackReading trim L text 0 []
-unfolding rowsBack
-back_start trim L text = record { rows_are = ap (backRowsBy trim L) (sym (lines_start text)); few = le_of_eq (mul-zero (L + 1)) }
-
-module _ (trim : Bool) (L : ℕ) (text : List ℕ) (off : ℕ) (r : BackLine) (h : off ≤ length text) (x : BackRead trim L text off r) (rows : List Row) (s : BackReading trim L text off rows) where
-  turn : rowsBack trim L text ≡ rows ++ (only_if r.row (take L (drop off text) ∷ []) ++ backRowsBy trim L (lines_from text r.next))
-  turn = s.rows_are ∙ ap (λ ls. rows ++ backRowsBy trim L ls) (lines_next text off h) ∙ rw (x.row, x.next)
-
-  longer : off ≤ r.next
-  longer = omega (arith, x.next)
-
-  pub back-row : r.row ≡ true → BackReading trim L text r.next (rows ++ (take L (drop off text) ∷ []))
-  back-row e =
-      record {
-        rows_are = turn ∙ rw e (sym (append_assoc rows (take L (drop off text) ∷ []) (backRowsBy trim L (lines_from text r.next))));
-        few = rw (length-append, mul-add, mul-one) (omega (arith, s.few, x.room e));
-      }
-
-  pub back-passed : r.row ≡ false → BackReading trim L text r.next rows
-  back-passed e = record { rows_are = turn ∙ rw e; few = le_trans s.few longer }
-
-pub back_end : (trim : Bool) (L : ℕ) (text : List ℕ) (off : ℕ) → length text < off → (rows : List Row) → BackReading trim L text off rows → rowsBack trim L text ≡ rows
-back_end trim L text off h rows s = s.rows_are ∙ rw (lines_end text off h, append-nil)

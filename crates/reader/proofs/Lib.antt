@@ -1,11 +1,11 @@
--- One line more, by its kind, of a chart and of minimised text read back.
+-- What a chart's lines are marks of, and the loops over them and over rows read back.
 pub mod Lanes
 pub mod LineKinds
-pub mod Parts
 pub mod Plain
-pub mod Reading
 pub mod BackReading
 pub mod PlainBack
-pub mod Passes
 pub mod Minimising
-pub mod BackRows
+pub mod Cuts
+pub mod Marks
+pub mod ChartLoops
+pub mod BackLoops

@@ -2,11 +2,11 @@
 use mathlib.Core.Path.{◌≡◌, refl}
 use mathlib.Core.Bool.{Bool, cond}
 use mathlib.Core.List.{List, [], ◌∷◌}
-use Prim.Native.Nat.{ℕ}
+use Prim.Native.Nat.{ℕ, ◌≤◌}
 use native.Mathlib.Omega.{arith}
 use lib.Dec.{eqb}
 use lib.ListN.{length, get_or}
-use Rattle.definitions.specs.Lines.{isRow, kind_of}
+use Rattle.definitions.specs.Lines.{trim, isRow, kind_of}
 use Rattle.definitions.specs.declared.LineKind.{LineKind}
 use Rattle.definitions.specs.declared.LineKind.TheVariants as kind
 pub use Rattle.definitions.proofs.ChartRows.{row-length}
@@ -23,3 +23,9 @@ pub kind-none : (L : ℕ) (l : List ℕ) → length l ≡ 0 → kind_of L l ≡ 
 unfolding kind_of
 kind-none L [] h = refl
 kind-none L (b ∷ s) h = absurd (omega arith)
+
+-- a line without bytes is passed over
+pub comma-some : (L : ℕ) (l : List ℕ) → kind_of L (trim l) ≡ kind.Comma → 1 ≤ length l
+unfolding kind_of
+comma-some L [] e = let z : ◌≡◌ {A = ℕ} 0 1 = cc in absurd (omega arith)
+comma-some L (x ∷ xs) e = omega arith

@@ -9,17 +9,15 @@ use native.Mathlib.Nat.{zero-add, suc-add}
 use native.Mathlib.Omega.{arith}
 use borrow.Author.Tests.{eqb-true, eqb-false, eq-eqb, ne_eqb, ltb-true, leb-true, le-leb, not-true}
 use lib.Dec.{eqb, ltb, leb}
-use lib.ListN.{length, get_or, take, drop, length-drop}
-use lib.Seq.{get_or-take, length-take-le}
+use lib.ListN.{length, get_or, take, drop}
 use Rattle.definitions.specs.Lists.{up_to}
 use Rattle.definitions.specs.Lines.{isBlank, trim, isRow, kind_of}
 use Rattle.definitions.specs.declared.LineKind.TheVariants as line
 use Rattle.definitions.proofs.Bools.{and_left, and_right, and-false}
 use Rattle.lines.specs.Lines.{firstLine}
 use Rattle.lines.specs.Words.{firstIn}
-use Rattle.reader.specs.declared.ReadLine.{ReadLine}
-use Rattle.reader.specs.Reading.{LineRead, justRow, nearRow}
-use Rattle.reader.proofs.Parts.{line-front, line_read}
+use Rattle.reader.specs.Reading.{justRow, nearRow}
+use Rattle.reader.proofs.Cuts.{line-front}
 
 -- ---- where the first line ends, told by the first newline among eight bytes
 
@@ -129,33 +127,18 @@ just-told s m long low high =
 -- ---- such a line is a row
 
 -- a line that begins with a byte past `/` loses nothing at its front
-bare : (l : List ℕ) → 47 < get_or l 0 0 → l ≡ trim l
+pub bare : (l : List ℕ) → 47 < get_or l 0 0 → l ≡ trim l
 unfolding isBlank
 bare [] h = refl
 bare (b ∷ l) h =
     simp (ne_eqb b 9 (omega arith), ne_eqb b 10 (omega arith), ne_eqb b 12 (omega arith), ne_eqb b 13 (omega arith), ne_eqb b 32 (omega arith))
 
 -- and is a row, unless that byte is `;` or the line is short
-bare-row : (L : ℕ) (l : List ℕ) → L ≤ length l → 47 < get_or l 0 0 → (get_or l 0 0 ≡ 59 → ⊥) → line.Row ≡ kind_of L l
+pub bare-row : (L : ℕ) (l : List ℕ) → L ≤ length l → 47 < get_or l 0 0 → (get_or l 0 0 ≡ 59 → ⊥) → line.Row ≡ kind_of L l
 unfolding kind_of isRow
 bare-row L [] w h n = absurd (omega arith)
 bare-row L (b ∷ l) w h n =
     simp (ne_eqb b 47 (omega arith), ne_eqb b 44 (omega arith), ne_eqb b 59 n, le-leb L (length (b ∷ l)) w)
-
--- a row that begins where its line does, of a line that ends at `end`
-abbrev plainRow : ℕ → ℕ → ReadLine
-plainRow off end = record { kind = line.Row; start = off; next = end + 1 }
-
--- a line of m bytes
-plain-line : (L m : ℕ) (part : List ℕ) → m < length part → L ≤ m → 0 < m → firstLine part ≡ take m part
-    → 47 < get_or part 0 0 → (get_or part 0 0 ≡ 59 → ⊥) → LineRead L part 0 (plainRow 0 m)
-plain-line L m part h w some found low semi =
-    let raw = take m part in
-    let n : length raw ≡ m = length-take-le m part (omega arith) in
-    let first : get_or raw 0 0 ≡ get_or part 0 0 = get_or-take m part 0 0 some in
-    let read = line_read L part 0 (omega arith) raw raw line.Row (sym found) (bare raw (rw first low)) (bare-row L raw (omega arith) (rw first low) (λ e. semi (sym first ∙ e))) in
-    let at : m - m ≡ 0 = omega arith in
-    rw (n, zero-add, at) at read
 
 -- What it says where it is so: the line's length and its first byte.
 pub near-just : (m : ℕ) (part : List ℕ) → nearRow m part ≡ true
@@ -172,20 +155,3 @@ near-just m part e =
       ltb-true 47 (get_or part 0 0) (and_right just past two),
       eqb-false (get_or part 0 0) 59 (not-true semi (and_right (just && past) (not semi) all)),
     )
-
-pub near-row : (L m : ℕ) (part : List ℕ) → L ≤ m → 4 ≤ m → m ≤ 11 → nearRow m part ≡ true → LineRead L part 0 (plainRow 0 m)
-near-row L m part w low high e =
-    let told = near-just m part e in
-    plain-line L m part (omega (arith, told.0)) w (omega arith) told.1 told.2 told.3
-
--- The line that a part of the text begins with, at its place in the text.
-pub added-back : (L m : ℕ) (text : List ℕ) (off : ℕ) → off ≤ length text → LineRead L (drop off text) 0 (plainRow 0 m) → LineRead L text off (plainRow off (off + m))
-added-back L m text off h x =
-    record {
-      kind = x.kind;
-      next = omega (arith, x.next);
-      within = omega (arith, x.within, length-drop off text);
-      comma = λ e. omega (arith, x.comma e);
-      row = x.row;
-      room = λ e. (omega (arith, (x.room e).0), omega (arith, (x.room e).0));
-    }

@@ -1,24 +1,24 @@
 -- A plain row of minimised text: its cells are all of its line, or one byte follows them; the first is no `,` or `;`, and the last no byte 13.
 use mathlib.Core.Path.{◌≡◌, refl, ap, sym, ◌∙◌}
 use mathlib.Core.Bool.{Bool, true, false, ◌&&◌, not}
-use mathlib.Core.List.{List}
+use mathlib.Core.List.{List, ◌∷◌}
 use Prim.Native.Nat.{ℕ, ◌+◌, ◌-◌, ◌≤◌, ◌<◌}
 use native.Mathlib.Decide.{dec_lt}
-use native.Mathlib.Nat.{zero-add}
 use native.Mathlib.Omega.{arith}
 use borrow.Author.Tests.{eqb-false, ne_eqb, le-leb, not-true}
 use lib.Dec.{eqb}
-use lib.ListN.{length, get_or, take, drop, length-drop}
-use lib.Seq.{get_or-take, length-take-le}
+use lib.ListN.{length, get_or, take, drop}
+use lib.Seq.{get_or-take, length-take-le, take-take}
 use Rattle.definitions.specs.Lines.{isRow}
 use Rattle.definitions.specs.ReadBack.{beginsMark}
 use Rattle.definitions.proofs.Bools.{and_left, and_right}
 use Rattle.lines.proofs.Trims.{trim-cr-none}
 use Rattle.reader.specs.Reading.{LineWidth, nearRow}
-use Rattle.reader.specs.declared.BackLine.{BackLine}
-use Rattle.reader.specs.BackReading.{trimmedBy, BackRead, plainRowBack}
+use Rattle.reader.specs.BackReading.{trimmedBy, rowsBack, plainRowBack}
 use Rattle.reader.proofs.Plain.{near-just}
-use Rattle.reader.proofs.BackReading.{by_front, by_most, mark-first, unmarked, back_read}
+use Rattle.reader.proofs.BackReading.{by_front, by_most, mark-first, unmarked}
+use Rattle.reader.proofs.Cuts.{after-line}
+use Rattle.reader.proofs.BackLoops.{rows-first}
 
 -- a line that does not end in byte 13 counts as it is
 by_all : (trim : Bool) (l : List ℕ) → 0 < length l → (get_or l (length l - 1) 0 ≡ 13 → ⊥) → l ≡ trimmedBy trim l
@@ -48,33 +48,19 @@ by_wide trim L l some w cr =
 by_first : (trim : Bool) (l : List ℕ) → 0 < length (trimmedBy trim l) → get_or (trimmedBy trim l) 0 0 ≡ get_or l 0 0
 by_first trim l h = ap (λ k. get_or k 0 0) (by_front trim l) ∙ get_or-take (length (trimmedBy trim l)) l 0 0 h
 
--- a row of a line that ends at `end`
-abbrev plainBack : ℕ → BackLine
-plainBack end = record { row = true; next = end + 1 }
-
-pub plain_back : (L m : ℕ) (part : List ℕ) → 4 ≤ L → L ≤ 10 → LineWidth L m → plainRowBack L m part ≡ true → (trim : Bool) → BackRead trim L part 0 (plainBack m)
-plain_back L m part low high w e trim =
-    let cr = eqb (get_or part (L - 1) 0) 13 in
-    let told = near-just m part (and_left (nearRow m part) (not cr) e) in
-    let raw = take m part in
+-- The row that a text begins with, and what follows its line.
+pub rows-near : (L m : ℕ) (s : List ℕ) → 4 ≤ L → L ≤ 10 → LineWidth L m → plainRowBack L m s ≡ true → (trim : Bool) → rowsBack trim L s ≡ take L s ∷ rowsBack trim L (drop (m + 1) s)
+rows-near L m s low high w e trim =
+    let cr = eqb (get_or s (L - 1) 0) 13 in
+    let told = near-just m s (and_left (nearRow m s) (not cr) e) in
+    let raw = take m s in
     let bare = trimmedBy trim raw in
-    let n : length raw ≡ m = length-take-le m part (omega (arith, told.0, w.1)) in
+    let n : length raw ≡ m = length-take-le m s (omega (arith, told.0, w.1)) in
     let last : get_or raw (L - 1) 0 ≡ 13 → ⊥ =
-    rw (get_or-take m part (L - 1) 0 (omega (arith, w.0))) (eqb-false (get_or part (L - 1) 0) 13 (not-true cr (and_right (nearRow m part) (not cr) e))) in
+    rw (get_or-take m s (L - 1) 0 (omega (arith, w.0))) (eqb-false (get_or s (L - 1) 0) 13 (not-true cr (and_right (nearRow m s) (not cr) e))) in
     let wide : L ≤ length bare = by_wide trim L raw (omega arith) (rw n w) last in
-    let first : get_or bare 0 0 ≡ get_or part 0 0 =
-    by_first trim raw (omega arith) ∙ get_or-take m part 0 0 (omega (arith, w.0)) in
-    let read = back_read trim L part 0 (omega arith) raw bare true (sym told.1) refl
-    (row-all L bare (omega arith) wide (λ q. omega (arith, told.2, first)) (λ q. told.3 (sym first ∙ q))) in
-    rw (n, zero-add) at read
-
--- The row that a part of the text begins with, at its place in the text.
-pub back-added : (trim : Bool) (L m : ℕ) (text : List ℕ) (off : ℕ) → off ≤ length text → BackRead trim L (drop off text) 0 (plainBack m)
-    → BackRead trim L text off (plainBack (off + m))
-back-added trim L m text off h x =
-    record {
-      next = omega (arith, x.next);
-      within = omega (arith, x.within, length-drop off text);
-      row = x.row;
-      room = λ e. omega (arith, x.room e);
-    }
+    let first : get_or bare 0 0 ≡ get_or s 0 0 = by_first trim raw (omega arith) ∙ get_or-take m s 0 0 (omega (arith, w.0)) in
+    let row = row-all L bare (omega arith) wide (λ q. omega (arith, told.2, first)) (λ q. told.3 (sym first ∙ q)) in
+    let cells : take L bare ≡ take L s = ap (take L) (by_front trim raw) ∙ take-take L (length bare) raw wide ∙ take-take L m s w.0 in
+    let below = after-line m s (omega (arith, told.0, w.1)) told.1 in
+    rows-first trim L s (omega arith) ∙ rw (told.1, below, ← row, cells)

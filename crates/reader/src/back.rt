@@ -1,11 +1,12 @@
 // Reading minimised text back, as `parse_minimized_rows` does: by lines, with no blanks stripped, no comment known and no end at `;`.
-ghost use Rattle.std.specs.Prelude.{◌≡◌, ◌&&◌, not, ◌+◌, ◌≤◌, length};
+ghost use Rattle.std.specs.Prelude.{◌≡◌, ◌&&◌, not, ◌+◌, ◌≤◌, ◌<◌, length};
 ghost use Rattle.definitions.specs.Lines.{isRow};
 ghost use Rattle.definitions.specs.ReadBack.{beginsMark};
 ghost use Rattle.reader.specs.Reading.{LineWidth};
-ghost use Rattle.reader.specs.BackReading.{BackRead, plainRowBack};
+ghost use Rattle.std.specs.Iterator.{YieldsFirstRef};
+ghost use Rattle.reader.specs.BackReading.{trimmedBy, rowsBack, plainRowBack};
 
-use crate::BackLine;
+use std::marker::Model;
 
 // Whether a line is long enough and begins with no `,` or `;`.
 fn is_back_row(line: &[u8], lanes: usize) -> bool
@@ -21,25 +22,6 @@ fn is_back_row(line: &[u8], lanes: usize) -> bool
     }
 }
 
-// Any line.
-fn any_back_line(text: &[u8], off: usize, lanes: usize, trim: bool) -> BackLine
-    requires { off ≤ length text.now }
-    ensures { BackRead trim lanes text.now off result }
-{
-    let raw = lines::next_line(text, off);
-    let next = off + raw.len() + 1;
-    if trim {
-        return BackLine {
-            row: is_back_row(lines::trim_cr(raw), lanes),
-            next,
-        };
-    }
-    BackLine {
-        row: is_back_row(raw, lanes),
-        next,
-    }
-}
-
 // Whether a text that goes on as `part` does begins with a row of `width` bytes, as `is_near_row` tells it, whose last cell is no byte 13.
 fn is_plain_row(part: &[u8], lanes: usize, width: usize) -> bool
     requires { (4 ≤ lanes) × (lanes ≤ 10) × LineWidth lanes width }
@@ -51,26 +33,95 @@ fn is_plain_row(part: &[u8], lanes: usize, width: usize) -> bool
     crate::is_just_row(part, width) & (part[lanes - 1] != 13)
 }
 
-// The line at `off`. With `trim` one byte 13 at its end does not count, as in `parse_minimized_rows`; without it the line is taken as it is.
-// A row of `width` bytes, as most lines are, is told by the look that `read_line` has, which the compiler writes into the caller's loop.
-pub fn back_line(text: &[u8], off: usize, lanes: usize, width: usize, trim: bool) -> BackLine
-    requires { (off ≤ length text.now) × (4 ≤ lanes) × (lanes ≤ 10) × LineWidth lanes width }
-    ensures { BackRead trim lanes text.now off result }
-{
-    if is_plain_row(&text[off..], lanes, width) {
-        return BackLine {
-            row: true,
-            next: off + width + 1,
-        };
-    }
-    any_back_line(text, off, lanes, trim)
+// The rows of minimised text that is left to read back, each as a part of it. Clauses see the list of them.
+#[derive(Drop)]
+pub struct BackRows<'a> {
+    rest: &'a [u8],
+    lanes: usize,
+    width: usize,
+    trim: bool,
 }
 
-// How many bytes the line of a row of minimised text has, as its first line tells it: what `line_width` is for a chart.
-pub fn back_width(text: &[u8], lanes: usize, trim: bool) -> usize
-    requires { lanes ≤ 10 }
-    ensures { LineWidth lanes result }
+impl<'a> Model for BackRows<'a> {
+    ghost use Rattle.std.specs.Prelude.{List, ◌≤◌};
+    ghost use Rattle.definitions.specs.Lines.{Row};
+    ghost use Rattle.reader.specs.Reading.{LineWidth};
+    ghost use Rattle.reader.specs.BackReading.{rowsBack};
+
+    ghost Value = { List Row };
+
+    ghost view = { λ it. rowsBack it.trim it.lanes it.rest.now };
+
+    ghost invariant = { λ it. (4 ≤ it.lanes) × (it.lanes ≤ 10) × LineWidth it.lanes it.width };
+}
+
+// The first row, if any, and what of the text follows its line.
+#[derive(Drop)]
+struct RowAhead<'a> {
+    row: Option<&'a [u8]>,
+    rest: &'a [u8],
+}
+
+// A line as it counts: with `trim` one byte 13 at its end does not, as in `parse_minimized_rows`.
+fn bare_line(line: &[u8], trim: bool) -> &[u8]
+    ensures { result.now ≡ trimmedBy trim line.now }
 {
-    let line = any_back_line(text, 0, lanes, trim);
-    crate::width_by(text, lanes, line.next)
+    if trim { lines::trim_cr(line) } else { line }
+}
+
+// Line by line to the first row, written into each loop as that of a chart is.
+#[inline(always)]
+fn look_ahead(text: &[u8], lanes: usize, trim: bool) -> RowAhead<'_>
+    requires { 0 < lanes }
+    ensures { YieldsFirstRef (λ s. s) (rowsBack trim lanes text.now) result.row (rowsBack trim lanes result.rest.now) }
+{
+    let mut rest = text;
+    while !rest.is_empty() {
+        let (line, below) = lines::split_line(rest);
+        let bare = bare_line(line, trim);
+        if is_back_row(bare, lanes) {
+            return RowAhead {
+                row: Some(&bare[..lanes]),
+                rest: below,
+            };
+        }
+        rest = below;
+    }
+    RowAhead { row: None, rest }
+}
+
+impl<'a> Iterator for BackRows<'a> {
+    ghost use Rattle.std.specs.Iterator.{YieldsFirstRef, item_count};
+
+    type Item = &'a [u8];
+
+    ghost next_gives = { YieldsFirstRef (λ rest. rest) };
+
+    ghost remaining = { item_count (λ rest. rest) };
+
+    // A row of `width` bytes, as most lines are, is told by one look.
+    #[inline(always)]
+    fn next(&mut self) -> Option<&'a [u8]> {
+        let text = self.rest;
+        if is_plain_row(text, self.lanes, self.width) {
+            self.rest = &text[self.width + 1..];
+            return Some(&text[..self.lanes]);
+        }
+        let ahead = look_ahead(text, self.lanes, self.trim);
+        self.rest = ahead.rest;
+        ahead.row
+    }
+}
+
+// The rows of minimised text.
+pub fn back_rows(text: &[u8], lanes: usize, trim: bool) -> BackRows<'_>
+    requires { (4 ≤ lanes) × (lanes ≤ 10) }
+    ensures { result ≡ rowsBack trim lanes text.now }
+{
+    BackRows {
+        rest: text,
+        lanes,
+        width: crate::line_width(text, lanes),
+        trim,
+    }
 }

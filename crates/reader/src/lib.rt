@@ -1,30 +1,17 @@
-// Reading a chart's text line by line: what the line at a place is, where its row stands, and where the next line starts.
+// Reading a chart's text line by line: its rows and the ends of its measures (`charts`), and the rows of minimised text (`back`), each row as a part of
+// the text that was lent.
 #![tactic(auto)]
 
 pub mod back;
+pub mod charts;
 
 ghost use Rattle.std.specs.Prelude.{◌≡◌, ◌+◌, ◌-◌, ◌≤◌, length};
 ghost use Rattle.definitions.specs.Lanes.{lanes_of};
 ghost use Rattle.definitions.specs.Lines.{isRow, kind_of};
 ghost use Rattle.definitions.specs.Lists.{oneIf};
-ghost use Rattle.reader.specs.Reading.{LineWidth, LineRead, justRow, nearRow};
+ghost use Rattle.reader.specs.Reading.{LineWidth, justRow, nearRow};
 
 use definitions::LineKind;
-
-// A line that was read: its row, where it is one, begins at `start`, and the next line at `next`.
-#[derive(Clone, Copy)]
-pub struct ReadLine {
-    pub kind: LineKind,
-    pub start: usize,
-    pub next: usize,
-}
-
-// A line of minimised text that was read back: whether it is a row, which then begins where the line does, and where the next line begins.
-#[derive(Clone, Copy)]
-pub struct BackLine {
-    pub row: bool,
-    pub next: usize,
-}
 
 // 1 where the test holds, else 0.
 fn one_if(test: bool) -> usize
@@ -34,8 +21,10 @@ fn one_if(test: bool) -> usize
 }
 
 // The lane count in force.
+#[tactic(auto, unfolding(definitions::specs::Lanes::lanes_of))]
 pub fn lanes_of(lanes: usize) -> usize
-    ensures { result ≡ lanes_of lanes }
+    ensures value { result ≡ lanes_of lanes }
+    ensures within { (4 ≤ result) × (result ≤ 10) }
 {
     match lanes {
         5 => 5,
@@ -70,21 +59,6 @@ pub fn line_kind(line: &[u8], lanes: usize) -> LineKind
                 LineKind::Passed
             }
         }
-    }
-}
-
-// Any line, byte by byte.
-fn read_any_line(data: &[u8], off: usize, lanes: usize) -> ReadLine
-    requires { off ≤ length «data».now }
-    ensures { LineRead lanes «data».now off result }
-{
-    let raw = lines::next_line(data, off);
-    let line = lines::skip_ws(raw);
-    let end = off + raw.len();
-    ReadLine {
-        kind: line_kind(line, lanes),
-        start: end - line.len(),
-        next: end + 1,
     }
 }
 
@@ -123,40 +97,15 @@ fn is_near_row(part: &[u8], width: usize) -> bool
     is_just_row(part, width)
 }
 
-// The line at `off`, which is within the text or just past its last newline. A row of `width` bytes, as most lines are, is told by one look,
-// which the compiler writes into the caller's loop, and the next place does not depend on what was read.
-pub fn read_line(data: &[u8], off: usize, lanes: usize, width: usize) -> ReadLine
-    requires { (off ≤ length «data».now) × (4 ≤ lanes) × (lanes ≤ 10) × LineWidth lanes width }
-    ensures { LineRead lanes «data».now off result }
-{
-    if is_near_row(&data[off..], width) {
-        return ReadLine {
-            kind: LineKind::Row,
-            start: off,
-            next: off + width + 1,
-        };
-    }
-    read_any_line(data, off, lanes)
-}
-
-// How many bytes the line of a row has where the text's first line ends before `next`: one more than its cells where byte 13 is its last.
-fn width_by(data: &[u8], lanes: usize, next: usize) -> usize
-    requires { (lanes ≤ 10) × (1 ≤ next) × (next ≤ length «data».now + 1) }
-    ensures { LineWidth lanes result }
-{
-    let end = next - 1;
-    if end == 0 {
-        return lanes;
-    }
-    lanes + one_if(data[end - 1] == 13)
-}
-
-// How many bytes the line of a row has, as the first line of the text tells it. Where other lines end otherwise, reading them takes longer,
-// and nothing else changes.
-pub fn line_width(data: &[u8], lanes: usize) -> usize
+// How many bytes the line of a row has, as the first line of the text tells it: one more than its cells where byte 13 is its last. Where other
+// lines end otherwise, reading them takes longer, and nothing else changes.
+fn line_width(text: &[u8], lanes: usize) -> usize
     requires { lanes ≤ 10 }
     ensures { LineWidth lanes result }
 {
-    let line = read_any_line(data, 0, lanes);
-    width_by(data, lanes, line.next)
+    let line = lines::next_line(text, 0);
+    if line.len() == 0 {
+        return lanes;
+    }
+    lanes + one_if(line[line.len() - 1] == 13)
 }

@@ -202,6 +202,6 @@ pub fn finish(s: ChartNotesScratch, notes: &mut [u8]) -> usize
     let out = close_heads(s, notes);
     let count = retain(out, notes);
     let end = count * 10;
-    slices::zero_u8(notes, end);
+    slices::zero_past(notes, end, 0);
     count
 }

@@ -10,7 +10,7 @@ use lib.Seq.{take-suc-set, length-take-le}
 use Rattle.definitions.specs.Lists.{padded}
 use Rattle.definitions.specs.Lines.{Row}
 use Rattle.definitions.specs.Measures.{chart}
-use Rattle.reader.proofs.Passes.{Passing, Over, pass-few}
+use Rattle.reader.proofs.ChartLoops.{Over}
 use Rattle.slices.specs.Zeroed.{zeroed}
 use Rattle.slices.proofs.Zeroed.{zeroed-padded}
 
@@ -27,13 +27,6 @@ module _ (f : List Row → ℕ) where
 
   pub filling-start : (S : List Row → Type 0) (dst : List ℕ) → S [] → Filling S 0 dst [] []
   filling-start S dst s = record { count = refl; stored = refl; state = s }
-
-  -- measures and the open one's rows are few
-  pub filling-few : (S : List Row → Type 0) (L : ℕ) (text : List ℕ) (off m : ℕ) (dst : List ℕ) → 4 ≤ L → (x : Passing L text off (Filling S m dst))
-      → (2 * m ≤ length text + 1) × (5 * length x.cur ≤ length text + 1)
-  filling-few S L text off m dst w x =
-      let few = pass-few L text off w x in
-      (omega (arith, x.held.count, few.measures), omega (arith, few.fifth))
 
   module _ (S S' : List Row → Type 0) (m : ℕ) (dst : List ℕ) where
     pub filling-row : (row : Row) → ((cur : List Row) → S cur → S' (cur ++ (row ∷ [])))
@@ -52,8 +45,8 @@ module _ (f : List Row → ℕ) where
   pub filling-over : (S : List Row → Type 0) (L : ℕ) (text : List ℕ) (m : ℕ) (dst : List ℕ) (v : ℕ) → ((cur : List Row) → S cur → v ≡ f cur) → Over L text (Filling S m dst) → Filled L text m v dst
   filling-over S L text m dst v g x =
       record {
-        room = omega (arith, x.held.count, x.read.measures-few);
-        figures = ap (map f) x.read.chart-is ∙ map-append f x.done (x.cur ∷ []) ∙ rw (← g x.cur x.held.state, ← x.held.stored);
+        room = omega (arith, x.held.count, x.few.measures);
+        figures = ap (map f) x.chart-is ∙ map-append f x.done (x.cur ∷ []) ∙ rw (← g x.cur x.held.state, ← x.held.stored);
       }
 
   -- the last figure stored and zeros after it: the whole slice

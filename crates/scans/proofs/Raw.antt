@@ -43,13 +43,13 @@ unfolding densities minimised
 densities-raw L text = map-raw (chart L text)
 
 -- there is one for each measure
-pub densities-count : (L : ℕ) (text : List ℕ) → length (densities L text) ≡ measureCount L text
+pub densities_count : (L : ℕ) (text : List ℕ) → length (densities L text) ≡ measureCount L text
 unfolding densities
-densities-count L text = length-map (minimised L text) density
+densities_count L text = length-map (minimised L text) density
 
-pub spacings-count : (L : ℕ) (text : List ℕ) → length (spacings L text) ≡ measureCount L text
+pub spacings_count : (L : ℕ) (text : List ℕ) → length (spacings L text) ≡ measureCount L text
 unfolding spacings
-spacings-count L text = length-map (minimised L text) (λ (m : List Row). oneIf (spacing m))
+spacings_count L text = length-map (minimised L text) (λ (m : List Row). oneIf (spacing m))
 
 -- Each of some rows is a step where as many are steps as there are rows.
 pub steps-most : (rs : List Row) → count isStep rs ≤ length rs

@@ -3,11 +3,10 @@ ghost use Rattle.std.specs.Prelude.{◌≡◌, ◌+◌, ◌/◌, ◌≤◌, leng
 ghost use Rattle.definitions.specs.Sizes.{mostBytes};
 ghost use Rattle.definitions.specs.Lists.{padded};
 ghost use Rattle.definitions.specs.Figures.{densities as densitiesOf};
-ghost use Rattle.definitions.specs.Entries.{densitiesLeft};
-ghost use Rattle.scans.specs.Answers.{measuresAnswer};
+ghost use Rattle.definitions.specs.Entries.{measuresAnswer, densitiesLeft};
 
-use crate::MeasuresAnswer;
-use definitions::LineKind;
+use definitions::Refusal;
+use reader::charts::ChartLine;
 
 // The densities of an accepted text, with zeros after them.
 fn fill_densities(data: &[u8], lanes: usize, densities: &mut [u32]) -> usize
@@ -17,50 +16,34 @@ fn fill_densities(data: &[u8], lanes: usize, densities: &mut [u32]) -> usize
     ensures value { result ≡ length (densitiesOf lanes «data».now) }
     ensures densities_after { densities.new ≡ padded 0 (length densities.old) (densitiesOf lanes «data».now) }
 {
-    let width = reader::line_width(data, lanes);
-    let mut off = 0;
     let mut m = 0;
     let mut steps: u32 = 0;
-    while off <= data.len() {
-        let line = reader::read_line(data, off, lanes, width);
-        let kind = line.kind;
-        let start = line.start;
-        let next = line.next;
-        match kind {
-            LineKind::Passed => {}
-            LineKind::Comma => {
+    for line in reader::charts::chart_lines(data, lanes) {
+        match line {
+            ChartLine::Row(row) => {
+                steps += cells::one_if(cells::row_has_note(row));
+            }
+            ChartLine::Comma => {
                 densities[m] = steps;
                 m += 1;
                 steps = 0;
             }
-            LineKind::Semi => {
-                break;
-            }
-            LineKind::Row => {
-                let end = start + lanes;
-                steps += cells::one_if(cells::row_has_note(&data[start..end]));
-            }
         }
-        off = next;
     }
     densities[m] = steps;
     m += 1;
-    slices::zero_u32(densities, m);
+    slices::zero_past(densities, m, 0);
     m
 }
 
-// For each measure its minimised rows with a 1, 2 or 4.
-pub fn measure_densities(data: &[u8], lanes: usize, densities: &mut [u32]) -> MeasuresAnswer
+// For each measure its minimised rows with a 1, 2 or 4. The answer counts the measures.
+#[tactic(auto, using(crate::proofs::Raw::densities_count), unfolding(definitions::specs::Entries::measuresAnswer))]
+pub fn measure_densities(data: &[u8], lanes: usize, densities: &mut [u32]) -> Result<usize, Refusal>
     ensures value { result ≡ measuresAnswer lanes «data».now densities.old }
     ensures densities_after { densities.new ≡ densitiesLeft lanes «data».now densities.old }
 {
-    if definitions::MOST_BYTES < data.len() {
-        return MeasuresAnswer::Refused(1);
-    }
-    let room = (data.len() + 1) / 2 + 1;
-    if densities.len() < room {
-        return MeasuresAnswer::Refused(3);
-    }
-    let n = fill_densities(data, reader::lanes_of(lanes), densities);
-    MeasuresAnswer::Measures(n)
+    let len = data.len();
+    refusals::text_fits(len)?;
+    refusals::room_for_measures(len, densities.len())?;
+    Ok(fill_densities(data, reader::lanes_of(lanes), densities))
 }

@@ -3,10 +3,3 @@
 #![tactic(auto)]
 
 pub mod densities;
-
-// The answer of a scan that fills a slice with a figure for each measure: how many measures there are, or the refusal's number.
-#[derive(Drop)]
-pub enum MeasuresAnswer {
-    Refused(u32),
-    Measures(usize),
-}

@@ -1,4 +1,6 @@
 -- Laws of the lines.
-pub mod Putting
 pub mod Decimal
+pub mod Numbers
+pub mod Listing
 pub mod ExampleFigures
+pub mod Names

@@ -14,32 +14,20 @@ use Rattle.definitions.specs.Notes.{effectAt, notes}
 use Rattle.definitions.specs.Tally.{rowSumBy, rowSum, addRow, tally}
 use Rattle.definitions.specs.Correction.{corrects, pairedOnly, corrected}
 use Rattle.definitions.specs.ReadBack.{readBack, mainTally}
-use Rattle.definitions.specs.Entries.{measureCount, rowCount}
+use Rattle.definitions.specs.Entries.{measureCount, chartFigures}
 use Rattle.definitions.specs.Examples.{bytes}
 use Rattle.definitions.specs.declared.Note.{Note}
 use Rattle.sheet.specs.Sheet.{number, numberField, figureLine, headLines, measureLine, measureLines, noteLine}
-use Rattle.sheet.specs.declared.SheetFigures.{SheetFigures}
-
--- "`measures` and `notes` count measures and note records, `rows` counts minimised rows, `arrows` and `steps` are `total_arrows` and
--- `total_steps` of the main tally, `last` is in 48ths of a beat."
-unfoldable pub sheetFigures : ℕ → List ℕ → SheetFigures
-sheetFigures L text =
-    record {
-      measures = measureCount L text;
-      rows = rowCount L text;
-      arrows = (mainTally L text).total_arrows;
-      steps = (mainTally L text).total_steps;
-      notes = length (notes L text);
-      last = last48 L text;
-    }
 
 -- a line for each note
 unfoldable pub noteLines : List Note → List ℕ
 noteLines ns = joined (map noteLine ns)
 
+-- "`measures` and `notes` count measures and note records, `rows` counts minimised rows, `arrows` and `steps` are `total_arrows` and
+-- `total_steps` of the main tally, `last` is in 48ths of a beat."
 unfoldable pub sheet : ℕ → List ℕ → List ℕ
 sheet L text =
-    headLines (sheetFigures L text)
+    headLines (chartFigures L text)
     ++ (measureLines (densities L text) (spacings L text) (measureCount L text) ++ noteLines (notes L text))
 
 -- "The program card reads standard input, 4 lanes, at most 4,095 bytes; for more it prints `refused 1`."
@@ -49,5 +37,5 @@ card text = cond (ltb 4095 (length text)) (bytes "refused 1|") (sheet 4 text)
 -- "For `1000|0000|0100|0000|;|` it prints:"
 pub card-example : card (bytes "1000|0000|0100|0000|;|")
     ≡ bytes "measures 1|rows 2|arrows 2|steps 2|notes 2|last 96|m 0 2 1|n 0 0 0 -|n 1 1 0 -|"
-unfolding card sheet sheetFigures noteLines headLines figureLine measureLine noteLine numberField number minimisedText densities spacings isStep beat whole lastRow last48 lastObject objectAt notes effectAt mainTally corrected corrects pairedOnly pairs holdAt tally addRow rowSum rowSumBy readBack minimised reduce stride chart lineKind kind_of isRow isBlank cell_of of_int round add mul div
+unfolding card sheet chartFigures noteLines headLines figureLine measureLine noteLine numberField number minimisedText densities spacings isStep beat whole lastRow last48 lastObject objectAt notes effectAt mainTally corrected corrects pairedOnly pairs holdAt tally addRow rowSum rowSumBy readBack minimised reduce stride chart lineKind kind_of isRow isBlank cell_of of_int round add mul div
 card-example = refl

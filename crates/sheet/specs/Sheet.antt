@@ -1,22 +1,15 @@
 -- Document 01, "The program card": the lines it prints.
-use Rattle.std.specs.Prelude.{cond, List, [], ◌∷◌, ◌++◌, ℕ, zero, suc, ◌+◌, ◌-◌, ◌/◌, ◌%◌, ltb, length, get_or, replicate}
-use Prim.Native.Char.{code}
-use Prim.Native.String.{String, [] as end, ◌∷◌ as ◌then◌}
+use Rattle.std.specs.Prelude.{cond, List, [], ◌∷◌, ◌++◌, ℕ, zero, suc, ◌+◌, ◌-◌, ◌/◌, ◌%◌, ltb, length, get_or, replicate, codes, Result, Ok, Err}
 use Rattle.definitions.specs.Records.{kindNumber, readNote}
 use Rattle.definitions.specs.declared.Tail.{Tail}
 use Rattle.definitions.specs.declared.Tail.TheVariants.{Without, Row}
 use Rattle.definitions.specs.declared.Note.{Note}
-use Rattle.definitions.specs.declared.ReadNote.{ReadNote}
-use Rattle.definitions.specs.declared.ReadNote.TheVariants.{Found, Refused}
-use Rattle.sheet.specs.declared.SheetFigures.{SheetFigures}
-
--- the bytes of a word in ASCII
-abbrev pub ascii : String → List ℕ
-ascii end = []
-ascii (◌then◌ c s) = code c ∷ ascii s
+use Rattle.definitions.specs.declared.Refusal.{Refusal}
+use Rattle.definitions.specs.declared.ArrowStats.{ArrowStats}
+use Rattle.definitions.specs.declared.ChartFigures.{ChartFigures}
 
 -- "All numbers are decimal": the digits of a number below 10 ^ most, the most significant first. They are read back as the
--- number: `digits-read` in proofs/Decimal.antt.
+-- number, `digits-read` in proofs/Decimal.antt, and are std's: `digits-decimal` in proofs/Numbers.antt.
 abbrev pub digits : ℕ → ℕ → List ℕ
 digits zero n = []
 digits (suc most) n = cond (ltb n 10) ((48 + n) ∷ []) (digits most (n / 10) ++ ((48 + n % 10) ∷ []))
@@ -33,15 +26,37 @@ numberField n after = number n ++ (after ∷ [])
 unfoldable pub aligned : ℕ → ℕ → List ℕ
 aligned width n = replicate (width - length (number n)) 32 ++ number n
 
+-- a text with as many blanks after it as its columns have left
+unfoldable pub leftAligned : ℕ → List ℕ → List ℕ
+leftAligned width text = text ++ replicate (width - length text) 32
+
 -- what f gives for 0 to n - 1, one after the other
 abbrev pub listed : (ℕ → List ℕ) → ℕ → List ℕ
 listed f zero = []
 listed f (suc k) = listed f k ++ f k
 
--- the names of a tally's fields in their order, twelve bytes each
-unfoldable pub fieldNames : List ℕ
-fieldNames =
-    ascii "total_arrowsleft        down        up          right       total_steps jumps       hands       mines       holds       rolls       lifts       fakes       holding     "
+-- a tally's fields in their order, each with its name
+unfoldable pub fieldsOf : ArrowStats → List (List ℕ × ℕ)
+fieldsOf t =
+    (codes "total_arrows", t.total_arrows)
+    ∷ (codes "left", t.left)
+    ∷ (codes "down", t.down)
+    ∷ (codes "up", t.up)
+    ∷ (codes "right", t.right)
+    ∷ (codes "total_steps", t.total_steps)
+    ∷ (codes "jumps", t.jumps)
+    ∷ (codes "hands", t.hands)
+    ∷ (codes "mines", t.mines)
+    ∷ (codes "holds", t.holds)
+    ∷ (codes "rolls", t.rolls)
+    ∷ (codes "lifts", t.lifts)
+    ∷ (codes "fakes", t.fakes)
+    ∷ (codes "holding", t.holding)
+    ∷ []
+
+-- one of them
+abbrev pub fieldAt : ArrowStats → ℕ → List ℕ × ℕ
+fieldAt t i = get_or (fieldsOf t) i ([], 0)
 
 -- "`measures` and `notes` count measures and note records", and so on: a name with its blank, and a number
 unfoldable pub figureLine : List ℕ → ℕ → List ℕ
@@ -49,7 +64,7 @@ figureLine name n = name ++ numberField n 10
 
 -- "`m`: measure, density, spacing (1 or 0)."
 unfoldable pub measureLine : ℕ → ℕ → ℕ → List ℕ
-measureLine m density spaced = ascii "m " ++ (numberField m 32 ++ (numberField density 32 ++ numberField spaced 10))
+measureLine m density spaced = codes "m " ++ (numberField m 32 ++ (numberField density 32 ++ numberField spaced 10))
 
 -- "tail or `-`"
 abbrev pub tailField : Tail → List ℕ
@@ -58,12 +73,12 @@ tailField (Row j) = numberField j 10
 
 -- "`n`: row, column, kind, tail or `-`."
 unfoldable pub noteLine : Note → List ℕ
-noteLine n = ascii "n " ++ (numberField n.row 32 ++ (numberField n.column 32 ++ (numberField (kindNumber n.kind) 32 ++ tailField n.tail)))
+noteLine n = codes "n " ++ (numberField n.row 32 ++ (numberField n.column 32 ++ (numberField (kindNumber n.kind) 32 ++ tailField n.tail)))
 
 -- the line of a record; one that cannot be read has none
-abbrev pub recordLine : ReadNote → List ℕ
-recordLine (Found n) = noteLine n
-recordLine (Refused k) = []
+abbrev pub recordLine : Result Note Refusal → List ℕ
+recordLine (Ok n) = noteLine n
+recordLine (Err k) = []
 
 -- "All `m` lines stand before the `n` lines, each in rising order": those of the first measures, by their densities and spacings
 abbrev pub measureLines : List ℕ → List ℕ → ℕ → List ℕ
@@ -74,16 +89,16 @@ abbrev pub recordLines : List ℕ → ℕ → List ℕ
 recordLines records n = listed (λ (k : ℕ). recordLine (readNote records k)) n
 
 -- the six figures at the head
-unfoldable pub headLines : SheetFigures → List ℕ
+unfoldable pub headLines : ChartFigures → List ℕ
 headLines f =
-    figureLine (ascii "measures ") f.measures
-    ++ (figureLine (ascii "rows ") f.rows
-    ++ (figureLine (ascii "arrows ") f.arrows
-    ++ (figureLine (ascii "steps ") f.steps
-    ++ (figureLine (ascii "notes ") f.notes
-    ++ figureLine (ascii "last ") f.last))))
+    figureLine (codes "measures ") f.measures
+    ++ (figureLine (codes "rows ") f.rows
+    ++ (figureLine (codes "arrows ") f.stats.total_arrows
+    ++ (figureLine (codes "steps ") f.stats.total_steps
+    ++ (figureLine (codes "notes ") f.notes
+    ++ figureLine (codes "last ") f.last_row))))
 
 -- the whole sheet of these figures, with the densities and spacings of as many measures and as many note records
-unfoldable pub sheetOf : SheetFigures → List ℕ → List ℕ → List ℕ → List ℕ
+unfoldable pub sheetOf : ChartFigures → List ℕ → List ℕ → List ℕ → List ℕ
 sheetOf f densities spacings records =
     headLines f ++ (measureLines densities spacings f.measures ++ recordLines records f.notes)

@@ -10,14 +10,15 @@ use lib.Seq.{take_at}
 use Rattle.definitions.specs.Lists.{padded}
 use Rattle.definitions.specs.Lanes.{mostRows}
 use Rattle.definitions.specs.Figures.{minimisedText}
-use Rattle.definitions.specs.Entries.{figures, tallyFigures}
-use Rattle.definitions.specs.declared.ArrowStats.{ArrowStats}
+use Rattle.definitions.specs.Judged.{judgedTally}
+use Rattle.definitions.specs.Entries.{chartFigures, keptFigures}
 use Rattle.definitions.proofs.ChartRows.{minimised-short}
 use Rattle.definitions.proofs.LastByte.{judged-last}
-use Rattle.kept.specs.Answers.{keptChartFigures}
-use Rattle.kept.specs.declared.KeptFigures.{KeptFigures}
-use Rattle.sheet_answers.specs.Answers.{mainAnswer, keptAnswer, judgedAnswer, sheetAnswers}
-use Rattle.sheet_answers.specs.declared.SheetAnswers.{SheetAnswers}
+use Rattle.definitions.specs.declared.ArrowStats.{ArrowStats}
+use Rattle.definitions.specs.declared.ChartFigures.{ChartFigures}
+use Rattle.definitions.specs.declared.KeptFigures.{KeptFigures}
+use Rattle.sheet.specs.declared.SheetFigures.{SheetFigures}
+use Rattle.sheet_answers.specs.Answers.{sheetFigures}
 
 -- a shorter text has no more rows
 pub rows-fewer : (L a b : ℕ) → a ≤ b → mostRows L a ≤ mostRows L b
@@ -28,16 +29,16 @@ rows-fewer L a b h =
 
 module _ (L : ℕ) (text : List ℕ) where
   -- the kept-row call counts the bytes of the minimised text
-  pub bytes-are : {k : KeptFigures} → k ≡ keptChartFigures L text → k.bytes ≡ length (minimisedText L text)
-  unfolding keptChartFigures
+  pub bytes-are : {k : KeptFigures} → k ≡ keptFigures L text → k.bytes ≡ length (minimisedText L text)
+  unfolding keptFigures
   bytes-are e = ap (λ (f : KeptFigures). f.bytes) e
 
   -- and a slice that has room for the text and one byte more has room for them
-  pub bytes-within : {k : KeptFigures} → k ≡ keptChartFigures L text → (n : ℕ) → length text + 1 ≤ n → k.bytes ≤ n
+  pub bytes-within : {k : KeptFigures} → k ≡ keptFigures L text → (n : ℕ) → length text + 1 ≤ n → k.bytes ≤ n
   bytes-within e n h = omega (arith, bytes-are e, minimised-short L text)
 
   -- those bytes of the text slice are the minimised text
-  pub minimised-part : (n : ℕ) {k : KeptFigures} {out : List ℕ} → k ≡ keptChartFigures L text → out ≡ padded 0 n (minimisedText L text)
+  pub minimised-part : (n : ℕ) {k : KeptFigures} {out : List ℕ} → k ≡ keptFigures L text → out ≡ padded 0 n (minimisedText L text)
       → take k.bytes out ≡ minimisedText L text
   minimised-part n {k} e o = ap (take k.bytes) o ∙ take_at (minimisedText L text) _ k.bytes (sym (bytes-are e))
 
@@ -45,15 +46,11 @@ module _ (L : ℕ) (text : List ℕ) where
   pub minimised-less : (m : List ℕ) → m ≡ minimisedText L text → length m - 1 ≤ length text
   minimised-less m e = omega (arith, ap length e, minimised-short L text)
 
-  pub judged-part : 1 ≤ L → {m r : List ℕ} → m ≡ minimisedText L text → r ≡ judgedAnswer L (take (length m - 1) m)
-      → r ≡ judgedAnswer L (minimisedText L text)
-  unfolding judgedAnswer
-  judged-part h e f =
-      f
-      ∙ ap (λ (m : List ℕ). judgedAnswer L (take (length m - 1) m)) e
-      ∙ ap (λ (t : ArrowStats). figures 0 0 0 0 0 0 0 (tallyFigures t)) (judged-last L text h)
+  pub judged-part : 1 ≤ L → {m : List ℕ} {t : ArrowStats} → m ≡ minimisedText L text → t ≡ judgedTally L (take (length m - 1) m)
+      → t ≡ judgedTally L (minimisedText L text)
+  judged-part h e f = f ∙ ap (λ (m : List ℕ). judgedTally L (take (length m - 1) m)) e ∙ judged-last L text h
 
-  pub answers-are : {a b c : List ℕ} → a ≡ mainAnswer L text → b ≡ keptAnswer L text → c ≡ judgedAnswer L (minimisedText L text)
-      → ◌≡◌ {A = SheetAnswers} (record { main = a; kept = b; judged = c }) (sheetAnswers L text)
-  unfolding sheetAnswers
-  answers-are p q r = cc
+  pub figures-are : {a : ChartFigures} {b : KeptFigures} {c : ArrowStats} → a ≡ chartFigures L text → b ≡ keptFigures L text
+      → c ≡ judgedTally L (minimisedText L text) → ◌≡◌ {A = SheetFigures} (record { chart = a; kept = b; judged = c }) (sheetFigures L text)
+  unfolding sheetFigures
+  figures-are p q r = cc

@@ -2,7 +2,7 @@
 // accepted text.
 #![tactic(auto)]
 
-ghost use Rattle.std.specs.Prelude.{◌≡◌, List, [], ℕ, ◌+◌, ◌-◌, ◌*◌, ◌/◌, ◌≤◌, length, take};
+ghost use Rattle.std.specs.Prelude.{◌≡◌, [], ◌+◌, ◌-◌, ◌*◌, ◌/◌, ◌≤◌, length, take};
 ghost use Rattle.definitions.specs.Sizes.{mostBytes};
 ghost use Rattle.definitions.specs.Lists.{padded};
 ghost use Rattle.definitions.specs.Lanes.{mostRows};
@@ -10,44 +10,11 @@ ghost use Rattle.definitions.specs.Figures.{minimisedText, densities as densitie
 ghost use Rattle.definitions.specs.Beats.{f32, beats as beatsOf};
 ghost use Rattle.definitions.specs.Notes.{notes as notesOf};
 ghost use Rattle.definitions.specs.Records.{records};
-ghost use Rattle.chart.specs.Answers.{chartFigures};
-ghost use Rattle.kept.specs.Answers.{keptChartFigures};
-ghost use Rattle.sheet_answers.specs.Answers.{mainAnswer, keptAnswer, judgedAnswer, sheetAnswers};
+ghost use Rattle.sheet_answers.specs.Answers.{sheetFigures};
+ghost use Rattle.definitions.specs.Judged.{judgedTally};
 
-use chart::ChartFigures;
-use figures::figures_of;
-use kept::KeptFigures;
-
-// The 32 figures of the main call, of the kept-row call and of the judged tally.
-#[derive(Drop)]
-pub struct SheetAnswers {
-    pub main: [u64; 32],
-    pub kept: [u64; 32],
-    pub judged: [u64; 32],
-}
-
-fn main_places(k: ChartFigures) -> [u64; 32]
-    ensures { (L : ℕ) (text : List ℕ) → k ≡ chartFigures L text → result ≡ mainAnswer L text }
-{
-    let stats = k.stats;
-    figures_of(
-        k.bytes,
-        k.measures,
-        k.rows as usize,
-        k.notes,
-        k.last_bits,
-        false,
-        k.last_row,
-        stats,
-    )
-}
-
-fn kept_places(k: KeptFigures) -> [u64; 32]
-    ensures { (L : ℕ) (text : List ℕ) → k ≡ keptChartFigures L text → result ≡ keptAnswer L text }
-{
-    let stats = k.stats;
-    figures_of(k.bytes, k.measures, k.rows as usize, 0, 0, false, 0, stats)
-}
+use definitions::ArrowStats;
+use sheet::SheetFigures;
 
 fn one_less(n: usize) -> usize
     ensures { result ≡ n - 1 }
@@ -60,15 +27,14 @@ fn one_less(n: usize) -> usize
 
 // The judged tally of a minimised text. Its last byte is a newline, and the rows before it are read without it: so the text is no longer than the
 // one that it was minimised from.
-fn judge_minimised(minimised: &[u8], lanes: usize, work: &mut [u16]) -> [u64; 32]
+fn judge_minimised(minimised: &[u8], lanes: usize, work: &mut [u16]) -> ArrowStats
     requires le_lanes { (4 ≤ lanes) × (lanes ≤ 10) }
     requires minimised_len_bound { (length minimised.now - 1 ≤ mostBytes) × (mostRows lanes (length minimised.now - 1) ≤ length work.old) }
-    ensures value { result ≡ judgedAnswer lanes (take (length minimised.now - 1) minimised.now) }
+    ensures value { result ≡ judgedTally lanes (take (length minimised.now - 1) minimised.now) }
     ensures work_after { work.new ≡ padded 0 (length work.old) [] }
 {
     let end = one_less(minimised.len());
-    let stats = judged::judge_accepted(&minimised[..end], lanes, true, b"", work);
-    figures_of(0, 0, 0, 0, 0, false, 0, stats)
+    judged::judge_accepted(&minimised[..end], lanes, true, b"", work)
 }
 
 // All answers of an accepted text, and zeros past each in the lent slices.
@@ -81,11 +47,11 @@ pub fn sheet_answers(
     beats: &mut [f32],
     work: &mut [u16],
     notes: &mut [u8],
-) -> SheetAnswers
+) -> SheetFigures
     requires le_lanes { (4 ≤ lanes) × (lanes ≤ 10) × (length «data».now ≤ mostBytes) }
     requires data_in_bounds { (length «data».now + 1 ≤ length text.old) × ((length «data».now + 1) / 2 + 1 ≤ length densities.old) × ((length «data».now + 1) / 2 + 1 ≤ length spacing.old) }
     requires data_in_bounds_2 { (mostRows lanes (length «data».now) ≤ length beats.old) × (mostRows lanes (length «data».now) ≤ length work.old) × (10 * lanes * mostRows lanes (length «data».now) ≤ length notes.old) }
-    ensures value { result ≡ sheetAnswers lanes «data».now }
+    ensures value { result ≡ sheetFigures lanes «data».now }
     ensures text_after { text.new ≡ padded 0 (length text.old) (minimisedText lanes «data».now) }
     ensures densities_after { densities.new ≡ padded 0 (length densities.old) (densitiesOf lanes «data».now) }
     ensures spacing_after { spacing.new ≡ padded 0 (length spacing.old) (spacingsOf lanes «data».now) }
@@ -93,12 +59,14 @@ pub fn sheet_answers(
     ensures work_after { work.new ≡ padded 0 (length work.old) [] }
     ensures notes_after { notes.new ≡ padded 0 (length notes.old) (records (notesOf lanes «data».now)) }
 {
-    let k = chart::chart_figures(data, lanes, text, densities, beats, work, notes);
-    let q = kept::keep_figures(data, lanes, text, densities, work);
-    let bytes = q.bytes;
+    let chart = chart::chart_figures(data, lanes, text, densities, beats, work, notes);
+    let kept = kept::keep_figures(data, lanes, text, densities, work);
+    let bytes = kept.bytes;
     let judged = judge_minimised(&text[..bytes], lanes, work);
     spacing::fill_spacing(data, lanes, spacing);
-    let main = main_places(k);
-    let kept = kept_places(q);
-    SheetAnswers { main, kept, judged }
+    SheetFigures {
+        chart,
+        kept,
+        judged,
+    }
 }

@@ -1,13 +1,13 @@
 -- The definitions of the form `json`, computed for some figures, densities, spacings and records; the last record cannot be read.
 use mathlib.Core.Path.{◌≡◌, refl}
 use mathlib.Core.List.{[], ◌∷◌}
-use Rattle.definitions.specs.Lists.{up_to}
+use Rattle.std.specs.Prelude.{codes}
 use Rattle.definitions.specs.Records.{word, note_of, readNote}
-use Rattle.sheet.specs.Sheet.{number, numberField, fieldNames}
-use Rattle.sheet_json.specs.Json.{json, figure, jsonHeads, member, jsonTallies, densityEntry, spacingEntry, noteValue, recordEntry, jsonLists, jsonOf}
-use Rattle.sheet.proofs.ExampleFigures.{main, kept, judged, records}
+use Rattle.sheet.specs.Sheet.{number, numberField, fieldsOf}
+use Rattle.sheet_json.specs.Json.{named, figure, lastBeat, jsonHeads, member, members, jsonTallies, densityEntry, spacingEntry, noteValue, recordEntry, jsonLists, jsonOf}
+use Rattle.sheet.proofs.ExampleFigures.{figures, records}
 
-pub json-example : jsonOf main kept judged (5 ∷ 12 ∷ []) (1 ∷ 0 ∷ []) records
-    ≡ json "{'measures':2,'rows':20,'notes':3,'last_beat':{'beats':15,'over_48':1,'in_48ths':721},'main':{'total_arrows':17,'left':5,'down':4,'up':3,'right':6,'total_steps':12,'jumps':1,'hands':0,'mines':7,'holds':1,'rolls':2,'lifts':8,'fakes':9,'holding':10},'kept':{'total_arrows':11,'left':12,'down':13,'up':14,'right':15,'total_steps':16,'jumps':17,'hands':18,'mines':19,'holds':20,'rolls':21,'lifts':22,'fakes':23,'holding':24},'judged':{'total_arrows':31,'left':32,'down':33,'up':34,'right':35,'total_steps':36,'jumps':37,'hands':38,'mines':39,'holds':40,'rolls':41,'lifts':42,'fakes':43,'holding':44},'densities':[5,12],'equally_spaced':[true,false],'note_records':[[0,2,0,null],[12,3,1,15],null]}"
-unfolding jsonOf jsonHeads jsonTallies jsonLists figure member densityEntry spacingEntry recordEntry noteValue number numberField fieldNames up_to readNote note_of word
+pub json-example : jsonOf figures (5 ∷ 12 ∷ []) (1 ∷ 0 ∷ []) records
+    ≡ codes "{\"measures\":2,\"rows\":20,\"notes\":3,\"last_beat\":{\"beats\":15,\"over_48\":1,\"in_48ths\":721},\"main\":{\"total_arrows\":17,\"left\":5,\"down\":4,\"up\":3,\"right\":6,\"total_steps\":12,\"jumps\":1,\"hands\":0,\"mines\":7,\"holds\":1,\"rolls\":2,\"lifts\":8,\"fakes\":9,\"holding\":10},\"kept\":{\"total_arrows\":11,\"left\":12,\"down\":13,\"up\":14,\"right\":15,\"total_steps\":16,\"jumps\":17,\"hands\":18,\"mines\":19,\"holds\":20,\"rolls\":21,\"lifts\":22,\"fakes\":23,\"holding\":24},\"judged\":{\"total_arrows\":31,\"left\":32,\"down\":33,\"up\":34,\"right\":35,\"total_steps\":36,\"jumps\":37,\"hands\":38,\"mines\":39,\"holds\":40,\"rolls\":41,\"lifts\":42,\"fakes\":43,\"holding\":44},\"densities\":[5,12],\"equally_spaced\":[true,false],\"note_records\":[[0,2,0,null],[12,3,1,15],null]}"
+unfolding jsonOf named lastBeat jsonHeads jsonTallies jsonLists figure member members densityEntry spacingEntry recordEntry noteValue number numberField fieldsOf readNote note_of word
 json-example = refl

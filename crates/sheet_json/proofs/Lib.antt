@@ -1,3 +1,2 @@
--- Laws of the form `json`.
-pub mod Listing
+-- Laws that this crate's proofs cite.
 pub mod Example

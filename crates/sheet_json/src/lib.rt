@@ -1,258 +1,234 @@
-// The form `json` of a sheet, written into a lent slice. Each function answers the place after what it wrote.
-// A list of entries asks for its own length and the room of one entry more, so that no entry needs to know its digits beforehand.
+// The form `json` of a sheet: one object on one line.
 #![tactic(auto)]
 
-ghost use Rattle.std.specs.Prelude.{◌≡◌, ◌+◌, ◌<◌, ◌≤◌, length};
-ghost use Rattle.definitions.specs.Lists.{up_to};
+ghost use Rattle.std.specs.Prelude.{◌≡◌, ◌/◌, length};
 ghost use Rattle.definitions.specs.Records.{readNote};
-ghost use Rattle.sheet.specs.Put.{Put};
-ghost use Rattle.sheet_json.specs.Json.{separator, figure, jsonHeads, member, members, jsonTallies, densityEntry, densityEntries, truth, spacingEntry, spacingEntries, tailValue, noteValue, recordValue, recordEntry, recordEntries, jsonLists, jsonOf};
+ghost use Rattle.sheet.specs.Page.{Prints};
+ghost use Rattle.sheet_json.specs.Json.{separator, named, figure, lastBeat, jsonHeads, member, members, jsonTallies, densityEntry, densityEntries, truth, spacingEntry, spacingEntries, tailValue, noteValue, recordValue, recordEntry, recordEntries, jsonLists, jsonOf};
 
-use definitions::{Note, ReadNote, Tail};
+use definitions::{ArrowStats, ChartFigures, Note, Tail};
 use note_records::{kind_number, read_note};
-use sheet::{field_names, put_byte, put_field, put_number, put_text, wide, wide_byte};
+use sheet::{Full, Page, SheetFigures, field_at, fields_of};
 
-fn put_separator(out: &mut [u8], at: usize, k: usize) -> usize
-    requires { at + 1 ≤ length out.old }
-    ensures put { Put at (separator k) out.old result out.new }
-    ensures upper_bound { result ≤ at + 1 }
+// Between two entries.
+fn separator(page: &mut Page, k: usize) -> Result<(), Full>
+    ensures { Prints page.old (separator k) page.new result }
 {
     if k == 0 {
-        return at;
+        page.text("")
+    } else {
+        page.text(",")
     }
-    put_byte(out, at, 44)
 }
 
-fn put_figure(out: &mut [u8], at: usize, before: &[u8], n: u64) -> usize
-    requires { at + length before.now + 20 ≤ length out.old }
-    ensures put { Put at (figure before.now n) out.old result out.new }
-    ensures upper_bound { result ≤ at + length before.now + 20 }
+// A name and a number.
+#[tactic(auto, unfolding(crate::specs::Json::named))]
+fn named(page: &mut Page, name: &str, n: u64) -> Result<(), Full>
+    ensures { Prints page.old (named name.now n) page.new result }
 {
-    let next = put_text(out, at, before);
-    put_number(out, next, n)
+    page.text("\"")?;
+    page.text(name)?;
+    page.text("\":")?;
+    page.number(n)?;
+    Ok(())
 }
 
-fn put_json_heads(out: &mut [u8], at: usize, main: &[u64; 32]) -> usize
-    requires { at + 250 ≤ length out.old }
-    ensures put { Put at (jsonHeads main.now) out.old result out.new }
-    ensures upper_bound { result ≤ at + 250 }
+// After another.
+#[tactic(auto, unfolding(crate::specs::Json::figure))]
+fn figure(page: &mut Page, name: &str, n: u64) -> Result<(), Full>
+    ensures { Prints page.old (figure name.now n) page.new result }
 {
-    let last = main[6];
-    let p1 = put_figure(out, at, b"{\"measures\":", main[1]);
-    let p2 = put_figure(out, p1, b",\"rows\":", main[2]);
-    let p3 = put_figure(out, p2, b",\"notes\":", main[3]);
-    let p4 = put_figure(out, p3, b",\"last_beat\":{\"beats\":", last / 48);
-    let p5 = put_figure(out, p4, b",\"over_48\":", last % 48);
-    put_figure(out, p5, b",\"in_48ths\":", last)
+    page.text(",")?;
+    named(page, name, n)?;
+    Ok(())
 }
 
-// A name up to its first blank.
-fn put_word(out: &mut [u8], at: usize, name: &[u8]) -> usize
-    requires { at + length name.now ≤ length out.old }
-    ensures put { Put at (up_to 32 name.now) out.old result out.new }
-    ensures upper_bound { result ≤ at + length name.now }
+// The last beat in whole beats, what is left in 48ths, and all in 48ths.
+#[tactic(auto, unfolding(crate::specs::Json::lastBeat))]
+fn last_beat(page: &mut Page, last: u64) -> Result<(), Full>
+    ensures { Prints page.old (lastBeat last) page.new result }
 {
-    let mut next = at;
-    let mut i = 0;
-    while i < name.len() {
-        if name[i] == 32 {
-            return next;
-        }
-        next = put_byte(out, next, name[i]);
-        i += 1;
-    }
-    next
+    page.text(",\"last_beat\":{")?;
+    named(page, "beats", last / 48)?;
+    figure(page, "over_48", last % 48)?;
+    figure(page, "in_48ths", last)?;
+    Ok(())
+}
+
+#[tactic(auto, unfolding(crate::specs::Json::jsonHeads))]
+fn heads(page: &mut Page, figures: &ChartFigures) -> Result<(), Full>
+    ensures { Prints page.old (jsonHeads figures.now) page.new result }
+{
+    page.text("{")?;
+    named(page, "measures", figures.measures as u64)?;
+    figure(page, "rows", figures.rows as u64)?;
+    figure(page, "notes", figures.notes as u64)?;
+    last_beat(page, figures.last_row)?;
+    Ok(())
 }
 
 // Field i of a tally.
-fn put_member(out: &mut [u8], at: usize, names: &[u8; 168], figures: &[u64; 32], i: usize) -> usize
-    requires at_in_bounds { at + 36 ≤ length out.old }
-    requires i_bound { i < 14 }
-    ensures { Put at (member names.now figures.now i) out.old result out.new }
+#[tactic(auto, unfolding(crate::specs::Json::member))]
+fn member(page: &mut Page, i: usize, name: &str, count: u64) -> Result<(), Full>
+    ensures { Prints page.old (member i name.now count) page.new result }
 {
-    let all = &names[..];
-    let start = i * 12;
-    let end = start + 12;
-    let p1 = put_separator(out, at, i);
-    let p2 = put_byte(out, p1, 34);
-    let p3 = put_word(out, p2, &all[start..end]);
-    let p4 = put_text(out, p3, b"\":");
-    put_number(out, p4, figures[i + 8])
+    separator(page, i)?;
+    named(page, name, count)?;
+    Ok(())
 }
 
-fn put_members(out: &mut [u8], at: usize, names: &[u8; 168], figures: &[u64; 32]) -> usize
-    requires { at + length (members names.now figures.now 14) + 36 ≤ length out.old }
-    ensures { Put at (members names.now figures.now 14) out.old result out.new }
+#[tactic(auto, unfolding(crate::specs::Json::members))]
+fn members(page: &mut Page, stats: &ArrowStats) -> Result<(), Full>
+    ensures { Prints page.old (members stats.now) page.new result }
 {
-    let mut next = at;
-    let mut i = 0;
-    while i < 14 {
-        next = put_member(out, next, names, figures, i);
-        i += 1;
+    let fields = fields_of(stats);
+    for i in 0..14 {
+        let field = field_at(&fields, i);
+        member(page, i, field.name(), field.count())?;
     }
-    next
+    Ok(())
 }
 
-fn put_json_tallies(
-    out: &mut [u8],
-    at: usize,
-    main: &[u64; 32],
-    kept: &[u64; 32],
-    judged: &[u64; 32],
-) -> usize
-    requires { at + length (jsonTallies main.now kept.now judged.now) + 36 ≤ length out.old }
-    ensures { Put at (jsonTallies main.now kept.now judged.now) out.old result out.new }
+// The three tallies.
+#[tactic(auto, unfolding(crate::specs::Json::jsonTallies))]
+fn tallies(page: &mut Page, figures: &SheetFigures) -> Result<(), Full>
+    ensures { Prints page.old (jsonTallies figures.now) page.new result }
 {
-    let names = field_names();
-    let p1 = put_text(out, at, b"},\"main\":{");
-    let p2 = put_members(out, p1, &names, main);
-    let p3 = put_text(out, p2, b"},\"kept\":{");
-    let p4 = put_members(out, p3, &names, kept);
-    let p5 = put_text(out, p4, b"},\"judged\":{");
-    put_members(out, p5, &names, judged)
+    page.text("},\"main\":{")?;
+    members(page, &figures.chart.stats)?;
+    page.text("},\"kept\":{")?;
+    members(page, &figures.kept.stats)?;
+    page.text("},\"judged\":{")?;
+    members(page, &figures.judged)?;
+    Ok(())
 }
 
-fn put_density(out: &mut [u8], at: usize, k: usize, density: u64) -> usize
-    requires { at + 21 ≤ length out.old }
-    ensures { Put at (densityEntry k density) out.old result out.new }
+#[tactic(auto, unfolding(crate::specs::Json::densityEntry))]
+fn density_entry(page: &mut Page, k: usize, density: u64) -> Result<(), Full>
+    ensures { Prints page.old (densityEntry k density) page.new result }
 {
-    let next = put_separator(out, at, k);
-    put_number(out, next, density)
+    separator(page, k)?;
+    page.number(density)?;
+    Ok(())
 }
 
-fn put_densities(out: &mut [u8], at: usize, densities: &[u32]) -> usize
-    requires { at + length (densityEntries densities.now (length densities.now)) + 21 ≤ length out.old }
-    ensures { Put at (densityEntries densities.now (length densities.now)) out.old result out.new }
+fn density_entries(page: &mut Page, densities: &[u32]) -> Result<(), Full>
+    ensures { Prints page.old (densityEntries densities.now (length densities.now)) page.new result }
 {
-    let mut next = at;
-    let mut i = 0;
-    while i < densities.len() {
-        next = put_density(out, next, i, wide(densities[i]));
-        i += 1;
+    for k in 0..densities.len() {
+        density_entry(page, k, densities[k] as u64)?;
     }
-    next
+    Ok(())
 }
 
-fn put_truth(out: &mut [u8], at: usize, spaced: u64) -> usize
-    requires { at + 5 ≤ length out.old }
-    ensures { Put at (truth spaced) out.old result out.new }
+fn truth(page: &mut Page, spaced: u64) -> Result<(), Full>
+    ensures { Prints page.old (truth spaced) page.new result }
 {
     if spaced == 0 {
-        return put_text(out, at, b"false");
+        page.text("false")
+    } else {
+        page.text("true")
     }
-    put_text(out, at, b"true")
 }
 
-fn put_spacing(out: &mut [u8], at: usize, k: usize, spaced: u64) -> usize
-    requires { at + 6 ≤ length out.old }
-    ensures { Put at (spacingEntry k spaced) out.old result out.new }
+#[tactic(auto, unfolding(crate::specs::Json::spacingEntry))]
+fn spacing_entry(page: &mut Page, k: usize, spaced: u64) -> Result<(), Full>
+    ensures { Prints page.old (spacingEntry k spaced) page.new result }
 {
-    let next = put_separator(out, at, k);
-    put_truth(out, next, spaced)
+    separator(page, k)?;
+    truth(page, spaced)?;
+    Ok(())
 }
 
-fn put_spacings(out: &mut [u8], at: usize, spacing: &[u8]) -> usize
-    requires { at + length (spacingEntries spacing.now (length spacing.now)) + 6 ≤ length out.old }
-    ensures { Put at (spacingEntries spacing.now (length spacing.now)) out.old result out.new }
+fn spacing_entries(page: &mut Page, spacing: &[u8]) -> Result<(), Full>
+    ensures { Prints page.old (spacingEntries spacing.now (length spacing.now)) page.new result }
 {
-    let mut next = at;
-    let mut i = 0;
-    while i < spacing.len() {
-        next = put_spacing(out, next, i, wide_byte(spacing[i]));
-        i += 1;
+    for k in 0..spacing.len() {
+        spacing_entry(page, k, spacing[k] as u64)?;
     }
-    next
+    Ok(())
 }
 
-fn put_tail_value(out: &mut [u8], at: usize, tail: Tail) -> usize
-    requires { at + 20 ≤ length out.old }
-    ensures put { Put at (tailValue tail) out.old result out.new }
-    ensures upper_bound { result ≤ at + 20 }
+// A tail's row, or null.
+fn tail_value(page: &mut Page, tail: Tail) -> Result<(), Full>
+    ensures { Prints page.old (tailValue tail) page.new result }
 {
     match tail {
-        Tail::Without => put_text(out, at, b"null"),
-        Tail::Row(row) => put_number(out, at, wide(row)),
+        Tail::Without => page.text("null"),
+        Tail::Row(row) => page.number(row as u64),
     }
 }
 
-fn put_note_value(out: &mut [u8], at: usize, n: Note) -> usize
-    requires { at + 85 ≤ length out.old }
-    ensures { Put at (noteValue n) out.old result out.new }
+// Row, column, kind and tail.
+#[tactic(auto, unfolding(crate::specs::Json::noteValue))]
+fn note_value(page: &mut Page, note: Note) -> Result<(), Full>
+    ensures { Prints page.old (noteValue note) page.new result }
 {
-    let tail = n.tail;
-    let kind = n.kind;
-    let p1 = put_text(out, at, b"[");
-    let p2 = put_field(out, p1, wide(n.row), 44);
-    let p3 = put_field(out, p2, wide(n.column), 44);
-    let p4 = put_field(out, p3, wide_byte(kind_number(kind)), 44);
-    let p5 = put_tail_value(out, p4, tail);
-    put_text(out, p5, b"]")
+    page.text("[")?;
+    page.field(note.row as u64, b',')?;
+    page.field(note.column as u64, b',')?;
+    page.field(kind_number(note.kind) as u64, b',')?;
+    tail_value(page, note.tail)?;
+    page.text("]")?;
+    Ok(())
 }
 
-fn put_record_value(out: &mut [u8], at: usize, records: &[u8], index: usize) -> usize
-    requires { at + 85 ≤ length out.old }
-    ensures { Put at (recordValue (readNote records.now index)) out.old result out.new }
+// A record; one that cannot be read is null.
+fn record_value(page: &mut Page, records: &[u8], index: usize) -> Result<(), Full>
+    ensures { Prints page.old (recordValue (readNote records.now index)) page.new result }
 {
     match read_note(records, index) {
-        ReadNote::Found(n) => put_note_value(out, at, n),
-        ReadNote::Refused(_) => put_text(out, at, b"null"),
+        Ok(note) => note_value(page, note),
+        Err(_) => page.text("null"),
     }
 }
 
-fn put_record(out: &mut [u8], at: usize, records: &[u8], index: usize) -> usize
-    requires { at + 86 ≤ length out.old }
-    ensures { Put at (recordEntry index (readNote records.now index)) out.old result out.new }
+#[tactic(auto, unfolding(crate::specs::Json::recordEntry))]
+fn record_entry(page: &mut Page, records: &[u8], index: usize) -> Result<(), Full>
+    ensures { Prints page.old (recordEntry index (readNote records.now index)) page.new result }
 {
-    let next = put_separator(out, at, index);
-    put_record_value(out, next, records, index)
+    separator(page, index)?;
+    record_value(page, records, index)?;
+    Ok(())
 }
 
-fn put_records(out: &mut [u8], at: usize, records: &[u8], count: usize) -> usize
-    requires { at + length (recordEntries records.now count) + 86 ≤ length out.old }
-    ensures { Put at (recordEntries records.now count) out.old result out.new }
+fn record_entries(page: &mut Page, records: &[u8], count: usize) -> Result<(), Full>
+    ensures { Prints page.old (recordEntries records.now count) page.new result }
 {
-    let mut next = at;
-    let mut i = 0;
-    while i < count {
-        next = put_record(out, next, records, i);
-        i += 1;
+    for k in 0..count {
+        record_entry(page, records, k)?;
     }
-    next
+    Ok(())
 }
 
-fn put_json_lists(
-    out: &mut [u8],
-    at: usize,
+// The three lists, and the end of the object.
+#[tactic(auto, unfolding(crate::specs::Json::jsonLists))]
+fn lists(page: &mut Page, densities: &[u32], spacing: &[u8], records: &[u8]) -> Result<(), Full>
+    ensures { Prints page.old (jsonLists densities.now spacing.now records.now) page.new result }
+{
+    page.text("},\"densities\":[")?;
+    density_entries(page, densities)?;
+    page.text("],\"equally_spaced\":[")?;
+    spacing_entries(page, spacing)?;
+    page.text("],\"note_records\":[")?;
+    record_entries(page, records, records.len() / 10)?;
+    page.text("]}")?;
+    Ok(())
+}
+
+// The whole form.
+#[tactic(auto, unfolding(crate::specs::Json::jsonOf))]
+pub fn print_json(
+    page: &mut Page,
+    figures: &SheetFigures,
     densities: &[u32],
     spacing: &[u8],
     records: &[u8],
-) -> usize
-    requires { at + length (jsonLists densities.now spacing.now records.now) + 86 ≤ length out.old }
-    ensures { Put at (jsonLists densities.now spacing.now records.now) out.old result out.new }
+) -> Result<(), Full>
+    ensures { Prints page.old (jsonOf figures.now densities.now spacing.now records.now) page.new result }
 {
-    let p1 = put_text(out, at, b"},\"densities\":[");
-    let p2 = put_densities(out, p1, densities);
-    let p3 = put_text(out, p2, b"],\"equally_spaced\":[");
-    let p4 = put_spacings(out, p3, spacing);
-    let p5 = put_text(out, p4, b"],\"note_records\":[");
-    let p6 = put_records(out, p5, records, records.len() / 10);
-    put_text(out, p6, b"]}")
-}
-
-// The whole form, from the slice's first place on.
-pub fn put_json(
-    out: &mut [u8],
-    main: &[u64; 32],
-    kept: &[u64; 32],
-    judged: &[u64; 32],
-    densities: &[u32],
-    spacing: &[u8],
-    records: &[u8],
-) -> usize
-    requires { length (jsonOf main.now kept.now judged.now densities.now spacing.now records.now) + 300 ≤ length out.old }
-    ensures { Put 0 (jsonOf main.now kept.now judged.now densities.now spacing.now records.now) out.old result out.new }
-{
-    let p1 = put_json_heads(out, 0, main);
-    let p2 = put_json_tallies(out, p1, main, kept, judged);
-    put_json_lists(out, p2, densities, spacing, records)
+    heads(page, &figures.chart)?;
+    tallies(page, figures)?;
+    lists(page, densities, spacing, records)?;
+    Ok(())
 }

@@ -3,11 +3,11 @@ use mathlib.Core.Path.{◌≡◌, refl}
 use mathlib.Core.List.{[], ◌∷◌}
 use Rattle.definitions.specs.Records.{word, note_of, readNote}
 use Rattle.definitions.specs.Examples.{bytes}
-use Rattle.sheet.specs.Sheet.{number, aligned, fieldNames}
-use Rattle.sheet_print.specs.Print.{countLine, three, lastLine, printHeads, tallyLine, tallyHead, printTallies, densityEntry, densityHead, heldHead, printOf}
-use Rattle.sheet.proofs.ExampleFigures.{main, kept, judged, records}
+use Rattle.sheet.specs.Sheet.{number, aligned, leftAligned, fieldsOf}
+use Rattle.sheet_print.specs.Print.{countLine, three, lastLine, printHeads, tallyLine, tallyLines, tallyHead, printTallies, densityEntry, densityHead, heldHead, printOf}
+use Rattle.sheet.proofs.ExampleFigures.{figures, records}
 
-pub print-example : printOf main kept judged (5 ∷ 12 ∷ []) (1 ∷ 0 ∷ []) records
+pub print-example : printOf figures (5 ∷ 12 ∷ []) (1 ∷ 0 ∷ []) records
     ≡ bytes "measures            2|rows               20|notes               3|last beat          15 + 1/48|in 48ths          721||                 main     kept   judged|total_arrows       17       11       31|left                5       12       32|down                4       13       33|up                  3       14       34|right               6       15       35|total_steps        12       16       36|jumps               1       17       37|hands               0       18       38|mines               7       19       39|holds               1       20       40|rolls               2       21       41|lifts               8       22       42|fakes               9       23       43|holding            10       24       44||densities, 16 measures to a line; = equally spaced, - not|      0:  5= 12-||holds and rolls|          row   column     tail|hold       12        3       15|"
-unfolding printOf printHeads printTallies countLine three lastLine tallyLine tallyHead densityEntry densityHead heldHead number aligned fieldNames readNote note_of word
+unfolding printOf printHeads printTallies countLine three lastLine tallyLine tallyLines tallyHead densityEntry densityHead heldHead number aligned leftAligned fieldsOf readNote note_of word
 print-example = refl

@@ -1,3 +1,2 @@
--- Laws of the lines of the form `print`.
-pub mod Printing
+-- Laws that this crate's proofs cite.
 pub mod Example

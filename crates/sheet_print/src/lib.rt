@@ -1,246 +1,221 @@
-// The form `print` of a sheet, written into a lent slice. Each function answers the place after what it wrote.
-// A list of lines asks for its own length and the room of one line more, so that no line needs to know its digits beforehand.
+// The form `print` of a sheet, for a printout.
 #![tactic(auto)]
 
-ghost use Rattle.std.specs.Prelude.{◌≡◌, ◌+◌, ◌<◌, ◌≤◌, length};
+ghost use Rattle.std.specs.Prelude.{◌≡◌, ◌/◌, ◌≤◌, length};
 ghost use Rattle.definitions.specs.Records.{readNote};
-ghost use Rattle.sheet.specs.Put.{Put};
-ghost use Rattle.sheet_print.specs.Print.{countLine, three, lastLine, printHeads, tallyLine, tallyLines, printTallies, lineStart, mark, densityEntry, densityLines, heldWord, heldLine, heldRecord, heldLines, printOf};
+ghost use Rattle.sheet.specs.Page.{Prints};
+ghost use Rattle.sheet_print.specs.Print.{countLine, three, lastLine, printHeads, tallyLine, tallyLines, tallyHead, printTallies, lineStart, mark, densityEntry, densityLines, densityHead, heldWord, heldLine, heldRecord, heldLines, heldHead, printOf};
 
-use definitions::{Kind, Note, ReadNote, Tail};
+use definitions::{ChartFigures, Kind, Note, Tail};
 use note_records::{kind_number, read_note};
-use sheet::{field_names, put_aligned, put_byte, put_number, put_text, wide, wide_byte};
+use sheet::{Full, Page, SheetFigures, field_at, fields_of};
 
-fn put_count(out: &mut [u8], at: usize, name: &[u8], n: u64) -> usize
-    requires { at + length name.now + 30 ≤ length out.old }
-    ensures put { Put at (countLine name.now n) out.old result out.new }
-    ensures upper_bound { result ≤ at + length name.now + 30 }
+// A name and a number in nine columns.
+#[tactic(auto, unfolding(crate::specs::Print::countLine))]
+fn count_line(page: &mut Page, name: &str, n: u64) -> Result<(), Full>
+    ensures { Prints page.old (countLine name.now n) page.new result }
 {
-    let p1 = put_text(out, at, name);
-    let p2 = put_aligned(out, p1, n, 9);
-    put_byte(out, p2, 10)
+    page.text(name)?;
+    page.aligned(n, 9)?;
+    page.text("\n")?;
+    Ok(())
 }
 
-fn put_three(out: &mut [u8], at: usize, a: u64, b: u64, c: u64) -> usize
-    requires { at + 88 ≤ length out.old }
-    ensures put { Put at (three a b c) out.old result out.new }
-    ensures upper_bound { result ≤ at + 88 }
+// Three numbers in nine columns each.
+#[tactic(auto, unfolding(crate::specs::Print::three))]
+fn three_columns(page: &mut Page, a: u64, b: u64, c: u64) -> Result<(), Full>
+    ensures { Prints page.old (three a b c) page.new result }
 {
-    let p1 = put_aligned(out, at, a, 9);
-    let p2 = put_aligned(out, p1, b, 9);
-    let p3 = put_aligned(out, p2, c, 9);
-    put_byte(out, p3, 10)
+    page.aligned(a, 9)?;
+    page.aligned(b, 9)?;
+    page.aligned(c, 9)?;
+    page.text("\n")?;
+    Ok(())
 }
 
-fn put_last(out: &mut [u8], at: usize, last: u64) -> usize
-    requires { at + 68 ≤ length out.old }
-    ensures put { Put at (lastLine last) out.old result out.new }
-    ensures upper_bound { result ≤ at + 68 }
+// The last beat in whole beats and what is left in 48ths.
+#[tactic(auto, unfolding(crate::specs::Print::lastLine))]
+fn last_line(page: &mut Page, last: u64) -> Result<(), Full>
+    ensures { Prints page.old (lastLine last) page.new result }
 {
-    let p1 = put_text(out, at, b"last beat   ");
-    let p2 = put_aligned(out, p1, last / 48, 9);
-    let p3 = put_text(out, p2, b" + ");
-    let p4 = put_number(out, p3, last % 48);
-    put_text(out, p4, b"/48\n")
+    page.text("last beat   ")?;
+    page.aligned(last / 48, 9)?;
+    page.text(" + ")?;
+    page.number(last % 48)?;
+    page.text("/48\n")?;
+    Ok(())
 }
 
-fn put_print_heads(out: &mut [u8], at: usize, main: &[u64; 32]) -> usize
-    requires { at + 236 ≤ length out.old }
-    ensures put { Put at (printHeads main.now) out.old result out.new }
-    ensures upper_bound { result ≤ at + 236 }
+#[tactic(auto, unfolding(crate::specs::Print::printHeads))]
+fn head_lines(page: &mut Page, figures: &ChartFigures) -> Result<(), Full>
+    ensures { Prints page.old (printHeads figures.now) page.new result }
 {
-    let p1 = put_count(out, at, b"measures    ", main[1]);
-    let p2 = put_count(out, p1, b"rows        ", main[2]);
-    let p3 = put_count(out, p2, b"notes       ", main[3]);
-    let p4 = put_last(out, p3, main[6]);
-    put_count(out, p4, b"in 48ths    ", main[6])
+    count_line(page, "measures    ", figures.measures as u64)?;
+    count_line(page, "rows        ", figures.rows as u64)?;
+    count_line(page, "notes       ", figures.notes as u64)?;
+    last_line(page, figures.last_row)?;
+    count_line(page, "in 48ths    ", figures.last_row)?;
+    Ok(())
 }
 
-// Field i of the three tallies.
-fn put_tally_line(
-    out: &mut [u8],
-    at: usize,
-    names: &[u8],
-    main: &[u64; 32],
-    kept: &[u64; 32],
-    judged: &[u64; 32],
-    i: usize,
-) -> usize
-    requires at_in_bounds { at + 100 ≤ length out.old }
-    requires i_bound { i < 14 }
-    requires in_bounds { 168 ≤ length names.now }
-    ensures { Put at (tallyLine names.now main.now kept.now judged.now i) out.old result out.new }
+// A field of the three tallies.
+#[tactic(auto, unfolding(crate::specs::Print::tallyLine))]
+fn tally_line(page: &mut Page, name: &str, main: u64, kept: u64, judged: u64) -> Result<(), Full>
+    ensures { Prints page.old (tallyLine name.now main kept judged) page.new result }
 {
-    let start = i * 12;
-    let end = start + 12;
-    let place = i + 8;
-    let p1 = put_text(out, at, &names[start..end]);
-    put_three(out, p1, main[place], kept[place], judged[place])
+    page.left_aligned(name, 12)?;
+    three_columns(page, main, kept, judged)?;
+    Ok(())
 }
 
-fn put_tally_lines(
-    out: &mut [u8],
-    at: usize,
-    names: &[u8],
-    main: &[u64; 32],
-    kept: &[u64; 32],
-    judged: &[u64; 32],
-) -> usize
-    requires judged_in_bounds { at + length (tallyLines names.now main.now kept.now judged.now 14) + 100 ≤ length out.old }
-    requires in_bounds { 168 ≤ length names.now }
-    ensures { Put at (tallyLines names.now main.now kept.now judged.now 14) out.old result out.new }
+#[tactic(auto, unfolding(crate::specs::Print::tallyLines))]
+fn tally_lines(page: &mut Page, figures: &SheetFigures) -> Result<(), Full>
+    ensures { Prints page.old (tallyLines figures.now) page.new result }
 {
-    let mut next = at;
-    let mut i = 0;
-    while i < 14 {
-        next = put_tally_line(out, next, names, main, kept, judged, i);
-        i += 1;
+    let main = fields_of(&figures.chart.stats);
+    let kept = fields_of(&figures.kept.stats);
+    let judged = fields_of(&figures.judged);
+    for i in 0..14 {
+        let field = field_at(&main, i);
+        tally_line(
+            page,
+            field.name(),
+            field.count(),
+            field_at(&kept, i).count(),
+            field_at(&judged, i).count(),
+        )?;
     }
-    next
+    Ok(())
 }
 
-fn put_tallies(
-    out: &mut [u8],
-    at: usize,
-    main: &[u64; 32],
-    kept: &[u64; 32],
-    judged: &[u64; 32],
-) -> usize
-    requires { at + length (printTallies main.now kept.now judged.now) + 100 ≤ length out.old }
-    ensures { Put at (printTallies main.now kept.now judged.now) out.old result out.new }
+#[tactic(auto, unfolding(crate::specs::Print::tallyHead))]
+fn tally_head(page: &mut Page) -> Result<(), Full>
+    ensures { Prints page.old tallyHead page.new result }
 {
-    let names = field_names();
-    let next = put_text(out, at, b"\n                 main     kept   judged\n");
-    put_tally_lines(out, next, &names, main, kept, judged)
+    page.text("\n                 main     kept   judged\n")
+}
+
+#[tactic(auto, unfolding(crate::specs::Print::printTallies))]
+fn tallies(page: &mut Page, figures: &SheetFigures) -> Result<(), Full>
+    ensures { Prints page.old (printTallies figures.now) page.new result }
+{
+    tally_head(page)?;
+    tally_lines(page, figures)?;
+    Ok(())
+}
+
+#[tactic(auto, unfolding(crate::specs::Print::densityHead))]
+fn density_head(page: &mut Page) -> Result<(), Full>
+    ensures { Prints page.old densityHead page.new result }
+{
+    page.text("\ndensities, 16 measures to a line; = equally spaced, - not")
 }
 
 // Where measure k begins a line, the end of the line before and its number.
-fn put_line_start(out: &mut [u8], at: usize, k: u64) -> usize
-    requires { at + 29 ≤ length out.old }
-    ensures put { Put at (lineStart k) out.old result out.new }
-    ensures upper_bound { result ≤ at + 29 }
+fn line_start(page: &mut Page, k: u64) -> Result<(), Full>
+    ensures { Prints page.old (lineStart k) page.new result }
 {
-    if k % 16 != 0 {
-        return at;
+    if k % 16 == 0 {
+        page.text("\n")?;
+        page.aligned(k, 7)?;
+        page.text(":")?;
     }
-    let p1 = put_byte(out, at, 10);
-    let p2 = put_aligned(out, p1, k, 7);
-    put_byte(out, p2, 58)
+    Ok(())
 }
 
 fn spacing_mark(spaced: u64) -> u8
     ensures { result ≡ mark spaced }
 {
-    if spaced == 0 {
-        return 45;
-    }
-    61
+    if spaced == 0 { b'-' } else { b'=' }
 }
 
-fn put_density(out: &mut [u8], at: usize, k: u64, density: u64, spaced: u64) -> usize
-    requires { at + 53 ≤ length out.old }
-    ensures { Put at (densityEntry k density spaced) out.old result out.new }
+// A measure: its density and spacing.
+#[tactic(auto, unfolding(crate::specs::Print::densityEntry))]
+fn density_entry(page: &mut Page, k: u64, density: u64, spaced: u64) -> Result<(), Full>
+    ensures { Prints page.old (densityEntry k density spaced) page.new result }
 {
-    let p1 = put_line_start(out, at, k);
-    let p2 = put_aligned(out, p1, density, 3);
-    put_byte(out, p2, spacing_mark(spaced))
+    line_start(page, k)?;
+    page.aligned(density, 3)?;
+    page.byte(spacing_mark(spaced))?;
+    Ok(())
 }
 
-fn put_densities(out: &mut [u8], at: usize, densities: &[u32], spacing: &[u8]) -> usize
-    requires densities_in_bounds { at + length (densityLines densities.now spacing.now (length densities.now)) + 53 ≤ length out.old }
-    requires densities_in_bounds_2 { length densities.now ≤ length spacing.now }
-    ensures { Put at (densityLines densities.now spacing.now (length densities.now)) out.old result out.new }
+fn density_lines(page: &mut Page, densities: &[u32], spacing: &[u8]) -> Result<(), Full>
+    requires { length densities.now ≤ length spacing.now }
+    ensures { Prints page.old (densityLines densities.now spacing.now (length densities.now)) page.new result }
 {
-    let mut next = at;
-    let mut i = 0;
-    while i < densities.len() {
-        next = put_density(
-            out,
-            next,
-            i as u64,
-            wide(densities[i]),
-            wide_byte(spacing[i]),
-        );
-        i += 1;
+    for k in 0..densities.len() {
+        density_entry(page, k as u64, densities[k] as u64, spacing[k] as u64)?;
     }
-    next
+    Ok(())
 }
 
-fn put_held_word(out: &mut [u8], at: usize, kind: Kind) -> usize
-    requires { at + 4 ≤ length out.old }
-    ensures put { Put at (heldWord kind) out.old result out.new }
-    ensures upper_bound { result ≤ at + 4 }
+#[tactic(auto, unfolding(crate::specs::Print::heldHead))]
+fn held_head(page: &mut Page) -> Result<(), Full>
+    ensures { Prints page.old heldHead page.new result }
+{
+    page.text("\n\nholds and rolls\n          row   column     tail\n")
+}
+
+fn held_word(page: &mut Page, kind: Kind) -> Result<(), Full>
+    ensures { Prints page.old (heldWord kind) page.new result }
 {
     if kind_number(kind) == 2 {
-        return put_text(out, at, b"roll");
+        page.text("roll")
+    } else {
+        page.text("hold")
     }
-    put_text(out, at, b"hold")
 }
 
-fn put_held_line(out: &mut [u8], at: usize, n: Note) -> usize
-    requires { at + 92 ≤ length out.old }
-    ensures { Put at (heldLine n n.tail) out.old result out.new }
+// A hold or roll: row, column and tail row. A note without a tail has no line.
+fn held_line(page: &mut Page, note: Note) -> Result<(), Full>
+    ensures { Prints page.old (heldLine note note.tail) page.new result }
 {
-    let tail = n.tail;
-    let kind = n.kind;
-    match tail {
-        Tail::Without => at,
-        Tail::Row(row) => {
-            let next = put_held_word(out, at, kind);
-            put_three(out, next, wide(n.row), wide(n.column), wide(row))
+    match note.tail {
+        Tail::Without => page.text(""),
+        Tail::Row(tail) => {
+            held_word(page, note.kind)?;
+            three_columns(page, note.row as u64, note.column as u64, tail as u64)
         }
     }
 }
 
-fn put_held_record(out: &mut [u8], at: usize, records: &[u8], index: usize) -> usize
-    requires { at + 92 ≤ length out.old }
-    ensures { Put at (heldRecord (readNote records.now index)) out.old result out.new }
+// The line of a record; one that cannot be read has none.
+fn held_record(page: &mut Page, records: &[u8], index: usize) -> Result<(), Full>
+    ensures { Prints page.old (heldRecord (readNote records.now index)) page.new result }
 {
     match read_note(records, index) {
-        ReadNote::Found(n) => put_held_line(out, at, n),
-        ReadNote::Refused(_) => at,
+        Ok(note) => held_line(page, note),
+        Err(_) => page.text(""),
     }
 }
 
-fn put_held(out: &mut [u8], at: usize, records: &[u8], count: usize) -> usize
-    requires { at + length (heldLines records.now count) + 92 ≤ length out.old }
-    ensures { Put at (heldLines records.now count) out.old result out.new }
+fn held_lines(page: &mut Page, records: &[u8], count: usize) -> Result<(), Full>
+    ensures { Prints page.old (heldLines records.now count) page.new result }
 {
-    let mut next = at;
-    let mut i = 0;
-    while i < count {
-        next = put_held_record(out, next, records, i);
-        i += 1;
+    for k in 0..count {
+        held_record(page, records, k)?;
     }
-    next
+    Ok(())
 }
 
-// The whole form, from the slice's first place on.
-pub fn put_print(
-    out: &mut [u8],
-    main: &[u64; 32],
-    kept: &[u64; 32],
-    judged: &[u64; 32],
+// The whole form.
+#[tactic(auto, unfolding(crate::specs::Print::printOf))]
+pub fn print_columns(
+    page: &mut Page,
+    figures: &SheetFigures,
     densities: &[u32],
     spacing: &[u8],
     records: &[u8],
-) -> usize
-    requires records_in_bounds { length (printOf main.now kept.now judged.now densities.now spacing.now records.now) + 300 ≤ length out.old }
-    requires densities_in_bounds { length densities.now ≤ length spacing.now }
-    ensures { Put 0 (printOf main.now kept.now judged.now densities.now spacing.now records.now) out.old result out.new }
+) -> Result<(), Full>
+    requires { length densities.now ≤ length spacing.now }
+    ensures { Prints page.old (printOf figures.now densities.now spacing.now records.now) page.new result }
 {
-    let p1 = put_print_heads(out, 0, main);
-    let p2 = put_tallies(out, p1, main, kept, judged);
-    let p3 = put_text(
-        out,
-        p2,
-        b"\ndensities, 16 measures to a line; = equally spaced, - not",
-    );
-    let p4 = put_densities(out, p3, densities, spacing);
-    let p5 = put_text(
-        out,
-        p4,
-        b"\n\nholds and rolls\n          row   column     tail\n",
-    );
-    put_held(out, p5, records, records.len() / 10)
+    head_lines(page, &figures.chart)?;
+    tallies(page, figures)?;
+    density_head(page)?;
+    density_lines(page, densities, spacing)?;
+    held_head(page)?;
+    held_lines(page, records, records.len() / 10)?;
+    Ok(())
 }

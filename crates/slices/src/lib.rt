@@ -1,51 +1,15 @@
-// Zeros past the answer: one filling function for each element type that is lent for writing. Their proofs cite one law, over the element.
+// Zeros past the answer, in a slice that is lent for writing.
 #![tactic(auto)]
 
 ghost use Rattle.std.specs.Prelude.{◌≡◌, ◌≤◌, length};
-ghost use Rattle.definitions.specs.Beats.{f32 as float32};
 ghost use Rattle.slices.specs.Zeroed.{zeroed};
 
-// Zeros from `from` to the end.
-pub fn zero_u8(s: &mut [u8], from: usize)
-    requires { from ≤ length s.old }
-    ensures { s.new ≡ zeroed 0 from s.old }
+// `zero` from place `from` to the end. Its clone is asked to be itself, as that of a number is.
+pub fn zero_past<T: Copy>(s: &mut [T], from: usize, zero: T)
+    requires in_bounds { from ≤ length s.old }
+    requires no_failure { T.Clone.is_infallible zero }
+    requires itself { (x : T) → T.Clone.is_clone zero x → x ≡ zero }
+    ensures { s.new ≡ zeroed zero from s.old }
 {
-    let mut i = from;
-    while i < s.len() {
-        s[i] = 0;
-        i += 1;
-    }
-}
-
-pub fn zero_u16(s: &mut [u16], from: usize)
-    requires { from ≤ length s.old }
-    ensures { s.new ≡ zeroed 0 from s.old }
-{
-    let mut i = from;
-    while i < s.len() {
-        s[i] = 0;
-        i += 1;
-    }
-}
-
-pub fn zero_u32(s: &mut [u32], from: usize)
-    requires { from ≤ length s.old }
-    ensures { s.new ≡ zeroed 0 from s.old }
-{
-    let mut i = from;
-    while i < s.len() {
-        s[i] = 0;
-        i += 1;
-    }
-}
-
-pub fn zero_f32(s: &mut [f32], from: usize)
-    requires { from ≤ length s.old }
-    ensures { s.new ≡ zeroed (float32 0) from s.old }
-{
-    let mut i = from;
-    while i < s.len() {
-        s[i] = 0.0;
-        i += 1;
-    }
+    s[from..].fill(zero);
 }

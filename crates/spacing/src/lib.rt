@@ -7,12 +7,11 @@ ghost use Rattle.definitions.specs.Lists.{oneIf, padded};
 ghost use Rattle.definitions.specs.Lines.{Row};
 ghost use Rattle.definitions.specs.Reduction.{reduce};
 ghost use Rattle.definitions.specs.Figures.{spacing as spacingOf, spacings};
-ghost use Rattle.definitions.specs.Entries.{spacingsLeft};
-ghost use Rattle.scans.specs.Answers.{measuresAnswer};
+ghost use Rattle.definitions.specs.Entries.{measuresAnswer, spacingsLeft};
 ghost use Rattle.spacing.specs.Spaces.{Spaces};
 
-use definitions::LineKind;
-use scans::MeasuresAnswer;
+use definitions::Refusal;
+use reader::charts::ChartLine;
 
 // What the spacing scan keeps of the open measure: its rows, those with a 1, 2 or 4, and how many times its stride may be doubled as far as
 // its rows allow it. A row that is all zero allows any stride, another one those that divide its number.
@@ -93,50 +92,34 @@ pub fn fill_spacing(data: &[u8], lanes: usize, spacing: &mut [u8]) -> usize
     ensures value { result ≡ length (spacings lanes «data».now) }
     ensures spacing_after { spacing.new ≡ padded 0 (length spacing.old) (spacings lanes «data».now) }
 {
-    let width = reader::line_width(data, lanes);
-    let mut off = 0;
     let mut m = 0;
     let mut s = no_spacing();
-    while off <= data.len() {
-        let line = reader::read_line(data, off, lanes, width);
-        let kind = line.kind;
-        let start = line.start;
-        let next = line.next;
-        match kind {
-            LineKind::Passed => {}
-            LineKind::Comma => {
+    for line in reader::charts::chart_lines(data, lanes) {
+        match line {
+            ChartLine::Row(row) => {
+                s = spacing_row(s, row);
+            }
+            ChartLine::Comma => {
                 spacing[m] = is_spaced(s);
                 m += 1;
                 s = no_spacing();
             }
-            LineKind::Semi => {
-                break;
-            }
-            LineKind::Row => {
-                let end = start + lanes;
-                s = spacing_row(s, &data[start..end]);
-            }
         }
-        off = next;
     }
     spacing[m] = is_spaced(s);
     m += 1;
-    slices::zero_u8(spacing, m);
+    slices::zero_past(spacing, m, 0);
     m
 }
 
-// For each measure whether it has no rows or each of its minimised rows has a 1, 2 or 4: 1 or 0.
-pub fn equally_spaced_impl(data: &[u8], lanes: usize, spacing: &mut [u8]) -> MeasuresAnswer
+// For each measure whether it has no rows or each of its minimised rows has a 1, 2 or 4: 1 or 0. The answer counts the measures.
+#[tactic(auto, using(scans::proofs::Raw::spacings_count), unfolding(definitions::specs::Entries::measuresAnswer))]
+pub fn equally_spaced_impl(data: &[u8], lanes: usize, spacing: &mut [u8]) -> Result<usize, Refusal>
     ensures value { result ≡ measuresAnswer lanes «data».now spacing.old }
     ensures spacing_after { spacing.new ≡ spacingsLeft lanes «data».now spacing.old }
 {
-    if definitions::MOST_BYTES < data.len() {
-        return MeasuresAnswer::Refused(1);
-    }
-    let room = (data.len() + 1) / 2 + 1;
-    if spacing.len() < room {
-        return MeasuresAnswer::Refused(3);
-    }
-    let n = fill_spacing(data, reader::lanes_of(lanes), spacing);
-    MeasuresAnswer::Measures(n)
+    let len = data.len();
+    refusals::text_fits(len)?;
+    refusals::room_for_measures(len, spacing.len())?;
+    Ok(fill_spacing(data, reader::lanes_of(lanes), spacing))
 }

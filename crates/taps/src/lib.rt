@@ -163,6 +163,7 @@ pub fn tap_line_mask(row: &[u8]) -> Taps
 }
 
 // The mask of a row that has one and no tap in a column of `busy`; any other row is left to its cells.
+#[inline(always)]
 pub fn free_taps(row: &[u8], busy: u32) -> Taps
     ensures { result ≡ freeTaps busy row.now }
 {

@@ -1,5 +1,5 @@
 -- What the pass holds and has written, as the lines are read; its end, and the slices once they are zeroed past the answers.
-use mathlib.Core.Path.{◌≡◌, ap, sym, ◌∙◌, subst}
+use mathlib.Core.Path.{◌≡◌, refl, ap, sym, ◌∙◌, subst}
 use mathlib.Core.List.{List, [], ◌∷◌, ◌++◌, map, map-append, append-nil}
 use Prim.Native.Nat.{ℕ, ◌+◌, ◌*◌, ◌≤◌}
 use native.Mathlib.Omega.{arith}
@@ -15,7 +15,7 @@ use Rattle.definitions.specs.Beats.{f32, measureBeats, beats as beatsOf}
 use Rattle.definitions.specs.TimingRows.{timingRows, timingHeads}
 use Rattle.definitions.proofs.Lists.{joined_snoc}
 use Rattle.output.proofs.Writing.{rows-done}
-use Rattle.reader.proofs.Passes.{Over, Few}
+use Rattle.reader.proofs.ChartLoops.{Over, Few}
 use Rattle.reader.proofs.Minimising.{Reduced}
 use Rattle.slices.specs.Zeroed.{zeroed}
 use Rattle.slices.proofs.Zeroed.{zeroed-answer}
@@ -49,7 +49,7 @@ pub timed-all : (L : ℕ) (p q : TimingPass) (data-text text after : List ℕ) (
 unfolding timingRows timingHeads minimised measureBeats beatsOf
 timed-all L p q data-text text after beats beats₁ x f fits room =
     let ended : map reduce x.done ++ (reduce x.cur ∷ []) ≡ map reduce (chart L data-text) =
-    sym (ap (map reduce) x.read.chart-is ∙ map-append reduce x.done (x.cur ∷ [])) in
+    sym (ap (map reduce) x.chart-is ∙ map-append reduce x.done (x.cur ∷ [])) in
     let ms = map reduce (chart L data-text) in
     let k : Timed L q after beats₁ ms [] = subst (λ ms. Timed L q after beats₁ ms []) ended (f (map reduce x.done) x.cur x.held) in
     record {
@@ -65,9 +65,8 @@ module _ (L : ℕ) (data-text : List ℕ) (p : TimingPass) (text : List ℕ) (be
   pub all-bytes : p.out ≡ length (timingRows L data-text)
   all-bytes = sym (length-take-le p.out text x.text-room) ∙ ap length x.text-is
 
-  module _ {L₁ n : ℕ} (same : L ≡ L₁) where
-    pub all-text : length text ≡ n → zeroed 0 p.out text ≡ padded 0 n (timingRows L₁ data-text)
-    all-text size = zeroed-answer 0 text p.out n (λ L. timingRows L data-text) same size x.text-room x.text-is
+  pub all-text : {n : ℕ} → length text ≡ n → zeroed 0 p.out text ≡ padded 0 n (timingRows L data-text)
+  all-text size = zeroed-answer 0 text p.out _ (λ L. timingRows L data-text) refl size x.text-room x.text-is
 
-    pub all-beats : length beats ≡ n → zeroed (f32 0) p.kept beats ≡ padded (f32 0) n (beatsOf L₁ data-text)
-    all-beats size = zeroed-answer (f32 0) beats p.kept n (λ L. beatsOf L data-text) same size x.beats-room x.beats-are
+  pub all-beats : {n : ℕ} → length beats ≡ n → zeroed (f32 0) p.kept beats ≡ padded (f32 0) n (beatsOf L data-text)
+  all-beats size = zeroed-answer (f32 0) beats p.kept _ (λ L. beatsOf L data-text) refl size x.beats-room x.beats-are

@@ -1,4 +1,3 @@
 -- Laws of the pass: a row more, a measure's end, and what the call answers.
 pub mod Passing
 pub mod Keeping
-pub mod Answering

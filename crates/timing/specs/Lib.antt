@@ -1,3 +1,2 @@
 -- What the contracts of the timing rows cite, beside the definitions.
 pub mod TimingPass
-pub mod Answers

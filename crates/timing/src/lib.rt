@@ -4,17 +4,19 @@
 
 ghost use Rattle.std.specs.Prelude.{◌≡◌, List, [], ◌∷◌, ◌++◌, ℕ, ◌+◌, ◌≤◌, ◌<◌, Float, length};
 ghost use Rattle.definitions.specs.Sizes.{measuresBound, mostBytes, rowsBound};
+ghost use Rattle.definitions.specs.Lists.{padded};
 ghost use Rattle.definitions.specs.Lanes.{mostRows};
 ghost use Rattle.definitions.specs.Lines.{Row};
 ghost use Rattle.definitions.specs.Tracker.{holdAt};
 ghost use Rattle.definitions.specs.Correction.{isOpening};
 ghost use Rattle.definitions.specs.Reduction.{reduce};
-ghost use Rattle.definitions.specs.TimingRows.{hasHead};
-ghost use Rattle.definitions.specs.Entries.{timingText, timingBeats};
+ghost use Rattle.definitions.specs.Beats.{f32, beats as beatsOf};
+ghost use Rattle.definitions.specs.TimingRows.{hasHead, timingRows};
+ghost use Rattle.definitions.specs.Entries.{timingFigures, timingAnswer, timingText, timingBeats};
 ghost use Rattle.timing.specs.TimingPass.{Timed, SomeTimed, TimedAll};
-ghost use Rattle.timing.specs.Answers.{timingAnswer};
 
-use definitions::LineKind;
+use definitions::{Refusal, TimingFigures};
+use reader::charts::ChartLine;
 
 // Where the open measure begins, how many bytes are written, the rows of the measures that have ended, those of the open one and its number,
 // and whether a measure that has ended has a 2 or 4.
@@ -26,17 +28,6 @@ pub struct TimingPass {
     pub rows: usize,
     pub midx: u32,
     pub heads: bool,
-}
-
-// The answer: bytes and rows written and whether any of them has a 2 or 4, or the refusal's number.
-#[derive(Drop)]
-pub enum TimingAnswer {
-    Refused(u32),
-    Rows {
-        bytes: usize,
-        rows: usize,
-        heads: bool,
-    },
 }
 
 // Whether the byte is a 2 or 4.
@@ -126,62 +117,56 @@ fn pass_chart(data: &[u8], lanes: usize, text: &mut [u8], beats: &mut [f32]) -> 
     requires data_in_bounds { (length «data».now + 1 ≤ length text.old) × (mostRows lanes (length «data».now) ≤ length beats.old) }
     ensures { TimedAll lanes «data».now result text.new beats.new }
 {
-    let width = reader::line_width(data, lanes);
-    let mut off = 0;
     let mut p = no_pass();
-    while off <= data.len() {
-        let line = reader::read_line(data, off, lanes, width);
-        let kind = line.kind;
-        let start = line.start;
-        let next = line.next;
-        match kind {
-            LineKind::Passed => {}
-            LineKind::Comma => {
+    for line in reader::charts::chart_lines(data, lanes) {
+        match line {
+            ChartLine::Row(row) => {
+                p = pass_row(p, text, row);
+            }
+            ChartLine::Comma => {
                 p = finish_timing_rows(p, text, beats, lanes);
             }
-            LineKind::Semi => {
-                break;
-            }
-            LineKind::Row => {
-                let end = start + lanes;
-                p = pass_row(p, text, &data[start..end]);
-            }
         }
-        off = next;
     }
     finish_timing_rows(p, text, beats, lanes)
 }
 
+// The call where it is accepted: the pass, and zeros past each answer.
+fn timing_figures(data: &[u8], lanes: usize, text: &mut [u8], beats: &mut [f32]) -> TimingFigures
+    requires le_lanes { (4 ≤ lanes) × (length «data».now ≤ mostBytes) × (lanes ≤ 10) }
+    requires data_in_bounds { (length «data».now + 1 ≤ length text.old) × (mostRows lanes (length «data».now) ≤ length beats.old) }
+    ensures value { result ≡ timingFigures lanes «data».now }
+    ensures text_after { text.new ≡ padded 0 (length text.old) (timingRows lanes «data».now) }
+    ensures beats_after { beats.new ≡ padded (f32 0) (length beats.old) (beatsOf lanes «data».now) }
+{
+    let p = pass_chart(data, lanes, text, beats);
+    let bytes = p.out;
+    let rows = p.kept;
+    slices::zero_past(text, bytes, 0);
+    slices::zero_past(beats, rows, 0.0);
+    TimingFigures {
+        bytes,
+        rows,
+        heads: p.heads,
+    }
+}
+
 // The minimised rows of a text, L bytes each, back to back, and their beats.
+#[tactic(auto, unfolding(definitions::specs::Entries::timingAnswer))]
 pub fn minimize_timing_rows(
     data: &[u8],
     lanes: usize,
     text: &mut [u8],
     beats: &mut [f32],
-) -> TimingAnswer
+) -> Result<TimingFigures, Refusal>
     ensures value { result ≡ timingAnswer lanes «data».now text.old beats.old }
     ensures text_after { text.new ≡ timingText lanes «data».now text.old beats.old }
     ensures beats_after { beats.new ≡ timingBeats lanes «data».now text.old beats.old }
 {
-    if definitions::MOST_BYTES < data.len() {
-        return TimingAnswer::Refused(1);
-    }
-    if text.len() < data.len() + 1 {
-        return TimingAnswer::Refused(2);
-    }
-    let l = reader::lanes_of(lanes);
-    let most = (data.len() + 1) / (l + 1);
-    if beats.len() < most {
-        return TimingAnswer::Refused(4);
-    }
-    let p = pass_chart(data, l, text, beats);
-    let bytes = p.out;
-    let rows = p.kept;
-    slices::zero_u8(text, bytes);
-    slices::zero_f32(beats, rows);
-    TimingAnswer::Rows {
-        bytes,
-        rows,
-        heads: p.heads,
-    }
+    let len = data.len();
+    refusals::text_fits(len)?;
+    refusals::room_for_text(len, text.len())?;
+    let columns = reader::lanes_of(lanes);
+    refusals::room_for_beats(columns, len, beats.len())?;
+    Ok(timing_figures(data, columns, text, beats))
 }

@@ -2,13 +2,12 @@
 use lib.ListN.{length}
 use borrow.Author.Tests.{lt-ltb, le-ltb}
 use Rattle.sheet.specs.Card.{card}
-use Rattle.card.proofs.Sheet.{put-taken}
 use Rattle.card.proofs.put_card.Goals as goal
 
 pub returns-then-data-gt4095-clause-out_after : goal.returns-then-data-gt4095-clause-out_after
 unfolding card
 returns-then-data-gt4095-clause-out_after c =
-    rw (lt-ltb 4095 (length c.args.data.now) c.if-data-gt4095.true) (put-taken c.put_text.ensures c.put_text.auto.out).1
+    rw (lt-ltb 4095 (length c.args.data.now) c.if-data-gt4095.true) c.put_refusal.ensures.out_after
 
 pub returns-clause-out_after : goal.returns-clause-out_after
 unfolding card

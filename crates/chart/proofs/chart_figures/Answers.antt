@@ -1,5 +1,6 @@
 -- `chart::chart_figures` meets its contract, by what the pass leaves.
 use mathlib.Core.Path.{ap, ◌∙◌}
+use lib.Ieee.{of_bits, of_int}
 use lib.ListN.{length}
 use Rattle.definitions.specs.Lists.{padded}
 use Rattle.definitions.specs.Notes.{notes}
@@ -13,14 +14,15 @@ corrected_stats-corrected-requires c =
     all-recount _ _ _ _ _ c.read_chart-p.ensures.kept _ c.args.work.now c.requires.le_lanes.0 c.requires.le_lanes.1 c.requires.le_lanes.2 c.requires.data_in_bounds_2
 
 pub returns : goal.returns
+unfolding of_bits of_int
 returns c =
     let x = c.read_chart-p.ensures in record {
       value =
           all-figures _ _ _ _ _ _ _ x _ _ _ _ _ (c.corrected_stats-corrected.ensures.value _ x.kept.phantoms x.kept.stats) (note-count _ _ _ _ _ _ _ x _ _ _ c.finish-count.ensures)
           (found-48 _ _ _ _ _ _ _ x) c.last_beat_bits.ensures c.last_note_row.ensures.0;
-      text_after = c.zero_u8.ensures ∙ all-text _ _ _ _ _ x.kept (length c.args.text.now) c.read_chart-p.auto.text c.requires.data_in_bounds.0;
-      densities_after = c.zero_u32.ensures ∙ all-densities _ _ _ _ _ x.kept (length c.args.densities.now) c.read_chart-p.auto.densities;
-      beats_after = c.zero_f32.ensures ∙ all-beats _ _ _ _ _ _ _ x (length c.args.beats.now) c.read_chart-p.auto.beats c.requires.data_in_bounds.2;
+      text_after = c.zero_past.ensures ∙ all-text _ _ _ _ _ x.kept (length c.args.text.now) c.read_chart-p.auto.text c.requires.data_in_bounds.0;
+      densities_after = c.zero_past-2.ensures ∙ all-densities _ _ _ _ _ x.kept (length c.args.densities.now) c.read_chart-p.auto.densities;
+      beats_after = c.zero_past-3.ensures ∙ all-beats _ _ _ _ _ _ _ x (length c.args.beats.now) c.read_chart-p.auto.beats c.requires.data_in_bounds.2;
       work_after = c.corrected_stats-corrected.ensures.work_after ∙ none-off (length c.args.work.now);
       slots_after = all-notes _ _ _ _ _ _ _ x _ _ _ c.finish-count.ensures ∙ ap (λ n. padded 0 n (records (notes c.args.lanes c.args.«data».now))) c.read_chart-p.auto.slots;
     }

@@ -1,95 +1,80 @@
--- `chart_pass::read_lines` meets its contract. The loop's invariant: what the pass holds and has written is that of the lines read.
-use mathlib.Core.Path.{refl}
+-- `chart_pass::read_lines` meets its contract. The loop's invariant: what the pass holds and has written is that of the lines that have come.
+use mathlib.Core.Path.{◌∙◌}
 use native.Mathlib.Omega.{arith}
-use Rattle.kept_pass.proofs.Keeping.{kept-few}
-use Rattle.reader.proofs.Passes.{Over, pass-semi, pass-end}
-use Rattle.reader.proofs.Minimising.{Reduced, minimising-start, minimising-few, minimised-few, minimising-room, minimising-passed, comma-room, minimising-comma, minimising-row}
-use Rattle.chart_pass.specs.ChartPass.{Charted}
+use lib.ListN.{length}
+use Rattle.kept_pass.proofs.Keeping.{Small, kept-few}
+use Rattle.reader.proofs.ChartLoops.{Come, row-wide, holds-over}
+use Rattle.reader.proofs.Minimising.{minimised-few, comma-room, row_room, minimising-start, minimising-comma, minimising-row}
 use Rattle.chart_pass.proofs.Charting.{slots-room, chart-all}
+use Rattle.chart_pass.proofs.read_lines.Goals.{At-loop-line}
 use Rattle.chart_pass.proofs.read_lines.Goals as goal
-use Rattle.chart_pass.proofs.read_lines.Goals.{Left-loop-off, else-loop-off-test, then-loop-off-test+in-Semi}
 
-pub loop-off-init : goal.loop-off-init
-loop-off-init c = (
-  refl,
-  refl,
-  refl,
-  refl,
-  minimising-start c.args.lanes c.args.«data».now _ c.no_chart-p.ensures.1
-      (c.no_chart-p.ensures.0 c.args.lanes c.args.text.now c.args.densities.now c.args.beats.now c.args.slots.now (omega (arith, c.requires.le_lanes))),
-)
+come : (c : At-loop-line) → Come c.args.lanes c.args.«data».now c.loop-line.yielded c.loop-line.line-iterator
+come c =
+    record { lanes = c.requires.le_lanes.0; start = _; from = c.into_iter-line-iterator.ensures.into_iter_gives ∙ c.chart_lines-line-items.ensures; by = c.loop-line.yielded_by }
+
+small : (c : At-loop-line) → Small c.args.lanes c.loop-line.p.pass (length c.args.«data».now)
+small c = kept-few _ _ _ _ _ _ _ c.loop-line.invariant.few c.loop-line.invariant.pass.held.kept
+
+pub loop-line-init : goal.loop-line-init
+loop-line-init c =
+    minimising-start c.args.lanes c.args.«data».now c.requires.le_lanes.0 _ c.no_chart-p.ensures.1
+    (c.no_chart-p.ensures.0 c.args.lanes c.args.text.now c.args.densities.now c.args.beats.now c.args.slots.now (omega (arith, c.requires.le_lanes)))
+
+pub chart_row-p-requires : goal.chart_row-p-requires
+chart_row-p-requires c =
+    let at = (goal.at.chart_row-p-requires c).At-loop-line in
+    let w = small at in
+    let wide = row-wide _ _ (come at) _ _ c.next.ensures.steps c.in-Some.is _ c.in-Row.is in
+    let room = row_room _ _ (come at) _ _ c.next.ensures.steps c.in-Some.is c.loop-line.invariant _ c.in-Row.is in
+    (omega (arith, wide, room), omega (arith, w.rows))
 
 pub chart_comma-p-requires : goal.chart_comma-p-requires
 chart_comma-p-requires c =
-    let i = c.loop-off.invariant in
-    let w = kept-few _ _ _ _ _ _ _ (minimising-few _ _ _ _ c.requires.le_lanes.0 i.4) i.4.pass.held.kept in record {
+    let at = (goal.at.chart_comma-p-requires c).At-loop-line in
+    let w = small at in
+    let room = comma-room _ _ (come at) _ _ c.next.ensures.steps c.in-Some.is c.loop-line.invariant c.in-Comma.is in record {
       lanes_nonzero = (
         omega (arith, c.requires.le_lanes.0),
         c.requires.le_lanes.1,
-        omega (arith, comma-room _ _ _ _ _ c.loop-off-test.true c.read_line-line.ensures i.4 c.in-Comma.is, i.0, c.requires.data_in_bounds.0),
-        record { done = _; cur = i.4.pass.cur; charted = i.4.pass.held },
+        omega (arith, room),
+        record { done = _; cur = _; charted = c.loop-line.invariant.pass.held },
         c.requires.data_in_bounds.4,
       );
-      midx_in_bounds = (omega (arith, w.midx, i.1, c.requires.le_lanes.2, c.requires.data_in_bounds.1), omega (arith, w.midx, c.requires.le_lanes.2), omega (arith, w.rows, c.requires.le_lanes.2));
-      rows_in_bounds = (omega (arith, w.most, i.2, c.requires.data_in_bounds.2), slots-room _ _ _ _ w.most (omega (arith, i.3, c.requires.data_in_bounds.3)));
+      midx_in_bounds = (omega (arith, w.midx, c.requires.le_lanes.2, c.requires.data_in_bounds.1), omega (arith, w.midx, c.requires.le_lanes.2), omega (arith, w.rows, c.requires.le_lanes.2));
+      rows_in_bounds = (omega (arith, w.most, c.requires.data_in_bounds.2), slots-room _ _ _ _ w.most (omega (arith, c.requires.data_in_bounds.3)));
     }
 
-pub loop-off-preserved-in-Passed : goal.loop-off-preserved-in-Passed
-loop-off-preserved-in-Passed c =
-    let i = c.loop-off.invariant in
-    (i.0, i.1, i.2, i.3, minimising-passed _ _ _ _ _ c.loop-off-test.true c.read_line-line.ensures i.4 c.in-Passed.is)
+pub loop-line-preserved-in-Row : goal.loop-line-preserved-in-Row
+loop-line-preserved-in-Row c =
+    minimising-row _ _ (come (goal.at.loop-line-preserved-in-Row c).At-loop-line) _ _ c.next.ensures.steps c.in-Some.is c.loop-line.invariant _ _ c.in-Row.is
+    (omega (arith, c.chart_row-p.ensures.out_value))
+    (λ wide done cur. c.chart_row-p.ensures.by_index _ _ _ _ done cur wide)
 
-pub loop-off-preserved-in-Comma : goal.loop-off-preserved-in-Comma
-loop-off-preserved-in-Comma c =
-    let i = c.loop-off.invariant in (
-      omega (arith, c.chart_comma-p.auto.text, i.0),
-      omega (arith, c.chart_comma-p.auto.densities, i.1),
-      omega (arith, c.chart_comma-p.auto.beats, i.2),
-      omega (arith, c.chart_comma-p.auto.slots, i.3),
-      minimising-comma _ _ _ _ _ c.loop-off-test.true c.read_line-line.ensures i.4 _ c.in-Comma.is c.chart_comma-p.ensures.out_bound c.chart_comma-p.ensures.charted,
-    )
-
-pub loop-off-preserved : goal.loop-off-preserved
-loop-off-preserved c =
-    let i = c.loop-off.invariant in (
-      omega (arith, c.chart_row-p.auto.text, i.0),
-      i.1,
-      i.2,
-      i.3,
-      minimising-row _ _ _ _ _ c.loop-off-test.true c.read_line-line.ensures i.4 _ c.in-Row.is (omega (arith, c.chart_row-p.ensures.out_value))
-          (λ wide done cur. c.chart_row-p.ensures.by_index _ _ _ _ done cur wide),
-    )
-
--- at the loop's end one measure is still open
-over : (c : Left-loop-off) →
-    Over c.args.lanes c.args.«data».now (Reduced (Charted c.args.lanes c.loop-off.p c.loop-off.text c.loop-off.densities c.loop-off.beats c.loop-off.slots))
-over c =
-    elim c.loop-off-test.branch [
-      | else-loop-off-test w ↦ pass-end _ _ _ w.loop-off-test.false c.loop-off.invariant.4.pass
-      | then-loop-off-test+in-Semi w ↦ pass-semi _ _ _ _ w.loop-off-test.true w.read_line-line.ensures c.loop-off.invariant.4.pass w.in-Semi.is
-    ]
+pub loop-line-preserved : goal.loop-line-preserved
+loop-line-preserved c =
+    minimising-comma _ _ (come (goal.at.loop-line-preserved c).At-loop-line) _ _ c.next.ensures.steps c.in-Some.is c.loop-line.invariant _ c.in-Comma.is
+    c.chart_comma-p.ensures.out_bound
+    c.chart_comma-p.ensures.charted
 
 pub end_measure-requires : goal.end_measure-requires
 end_measure-requires c =
-    let i = c.loop-off.invariant in
-    let x = over (goal.at.end_measure-requires c).Left-loop-off in
-    let w = kept-few _ _ _ _ _ _ _ (minimised-few _ _ c.requires.le_lanes.0 x) x.held.kept in record {
+    let w = small (goal.at.end_measure-requires c).At-loop-line in record {
       lanes_nonzero = (
         omega (arith, c.requires.le_lanes.0),
         c.requires.le_lanes.1,
-        omega (arith, minimising-room _ _ _ _ i.4, i.0, c.requires.data_in_bounds.0),
-        record { done = _; cur = x.cur; charted = x.held },
+        omega arith,
+        record { done = _; cur = _; charted = c.loop-line.invariant.pass.held },
         c.requires.data_in_bounds.4,
       );
-      midx_in_bounds = (omega (arith, w.midx, i.1, c.requires.le_lanes.2, c.requires.data_in_bounds.1), omega (arith, w.midx, c.requires.le_lanes.2), omega (arith, w.rows, c.requires.le_lanes.2));
-      rows_in_bounds = (omega (arith, w.most, i.2, c.requires.data_in_bounds.2), slots-room _ _ _ _ w.most (omega (arith, i.3, c.requires.data_in_bounds.3)));
+      midx_in_bounds = (omega (arith, w.midx, c.requires.le_lanes.2, c.requires.data_in_bounds.1), omega (arith, w.midx, c.requires.le_lanes.2), omega (arith, w.rows, c.requires.le_lanes.2));
+      rows_in_bounds = (omega (arith, w.most, c.requires.data_in_bounds.2), slots-room _ _ _ _ w.most (omega (arith, c.requires.data_in_bounds.3)));
     }
 
 pub returns : goal.returns
 returns c =
-    let x = over (goal.at.returns c).Left-loop-off in
+    let x = holds-over _ _ (come (goal.at.returns c).At-loop-line) _ _ c.next.ensures.steps c.in-None.is c.loop-line.invariant.pass in
     let r = c.end_measure.ensures in
-    let room = minimising-room _ _ _ _ c.loop-off.invariant.4 in
-    chart-all _ _ _ _ _ _ _ _ _ x.read (minimised-few _ _ c.requires.le_lanes.0 x) (r.chart_ended _ _ x.held)
-    (omega (arith, r.out_le_out.0, room, c.loop-off.invariant.0, c.requires.data_in_bounds.0, c.end_measure.auto.text))
-    (omega (arith, r.out_le_out.0, room))
+    chart-all _ _ _ _ _ _ _ _ _ x.chart-is (minimised-few _ _ x) (r.chart_ended _ _ x.held)
+    (omega (arith, r.out_le_out.0))
+    (omega (arith, r.out_le_out.0))

@@ -1,5 +1,5 @@
 -- `chart_sheet::write_sheet` meets its contract: the form of the answers is the text's sheet, and it has room.
-use mathlib.Core.Path.{ap, sym, ◌∙◌}
+use mathlib.Core.Path.{refl, ap, sym, ◌∙◌}
 use mathlib.Core.List.{List}
 use Prim.Native.Nat.{ℕ, ◌*◌}
 use native.Mathlib.Omega.{arith}
@@ -11,29 +11,32 @@ use Rattle.definitions.specs.Figures.{densities, spacings}
 use Rattle.definitions.specs.Notes.{notes}
 use Rattle.definitions.specs.Records.{records}
 use Rattle.definitions.proofs.Lanes.{lanes-at-least, lanes-at-most}
-use Rattle.sheet_answers.specs.Answers.{mainAnswer, sheetAnswers}
-use Rattle.chart_sheet.proofs.Writing.{Gathered, measures-fit, spacings-fit, notes-fit, notes-small, form-is, form-fits, main-is, put-zeroed, put_count}
+use Rattle.definitions.specs.Entries.{chartFigures, chartPlaces}
+use Rattle.sheet_answers.specs.Answers.{sheetFigures}
+use Rattle.slices.proofs.Zeroed.{zeroed-answer}
+use Rattle.chart_sheet.specs.Forms.{chartSheet}
+use Rattle.chart_sheet.proofs.Writing.{Gathered, measures-fit, spacings-fit, notes-fit, notes-small, form-is, form-fits, chart-is}
 use Rattle.chart_sheet.proofs.write_sheet.Goals as goal
-use Rattle.chart_sheet.proofs.write_sheet.Goals.{After-sheet_answers-a}
+use Rattle.chart_sheet.proofs.write_sheet.Goals.{After-sheet_answers-figures}
 
 -- the answers and what is left in three of the slices, at the lane count in force
-gathered : (c : After-sheet_answers-a) → Gathered
+gathered : (c : After-sheet_answers-figures) → Gathered
     c.args.lanes
     c.args.data.now
-    c.sheet_answers-a.new.densities
-    c.sheet_answers-a.new.spacing
-    c.sheet_answers-a.new.notes
+    c.sheet_answers-figures.new.densities
+    c.sheet_answers-figures.new.spacing
+    c.sheet_answers-figures.new.notes
     (length c.args.densities.now)
     (length c.args.spacing.now)
     (length c.args.notes.now)
-    c.sheet_answers-a.result
+    c.sheet_answers-figures.result
 gathered c =
     let text = c.args.data.now in
-    let l = c.lanes_of-columns.ensures in
-    let x = c.sheet_answers-a in
+    let l = c.lanes_of-columns.ensures.value in
+    let x = c.sheet_answers-figures in
     record {
       short = c.requires.data_len_bound;
-      answers = x.ensures.value ∙ ap (λ (L : ℕ). sheetAnswers L text) l;
+      answers = x.ensures.value ∙ ap (λ (L : ℕ). sheetFigures L text) l;
       densities-are = x.ensures.densities_after ∙ ap (λ (L : ℕ). padded 0 (length c.args.densities.now) (densities L text)) l;
       spacings-are = x.ensures.spacing_after ∙ ap (λ (L : ℕ). padded 0 (length c.args.spacing.now) (spacings L text)) l;
       notes-are = x.ensures.notes_after ∙ ap (λ (L : ℕ). padded 0 (length c.args.notes.now) (records (notes L text))) l;
@@ -42,9 +45,9 @@ gathered c =
       notes-length = x.auto.notes;
     }
 
-pub sheet_answers-a-requires : goal.sheet_answers-a-requires
-sheet_answers-a-requires c =
-    let l = c.lanes_of-columns.ensures in
+pub sheet_answers-figures-requires : goal.sheet_answers-figures-requires
+sheet_answers-figures-requires c =
+    let l = c.lanes_of-columns.ensures.value in
     let rows = ap (λ (L : ℕ). mostRows L (length c.args.data.now)) l in
     let bytes = ap (λ (L : ℕ). 10 * L * mostRows L (length c.args.data.now)) l in
     record {
@@ -54,45 +57,50 @@ sheet_answers-a-requires c =
     }
 
 pub overflow_mul-end : goal.overflow_mul-end
-overflow_mul-end c = omega (arith, notes-small (gathered (goal.at.overflow_mul-end c).After-sheet_answers-a))
+overflow_mul-end c = omega (arith, notes-small (gathered (goal.at.overflow_mul-end c).After-sheet_answers-figures))
 
 pub slice_bounds-put_form-end : goal.slice_bounds-put_form-end
-slice_bounds-put_form-end c = measures-fit (gathered (goal.at.slice_bounds-put_form-end c).After-sheet_answers-a)
+slice_bounds-put_form-end c = measures-fit (gathered (goal.at.slice_bounds-put_form-end c).After-sheet_answers-figures)
 
 pub slice_bounds-put_form-end-2 : goal.slice_bounds-put_form-end-2
-slice_bounds-put_form-end-2 c = sym (length-take-le _ _ (measures-fit (gathered (goal.at.slice_bounds-put_form-end-2 c).After-sheet_answers-a)))
+slice_bounds-put_form-end-2 c = sym (length-take-le _ _ (measures-fit (gathered (goal.at.slice_bounds-put_form-end-2 c).After-sheet_answers-figures)))
 
 pub slice_bounds-put_form-end-3 : goal.slice_bounds-put_form-end-3
-slice_bounds-put_form-end-3 c = spacings-fit (gathered (goal.at.slice_bounds-put_form-end-3 c).After-sheet_answers-a)
+slice_bounds-put_form-end-3 c = spacings-fit (gathered (goal.at.slice_bounds-put_form-end-3 c).After-sheet_answers-figures)
 
 pub slice_bounds-put_form-end-4 : goal.slice_bounds-put_form-end-4
-slice_bounds-put_form-end-4 c = sym (length-take-le _ _ (spacings-fit (gathered (goal.at.slice_bounds-put_form-end-4 c).After-sheet_answers-a)))
+slice_bounds-put_form-end-4 c = sym (length-take-le _ _ (spacings-fit (gathered (goal.at.slice_bounds-put_form-end-4 c).After-sheet_answers-figures)))
 
 pub slice_bounds-put_form-end-5 : goal.slice_bounds-put_form-end-5
-slice_bounds-put_form-end-5 c = notes-fit (gathered (goal.at.slice_bounds-put_form-end-5 c).After-sheet_answers-a)
+slice_bounds-put_form-end-5 c = notes-fit (gathered (goal.at.slice_bounds-put_form-end-5 c).After-sheet_answers-figures)
 
 pub slice_bounds-put_form-end-6 : goal.slice_bounds-put_form-end-6
-slice_bounds-put_form-end-6 c = sym (length-take-le _ _ (notes-fit (gathered (goal.at.slice_bounds-put_form-end-6 c).After-sheet_answers-a)))
+slice_bounds-put_form-end-6 c = sym (length-take-le _ _ (notes-fit (gathered (goal.at.slice_bounds-put_form-end-6 c).After-sheet_answers-figures)))
 
 pub put_form-bytes-requires : goal.put_form-bytes-requires
 put_form-bytes-requires c =
-    let g = gathered (goal.at.put_form-bytes-requires c).After-sheet_answers-a in
+    let g = gathered (goal.at.put_form-bytes-requires c).After-sheet_answers-figures in
     let ds = length-take-le _ _ (measures-fit g) in
     let ss = length-take-le _ _ (spacings-fit g) in
     record {
-      records_in_bounds = omega (arith, form-fits g c.args.form);
-      main_in_bounds = (omega (arith, ds), omega (arith, ds, ss));
+      room = omega (arith, form-fits g c.args.form);
+      measures_in_bounds = (omega (arith, ds), omega (arith, ds, ss));
     }
 
 pub returns-clause-value : goal.returns-clause-value
 returns-clause-value c =
-    let g = gathered (goal.at.returns-clause-value c).After-sheet_answers-a in
+    let g = gathered (goal.at.returns-clause-value c).After-sheet_answers-figures in
     let form = c.put_form-bytes in
-    ap (λ (m : List ℕ). set m 7 form.result) (main-is g)
-    ∙ ap (set (mainAnswer (lanes_of c.args.lanes) c.args.data.now) 7) (put_count form.ensures ∙ ap length (form-is g c.args.form))
+    let L = lanes_of c.args.lanes in
+    let places = c.chart_places-places.ensures ∙ ap chartPlaces (chart-is g) in
+    ap (λ (m : List ℕ). set m 7 form.result) places
+    ∙ ap (set (chartPlaces (chartFigures L c.args.data.now)) 7) (form.ensures.value ∙ ap length (form-is g c.args.form))
 
 pub returns-clause-sheet_after : goal.returns-clause-sheet_after
 returns-clause-sheet_after c =
-    let g = gathered (goal.at.returns-clause-sheet_after c).After-sheet_answers-a in
+    let g = gathered (goal.at.returns-clause-sheet_after c).After-sheet_answers-figures in
     let form = c.put_form-bytes in
-    c.zero_u8.ensures ∙ put-zeroed form.ensures form.auto.out ∙ ap (padded 0 (length c.args.sheet.now)) (form-is g c.args.form)
+    c.zero_past.ensures
+    ∙ zeroed-answer 0 form.new.out form.result (length c.args.sheet.now) (λ (k : ℕ). chartSheet c.args.form (lanes_of c.args.lanes) c.args.data.now) {L = 0} {L₁ = 0} refl form.auto.out
+    form.ensures.within
+    (form.ensures.out_after ∙ form-is g c.args.form)

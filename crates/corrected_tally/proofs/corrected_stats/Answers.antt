@@ -13,4 +13,4 @@ returns-then-is_corrected c = record {
 }
 
 pub returns-else-is_corrected : goal.returns-else-is_corrected
-returns-else-is_corrected c = record { value = λ rows x e. corrected-same c.args.lanes rows _ c.args.stats (sym (c.is_corrected.ensures rows x) ∙ c.if-is_corrected.false) e; work_after = c.zero_u16.ensures ∙ zeroed-all c.args.work.now }
+returns-else-is_corrected c = record { value = λ rows x e. corrected-same c.args.lanes rows _ c.args.stats (sym (c.is_corrected.ensures rows x) ∙ c.if-is_corrected.false) e; work_after = c.zero_past.ensures ∙ zeroed-all c.args.work.now }

@@ -1,31 +1,46 @@
--- `corrected_tally::count_kept` meets its contract. The loop's invariant: the tally is that of the rows read back, with only their paired heads.
-use mathlib.Core.Path.{ap}
-use native.Mathlib.Nat.{add-sub_cancel_left}
+-- `corrected_tally::count_kept` meets its contract. The loop's invariant: the tally is that of the rows that have come, with only their paired heads.
+use Prim.Native.Nat.{◌*◌, ◌≤◌}
+use mathlib.Core.Path.{◌∙◌}
 use native.Mathlib.Omega.{arith}
-use lib.ListN.{take, drop, length-take}
-use Rattle.corrected_tally.proofs.Rows.{row_inside}
-use Rattle.corrected_tally.proofs.Counting.{counting-start, counting-row, counting-passed, counting-end}
+use Rattle.definitions.specs.Sizes.{countBound}
+use Rattle.row_tally.proofs.Bounds.{below_more}
+use Rattle.reader.proofs.BackLoops.{BackCome, came, came-more, back-come, next-inside, next-wide, all-came}
+use Rattle.corrected_tally.proofs.Counting.{counting-start, counting-row, counting-end}
+use Rattle.corrected_tally.proofs.count_kept.Goals.{At-loop-cells}
 use Rattle.corrected_tally.proofs.count_kept.Goals as goal
 
-pub loop-off-init : goal.loop-off-init
-loop-off-init c = (omega arith, counting-start _ _ _ _ c.no_stats-stats.ensures)
+come : (c : At-loop-cells) → BackCome c.args.trim c.args.lanes c.args.text.now (came c.loop-cells.yielded) c.loop-cells.cells-iterator
+come c =
+    back-come _ _ _ _ (c.into_iter-cells-iterator.ensures.into_iter_gives ∙ c.back_rows-cells-items.ensures) _ _ c.loop-cells.yielded_by c.requires.0.least
+
+pub loop-cells-init : goal.loop-cells-init
+loop-cells-init c = counting-start _ _ c.no_stats-stats.ensures
 
 -- its entry stands in the work slice
 pub bounds-work-i : goal.bounds-work-i
 bounds-work-i c =
-    omega (arith, c.requires.0.room, c.loop-off.invariant.1.size, row_inside _ _ _ _ _ c.loop-off-test.true c.back_line-line.ensures _ c.loop-off.invariant.1.reading c.if-line.true)
+    omega (arith, c.requires.0.room, c.loop-cells.invariant.size, next-inside _ _ _ _ _ (come (goal.at.bounds-work-i c).At-loop-cells) _ _ c.in-Some.ensures.steps)
 
-pub loop-off-preserved-then-line : goal.loop-off-preserved-then-line
-loop-off-preserved-then-line c =
-    let bytes = ap (λ n. take n (drop c.loop-off.off c.args.text.now)) (add-sub_cancel_left c.loop-off.off c.args.lanes) in (
-      c.back_line-line.ensures.within,
-      counting-row _ _ _ _ _ _ _ c.loop-off-test.true c.back_line-line.ensures c.loop-off.invariant.1 c.if-line.true c.args.work.now c.requires.1 _ bytes
-          (rw length-take (omega (arith, c.requires.0.most))) _ c.count_row-stats.ensures,
-    )
+pub offset_bounds-work-i : goal.offset_bounds-work-i
+offset_bounds-work-i c = omega (arith, c.loop-cells.invariant.size, (come (goal.at.offset_bounds-work-i c).At-loop-cells).few, c.requires.0.short)
 
-pub loop-off-preserved : goal.loop-off-preserved
-loop-off-preserved c =
-    (c.back_line-line.ensures.within, counting-passed _ _ _ _ _ _ _ c.loop-off-test.true c.back_line-line.ensures c.loop-off.invariant.1 c.if-line.false)
+pub count_row-stats-requires : goal.count_row-stats-requires
+count_row-stats-requires c =
+    let x = come (goal.at.count_row-stats-requires c).At-loop-cells in
+    let wide = next-wide _ _ _ _ _ x _ _ c.in-Some.ensures.steps in
+    let small : 10 * c.loop-cells.i ≤ countBound = omega (arith, c.loop-cells.invariant.size, x.few, c.requires.0.short) in
+    (omega (arith, c.requires.0.most, wide), rw wide c.tap_mask_counts-counts.ensures, below_more _ _ _ small c.loop-cells.invariant.low)
+
+pub overflow_add-i : goal.overflow_add-i
+overflow_add-i c = omega (arith, c.loop-cells.invariant.size, (come (goal.at.overflow_add-i c).At-loop-cells).few, c.requires.0.short)
+
+pub loop-cells-preserved : goal.loop-cells-preserved
+loop-cells-preserved c =
+    rw came-more
+    (counting-row _ _ _ _ c.loop-cells.invariant c.args.work.now c.requires.1 _
+    (omega (arith, c.requires.0.most, next-wide _ _ _ _ _ (come (goal.at.loop-cells-preserved c).At-loop-cells) _ _ c.in-Some.ensures.steps))
+    _ c.count_row-stats.ensures)
 
 pub returns : goal.returns
-returns c = counting-end _ _ _ _ _ _ c.loop-off-test.false c.loop-off.invariant.1
+returns c =
+    counting-end _ _ _ _ (all-came _ _ _ _ _ (come (goal.at.returns c).At-loop-cells) c.in-None.ensures.steps.0) c.loop-cells.invariant

@@ -1,58 +1,56 @@
--- `corrected_tally::mark_heads` meets its contract. The loop's invariant: the tracker and the work slice are what the rows read back have left.
-use Prim.Native.Nat.{◌<◌}
+-- `corrected_tally::mark_heads` meets its contract. The loop's invariant: the tracker and the work slice are what the rows that have come have left.
 use mathlib.Core.Path.{refl, ap, sym, ◌∙◌}
 use mathlib.Core.Bool.{false}
-use native.Mathlib.Nat.{add-sub_cancel_left}
 use native.Mathlib.Omega.{arith}
-use lib.ListN.{length, take, drop, length-take}
+use lib.ListN.{length}
 use Rattle.taps.proofs.Free.{free-told}
 use Rattle.taps.proofs.Unlikes.{unlike-free}
 use Rattle.holds.proofs.Stacks.{stack-length}
 use Rattle.holds.proofs.Passed.{free-leaves}
-use Rattle.corrected_tally.proofs.Rows.{row_inside}
-use Rattle.corrected_tally.proofs.Marking.{marking-start, marking-reached, marking-row, marking-passed, marking-end}
+use Rattle.reader.proofs.BackLoops.{BackCome, came, came-more, back-come, next-inside, next-wide, all-came}
+use Rattle.corrected_tally.proofs.Marking.{marking-start, marking-reached, marking-row, marking-end}
+use Rattle.corrected_tally.proofs.mark_heads.Goals.{At-loop-cells, in-Mask, in-Other}
 use Rattle.corrected_tally.proofs.mark_heads.Goals as goal
-use Rattle.corrected_tally.proofs.mark_heads.Goals.{Then-line, in-Mask, in-Other}
+
+come : (c : At-loop-cells) → BackCome c.args.trim c.args.lanes c.args.text.now (came c.loop-cells.yielded) c.loop-cells.cells-iterator
+come c =
+    back-come _ _ _ _ (c.into_iter-cells-iterator.ensures.into_iter_gives ∙ c.back_rows-cells-items.ensures) _ _ c.loop-cells.yielded_by c.requires.0.least
+
+pub loop-cells-init : goal.loop-cells-init
+loop-cells-init c =
+    (marking-start _ _ c.no_tracker-t.ensures c.requires.1, λ k h e. sym (stack-length _ k) ∙ ap length (c.no_tracker-t.ensures k h))
 
 -- a row's entry stands in the work slice
-entry-inside : (c : Then-line) →
-    c.loop-off.row < length c.args.work.now
-entry-inside c =
-    omega (arith, c.requires.0.room, c.loop-off.invariant.2.size, row_inside _ _ _ _ _ c.loop-off-test.true c.back_line-line.ensures _ c.loop-off.invariant.2.reading c.if-line.true)
-
-pub loop-off-init : goal.loop-off-init
-loop-off-init c =
-    (omega arith, refl, marking-start _ _ _ _ _ c.no_tracker-t.ensures c.requires.1, λ k h e. sym (stack-length _ k) ∙ ap length (c.no_tracker-t.ensures k h))
-
 pub pass_row-requires : goal.pass_row-requires
 pass_row-requires c =
-    omega (arith, c.loop-off.invariant.1, entry-inside (goal.at.pass_row-requires c).Then-line)
+    omega (arith, c.requires.0.room, c.loop-cells.invariant.0.size, next-inside _ _ _ _ _ (come (goal.at.pass_row-requires c).At-loop-cells) _ _ c.in-Some.ensures.steps)
 
 pub track_row-t-requires : goal.track_row-t-requires
 track_row-t-requires c =
-    (rw length-take (omega (arith, c.requires.0.most)), omega (arith, c.loop-off.invariant.1, entry-inside (goal.at.track_row-t-requires c).Then-line), marking-reached _ _ _ _ _ _ _ c.loop-off.invariant.2)
+    let x = come (goal.at.track_row-t-requires c).At-loop-cells in (
+      omega (arith, c.requires.0.most, next-wide _ _ _ _ _ x _ _ c.in-Some.ensures.steps),
+      omega (arith, c.requires.0.room, c.loop-cells.invariant.0.size, next-inside _ _ _ _ _ x _ _ c.in-Some.ensures.steps),
+      marking-reached _ _ _ _ c.loop-cells.invariant.0,
+    )
 
-pub loop-off-preserved-after-free_taps : goal.loop-off-preserved-after-free_taps
-loop-off-preserved-after-free_taps c =
-    let bytes = ap (λ n. take n (drop c.loop-off.off c.args.text.now)) (add-sub_cancel_left c.loop-off.off c.args.lanes) in
-    let next = marking-row _ _ _ _ _ _ _ _ c.loop-off-test.true c.back_line-line.ensures c.loop-off.invariant.2 c.if-line.true in (
-      c.back_line-line.ensures.within,
-      omega arith,
-      elim c.match-free_taps.branch [
+pub overflow_add-row : goal.overflow_add-row
+overflow_add-row c = omega (arith, c.loop-cells.invariant.0.size, (come (goal.at.overflow_add-row c).At-loop-cells).few, c.requires.0.short)
+
+pub loop-cells-preserved : goal.loop-cells-preserved
+loop-cells-preserved c =
+    let next = marking-row _ _ _ _ c.loop-cells.invariant.0 in (
+      rw came-more (elim c.match-free_taps.branch [
         | in-Mask w ↦
             let free = free-told c.free_taps.ensures w.in-Mask.is in
-            rw (w.work-is, w.t-is) (next _ _ _ bytes (λ rows size. w.pass_row.ensures _ _ (free-leaves _ _ _ _ _ free c.loop-off.invariant.3) (λ i. false) rows size refl))
-        | in-Other w ↦ rw (w.work-is, w.t-is) (next _ _ _ bytes w.track_row-t.ensures)
-      ],
+            rw (w.work-is, w.t-is) (next _ _ _ (λ rows size. w.pass_row.ensures _ _ (free-leaves _ _ _ _ _ free c.loop-cells.invariant.1) (λ i. false) rows size refl))
+        | in-Other w ↦ rw (w.work-is, w.t-is) (next _ _ _ w.track_row-t.ensures)
+      ]),
       elim c.match-free_taps.branch [
-        | in-Mask w ↦ rw (w.t-is, w.busy-is) c.loop-off.invariant.3
+        | in-Mask w ↦ rw (w.t-is, w.busy-is) c.loop-cells.invariant.1
         | in-Other w ↦ rw (w.t-is, w.busy-is, w.unlike-busy.ensures) (unlike-free 0 _)
       ],
     )
 
-pub loop-off-preserved : goal.loop-off-preserved
-loop-off-preserved c =
-    (c.back_line-line.ensures.within, c.loop-off.invariant.1, marking-passed _ _ _ _ _ _ _ _ c.loop-off-test.true c.back_line-line.ensures c.loop-off.invariant.2 c.if-line.false, c.loop-off.invariant.3)
-
 pub returns : goal.returns
-returns c = marking-end _ _ _ _ _ _ _ c.loop-off-test.false c.loop-off.invariant.2
+returns c =
+    marking-end _ _ _ _ _ (all-came _ _ _ _ _ (come (goal.at.returns c).At-loop-cells) c.in-None.ensures.steps.0) c.loop-cells.invariant.0

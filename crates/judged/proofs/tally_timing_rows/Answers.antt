@@ -1,74 +1,102 @@
--- `judged::tally_timing_rows` meets its contract. The loop's invariant: the tally and the open holds are those of the rows read, whichever rows
--- are judged.
-use Prim.Native.Nat.{◌<◌}
+-- `judged::tally_timing_rows` meets its contract. The loop's invariant: the tally and the open holds are those of the rows that have come, whichever
+-- rows are judged.
+use Prim.Native.Nat.{ℕ, ◌<◌, ◌*◌, ◌≤◌}
+use mathlib.Core.Path.{◌≡◌, sym, ◌∙◌}
+use mathlib.Core.Bool.{true}
+use mathlib.Core.List.{List, [], ◌∷◌}
 use native.Mathlib.Omega.{arith}
-use lib.ListN.{length}
+use lib.ListN.{length, get_or}
+use Rattle.definitions.specs.Lines.{Row}
+use Rattle.definitions.specs.Sizes.{countBound}
+use Rattle.definitions.specs.ReadBack.{readBack}
 use Rattle.taps.proofs.Free.{free-told}
 use Rattle.taps.proofs.Masks.{fits-at}
-use Rattle.reader.proofs.BackRows.{row_within, bytes-short, bytes-long}
-use Rattle.judged.proofs.Tallying.{tallying-start, tallying-few, tallying-room, tallying-passed, tallying-enough, tallying-row, tallying-taps, tallying-end}
+use Rattle.reader.proofs.BackReading.{back-trimmed}
+use Rattle.reader.proofs.BackLoops.{BackCome, came, came-more, back-come, next-inside, next-here, next-wide, all-came, short-back}
+use Rattle.judged.proofs.Tallying.{tallying-start, tallying-few, tallying-enough, tallying-row, tallying-taps, tallying-end}
+use Rattle.judged.proofs.tally_timing_rows.Goals.{At-loop-cells, In-Some, in-Mask, in-Other}
 use Rattle.judged.proofs.tally_timing_rows.Goals as goal
-use Rattle.judged.proofs.tally_timing_rows.Goals.{Then-line, in-Mask, in-Other}
 
--- the row's entry stands in the work slice
-entry-room : (c : goal.Then-line) → c.loop-off.row < length c.args.work.now
+come : (c : At-loop-cells) → BackCome true c.args.lanes c.args.«data».now (came c.loop-cells.yielded) c.loop-cells.cells-iterator
+come c =
+    back-come _ _ _ _ (c.into_iter-cells-iterator.ensures.into_iter_gives ∙ c.back_rows-cells-items.ensures) _ _ c.loop-cells.yielded_by c.requires.data_len_bound.1
+
+-- the row that has come: how wide it is, and its place among all
+record Here (L : ℕ) (text : List ℕ) (rows : List Row) (cells : Row) : Type 0 where
+  wide : length cells ≡ L
+  here : get_or (readBack L text) (length rows) [] ≡ cells
+  inside : length rows < length (readBack L text)
+
+here : (L : ℕ) (text : List ℕ) (rows rest : List Row) → BackCome true L text rows rest → (cells : Row) (below : List Row) → rest ≡ cells ∷ below → Here L text rows cells
+here L text rows rest x cells below e =
+    record {
+      wide = next-wide true L text rows rest x cells below e;
+      here = rw (← back-trimmed L text) (next-here true L text rows rest x cells below e);
+      inside = rw (← back-trimmed L text) (next-inside true L text rows rest x cells below e);
+    }
+
+row-here : (c : In-Some) → Here c.args.lanes c.args.«data».now (came c.loop-cells.yielded) c.in-Some.cells.now
+row-here c =
+    here _ _ _ _ (back-come _ _ _ _ (c.into_iter-cells-iterator.ensures.into_iter_gives ∙ c.back_rows-cells-items.ensures) _ _ c.loop-cells.yielded_by c.requires.data_len_bound.1) _ _
+    c.in-Some.ensures.steps
+
+-- the tally by some rows that are judged, and the row's entry stands in the work slice
+entry-room : (c : In-Some) → c.loop-cells.row < length c.args.work.now
 entry-room c =
-    tallying-room _ _ _ _ _ _ (c.loop-off.invariant.1 _ c.requires.some_work_entries.timed) _ c.loop-off-test.true c.back_line-line.ensures
-    c.if-line.true _ c.requires.data_len_bound.3
+    let x = back-come _ _ _ _ (c.into_iter-cells-iterator.ensures.into_iter_gives ∙ c.back_rows-cells-items.ensures) _ _ c.loop-cells.yielded_by c.requires.data_len_bound.1 in
+    let k = c.loop-cells.invariant _ c.requires.some_work_entries.timed in
+    omega (arith, c.requires.data_len_bound.3, x.most, k.size, next-inside _ _ _ _ _ x _ _ c.in-Some.ensures.steps)
 
-pub loop-off-init : goal.loop-off-init
-loop-off-init c = (omega arith, λ J w. tallying-start _ _ _ _ c.no_timing-t.ensures)
+few : (c : At-loop-cells) → 10 * length (came c.loop-cells.yielded) ≤ countBound
+few c = omega (arith, (come c).few, c.requires.data_len_bound.0)
+
+pub loop-cells-init : goal.loop-cells-init
+loop-cells-init c = λ J w. tallying-start _ _ _ _ c.no_timing-t.ensures
 
 pub offset_bounds-work-row : goal.offset_bounds-work-row
-offset_bounds-work-row c = omega (arith, entry-room c)
+offset_bounds-work-row c = omega (arith, entry-room (goal.at.offset_bounds-work-row c).In-Some)
 
 pub bounds-work-row : goal.bounds-work-row
-bounds-work-row c = entry-room (goal.at.bounds-work-row c).Then-line
+bounds-work-row c = entry-room (goal.at.bounds-work-row c).In-Some
 
 pub process_timing_taps-t-requires : goal.process_timing_taps-t-requires
 process_timing_taps-t-requires c =
-    let few = tallying-few _ _ _ _ _ _ (c.loop-off.invariant.1 _ c.requires.some_work_entries.timed) c.loop-off.invariant.0 c.requires.data_len_bound.0 c.requires.data_len_bound.2 in
-    let long = bytes-long _ _ _ (row_within _ _ _ _ c.back_line-line.ensures c.if-line.true) in (
+    let k = tallying-few _ _ _ _ _ _ (c.loop-cells.invariant _ c.requires.some_work_entries.timed) (few (goal.at.process_timing_taps-t-requires c).At-loop-cells) c.requires.data_len_bound.2 (short-back _ _) in
+    let long = (row-here (goal.at.process_timing_taps-t-requires c).In-Some).wide in (
       rw c.is_wide.ensures c.tap_mask_counts-counts.ensures,
-      few.0,
-      few.1,
+      k.0,
+      k.1,
       rw c.is_wide.ensures (fits-at _ _ _ long (free-told c.free_taps.ensures c.in-Mask.is).mask),
     )
 
 pub process_timing_row-t-requires : goal.process_timing_row-t-requires
 process_timing_row-t-requires c =
-    let tally = c.loop-off.invariant.1 _ c.requires.some_work_entries.timed in
-    let few = tallying-few _ _ _ _ _ _ tally c.loop-off.invariant.0 c.requires.data_len_bound.0 c.requires.data_len_bound.2 in
+    let tally = c.loop-cells.invariant _ c.requires.some_work_entries.timed in
+    let k = tallying-few _ _ _ _ _ _ tally (few (goal.at.process_timing_row-t-requires c).At-loop-cells) c.requires.data_len_bound.2 (short-back _ _) in
+    let h = row-here (goal.at.process_timing_row-t-requires c).In-Some in
     record {
-      cells_len_bound = (bytes-short _ _ _ c.requires.data_len_bound.2, few.0, few.1);
-      bound =
-          tallying-enough _ _ _ _ _ _ tally _ c.loop-off-test.true c.back_line-line.ensures c.if-line.true _ c.requires.data_len_bound.2
-          c.requires.some_work_entries.timed;
+      cells_len_bound = (omega (arith, h.wide, c.requires.data_len_bound.2), k.0, k.1);
+      bound = tallying-enough _ _ _ _ _ _ tally _ h.wide h.here h.inside _ c.requires.data_len_bound.2 (short-back _ _) c.requires.some_work_entries.timed;
     }
 
 pub overflow_add-row : goal.overflow_add-row
-overflow_add-row c = omega (arith, entry-room (goal.at.overflow_add-row c).Then-line)
+overflow_add-row c = omega (arith, entry-room (goal.at.overflow_add-row c).In-Some)
 
-pub loop-off-preserved-after-free_taps : goal.loop-off-preserved-after-free_taps
-loop-off-preserved-after-free_taps c = (
-  c.back_line-line.ensures.within,
-  λ J w.
-      elim c.match-free_taps.branch [
-        | in-Mask v ↦
-            let free = free-told c.free_taps.ensures v.in-Mask.is in
-            rw v.t-is
-            (tallying-taps _ _ _ _ _ _ (c.loop-off.invariant.1 J w) _ c.loop-off-test.true c.back_line-line.ensures c.if-line.true _ c.requires.data_len_bound.2 w _ free _ (v.process_timing_taps-t.ensures _ free.mask))
-        | in-Other v ↦
-            rw v.t-is
-            (tallying-row _ _ _ _ _ _ (c.loop-off.invariant.1 J w) _ c.loop-off-test.true c.back_line-line.ensures c.if-line.true _ c.requires.data_len_bound.2 w _ v.process_timing_row-t.ensures)
-      ],
-)
-
-pub loop-off-preserved : goal.loop-off-preserved
-loop-off-preserved c = (
-  c.back_line-line.ensures.within,
-  λ J w. tallying-passed _ _ _ _ _ _ (c.loop-off.invariant.1 J w) _ c.loop-off-test.true c.back_line-line.ensures c.if-line.false,
-)
+pub loop-cells-preserved : goal.loop-cells-preserved
+loop-cells-preserved c =
+    let h = row-here (goal.at.loop-cells-preserved c).In-Some in
+    λ J w.
+    rw came-more (elim c.match-free_taps.branch [
+      | in-Mask v ↦
+          let free = free-told c.free_taps.ensures v.in-Mask.is in
+          rw v.t-is
+          (tallying-taps _ _ _ _ _ _ (c.loop-cells.invariant J w) _ h.wide h.here h.inside _ c.requires.data_len_bound.2 (short-back _ _) w _ free _ (v.process_timing_taps-t.ensures _ free.mask))
+      | in-Other v ↦
+          rw v.t-is
+          (tallying-row _ _ _ _ _ _ (c.loop-cells.invariant J w) _ h.wide h.here h.inside _ c.requires.data_len_bound.2 (short-back _ _) w _ v.process_timing_row-t.ensures)
+    ])
 
 pub returns : goal.returns
-returns c = λ J w. tallying-end _ _ _ _ _ _ (c.loop-off.invariant.1 J w) c.loop-off-test.false
+returns c =
+    λ J w.
+    tallying-end _ _ _ _ _ _ (c.loop-cells.invariant J w) (sym (back-trimmed _ _) ∙ all-came _ _ _ _ _ (come (goal.at.returns c).At-loop-cells) c.in-None.ensures.steps.0)

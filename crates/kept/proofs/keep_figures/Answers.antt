@@ -18,7 +18,7 @@ returns c =
     let r = c.corrected_stats-corrected.ensures in
     record {
       value = all-figures _ _ _ _ _ x _ (omega (arith, c.requires.le_lanes.0)) (r.value _ x.phantoms x.stats);
-      text_after = c.zero_u8.ensures ∙ all-text _ _ _ _ _ x (length c.args.text.now) k.auto.text c.requires.data_in_bounds.0;
-      densities_after = c.zero_u32.ensures ∙ all-densities _ _ _ _ _ x (length c.args.densities.now) k.auto.densities;
+      text_after = c.zero_past.ensures ∙ all-text _ _ _ _ _ x (length c.args.text.now) k.auto.text c.requires.data_in_bounds.0;
+      densities_after = c.zero_past-2.ensures ∙ all-densities _ _ _ _ _ x (length c.args.densities.now) k.auto.densities;
       work_after = r.work_after ∙ none-off (length c.args.work.now);
     }

@@ -1,31 +1,34 @@
--- `last_beat::scan_last` meets its contract. The loop's invariant: what is kept is what counts of the lines read.
-use Rattle.reader.proofs.Passes.{Over, pass-start, pass-passed, pass-comma, pass-row, pass-semi, pass-end}
-use Rattle.objects.specs.LastKept.{LastKept}
+-- `last_beat::scan_last` meets its contract. The loop's invariant: what is kept is what counts of the lines that have come.
+use mathlib.Core.Path.{◌∙◌}
+use native.Mathlib.Omega.{arith}
+use Rattle.objects.proofs.Scan.{low-more}
+use Rattle.reader.proofs.ChartLoops.{Come, row-wide, holds-start, holds-row, holds-comma, holds-over}
 use Rattle.last_beat.proofs.Looking.{looked-last}
-use Rattle.last_beat.proofs.scan_last.Goals.{else-loop-off-test, then-loop-off-test+in-Semi}
+use Rattle.last_beat.proofs.scan_last.Goals.{At-loop-line}
 use Rattle.last_beat.proofs.scan_last.Goals as goal
 
-pub loop-off-init : goal.loop-off-init
-loop-off-init c = pass-start _ _ c.no_last-s.ensures
+come : (c : At-loop-line) → Come c.args.lanes c.args.«data».now c.loop-line.yielded c.loop-line.line-iterator
+come c =
+    record { lanes = c.requires.1; start = _; from = c.into_iter-line-iterator.ensures.into_iter_gives ∙ c.chart_lines-line-items.ensures; by = c.loop-line.yielded_by }
 
-pub loop-off-preserved-in-Passed : goal.loop-off-preserved-in-Passed
-loop-off-preserved-in-Passed c =
-    pass-passed _ _ _ _ c.loop-off-test.true c.read_line-line.ensures c.loop-off.invariant c.in-Passed.is
+pub loop-line-init : goal.loop-line-init
+loop-line-init c = holds-start _ _ c.requires.1 c.no_last-s.ensures
 
-pub loop-off-preserved-in-Comma : goal.loop-off-preserved-in-Comma
-loop-off-preserved-in-Comma c =
-    pass-comma _ _ _ _ c.loop-off-test.true c.read_line-line.ensures c.loop-off.invariant c.in-Comma.is c.last_measure-s.ensures
+pub last_row-s-requires : goal.last_row-s-requires
+last_row-s-requires c =
+    let wide = row-wide _ _ (come (goal.at.last_row-s-requires c).At-loop-line) _ _ c.next.ensures.steps c.in-Some.is _ c.in-Row.is in
+    let x = c.loop-line.invariant in
+    (omega (arith, wide), omega (arith, x.held.rows, x.few.fifth), low-more _ _ _ (omega (arith, x.few.fifth)) x.held.low)
 
-pub loop-off-preserved : goal.loop-off-preserved
-loop-off-preserved c =
-    pass-row _ _ _ _ c.loop-off-test.true c.read_line-line.ensures c.loop-off.invariant c.in-Row.is c.last_row-s.ensures
+pub loop-line-preserved-in-Row : goal.loop-line-preserved-in-Row
+loop-line-preserved-in-Row c =
+    holds-row _ _ (come (goal.at.loop-line-preserved-in-Row c).At-loop-line) _ _ c.next.ensures.steps c.in-Some.is _ c.in-Row.is c.last_row-s.ensures c.loop-line.invariant
+
+pub loop-line-preserved : goal.loop-line-preserved
+loop-line-preserved c =
+    holds-comma _ _ (come (goal.at.loop-line-preserved c).At-loop-line) _ _ c.next.ensures.steps c.in-Some.is c.in-Comma.is c.last_measure-s.ensures c.loop-line.invariant
 
 pub returns : goal.returns
 returns c =
-    -- at the loop's end one measure is still open
-    let over : Over c.args.lanes c.args.«data».now (LastKept c.loop-off.s) =
-    elim c.loop-off-test.branch [
-      | else-loop-off-test w ↦ pass-end _ _ _ w.loop-off-test.false c.loop-off.invariant
-      | then-loop-off-test+in-Semi w ↦ pass-semi _ _ _ _ w.loop-off-test.true w.read_line-line.ensures c.loop-off.invariant w.in-Semi.is
-    ] in
-    looked-last _ _ _ _ c.last_measure-s-2.ensures over
+    looked-last _ _ _ _ c.last_measure-s-2.ensures
+    (holds-over _ _ (come (goal.at.returns c).At-loop-line) _ _ c.next.ensures.steps c.in-None.is c.loop-line.invariant)

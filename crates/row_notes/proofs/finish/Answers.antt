@@ -7,9 +7,9 @@ use Rattle.row_notes.proofs.finish.Goals as goal
 pub retain-count-requires : goal.retain-count-requires
 retain-count-requires c = omega (arith, rows-length _ _ c.requires)
 
-pub zero_u8-requires : goal.zero_u8-requires
-zero_u8-requires c = omega (arith, rows-length _ _ c.requires)
+pub zero_past-requires-clause-in_bounds : goal.zero_past-requires-clause-in_bounds
+zero_past-requires-clause-in_bounds c = omega (arith, rows-length _ _ c.requires)
 
 pub returns : goal.returns
 returns c =
-    finished _ _ _ _ _ _ _ c.close_heads-out.auto.notes c.retain-count.auto.notes c.close_heads-out.ensures c.retain-count.ensures c.zero_u8.ensures
+    finished _ _ _ _ _ _ _ c.close_heads-out.auto.notes c.retain-count.auto.notes c.close_heads-out.ensures c.retain-count.ensures c.zero_past.ensures

@@ -17,8 +17,8 @@ answer_at-requires c = tag-within c.args.file.now c.args.k c.in-At.tag (tag-foun
 
 pub returns-in-Nothing : goal.returns-in-Nothing
 returns-in-Nothing c =
-    sm-none c.args.file.now c.args.k (omega arith) (sym c.block_at.ensures ∙ c.in-Nothing.is)
+    sm-none c.args.file.now c.args.k c.in_ok-text_fits.ensures.ok (sym c.block_at.ensures ∙ c.in-Nothing.is)
 
 pub returns-in-At : goal.returns-in-At
 returns-in-At c =
-    c.answer_at.ensures ∙ sm-block c.args.file.now c.args.k (omega arith) _ (tag-found (goal.at.returns-in-At c).In-At)
+    c.answer_at.ensures ∙ sm-block c.args.file.now c.args.k c.in_ok-text_fits.ensures.ok _ (tag-found (goal.at.returns-in-At c).In-At)

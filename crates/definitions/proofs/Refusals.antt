@@ -1,0 +1,18 @@
+-- What a call is told stands on its checks alone.
+use mathlib.Core.Path.{◌≡◌, refl}
+use mathlib.Core.List.{List, [], ◌∷◌}
+use Rattle.std.specs.Prelude.{Result, Ok, Err}
+use Rattle.definitions.specs.Refusals.{answered, numberTold}
+use Rattle.definitions.specs.declared.Refusal.{Refusal}
+
+-- the number is the same whatever an accepted call answers
+pub told-alike : {S T : Type 0} (checks : List (Result Unit Refusal)) (x : S) (y : T) → numberTold (answered checks x) ≡ numberTold (answered checks y)
+told-alike [] x y = refl
+told-alike (Ok u ∷ checks) x y = told-alike checks x y
+told-alike (Err r ∷ checks) x y = refl
+
+-- what an accepted call answers
+pub value_answered : {T : Type 0} (checks : List (Result Unit Refusal)) {x y : T} → answered checks x ≡ Ok y → y ≡ x
+value_answered [] e = cc
+value_answered (Ok u ∷ checks) e = value_answered checks e
+value_answered (Err r ∷ checks) e = cc

@@ -1,2 +1,0 @@
--- Laws of the answers.
-pub mod Answers

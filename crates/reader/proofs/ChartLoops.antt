@@ -1,0 +1,190 @@
+-- A loop over the lines of a chart that count, as `charts::chart_lines` gives them: what has been read when some of them have come, how little that is
+-- for a text of so many bytes, and that it is the whole chart at the end.
+use mathlib.Core.Path.{◌≡◌, refl, ap, sym, ◌∙◌, subst}
+use mathlib.Core.List.{List, [], ◌∷◌, ◌++◌, map, map-append}
+use Prim.Native.Nat.{ℕ, zero, suc, ◌+◌, ◌*◌, ◌<◌, ◌≤◌}
+use native.Mathlib.Nat.{le_trans, mul-le-mul_right, le-div_iff_mul-le, mul_comm, le_of_eq}
+use native.Mathlib.Omega.{arith}
+use lib.ListN.{length, get_or, length-append}
+use lib.Seq.{length-take-le}
+use Rattle.std.specs.Prelude.{Option, Some, None, fold, sum_by}
+use Rattle.std.specs.Iterator.{Yields, YieldsFirstBy}
+use Rattle.std.proofs.iter.Next.{Yields-more}
+use Rattle.std.proofs.lemmas.List.Sums.{fold_push, sum_by-cons, sum_by-take-le}
+use Rattle.std.proofs.lemmas.Iterator.Consumers.{YieldsList-from_first, YieldsList-so_far, YieldsList-turn, YieldsList-end}
+use Rattle.definitions.specs.Lists.{joined}
+use Rattle.definitions.specs.Lanes.{mostRows}
+use Rattle.definitions.specs.Lines.{Row, cut, trim, lineKind, lineRow}
+use Rattle.definitions.specs.Measures.{chart}
+use Rattle.definitions.proofs.Lists.{joined_snoc}
+use Rattle.definitions.proofs.ChartRows.{trim-short, row-length}
+use Rattle.definitions.specs.declared.LineKind.{LineKind}
+use Rattle.definitions.specs.declared.LineKind.TheVariants as line
+use Rattle.reader.specs.declared.charts.ChartLine.{ChartLine}
+use Rattle.reader.specs.declared.charts.ChartLine.TheVariants as chart-line
+use Rattle.reader.specs.Marks.{addMark, marks, chart_marks, Held, heldWith, held}
+use Rattle.reader.specs.ChartLines.{mark_of, held_of}
+use Rattle.reader.proofs.Cuts.{lines-bytes, cut-bytes}
+use Rattle.reader.proofs.LineKinds.{comma-some}
+use Rattle.reader.proofs.Marks.{chart-held}
+
+-- ---- a mark takes so many bytes at least, with its newline
+
+abbrev pub bytes_of : ℕ → Option Row → ℕ
+bytes_of L None = 2
+bytes_of L (Some r) = L + 1
+
+marks-bytes : (L : ℕ) (ls : List (List ℕ)) → sum_by (bytes_of L) (marks L ls) ≤ lines-bytes ls
+unfolding lineKind
+marks-bytes L [] = omega arith
+marks-bytes L (l ∷ ls) = go (lineKind L l) refl (marks-bytes L ls)
+  where
+    go : (k : LineKind) → lineKind L l ≡ k → sum_by (bytes_of L) (marks L ls) ≤ lines-bytes ls
+        → sum_by (bytes_of L) (addMark k (lineRow L l) (marks L ls)) ≤ lines-bytes (l ∷ ls)
+    go line.Passed e h = omega arith
+    go line.Comma e h = omega (arith, sum_by-cons (bytes_of L) None (marks L ls), comma-some L l e)
+    go line.Semi e h = omega arith
+    go line.Row e h = omega (arith, sum_by-cons (bytes_of L) (Some (lineRow L l)) (marks L ls), row-length L (trim l) e, trim-short l)
+
+-- ---- what is held takes as many as its marks
+
+abbrev pub held-bytes : ℕ → Held → ℕ
+held-bytes L h = 2 * length h.done + (L + 1) * (length (joined h.done) + length h.cur)
+
+one-more : (L : ℕ) (h : Held) (m : Option Row) → held-bytes L (heldWith h m) ≡ held-bytes L h + bytes_of L m
+one-more L h None = rw (length-append, joined_snoc h.done h.cur, length-append) (omega arith)
+one-more L h (Some r) = rw length-append (omega arith)
+
+all-bytes : (L : ℕ) (h : Held) (ms : List (Option Row)) → held-bytes L (fold heldWith h ms) ≡ fold (λ a m. a + bytes_of L m) (held-bytes L h) ms
+all-bytes L h [] = refl
+all-bytes L h (m ∷ ms) = all-bytes L (heldWith h m) ms ∙ ap (λ a. fold (λ a m. a + bytes_of L m) a ms) (one-more L h m)
+
+held_bytes : (L : ℕ) (ms : List (Option Row)) → held-bytes L (held ms) ≡ sum_by (bytes_of L) ms
+unfolding held
+held_bytes L ms =
+    let none : 2 * 0 + (L + 1) * (0 + 0) ≡ 0 = omega arith in
+    all-bytes L _ ms ∙ ap (λ a. fold (λ a m. a + bytes_of L m) a ms) none
+
+-- ---- rows and measures are few for a text of so many bytes
+
+pub record Few (L : ℕ) (len : ℕ) (done : List (List Row)) (cur : List Row) : Type 0 where
+  pub rows : length (joined done) + length cur ≤ mostRows L len
+  pub fifth : 5 * (length (joined done) + length cur) ≤ len + 1
+  pub measures : 2 * length done ≤ len + 1
+
+few-of : (L len : ℕ) (h : Held) → 4 ≤ L → held-bytes L h ≤ len + 1 → Few L len h.done h.cur
+unfolding mostRows
+few-of L len h w b =
+    let rows = length (joined h.done) + length h.cur in
+    let five : 5 ≤ L + 1 = omega arith in
+    let part : (L + 1) * rows ≤ len + 1 = omega arith in
+    record {
+      rows = (le-div_iff_mul-le {k = L + 1} (omega arith)).1 (le_trans (le_of_eq (mul_comm rows (L + 1))) part);
+      fifth = le_trans (mul-le-mul_right rows five) part;
+      measures = omega arith;
+    }
+
+-- ---- a row has L bytes
+
+marks-wide : (L : ℕ) (ls : List (List ℕ)) (k : ℕ) (m : Option Row) (r : Row) → k < length (marks L ls) → get_or (marks L ls) k m ≡ Some r → length r ≡ L
+unfolding lineKind
+marks-wide L [] k m r h e = absurd (omega arith)
+marks-wide L (l ∷ ls) k m r h e = go (lineKind L l) refl (marks-wide L ls) k h e
+  where
+    go : (n : LineKind) → lineKind L l ≡ n
+        → ((k : ℕ) (m : Option Row) (r : Row) → k < length (marks L ls) → get_or (marks L ls) k m ≡ Some r → length r ≡ L)
+        → (k : ℕ) → k < length (addMark n (lineRow L l) (marks L ls)) → get_or (addMark n (lineRow L l) (marks L ls)) k m ≡ Some r → length r ≡ L
+    go line.Passed q f k h e = f k m r h e
+    go line.Comma q f zero h e = cc
+    go line.Comma q f (suc k) h e = f k m r (omega arith) e
+    go line.Semi q f k h e = absurd (omega arith)
+    go line.Row q f zero h e = let same : lineRow L l ≡ r = cc in sym (ap length same) ∙ length-take-le L (trim l) (row-length L (trim l) q)
+    go line.Row q f (suc k) h e = f k m r (omega arith) e
+
+-- ---- the loop
+
+abbrev pub Steps : List (Option Row) → Option ChartLine → List (Option Row) → Type 0
+Steps = YieldsFirstBy mark_of (λ rest. rest)
+
+held-more : (ls : List ChartLine) (l : ChartLine) → held_of (ls ++ (l ∷ [])) ≡ heldWith (held_of ls) (mark_of l)
+unfolding held
+held-more ls l = ap (fold heldWith _) (map-append mark_of ls (l ∷ [])) ∙ fold_push heldWith _ (map mark_of ls) (mark_of l)
+
+-- Lines of a text have come, with t left to come.
+pub record Come (L : ℕ) (text : List ℕ) (ls : List ChartLine) (t : List (Option Row)) : Type 0 where
+  pub lanes : 4 ≤ L
+  pub start : List (Option Row)
+  pub from : start ≡ chart_marks L text
+  pub by : Yields Steps start ls t
+
+-- A pass holds K of the measures that have ended and of the open one's rows, which are few.
+pub record Holds (L : ℕ) (text : List ℕ) (K : List (List Row) → List Row → Type 0) (ls : List ChartLine) : Type 0 where
+  pub held : K (held_of ls).done (held_of ls).cur
+  pub few : Few L (length text) (held_of ls).done (held_of ls).cur
+
+-- The reading is over, and one measure is still open.
+pub record Over (L : ℕ) (text : List ℕ) (K : List (List Row) → List Row → Type 0) : Type 0 where
+  pub done : List (List Row)
+  pub cur : List Row
+  pub chart-is : chart L text ≡ done ++ (cur ∷ [])
+  pub few : Few L (length text) done cur
+  pub held : K done cur
+
+-- how many bytes at least the lines that have come take in the text
+abbrev pub come-bytes : ℕ → List ChartLine → ℕ
+come-bytes L ls = held-bytes L (held_of ls)
+
+pub bytes-none : (L : ℕ) → come-bytes L [] ≡ 0
+unfolding held
+bytes-none L = omega arith
+
+pub bytes-more : (L : ℕ) (ls : List ChartLine) (l : ChartLine) → come-bytes L (ls ++ (l ∷ [])) ≡ come-bytes L ls + bytes_of L (mark_of l)
+bytes-more L ls l = ap (held-bytes L) (held-more ls l) ∙ one-more L (held_of ls) (mark_of l)
+
+-- no more than the text has, with a newline after it
+pub come-within : (L : ℕ) (text : List ℕ) (ls : List ChartLine) (t : List (Option Row)) → Come L text ls t → come-bytes L ls ≤ length text + 1
+unfolding chart_marks
+come-within L text ls t x =
+    let part = YieldsList-so_far (YieldsList-from_first mark_of (λ rest. rest) (chart_marks L text) x.from) ls t x.by in
+    le_trans (le_of_eq (held_bytes L (map mark_of ls) ∙ ap (sum_by (bytes_of L)) part))
+    (le_trans (sum_by-take-le (bytes_of L) (chart_marks L text) (length ls))
+    (le_trans (marks-bytes L (cut text)) (le_of_eq (cut-bytes text))))
+
+come-few : (L : ℕ) (text : List ℕ) (ls : List ChartLine) (t : List (Option Row)) → Come L text ls t → Few L (length text) (held_of ls).done (held_of ls).cur
+come-few L text ls t x = few-of L (length text) (held_of ls) x.lanes (come-within L text ls t x)
+
+module _ (L : ℕ) (text : List ℕ) where
+  pub holds-start : {K : List (List Row) → List Row → Type 0} → 4 ≤ L → K [] [] → Holds L text K []
+  unfolding held
+  holds-start w k = record { held = k; few = few-of L (length text) (record { done = []; cur = [] }) w (omega arith) }
+
+  -- One line more has come, or none.
+  module _ {ls : List ChartLine} {t : List (Option Row)} (x : Come L text ls t) (r : Option ChartLine) (u : List (Option Row)) (k : Steps t r u) where
+    pub come-more : (l : ChartLine) → r ≡ Some l → Come L text (ls ++ (l ∷ [])) u
+    come-more l e = record { lanes = x.lanes; start = x.start; from = x.from; by = Yields-more Steps x.start ls t l u x.by (subst (λ r. Steps t r u) e k) }
+
+    module _ {l : ChartLine} (e : r ≡ Some l) where
+      pub row-wide : (row : _) → l ≡ chart-line.Row row → length row.now ≡ L
+      unfolding chart_marks
+      row-wide row q =
+          let next = YieldsList-turn (YieldsList-from_first mark_of (λ rest. rest) (chart_marks L text) x.from) ls t x.by r u l e k in
+          marks-wide L (cut text) (length ls) (mark_of l) row.now next.0 (sym next.1 ∙ ap mark_of q)
+
+      module _ {K K' : List (List Row) → List Row → Type 0} where
+        pub holds-row : (row : _) → l ≡ chart-line.Row row → ((done : List (List Row)) (cur : List Row) → K done cur → K' done (cur ++ (row.now ∷ [])))
+            → Holds L text K ls → Holds L text K' (ls ++ (l ∷ []))
+        holds-row row q f h = record { held = rw (held-more ls l, q) (f _ _ h.held); few = come-few L text _ u (come-more l e) }
+
+        pub holds-comma : l ≡ chart-line.Comma → ((done : List (List Row)) (cur : List Row) → K done cur → K' (done ++ (cur ∷ [])) []) → Holds L text K ls → Holds L text K' (ls ++ (l ∷ []))
+        holds-comma q f h = record { held = rw (held-more ls l, q) (f _ _ h.held); few = come-few L text _ u (come-more l e) }
+
+    pub holds-over : {K : List (List Row) → List Row → Type 0} → r ≡ None → Holds L text K ls → Over L text K
+    holds-over n h =
+        let whole = YieldsList-end (YieldsList-from_first mark_of (λ rest. rest) (chart_marks L text) x.from) ls t x.by r u n k in
+        record {
+          done = (held_of ls).done;
+          cur = (held_of ls).cur;
+          chart-is = chart-held L text ∙ ap (λ ms. (held ms).done ++ ((held ms).cur ∷ [])) (sym whole.0);
+          few = h.few;
+          held = h.held;
+        }

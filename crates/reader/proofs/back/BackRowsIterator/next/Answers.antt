@@ -1,0 +1,16 @@
+-- `next` of `reader::back::BackRows` meets its contract: a row that one look tells is the first.
+use Rattle.std.proofs.Common.{length, sym, ap, ◌∙◌, rules}
+use Rattle.lines.proofs.Trims.{part-all}
+use Rattle.reader.proofs.PlainBack.{rows-near}
+use Rattle.reader.proofs.back.BackRowsIterator.next.Goals as goal
+
+pub returns-then-is_plain_row-clause-steps : goal.returns-then-is_plain_row-clause-steps
+returns-then-is_plain_row-clause-steps c =
+    let i = c.self.invariant in
+    rw part-all (sym c.self.view_is ∙ rows-near _ _ _ i.0 i.1 i.2 (sym c.is_plain_row.ensures ∙ c.if-is_plain_row.true) _)
+
+pub returns-then-is_plain_row-clause-goes : goal.returns-then-is_plain_row-clause-goes
+returns-then-is_plain_row-clause-goes c =
+    let i = c.self.invariant in
+    let shorter = ap length (sym c.self.view_is ∙ rows-near _ _ _ i.0 i.1 i.2 (sym c.is_plain_row.ensures ∙ c.if-is_plain_row.true) _) in
+    rw part-all (search rules)

@@ -1,0 +1,37 @@
+-- `reader::back::look_ahead` meets its contract: the rows of what is left are those from its first line on.
+use Rattle.std.proofs.Common.{◌≡◌, ℕ, Bool, ◌&&◌, not, ◌<◌, List, [], ◌∷◌, ◌++◌, take, sym, ap, ◌∙◌, rules}
+use lib.Seq.{length-take-le}
+use Rattle.std.proofs.lemmas.List.{nil_from_length}
+use Rattle.definitions.specs.Lists.{only_if, after}
+use Rattle.definitions.specs.Lines.{isRow}
+use Rattle.definitions.specs.ReadBack.{beginsMark}
+use Rattle.lines.specs.Lines.{firstLine}
+use Rattle.reader.specs.BackReading.{trimmedBy, rowsBack}
+use Rattle.reader.proofs.Cuts.{after-less}
+use Rattle.reader.proofs.BackLoops.{rows-first, rows-none, row-long}
+use Rattle.reader.proofs.back.look_ahead.Goals as goal
+
+turn : (trim : Bool) (L : ℕ) (text rest line bare below : List ℕ) (t : Bool) → 0 < L → rowsBack trim L text ≡ rowsBack trim L rest
+    → line ≡ firstLine rest → below ≡ after 10 rest → bare ≡ trimmedBy trim line → t ≡ (isRow L bare && not (beginsMark bare))
+    → rowsBack trim L text ≡ only_if t (take L bare ∷ []) ++ rowsBack trim L below
+turn trim L text rest line bare below t some h el eb et ek = h ∙ rows-first trim L rest some ∙ rw (ek, et, el, eb)
+
+pub slice_bounds-result-end : goal.slice_bounds-result-end
+slice_bounds-result-end c = sym (length-take-le c.args.lanes _ (row-long c.args.lanes c.bare_line-bare.result.now (sym c.is_back_row.ensures ∙ c.if-is_back_row.true)))
+
+pub returns-then-is_back_row : goal.returns-then-is_back_row
+returns-then-is_back_row c =
+    turn _ _ _ _ _ _ _ _ c.requires c.loop-rest.invariant c.split_line.ensures.line c.split_line.ensures.rest c.bare_line-bare.ensures (sym c.if-is_back_row.true ∙ c.is_back_row.ensures)
+
+pub loop-rest-smaller : goal.loop-rest-smaller
+loop-rest-smaller c = after-less _ _ (search rules) c.split_line.ensures.rest
+
+pub loop-rest-preserved : goal.loop-rest-preserved
+loop-rest-preserved c =
+    turn _ _ _ _ _ _ _ _ c.requires c.loop-rest.invariant c.split_line.ensures.line c.split_line.ensures.rest c.bare_line-bare.ensures (sym c.if-is_back_row.false ∙ c.is_back_row.ensures)
+
+pub returns : goal.returns
+returns c =
+    let ended = nil_from_length c.loop-rest.rest.now (search rules) in
+    let none = ap (rowsBack c.args.trim c.args.lanes) ended ∙ rows-none c.args.trim c.args.lanes c.requires in
+    (c.loop-rest.invariant ∙ none, none)

@@ -1,0 +1,96 @@
+// The checks of a call on a chart's text, each by the lengths of what it was lent. A call makes them in order, and ends with the first that refuses.
+#![tactic(auto)]
+
+ghost use Rattle.std.specs.Prelude.{◌≡◌, ◌+◌, ◌*◌, ◌/◌, ◌≤◌, OnOk};
+ghost use Rattle.definitions.specs.Sizes.{mostBytes};
+ghost use Rattle.definitions.specs.Lanes.{mostRows};
+ghost use Rattle.definitions.specs.Refusals.{longText, shortText, shortMeasures, shortBeats, shortWork, shortNotes};
+
+use definitions::Refusal;
+
+// The text is not too long.
+#[tactic(auto, unfolding(definitions::specs::Refusals::longText))]
+pub fn text_fits(len: usize) -> Result<(), Refusal>
+    ensures value { result ≡ longText len }
+    ensures ok { OnOk result (len ≤ mostBytes) }
+{
+    if definitions::MOST_BYTES < len {
+        return Err(Refusal::LongText);
+    }
+    Ok(())
+}
+
+// The text slice has room for a text of that length.
+#[tactic(auto, unfolding(definitions::specs::Refusals::shortText))]
+pub fn room_for_text(len: usize, room: usize) -> Result<(), Refusal>
+    requires { len ≤ mostBytes }
+    ensures value { result ≡ shortText len room }
+    ensures ok { OnOk result (len + 1 ≤ room) }
+{
+    if room < len + 1 {
+        return Err(Refusal::ShortText);
+    }
+    Ok(())
+}
+
+// The measure slice has room for the measures of such a text.
+#[tactic(auto, unfolding(definitions::specs::Refusals::shortMeasures))]
+pub fn room_for_measures(len: usize, room: usize) -> Result<(), Refusal>
+    requires { len ≤ mostBytes }
+    ensures value { result ≡ shortMeasures len room }
+    ensures ok { OnOk result ((len + 1) / 2 + 1 ≤ room) }
+{
+    if room < (len + 1) / 2 + 1 {
+        return Err(Refusal::ShortMeasures);
+    }
+    Ok(())
+}
+
+// The most rows of such a text at so many lanes.
+#[tactic(auto, unfolding(definitions::specs::Lanes::mostRows))]
+pub fn most_rows(lanes: usize, len: usize) -> usize
+    requires { (lanes ≤ 10) × (len ≤ mostBytes) }
+    ensures value { result ≡ mostRows lanes len }
+    ensures few { result ≤ len + 1 }
+{
+    (len + 1) / (lanes + 1)
+}
+
+// The beat slice has room for the beats of such a text's rows.
+#[tactic(auto, unfolding(definitions::specs::Refusals::shortBeats))]
+pub fn room_for_beats(lanes: usize, len: usize, room: usize) -> Result<(), Refusal>
+    requires { (lanes ≤ 10) × (len ≤ mostBytes) }
+    ensures value { result ≡ shortBeats lanes len room }
+    ensures ok { OnOk result (mostRows lanes len ≤ room) }
+{
+    if room < most_rows(lanes, len) {
+        return Err(Refusal::ShortBeats);
+    }
+    Ok(())
+}
+
+// The work slice has room for its rows.
+#[tactic(auto, unfolding(definitions::specs::Refusals::shortWork))]
+pub fn room_for_work(lanes: usize, len: usize, room: usize) -> Result<(), Refusal>
+    requires { (lanes ≤ 10) × (len ≤ mostBytes) }
+    ensures value { result ≡ shortWork lanes len room }
+    ensures ok { OnOk result (mostRows lanes len ≤ room) }
+{
+    if room < most_rows(lanes, len) {
+        return Err(Refusal::ShortWork);
+    }
+    Ok(())
+}
+
+// The note slice has room for a note in each cell of its rows.
+#[tactic(auto, unfolding(definitions::specs::Refusals::shortNotes))]
+pub fn room_for_notes(lanes: usize, len: usize, room: usize) -> Result<(), Refusal>
+    requires { (lanes ≤ 10) × (len ≤ mostBytes) }
+    ensures value { result ≡ shortNotes lanes len room }
+    ensures ok { OnOk result (10 * lanes * mostRows lanes len ≤ room) }
+{
+    if room < 10 * lanes * most_rows(lanes, len) {
+        return Err(Refusal::ShortNotes);
+    }
+    Ok(())
+}

@@ -1,2 +1,0 @@
--- What the contracts of the scans cite, beside the definitions.
-pub mod Answers

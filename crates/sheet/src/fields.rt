@@ -1,0 +1,108 @@
+// The fields of a tally, each with its name.
+ghost use Rattle.std.specs.Prelude.{◌≡◌, ◌<◌, [], get_or};
+ghost use Rattle.sheet.specs.Sheet.{fieldsOf};
+
+use definitions::ArrowStats;
+use std::marker::Model;
+
+// A field of a tally: its name and its count.
+#[derive(Drop)]
+pub struct Field {
+    name: &'static str,
+    count: u32,
+}
+
+impl Model for Field {
+    ghost use Rattle.std.specs.Prelude.{List, ℕ};
+
+    ghost Value = { List ℕ × ℕ };
+
+    ghost view = { λ f. (f.name.now, f.count) };
+}
+
+impl Field {
+    pub fn name(&self) -> &'static str
+        ensures { result.now ≡ self.now.0 }
+    {
+        self.name
+    }
+
+    pub fn count(&self) -> u64
+        ensures { result ≡ self.now.1 }
+    {
+        self.count as u64
+    }
+}
+
+// One field of a tally.
+pub fn field_at(fields: &[Field; 14], i: usize) -> &Field
+    requires { i < 14 }
+    ensures { result.now ≡ get_or fields.now i ([], 0) }
+{
+    &fields[i]
+}
+
+// The fields of a tally in their order.
+#[tactic(auto, unfolding(crate::specs::Sheet::fieldsOf))]
+pub fn fields_of(stats: &ArrowStats) -> [Field; 14]
+    ensures { result ≡ fieldsOf stats.now }
+{
+    [
+        Field {
+            name: "total_arrows",
+            count: stats.total_arrows,
+        },
+        Field {
+            name: "left",
+            count: stats.left,
+        },
+        Field {
+            name: "down",
+            count: stats.down,
+        },
+        Field {
+            name: "up",
+            count: stats.up,
+        },
+        Field {
+            name: "right",
+            count: stats.right,
+        },
+        Field {
+            name: "total_steps",
+            count: stats.total_steps,
+        },
+        Field {
+            name: "jumps",
+            count: stats.jumps,
+        },
+        Field {
+            name: "hands",
+            count: stats.hands,
+        },
+        Field {
+            name: "mines",
+            count: stats.mines,
+        },
+        Field {
+            name: "holds",
+            count: stats.holds,
+        },
+        Field {
+            name: "rolls",
+            count: stats.rolls,
+        },
+        Field {
+            name: "lifts",
+            count: stats.lifts,
+        },
+        Field {
+            name: "fakes",
+            count: stats.fakes,
+        },
+        Field {
+            name: "holding",
+            count: stats.holding,
+        },
+    ]
+}
