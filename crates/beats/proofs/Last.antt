@@ -5,7 +5,7 @@ use lib.Ieee.{Float, fin, binary64, nearest, round, add, mul, div, lt, is_nan}
 use lib.Ieee.Fits.{nearest-le}
 use lib.Ieee.Exact.{HasValue}
 use lib.Ieee.Positive.{num, den, den_pos}
-use Rattle.definitions.specs.Beats.{f64, beat, whole, lastRow, rowToBeat}
+use Rattle.definitions.specs.Beats.{f64, beat, whole, last_row, row_to_beat}
 use Rattle.beats.specs.Places.{Inside}
 use Rattle.beats.specs.Upto.{Upto}
 use Rattle.beats.proofs.Numbers.{cmp-lt, cmp-eq, cmp-gt}
@@ -36,12 +36,12 @@ pub whole-most : (x : Float) → Upto x (2 ^ 38) → whole x ≤ 2 ^ 39
 unfolding whole
 whole-most x u = le_trans (nearest-le (num x / den x) (compare (num x % den x * 2) (den x))) (quotient-lt x u)
 
-pub row-most : (m r n : ℕ) → Inside m r n → lastRow m r n ≤ 2 ^ 39
-unfolding lastRow
+pub row-most : (m r n : ℕ) → Inside m r n → last_row m r n ≤ 2 ^ 39
+unfolding last_row
 row-most m r n i = whole-most (mul binary64 (beat m r n) (f64 48)) (scaled-upto m r n i)
 
-pub beat-number : (k : ℕ) → k ≤ 2 ^ 39 → T (not (is_nan (rowToBeat k)))
-unfolding rowToBeat
+pub beat-number : (k : ℕ) → k ≤ 2 ^ 39 → T (not (is_nan (row_to_beat k)))
+unfolding row_to_beat
 beat-number k h =
     let u = weaken (f64 k) k (2 ^ 39) h (upto-whole binary64 k (le_trans h (lit≤ tt))) in
     upto-number (div binary64 (f64 k) (f64 48)) (2 * 2 ^ 39 + 1) (upto-div binary64 (f64 k) 48 (2 ^ 39) (lit< tt) (lit≤ tt) (lit< tt) u)

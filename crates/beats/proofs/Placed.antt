@@ -1,7 +1,7 @@
 -- The bounds of a last object row, for whoever carries one, and what follows of its beat. Assumes nothing.
 use Rattle.std.proofs.Common.{◌≡◌, ℕ, ◌^◌, ◌≤◌, not, T, refl, arith, lit≤}
 use lib.Ieee.{is_nan}
-use Rattle.definitions.specs.Beats.{rowToBeat}
+use Rattle.definitions.specs.Beats.{row_to_beat}
 use Rattle.definitions.specs.Objects.{place48}
 use Rattle.beats.specs.Places.{place_of, Inside, Placed}
 use Rattle.beats.specs.declared.LastObject.{LastObject}
@@ -21,5 +21,5 @@ pub placed-most : (o : LastObject) → Placed o → place48 (place_of o) ≤ 2 ^
 placed-most Nothing h = lit≤ tt
 placed-most (At m r n) h = row-most m r n (h.inside m r n refl)
 
-pub placed-number : (o : LastObject) → Placed o → T (not (is_nan (rowToBeat (place48 (place_of o)))))
+pub placed-number : (o : LastObject) → Placed o → T (not (is_nan (row_to_beat (place48 (place_of o)))))
 placed-number o h = beat-number (place48 (place_of o)) (placed-most o h)

@@ -4,7 +4,7 @@ use lib.Ieee.{Float, binary32, round}
 use lib.Ieee.Exact.{HasValue}
 use lib.Ieee.Scale.{round_same}
 use lib.Ieee.Positive.{num, den, den_pos, value→cross}
-use Rattle.definitions.specs.Beats.{step, fused, rowBeat}
+use Rattle.definitions.specs.Beats.{step, fused, beat_of_row}
 use Rattle.beats.proofs.Sticky.{sticky}
 
 cross : (r N a d s c : ℕ) → N * c ≡ s * d → (r * N + a * d) * c ≡ (r * s + a * c) * d
@@ -18,8 +18,8 @@ unfolding fused
 fused-is r a s c x C v =
     round_same binary32 false (r * num x + a * den x) (den x) (r * s + a * c) c (den_pos x) C (cross r (num x) a (den x) s c (value→cross x s c v))
 
-pub beat-is : (m r n s : ℕ) → HasValue (step n) false s (2 ^ 43) → round binary32 false (r * s + 4 * m * 2 ^ 43) (2 ^ 43) ≡ rowBeat m r n
-unfolding rowBeat
+pub beat-is : (m r n s : ℕ) → HasValue (step n) false s (2 ^ 43) → round binary32 false (r * s + 4 * m * 2 ^ 43) (2 ^ 43) ≡ beat_of_row m r n
+unfolding beat_of_row
 beat-is m r n s v = sym (fused-is r (4 * m) s (2 ^ 43) (step n) (lit< tt) v)
 
 -- where n steps are 4 beats, row r of measure m is m × n + r steps after beat 0

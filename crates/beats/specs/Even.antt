@@ -4,8 +4,8 @@ use Rattle.std.specs.Float.Ieee.Exact.{HasValue}
 use Rattle.definitions.specs.Beats.{step}
 
 -- every whole number up to this is a float of 32 bits exactly
-abbrev pub exactBound : ℕ
-exactBound = 16777216
+abbrev pub exact_bound : ℕ
+exact_bound = 16777216
 
 -- the step of n rows is s units of 2^-43, and n steps are 4 beats: 2^45 units
 pub record EvenStep (n : ℕ) : Type 0 where

@@ -1,7 +1,7 @@
 -- Rows by their place, as the contracts of this crate speak of them.
 use Rattle.std.specs.Prelude.{◌≡◌, ℕ, ◌<◌, ◌≤◌}
 use Rattle.std.proofs.Math.Option.{Option, none, some}
-use Rattle.definitions.specs.Sizes.{measuresBound, rowsBound}
+use Rattle.definitions.specs.Sizes.{measures_bound, row_count_bound}
 use Rattle.definitions.specs.Objects.{Place}
 use Rattle.beats.specs.declared.LastObject.{LastObject}
 use Rattle.beats.specs.declared.LastObject.TheVariants.{Nothing, At}
@@ -10,8 +10,8 @@ use Rattle.beats.specs.declared.LastObject.TheVariants.{Nothing, At}
 -- 5 bytes or more, and the end of a measure 2.
 pub record Inside (m r n : ℕ) : Type 0 where
   pub row : r < n
-  pub rows : n < rowsBound
-  pub measure : m ≤ measuresBound
+  pub rows : n < row_count_bound
+  pub measure : m ≤ measures_bound
 
 -- the place that a last object row stands for
 abbrev pub place_of : LastObject → Option Place

@@ -3,13 +3,13 @@
 use Rattle.std.specs.Prelude.{◌≡◌, ℕ, Bool, true, ◌&&◌, List, [], ◌∷◌, ◌==◌, refl}
 use Rattle.std.specs.Float.{binary32, binary64}
 use Rattle.std.specs.Float.Ieee.{round, add, mul, div, of_int, to_bits}
-use Rattle.definitions.specs.Beats.{step, fused, rowBeat, beat, whole, lastRow, rowToBeat}
+use Rattle.definitions.specs.Beats.{step, fused, beat_of_row, beat, whole, last_row, row_to_beat}
 
 abbrev Result : Type 0
 Result = ℕ × ℕ × ℕ × ℕ × ℕ
 
 right : Result → Bool
-right t = to_bits binary32 (rowBeat t.0 t.1 t.2) == t.3 && to_bits binary64 (rowToBeat (lastRow t.0 t.1 t.2)) == t.4
+right t = to_bits binary32 (beat_of_row t.0 t.1 t.2) == t.3 && to_bits binary64 (row_to_beat (last_row t.0 t.1 t.2)) == t.4
 
 all : List Result → Bool
 all [] = true
@@ -67,5 +67,5 @@ results =
     (8388608, 4194302, 4194303, 1275068417, 4719772410021150720) ∷ []
 
 results-right : all results ≡ true
-unfolding right all results rowBeat fused step rowToBeat lastRow whole beat round add mul div of_int to_bits
+unfolding right all results beat_of_row fused step row_to_beat last_row whole beat round add mul div of_int to_bits
 results-right = refl

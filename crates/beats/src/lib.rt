@@ -6,12 +6,12 @@ ghost use Rattle.std.specs.Prelude.{◌≡◌, ℕ, ◌+◌, ◌*◌, ◌^◌, �
 ghost use Rattle.std.specs.Float.{binary32, binary64};
 ghost use Rattle.std.specs.Float.Ieee.{round};
 ghost use Rattle.std.specs.Float.Ieee.Exact.{HasValue};
-ghost use Rattle.definitions.specs.Sizes.{measuresBound, rowsBound};
-ghost use Rattle.definitions.specs.Beats.{step, rowBeat, rowBeats, whole, lastRow, rowToBeat};
+ghost use Rattle.definitions.specs.Sizes.{measures_bound, row_count_bound};
+ghost use Rattle.definitions.specs.Beats.{step, beat_of_row, row_beats, whole, last_row, row_to_beat};
 ghost use Rattle.definitions.specs.Objects.{place48};
 ghost use Rattle.beats.specs.Places.{Inside, place_of, Placed};
 ghost use Rattle.beats.specs.Upto.{Upto};
-ghost use Rattle.beats.specs.Even.{exactBound, EvenStep};
+ghost use Rattle.beats.specs.Even.{exact_bound, EvenStep};
 
 // 2^-43, of which every step is a whole number.
 const FINE: f32 = 1.1368683772161603e-13;
@@ -26,7 +26,7 @@ const EXACT_BOUND: u64 = 16777216;
 
 // The step 4 / n, an f32, in units of 2^-43.
 fn step_units(n: u32) -> u64
-    requires { (0 < n) × (n < rowsBound) }
+    requires { (0 < n) × (n < row_count_bound) }
     ensures { (HasValue (step n) false result (2 ^ 43)) × (result * n < 2 ^ 46) }
 {
     let x: f32 = 4.0 / (n as f32);
@@ -44,7 +44,7 @@ fn rounded(x: u64, unit: f32) -> f32
 // r × s + 4 × m, with s in units of 2^-43, worked out exactly and rounded once. From m = 4 on the exact number takes up to
 // 69 binary digits. A float keeps 24, so after the 25th it is enough to know whether any digit is not 0: one more digit says so.
 fn mul_add(r: u32, s: u64, m: u32) -> f32
-    requires { (r * s < 2 ^ 46) × (m ≤ measuresBound) }
+    requires { (r * s < 2 ^ 46) × (m ≤ measures_bound) }
     ensures { result ≡ round binary32 false (r * s + 4 * m * 2 ^ 43) (2 ^ 43) }
 {
     let p = (r as u64) * s;
@@ -62,7 +62,7 @@ fn mul_add(r: u32, s: u64, m: u32) -> f32
 // The beat of row r of n in measure m.
 pub fn row_beat(m: u32, r: u32, n: u32) -> f32
     requires { Inside m r n }
-    ensures { result ≡ rowBeat m r n }
+    ensures { result ≡ beat_of_row m r n }
 {
     let s = step_units(n);
     mul_add(r, s, m)
@@ -70,7 +70,7 @@ pub fn row_beat(m: u32, r: u32, n: u32) -> f32
 
 // The step 4 / n.
 fn step_of(n: u32) -> f32
-    requires { n < rowsBound }
+    requires { n < row_count_bound }
     ensures { result ≡ step n }
 {
     4.0 / (n as f32)
@@ -78,7 +78,7 @@ fn step_of(n: u32) -> f32
 
 // k steps: both factors are floats exactly, so that only the product rounds.
 fn steps_beat(k: u32, step: f32) -> f32
-    requires { k < exactBound }
+    requires { k < exact_bound }
     ensures { (s : ℕ) → HasValue step false s (2 ^ 43) → result ≡ round binary32 false (k * s) (2 ^ 43) }
 {
     (k as f32) * step
@@ -86,8 +86,8 @@ fn steps_beat(k: u32, step: f32) -> f32
 
 // The beats of a measure whose rows are an even part of 4 beats: row r stands `midx` × `rows` + r steps after beat 0.
 fn append_steps(beats: &mut [f32], at: usize, midx: u32, rows: u32)
-    requires { (at + rows ≤ length beats.old) × (rows < rowsBound) × (midx * rows + rows ≤ exactBound) × EvenStep rows }
-    ensures { beats.new ≡ (take at beats.old ++ rowBeats midx rows 0 rows) ++ drop (at + rows) beats.old }
+    requires { (at + rows ≤ length beats.old) × (rows < row_count_bound) × (midx * rows + rows ≤ exact_bound) × EvenStep rows }
+    ensures { beats.new ≡ (take at beats.old ++ row_beats midx rows 0 rows) ++ drop (at + rows) beats.old }
 {
     let step = step_of(rows);
     let first = midx * rows;
@@ -100,8 +100,8 @@ fn append_steps(beats: &mut [f32], at: usize, midx: u32, rows: u32)
 
 // The beats of any measure's rows, by the step in units of 2^-43.
 fn append_rounded(beats: &mut [f32], at: usize, midx: u32, rows: u32, s: u64)
-    requires { (at + rows ≤ length beats.old) × (midx ≤ measuresBound) × (HasValue (step rows) false s (2 ^ 43)) × (s * rows < 2 ^ 46) }
-    ensures { beats.new ≡ (take at beats.old ++ rowBeats midx rows 0 rows) ++ drop (at + rows) beats.old }
+    requires { (at + rows ≤ length beats.old) × (midx ≤ measures_bound) × (HasValue (step rows) false s (2 ^ 43)) × (s * rows < 2 ^ 46) }
+    ensures { beats.new ≡ (take at beats.old ++ row_beats midx rows 0 rows) ++ drop (at + rows) beats.old }
 {
     let mut r: u32 = 0;
     while r < rows {
@@ -113,8 +113,8 @@ fn append_rounded(beats: &mut [f32], at: usize, midx: u32, rows: u32, s: u64)
 // The beats of the rows of measure `midx`, written from place `at` on. The step is worked out once a measure. Where its rows, as most do,
 // divide 4 beats evenly and their numbers are floats exactly, each beat is one product.
 pub fn append_row_beats(beats: &mut [f32], at: usize, midx: u32, rows: u32)
-    requires { (at + rows ≤ length beats.old) × (rows < rowsBound) × (midx ≤ measuresBound) }
-    ensures { beats.new ≡ (take at beats.old ++ rowBeats midx rows 0 rows) ++ drop (at + rows) beats.old }
+    requires { (at + rows ≤ length beats.old) × (rows < row_count_bound) × (midx ≤ measures_bound) }
+    ensures { beats.new ≡ (take at beats.old ++ row_beats midx rows 0 rows) ++ drop (at + rows) beats.old }
 {
     if rows == 0 {
         return;
@@ -150,7 +150,7 @@ fn lrint_f64(x: f64) -> u64
 // The beat of row r of n in measure m, in 48ths: worked out in f64, and rounded.
 pub fn beat_to_note_row(m: u32, r: u32, n: u32) -> u64
     requires { Inside m r n }
-    ensures { (result ≡ lastRow m r n) × (result ≤ 2 ^ 39) }
+    ensures { (result ≡ last_row m r n) × (result ≤ 2 ^ 39) }
 {
     let beat = (m as f64) * 4.0 + 4.0 * (r as f64) / (n as f64);
     lrint_f64(beat * 48.0)
@@ -159,7 +159,7 @@ pub fn beat_to_note_row(m: u32, r: u32, n: u32) -> u64
 // 48ths of a beat as beats.
 pub fn note_row_to_beat(row: u64) -> f64
     requires { row ≤ 2 ^ 39 }
-    ensures { result ≡ rowToBeat row }
+    ensures { result ≡ row_to_beat row }
 {
     (row as f64) / 48.0
 }
@@ -185,7 +185,7 @@ pub fn last_note_row(last: LastObject) -> u64
 // The last beat.
 pub fn calc_last_beat(last: LastObject) -> f64
     requires { Placed last }
-    ensures { result ≡ rowToBeat (place48 (place_of last)) }
+    ensures { result ≡ row_to_beat (place48 (place_of last)) }
 {
     note_row_to_beat(last_note_row(last))
 }
@@ -193,7 +193,7 @@ pub fn calc_last_beat(last: LastObject) -> f64
 // The last beat's bits.
 pub fn last_beat_bits(last: LastObject) -> u64
     requires { Placed last }
-    ensures { result ≡ to_bits binary64 (rowToBeat (place48 (place_of last))) }
+    ensures { result ≡ to_bits binary64 (row_to_beat (place48 (place_of last))) }
 {
     f64::to_bits(calc_last_beat(last))
 }

@@ -8,34 +8,34 @@ use borrow.Author.Tests.{le-ltb}
 use lib.Ieee.{Float}
 use lib.ListN.{length, get_or, take, length-append, length-replicate}
 use lib.Seq.{take_at}
-use Rattle.definitions.specs.Sizes.{mostBytes}
+use Rattle.definitions.specs.Sizes.{most_bytes}
 use Rattle.definitions.specs.Lists.{padded}
-use Rattle.definitions.specs.Lanes.{lanes_of, mostRows}
-use Rattle.definitions.specs.Refusals.{longText, shortText, shortMeasures, shortBeats, shortWork, shortNotes}
+use Rattle.definitions.specs.Lanes.{lanes_of, most_rows_in}
+use Rattle.definitions.specs.Refusals.{long_text, short_text, short_measures, short_beats, short_work, short_notes}
 use Rattle.definitions.specs.declared.Refusal.{Refusal}
 use Rattle.sheet.specs.Card.{sheet}
-use Rattle.chart_sheet.specs.Forms.{chartSheet}
-use Rattle.chart_sheet.specs.Entry.{shortSheet, otherForm, sheetPlaces, sheetAnswer, sheetLeft}
+use Rattle.chart_sheet.specs.Forms.{sheet_in_form}
+use Rattle.chart_sheet.specs.Entry.{short_sheet, other_form, places_of_sheet, sheet_answer, sheet_left}
 
-rows-most : (len : ℕ) → len ≤ 4095 → mostRows 4 len ≤ 819
-unfolding mostRows
+rows-most : (len : ℕ) → len ≤ 4095 → most_rows_in 4 len ≤ 819
+unfolding most_rows_in
 rows-most len h = omega arith
 
 -- the call accepts, by the lengths that the card's arrays have
 pub answer_is : (text out ds ss : List ℕ) (bs : List Float) (work ns sh : List ℕ) → length text ≤ 4095 → 4096 ≡ length out → 2049 ≡ length ds
     → 2049 ≡ length ss → 819 ≡ length bs → 819 ≡ length work → 32760 ≡ length ns → 175032 ≤ length sh
-    → sheetAnswer 4 0 text out ds ss bs work ns sh ≡ Ok (sheetPlaces 0 4 text)
-unfolding sheetAnswer longText shortText shortMeasures shortBeats shortWork shortNotes shortSheet otherForm lanes_of
+    → sheet_answer 4 0 text out ds ss bs work ns sh ≡ Ok (places_of_sheet 0 4 text)
+unfolding sheet_answer long_text short_text short_measures short_beats short_work short_notes short_sheet other_form lanes_of
 answer_is text out ds ss bs work ns sh h o d s b w n g =
-    let few : mostRows 4 (length text) ≤ 819 = rows-most (length text) h in
+    let few : most_rows_in 4 (length text) ≤ 819 = rows-most (length text) h in
     simp (
-      le-ltb mostBytes (length text) (omega arith),
+      le-ltb most_bytes (length text) (omega arith),
       le-ltb (length out) (length text + 1) (omega arith),
       le-ltb (length ds) ((length text + 1) / 2 + 1) (omega arith),
       le-ltb (length ss) ((length text + 1) / 2 + 1) (omega arith),
-      le-ltb (length bs) (mostRows 4 (length text)) (omega arith),
-      le-ltb (length work) (mostRows 4 (length text)) (omega arith),
-      le-ltb (length ns) (10 * 4 * mostRows 4 (length text)) (omega arith),
+      le-ltb (length bs) (most_rows_in 4 (length text)) (omega arith),
+      le-ltb (length work) (most_rows_in 4 (length text)) (omega arith),
+      le-ltb (length ns) (10 * 4 * most_rows_in 4 (length text)) (omega arith),
       le-ltb (length sh) (42 * (length text + 1) + 3000) (omega arith),
     )
 
@@ -44,24 +44,24 @@ padded-fits : (l : List ℕ) (n : ℕ) → length (padded 0 n l) ≡ n → lengt
 padded-fits l n e = omega (arith, simp (length-append, length-replicate) at e)
 
 module _ (text out ds ss : List ℕ) (bs : List Float) (work ns sh : List ℕ)
-    (accepted : sheetAnswer 4 0 text out ds ss bs work ns sh ≡ Ok (sheetPlaces 0 4 text)) where
-  left : sheetLeft 4 0 text out ds ss bs work ns sh ≡ padded 0 (length sh) (sheet 4 text)
-  unfolding chartSheet lanes_of
+    (accepted : sheet_answer 4 0 text out ds ss bs work ns sh ≡ Ok (places_of_sheet 0 4 text)) where
+  left : sheet_left 4 0 text out ds ss bs work ns sh ≡ padded 0 (length sh) (sheet 4 text)
+  unfolding sheet_in_form lanes_of
   left = rw accepted
 
-  count : get_or (sheetPlaces 0 4 text) 7 0 ≡ length (sheet 4 text)
-  unfolding chartSheet
+  count : get_or (places_of_sheet 0 4 text) 7 0 ≡ length (sheet 4 text)
+  unfolding sheet_in_form
   count = refl
 
-  module _ {r : Result (List ℕ) Refusal} (told : r ≡ sheetAnswer 4 0 text out ds ss bs work ns sh) where
+  module _ {r : Result (List ℕ) Refusal} (told : r ≡ sheet_answer 4 0 text out ds ss bs work ns sh) where
     -- it is not refused
     pub not-refused : {e : Refusal} → r ≡ Err e → ⊥
     not-refused e = cc (told, accepted, e)
 
-    pub taken : {h f : List ℕ} → h ≡ sheetLeft 4 0 text out ds ss bs work ns sh → r ≡ Ok f
+    pub taken : {h f : List ℕ} → h ≡ sheet_left 4 0 text out ds ss bs work ns sh → r ≡ Ok f
         → length h ≡ length sh → (get_or f 7 0 ≤ length h) × (take (get_or f 7 0) h ≡ sheet 4 text)
     taken {h} {f} h-is f-is same =
-        let places : f ≡ sheetPlaces 0 4 text = cc (told, accepted, f-is) in
+        let places : f ≡ places_of_sheet 0 4 text = cc (told, accepted, f-is) in
         let n : get_or f 7 0 ≡ length (sheet 4 text) = ap (λ (l : List ℕ). get_or l 7 0) places ∙ count in
         let padded-is : h ≡ padded 0 (length sh) (sheet 4 text) = h-is ∙ left in
         let fits = padded-fits (sheet 4 text) (length sh) (ap length (sym padded-is) ∙ same) in

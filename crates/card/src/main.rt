@@ -3,7 +3,7 @@
 
 ghost use Rattle.std.specs.Prelude.{◌≡◌, ◌≤◌, length, take, codes};
 ghost use Rattle.sheet.specs.Card.{card};
-ghost use Rattle.sheet.specs.Card.{sheet as sheetLines};
+ghost use Rattle.sheet.specs.Card.{sheet as sheet_lines};
 
 use sheet::Page;
 use std::io;
@@ -58,7 +58,7 @@ fn put_chart(data: &[u8], out: &mut [u8]) -> usize
     requires data_len_bound { length «data».now ≤ 4095 }
     requires in_bounds { 175032 ≤ length out.old }
     ensures upper_bound { result ≤ length out.new }
-    ensures out_after { take result out.new ≡ sheetLines 4 «data».now }
+    ensures out_after { take result out.new ≡ sheet_lines 4 «data».now }
 {
     let mut text = room_for_text();
     let mut densities = room_for_densities();

@@ -4,46 +4,46 @@ use mathlib.Core.Bool.{◌&&◌}
 use mathlib.Core.List.{List}
 use Prim.Native.Nat.{ℕ, ◌+◌}
 use lib.Dec.{eqb, ltb}
-use Rattle.definitions.specs.Lists.{oneIf}
-use Rattle.definitions.specs.Cells.{cell_of, isArrow, holdEffect, objectEffect}
-use Rattle.definitions.specs.Tracker.{holdAt}
-use Rattle.definitions.specs.Objects.{objectAt}
-use Rattle.definitions.specs.Notes.{effect_of, effectAt}
-use Rattle.definitions.specs.Correction.{isClosing}
+use Rattle.definitions.specs.Lists.{number_of_bool}
+use Rattle.definitions.specs.Cells.{cell_of, is_arrow, hold_effect, object_effect}
+use Rattle.definitions.specs.Tracker.{hold_at}
+use Rattle.definitions.specs.Objects.{object_at}
+use Rattle.definitions.specs.Notes.{effect_of, effect_at}
+use Rattle.definitions.specs.Correction.{is_closing}
 use Rattle.definitions.specs.Tally.{direction}
 use Rattle.definitions.specs.declared.Cell.{Cell}
 use Rattle.definitions.specs.declared.Cell.TheVariants.{Empty, Tap, Hold, Tail, Roll, Mine, Lift, Fake, KeySound, LowerMine, LowerLift, LowerFake}
 use Rattle.definitions.specs.declared.RowSum.{RowSum}
-use Rattle.row_tally.specs.Sums.{addArrow, addCounted, addCell}
-use Rattle.cell_walk.specs.Cells.{effectKind, CellWalked, ByteWalked}
+use Rattle.row_tally.specs.Sums.{add_arrow, add_counted, sum_with_cell}
+use Rattle.cell_walk.specs.Cells.{effect_kind, CellWalked, ByteWalked}
 use Rattle.cell_walk.specs.declared.CellAt.{CellAt}
 use Rattle.cell_walk.specs.declared.WalkCell.{WalkCell}
 
 -- a byte's effects are those of its cell
-pub walked_at : (b : ℕ) (x : Cell) → cell_of b ≡ x → (at : CellAt) (l l' : List ℕ) (r : WalkCell) → CellWalked (holdEffect x) (objectEffect x) (effect_of x) at l l' r
+pub walked_at : (b : ℕ) (x : Cell) → cell_of b ≡ x → (at : CellAt) (l l' : List ℕ) (r : WalkCell) → CellWalked (hold_effect x) (object_effect x) (effect_of x) at l l' r
     → ByteWalked b at l l' r
-unfolding holdAt objectAt effectAt
+unfolding hold_at object_at effect_at
 walked_at b x e at l l' r w = rw e w
 
 -- a sum with a cell of this kind in a column, or so many tails
-abbrev pub addKind : RowSum → ℕ → ℕ → ℕ → RowSum
-addKind s c k tails =
+abbrev pub add_kind : RowSum → ℕ → ℕ → ℕ → RowSum
+add_kind s c k tails =
     record {
-      arrows = s.arrows + oneIf (ltb k 3);
-      left = s.left + oneIf (ltb k 3 && eqb (direction c) 0);
-      down = s.down + oneIf (ltb k 3 && eqb (direction c) 1);
-      up = s.up + oneIf (ltb k 3 && eqb (direction c) 2);
-      right = s.right + oneIf (ltb k 3 && eqb (direction c) 3);
-      holds = s.holds + oneIf (eqb k 1);
-      rolls = s.rolls + oneIf (eqb k 2);
+      arrows = s.arrows + number_of_bool (ltb k 3);
+      left = s.left + number_of_bool (ltb k 3 && eqb (direction c) 0);
+      down = s.down + number_of_bool (ltb k 3 && eqb (direction c) 1);
+      up = s.up + number_of_bool (ltb k 3 && eqb (direction c) 2);
+      right = s.right + number_of_bool (ltb k 3 && eqb (direction c) 3);
+      holds = s.holds + number_of_bool (eqb k 1);
+      rolls = s.rolls + number_of_bool (eqb k 2);
       tails = s.tails + tails;
-      mines = s.mines + oneIf (eqb k 3);
-      lifts = s.lifts + oneIf (eqb k 4);
-      fakes = s.fakes + oneIf (eqb k 5);
+      mines = s.mines + number_of_bool (eqb k 3);
+      lifts = s.lifts + number_of_bool (eqb k 4);
+      fakes = s.fakes + number_of_bool (eqb k 5);
     }
 
-kind-added : (s : RowSum) (c : ℕ) (x : Cell) → addKind s c (effectKind (effect_of x)) (oneIf (isClosing (holdEffect x))) ≡ addCell s c x (isArrow x)
-unfolding addArrow addCounted
+kind-added : (s : RowSum) (c : ℕ) (x : Cell) → add_kind s c (effect_kind (effect_of x)) (number_of_bool (is_closing (hold_effect x))) ≡ sum_with_cell s c x (is_arrow x)
+unfolding add_arrow add_counted
 kind-added s c Empty = refl
 kind-added s c Tap = refl
 kind-added s c Hold = refl
@@ -57,6 +57,6 @@ kind-added s c LowerMine = refl
 kind-added s c LowerLift = refl
 kind-added s c LowerFake = refl
 
-pub kind-counted : (s : RowSum) (c k t b : ℕ) → k ≡ effectKind (effectAt b) → t ≡ oneIf (isClosing (holdAt b)) → addKind s c k t ≡ addCell s c (cell_of b) (isArrow (cell_of b))
-unfolding effectAt holdAt
+pub kind-counted : (s : RowSum) (c k t b : ℕ) → k ≡ effect_kind (effect_at b) → t ≡ number_of_bool (is_closing (hold_at b)) → add_kind s c k t ≡ sum_with_cell s c (cell_of b) (is_arrow (cell_of b))
+unfolding effect_at hold_at
 kind-counted s c k t b ek et = rw (ek, et) (kind-added s c (cell_of b))

@@ -3,14 +3,14 @@
 #![tactic(auto)]
 
 ghost use Rattle.std.specs.Prelude.{◌≡◌, ℕ, ◌≤◌};
-ghost use Rattle.definitions.specs.Lists.{oneIf};
-ghost use Rattle.definitions.specs.Cells.{cell_of, isArrow};
-ghost use Rattle.definitions.specs.Tracker.{holdAt};
-ghost use Rattle.definitions.specs.Correction.{isClosing};
-ghost use Rattle.definitions.specs.Notes.{effectAt};
+ghost use Rattle.definitions.specs.Lists.{number_of_bool};
+ghost use Rattle.definitions.specs.Cells.{cell_of, is_arrow};
+ghost use Rattle.definitions.specs.Tracker.{hold_at};
+ghost use Rattle.definitions.specs.Correction.{is_closing};
+ghost use Rattle.definitions.specs.Notes.{effect_at};
 ghost use Rattle.row_tally.specs.Bounds.{Under};
-ghost use Rattle.row_tally.specs.Sums.{addCell};
-ghost use Rattle.cell_walk.specs.Cells.{effectKind, CellFits, Blocking, Lower, Opening, Closing, Unnoted, ByteWalked};
+ghost use Rattle.row_tally.specs.Sums.{sum_with_cell};
+ghost use Rattle.cell_walk.specs.Cells.{effect_kind, CellFits, Blocking, Lower, Opening, Closing, Unnoted, ByteWalked};
 
 use definitions::{Cell, Kind, RowSum};
 use objects::ObjectCell;
@@ -208,7 +208,7 @@ pub fn walk_cell(b: u8, at: CellAt, slots: &mut [u8]) -> WalkCell
 // A row's sum with a cell of this kind more, or so many tails.
 pub fn count_kind(s: RowSum, column: usize, kind: u8, tails: u32) -> RowSum
     requires { Under 10 s × (tails ≤ 1) }
-    ensures { (b : ℕ) → kind ≡ effectKind (effectAt b) → tails ≡ oneIf (isClosing (holdAt b)) → result ≡ addCell s column (cell_of b) (isArrow (cell_of b)) }
+    ensures { (b : ℕ) → kind ≡ effect_kind (effect_at b) → tails ≡ number_of_bool (is_closing (hold_at b)) → result ≡ sum_with_cell s column (cell_of b) (is_arrow (cell_of b)) }
 {
     let arrow = kind < 3;
     let direction = column % 4;

@@ -9,14 +9,14 @@ use lib.ListN.{length, get_or, drop}
 use lib.Seq.{drop-cons}
 use borrow.Author.Tests.{eqb-true, ne_eqb}
 use Rattle.definitions.specs.Lines.{Row}
-use Rattle.definitions.specs.Cells.{cell_of, isArrow}
-use Rattle.definitions.specs.Figures.{isStep}
+use Rattle.definitions.specs.Cells.{cell_of, is_arrow}
+use Rattle.definitions.specs.Figures.{is_step}
 use Rattle.definitions.specs.declared.Cell.{Cell}
 use Rattle.definitions.specs.declared.Cell.TheVariants.{Empty, Tap, Hold, Tail, Roll, Mine, Lift, Fake, KeySound, LowerMine, LowerLift, LowerFake}
 
 -- none of the letters after `4` is an arrow
 later : (p q r s t u v : Bool)
-    → isArrow (cond p Mine (cond q Lift (cond r Fake (cond s KeySound (cond t LowerMine (cond u LowerLift (cond v LowerFake Empty)))))))
+    → is_arrow (cond p Mine (cond q Lift (cond r Fake (cond s KeySound (cond t LowerMine (cond u LowerLift (cond v LowerFake Empty)))))))
     ≡ false
 later true q r s t u v = refl
 later false true r s t u v = refl
@@ -27,15 +27,15 @@ later false false false false false true v = refl
 later false false false false false false true = refl
 later false false false false false false false = refl
 
-first : (p q r s : Bool) (x : Cell) → (r ≡ true → s ≡ false) → isArrow x ≡ false
-    → ((p || q) || s) ≡ isArrow (cond p Tap (cond q Hold (cond r Tail (cond s Roll x))))
+first : (p q r s : Bool) (x : Cell) → (r ≡ true → s ≡ false) → is_arrow x ≡ false
+    → ((p || q) || s) ≡ is_arrow (cond p Tap (cond q Hold (cond r Tail (cond s Roll x))))
 first true q r s x n h = refl
 first false true r s x n h = refl
 first false false true s x n h = n refl
 first false false false true x n h = refl
 first false false false false x n h = sym h
 
-pub arrow-byte : (b : ℕ) → ((eqb b 49 || eqb b 50) || eqb b 52) ≡ isArrow (cell_of b)
+pub arrow-byte : (b : ℕ) → ((eqb b 49 || eqb b 50) || eqb b 52) ≡ is_arrow (cell_of b)
 unfolding cell_of
 arrow-byte b =
     first (eqb b 49) (eqb b 50) (eqb b 51) (eqb b 52) _
@@ -43,7 +43,7 @@ arrow-byte b =
     (later (eqb b 77) (eqb b 76) (eqb b 70) (eqb b 75) (eqb b 109) (eqb b 108) (eqb b 102))
 
 -- one column more: n says whether it is an arrow
-pub step-next : (r : Row) (i : ℕ) (has n : Bool) → i < length r → n ≡ isArrow (cell_of (get_or r i 0))
-    → (has || isStep (drop i r)) ≡ ((has || n) || isStep (drop (i + 1) r))
-unfolding isStep
+pub step-next : (r : Row) (i : ℕ) (has n : Bool) → i < length r → n ≡ is_arrow (cell_of (get_or r i 0))
+    → (has || is_step (drop i r)) ≡ ((has || n) || is_step (drop (i + 1) r))
+unfolding is_step
 step-next r i has n h e = rw (or_assoc, e, add-one, drop-cons r i 0)

@@ -10,9 +10,9 @@ use lib.Dec.{eqb, ltb}
 use lib.ListN.{length, get_or}
 use Rattle.definitions.specs.Lists.{among}
 use Rattle.definitions.specs.Lines.{Row}
-use Rattle.definitions.specs.Cells.{cell_of, isArrow}
-use Rattle.definitions.specs.Figures.{isStep}
-use Rattle.lines.specs.Words.{halfAt, word_of}
+use Rattle.definitions.specs.Cells.{cell_of, is_arrow}
+use Rattle.definitions.specs.Figures.{is_step}
+use Rattle.lines.specs.Words.{half_word_at, word_of}
 use Rattle.lines.proofs.RowWords.{places, picks, AllBelow, place_here, place-later}
 
 neither : (x y : Bool) → (x || y) ≡ false → (x ≡ false) × (y ≡ false)
@@ -20,46 +20,46 @@ neither true y e = let z : ◌≡◌ {A = ℕ} 0 1 = cc in absurd (omega arith)
 neither false y e = (refl, e)
 
 -- a row without an arrow has none in a column, and the other way round
-no_step : (r : Row) → isStep r ≡ false → (k : ℕ) → k < length r → isArrow (cell_of (get_or r k 0)) ≡ false
-unfolding isStep
+no_step : (r : Row) → is_step r ≡ false → (k : ℕ) → k < length r → is_arrow (cell_of (get_or r k 0)) ≡ false
+unfolding is_step
 no_step [] e k h = absurd (omega arith)
-no_step (b ∷ r) e zero h = (neither (isArrow (cell_of b)) (isStep r) e).0
-no_step (b ∷ r) e (suc k) h = no_step r (neither (isArrow (cell_of b)) (isStep r) e).1 k (omega arith)
+no_step (b ∷ r) e zero h = (neither (is_arrow (cell_of b)) (is_step r) e).0
+no_step (b ∷ r) e (suc k) h = no_step r (neither (is_arrow (cell_of b)) (is_step r) e).1 k (omega arith)
 
-all_none : (r : Row) → ((k : ℕ) → k < length r → isArrow (cell_of (get_or r k 0)) ≡ false) → isStep r ≡ false
-unfolding isStep
+all_none : (r : Row) → ((k : ℕ) → k < length r → is_arrow (cell_of (get_or r k 0)) ≡ false) → is_step r ≡ false
+unfolding is_step
 all_none [] f = refl
 all_none (b ∷ r) f = rw (f 0 (omega arith)) (all_none r (λ k h. f (suc k) (omega arith)))
 
 module _ (r : Row) where
-  picks-none : isStep r ≡ false → (ps : List ℕ) → AllBelow (length r) ps → isStep (picks r ps) ≡ false
-  unfolding isStep
+  picks-none : is_step r ≡ false → (ps : List ℕ) → AllBelow (length r) ps → is_step (picks r ps) ≡ false
+  unfolding is_step
   picks-none e [] h = refl
   picks-none e (p ∷ ps) h = rw (no_step r e p h.0) (picks-none e ps h.1)
 
-  picked : (k : ℕ) (ps : List ℕ) → isStep (picks r ps) ≡ false → among k ps ≡ true → isArrow (cell_of (get_or r k 0)) ≡ false
-  unfolding isStep
+  picked : (k : ℕ) (ps : List ℕ) → is_step (picks r ps) ≡ false → among k ps ≡ true → is_arrow (cell_of (get_or r k 0)) ≡ false
+  unfolding is_step
   picked k [] e m = let z : ◌≡◌ {A = ℕ} 0 1 = cc in absurd (omega arith)
   picked k (p ∷ ps) e m = go (eqb k p) refl m (λ n. picked k ps both.1 n)
     where
-      both : (isArrow (cell_of (get_or r p 0)) ≡ false) × (isStep (picks r ps) ≡ false)
-      both = neither (isArrow (cell_of (get_or r p 0))) (isStep (picks r ps)) e
+      both : (is_arrow (cell_of (get_or r p 0)) ≡ false) × (is_step (picks r ps) ≡ false)
+      both = neither (is_arrow (cell_of (get_or r p 0))) (is_step (picks r ps)) e
 
-      go : (t : Bool) → eqb k p ≡ t → (t || among k ps) ≡ true → (among k ps ≡ true → isArrow (cell_of (get_or r k 0)) ≡ false) → isArrow (cell_of (get_or r k 0)) ≡ false
+      go : (t : Bool) → eqb k p ≡ t → (t || among k ps) ≡ true → (among k ps ≡ true → is_arrow (cell_of (get_or r k 0)) ≡ false) → is_arrow (cell_of (get_or r k 0)) ≡ false
       go true q m ih = rw (eqb-true k p q) both.0
       go false q m ih = ih m
 
   -- cells at places that are all of the row's
-  pub step-picks : (ps : List ℕ) → AllBelow (length r) ps → ((k : ℕ) → k < length r → among k ps ≡ true) → isStep (picks r ps) ≡ isStep r
-  step-picks ps low all = go (isStep (picks r ps)) refl (isStep r) refl
+  pub step-picks : (ps : List ℕ) → AllBelow (length r) ps → ((k : ℕ) → k < length r → among k ps ≡ true) → is_step (picks r ps) ≡ is_step r
+  step-picks ps low all = go (is_step (picks r ps)) refl (is_step r) refl
     where
-      go : (t : Bool) → isStep (picks r ps) ≡ t → (u : Bool) → isStep r ≡ u → isStep (picks r ps) ≡ isStep r
+      go : (t : Bool) → is_step (picks r ps) ≡ t → (u : Bool) → is_step r ≡ u → is_step (picks r ps) ≡ is_step r
       go t p false q = picks-none q ps low ∙ sym q
       go false p true q = p ∙ sym (all_none r (λ k h. picked k ps p (all k h)))
       go true p true q = p ∙ sym q
 
   -- the first four cells and four from `mid` on, of up to eight
-  pub step-ends : (mid : ℕ) → mid + 4 ≡ length r → mid ≤ 4 → isStep (picks r (places 0 (places mid []))) ≡ isStep r
+  pub step-ends : (mid : ℕ) → mid + 4 ≡ length r → mid ≤ 4 → is_step (picks r (places 0 (places mid []))) ≡ is_step r
   step-ends mid e h =
       step-picks (places 0 (places mid []))
       (omega arith, (omega arith, (omega arith, (omega arith, (omega arith, (omega arith, (omega arith, (omega arith, tt))))))))
@@ -69,7 +69,7 @@ module _ (r : Row) where
       ])
 
   -- the first eight cells and the last four, of nine to twelve
-  pub step-wide : 8 ≤ length r → length r ≤ 12 → isStep (picks r (places 0 (places 4 (places (length r - 4) [])))) ≡ isStep r
+  pub step-wide : 8 ≤ length r → length r ≤ 12 → is_step (picks r (places 0 (places 4 (places (length r - 4) [])))) ≡ is_step r
   step-wide low high =
       step-picks (places 0 (places 4 (places (length r - 4) [])))
       (omega arith, (omega arith, (omega arith, (omega arith, (omega arith, (omega arith, (omega arith, (omega arith, (omega arith, (omega arith, (omega arith, (omega arith, tt))))))))))))
@@ -84,13 +84,13 @@ module _ (r : Row) where
       ])
 
 -- two tests joined
-pub step-append : (r s : Row) → (isStep r || isStep s) ≡ isStep (r ++ s)
-unfolding isStep
+pub step-append : (r s : Row) → (is_step r || is_step s) ≡ is_step (r ++ s)
+unfolding is_step
 step-append [] s = refl
-step-append (b ∷ r) s = or_assoc (isArrow (cell_of b)) (isStep r) (isStep s) ∙ ap (λ t. isArrow (cell_of b) || t) (step-append r s)
+step-append (b ∷ r) s = or_assoc (is_arrow (cell_of b)) (is_step r) (is_step s) ∙ ap (λ t. is_arrow (cell_of b) || t) (step-append r s)
 
 -- four cells as a word
-pub half-word : (r : Row) (i : ℕ) → word_of (picks r (places i [])) ≡ halfAt r i
+pub half-word : (r : Row) (i : ℕ) → word_of (picks r (places i [])) ≡ half_word_at r i
 unfolding word_of
 half-word r i = omega arith
 

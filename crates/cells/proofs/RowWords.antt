@@ -8,8 +8,8 @@ use lib.Dec.{eqb}
 use Rattle.definitions.proofs.Bools.{equal-turned}
 use Rattle.definitions.specs.Lists.{among}
 use Rattle.definitions.specs.Lines.{Row}
-use Rattle.definitions.specs.Cells.{cell_of, isArrow}
-use Rattle.definitions.specs.Figures.{isStep}
+use Rattle.definitions.specs.Cells.{cell_of, is_arrow}
+use Rattle.definitions.specs.Figures.{is_step}
 use Rattle.lines.specs.Words.{word_of, Bytes}
 use Rattle.cells.proofs.Arrows.{arrow-byte}
 
@@ -26,10 +26,10 @@ pub over-bytes : (r : Row) → Bytes r → Bytes (r ++ nothing)
 over-bytes [] h = (omega arith, (omega arith, (omega arith, (omega arith, tt))))
 over-bytes (x ∷ r) h = (h.0, over-bytes r h.1)
 
-pub over-step : (r : Row) → isStep (r ++ nothing) ≡ isStep r
-unfolding isStep cell_of
+pub over-step : (r : Row) → is_step (r ++ nothing) ≡ is_step r
+unfolding is_step cell_of
 over-step [] = refl
-over-step (b ∷ r) = ap (λ t. isArrow (cell_of b) || t) (over-step r)
+over-step (b ∷ r) = ap (λ t. is_arrow (cell_of b) || t) (over-step r)
 
 pub gathered : (p q r s t u : Bool) → (((p || q) || r) || ((s || t) || u)) ≡ (((p || s) || (q || t)) || (r || u))
 gathered true q r s t u = refl
@@ -40,8 +40,8 @@ gathered false false true false true u = refl
 gathered false false true false false u = refl
 gathered false false false s t u = refl
 
-pub step-among : (r : Row) → ((among 49 r || among 50 r) || among 52 r) ≡ isStep r
-unfolding isStep
+pub step-among : (r : Row) → ((among 49 r || among 50 r) || among 52 r) ≡ is_step r
+unfolding is_step
 step-among [] = refl
 step-among (b ∷ r) =
     sym (gathered (eqb 49 b) (eqb 50 b) (eqb 52 b) (among 49 r) (among 50 r) (among 52 r))

@@ -2,11 +2,11 @@
 #![tactic(auto)]
 
 ghost use Rattle.std.specs.Prelude.{◌≡◌, List, ℕ, ◌≤◌, length};
-ghost use Rattle.definitions.specs.Lists.{oneIf};
-ghost use Rattle.definitions.specs.Cells.{cell_of, isArrow};
-ghost use Rattle.definitions.specs.Figures.{isStep};
-ghost use Rattle.definitions.specs.Tracker.{holdAt};
-ghost use Rattle.definitions.specs.Objects.{objectAt};
+ghost use Rattle.definitions.specs.Lists.{number_of_bool};
+ghost use Rattle.definitions.specs.Cells.{cell_of, is_arrow};
+ghost use Rattle.definitions.specs.Figures.{is_step};
+ghost use Rattle.definitions.specs.Tracker.{hold_at};
+ghost use Rattle.definitions.specs.Objects.{object_at};
 ghost use Rattle.lines.specs.Words.{word_of, Bytes};
 
 use definitions::{Cell, DepthEffect};
@@ -14,7 +14,7 @@ use lines::words;
 
 // 1 where the test holds, else 0.
 pub fn one_if(test: bool) -> u32
-    ensures { (result ≡ oneIf test) × (result ≤ 1) }
+    ensures { (result ≡ number_of_bool test) × (result ≤ 1) }
 {
     if test { 1 } else { 0 }
 }
@@ -41,7 +41,7 @@ pub fn cell_of(b: u8) -> Cell
 
 // Whether the byte is an arrow.
 pub fn is_note(b: u8) -> bool
-    ensures { result ≡ isArrow (cell_of b) }
+    ensures { result ≡ is_arrow (cell_of b) }
 {
     match b {
         b'1' => true,
@@ -53,7 +53,7 @@ pub fn is_note(b: u8) -> bool
 
 // Whether the row has an arrow. It looks at every byte, so that no turn of the loop branches on one.
 fn cells_have_note(row: &[u8]) -> bool
-    ensures { result ≡ isStep row.now }
+    ensures { result ≡ is_step row.now }
 {
     let mut has = false;
     let mut i = 0;
@@ -66,14 +66,14 @@ fn cells_have_note(row: &[u8]) -> bool
 
 // Whether one of the word's bytes is an arrow.
 fn word_has_note(word: u64) -> bool
-    ensures { (xs : List ℕ) → length xs ≡ 8 → Bytes xs → word_of xs ≡ word → result ≡ isStep xs }
+    ensures { (xs : List ℕ) → length xs ≡ 8 → Bytes xs → word_of xs ≡ word → result ≡ is_step xs }
 {
     words::has_byte(word, b'1') | words::has_byte(word, b'2') | words::has_byte(word, b'4')
 }
 
 // Whether the row has an arrow: by words of its first four cells and others where it has four to twelve.
 pub fn row_has_note(row: &[u8]) -> bool
-    ensures { result ≡ isStep row.now }
+    ensures { result ≡ is_step row.now }
 {
     let n = row.len();
     if (n < 4) | (12 < n) {
@@ -89,7 +89,7 @@ pub fn row_has_note(row: &[u8]) -> bool
 
 // What the byte does to the tracker's stack and to the phantom depth of its column.
 pub fn hold_effect(b: u8) -> DepthEffect
-    ensures { result ≡ holdAt b }
+    ensures { result ≡ hold_at b }
 {
     match cell_of(b) {
         Cell::Tap | Cell::Mine | Cell::Lift | Cell::Fake => DepthEffect::Blocks,
@@ -103,7 +103,7 @@ pub fn hold_effect(b: u8) -> DepthEffect
 
 // What the byte does to the depth that the last beat goes by: the same, and K blocks too.
 pub fn object_effect(b: u8) -> DepthEffect
-    ensures { result ≡ objectAt b }
+    ensures { result ≡ object_at b }
 {
     match cell_of(b) {
         Cell::Tap | Cell::Mine | Cell::Lift | Cell::Fake => DepthEffect::Blocks,

@@ -7,22 +7,22 @@ use native.Mathlib.Omega.{arith}
 use lib.Ieee.{Float, binary64, to_bits}
 use lib.ListN.{length, take}
 use Rattle.definitions.specs.Lists.{joined, padded}
-use Rattle.definitions.specs.Lanes.{mostRows}
+use Rattle.definitions.specs.Lanes.{most_rows_in}
 use Rattle.definitions.specs.Lines.{Row}
 use Rattle.definitions.specs.Reduction.{minimised}
-use Rattle.definitions.specs.Figures.{minimisedText}
-use Rattle.definitions.specs.Beats.{f32, rowToBeat, beats as beatsOf}
-use Rattle.definitions.specs.Objects.{place48, lastObject, last48, lastBeat}
+use Rattle.definitions.specs.Figures.{minimised_text}
+use Rattle.definitions.specs.Beats.{f32, row_to_beat, beats as beats_of}
+use Rattle.definitions.specs.Objects.{place48, last_object, last48, last_beat_of}
 use Rattle.definitions.specs.Notes.{notes}
 use Rattle.definitions.specs.Records.{records}
 use Rattle.definitions.specs.Correction.{corrected}
-use Rattle.definitions.specs.ReadBack.{mainTally}
-use Rattle.definitions.specs.Entries.{chartFigures}
+use Rattle.definitions.specs.ReadBack.{main_tally}
+use Rattle.definitions.specs.Entries.{figures_of_chart}
 use Rattle.definitions.specs.declared.ArrowStats.{ArrowStats}
 use Rattle.beats.specs.Places.{place_of}
 use Rattle.kept_pass.proofs.Answering.{own-part}
 use Rattle.row_notes.specs.Written.{Written, Finished}
-use Rattle.reader.specs.BackReading.{rowsBack}
+use Rattle.reader.specs.BackReading.{rows_back}
 use Rattle.reader.proofs.BackReading.{back-trimmed}
 use Rattle.slices.specs.Zeroed.{zeroed}
 use Rattle.slices.proofs.Zeroed.{zeroed-answer}
@@ -31,16 +31,16 @@ use Rattle.chart_pass.specs.declared.ChartPass.{ChartPass}
 use Rattle.chart_pass.specs.ChartPass.{ChartAll}
 
 module _ (L : ℕ) (data-text : List ℕ) (p : ChartPass) (text densities : List ℕ) (beats : List Float) (slots : List ℕ) (x : ChartAll L data-text p text densities beats slots) where
-  pub all-beats : (n : ℕ) → length beats ≡ n → mostRows L (length data-text) ≤ n → zeroed (f32 0) p.pass.counting.rows beats ≡ padded (f32 0) n (beatsOf L data-text)
+  pub all-beats : (n : ℕ) → length beats ≡ n → most_rows_in L (length data-text) ≤ n → zeroed (f32 0) p.pass.counting.rows beats ≡ padded (f32 0) n (beats_of L data-text)
   all-beats n size h =
-      zeroed-answer (f32 0) beats p.pass.counting.rows n (λ L. beatsOf L data-text) refl size (omega (arith, x.kept.rows_few, size, h)) x.beats-are
+      zeroed-answer (f32 0) beats p.pass.counting.rows n (λ L. beats_of L data-text) refl size (omega (arith, x.kept.rows_few, size, h)) x.beats-are
 
   written : Written (joined (minimised L data-text)) p.noting.scratch slots
   written = subst (λ rs. Written rs p.noting.scratch slots) (append-nil (joined (minimised L data-text))) x.noted.written
 
   -- the last object row is that of the definition
   pub found-48 : place48 (place_of p.noting.last.found) ≡ last48 L data-text
-  unfolding last48 lastObject
+  unfolding last48 last_object
   found-48 = ap place48 x.noted.last.found
 
   module _ (n : ℕ) (after : List ℕ) (r : ℕ) (f : (rows : List Row) → Written rows p.noting.scratch slots → Finished rows n after r) where
@@ -55,15 +55,15 @@ module _ (L : ℕ) (data-text : List ℕ) (p : ChartPass) (text densities : List
     unfolding notes
     note-count = finished.count
 
-  pub all-figures : (stats : ArrowStats) (count bits row last : ℕ) → stats ≡ corrected L (joined (minimised L data-text)) (rowsBack true L (take (p.pass.out - 0) text))
-      → count ≡ length (notes L data-text) → last ≡ last48 L data-text → bits ≡ to_bits binary64 (rowToBeat last) → row ≡ last
-      → record { bytes = p.pass.out; measures = p.pass.midx + 1; rows = p.pass.counting.rows; notes = count; last_bits = bits; last_row = row; stats = stats } ≡ chartFigures L data-text
-  unfolding chartFigures mainTally lastBeat
+  pub all-figures : (stats : ArrowStats) (count bits row last : ℕ) → stats ≡ corrected L (joined (minimised L data-text)) (rows_back true L (take (p.pass.out - 0) text))
+      → count ≡ length (notes L data-text) → last ≡ last48 L data-text → bits ≡ to_bits binary64 (row_to_beat last) → row ≡ last
+      → record { bytes = p.pass.out; measures = p.pass.midx + 1; rows = p.pass.counting.rows; notes = count; last_bits = bits; last_row = row; stats = stats } ≡ figures_of_chart L data-text
+  unfolding figures_of_chart main_tally last_beat_of
   all-figures stats count bits row last es ec el eb er =
       made x.kept.out x.kept.midx x.kept.rows ec
-      (eb ∙ ap (λ n. to_bits binary64 (rowToBeat n)) el)
+      (eb ∙ ap (λ n. to_bits binary64 (row_to_beat n)) el)
       (er ∙ el)
-      (es ∙ ap (corrected L (joined (minimised L data-text))) (ap (rowsBack true L) (own-part L data-text p.pass text densities x.kept) ∙ back-trimmed L _))
+      (es ∙ ap (corrected L (joined (minimised L data-text))) (ap (rows_back true L) (own-part L data-text p.pass text densities x.kept) ∙ back-trimmed L _))
     where
       made : {a₁ a₂ b₁ b₂ c₁ c₂ d₁ d₂ e₁ e₂ f₁ f₂ : ℕ} {s t : ArrowStats} → a₁ ≡ a₂ → b₁ ≡ b₂ → c₁ ≡ c₂ → d₁ ≡ d₂ → e₁ ≡ e₂ → f₁ ≡ f₂ → s ≡ t
           → ◌≡◌ {A = ChartFigures} (record { bytes = a₁; measures = b₁; rows = c₁; notes = d₁; last_bits = e₁; last_row = f₁; stats = s })

@@ -2,14 +2,14 @@
 #![tactic(auto)]
 
 ghost use Rattle.std.specs.Prelude.{◌≡◌, [], ◌+◌, ◌*◌, ◌/◌, ◌≤◌, length};
-ghost use Rattle.definitions.specs.Sizes.{mostBytes};
+ghost use Rattle.definitions.specs.Sizes.{most_bytes};
 ghost use Rattle.definitions.specs.Lists.{padded};
-ghost use Rattle.definitions.specs.Lanes.{mostRows};
-ghost use Rattle.definitions.specs.Figures.{minimisedText, densities as densitiesOf};
-ghost use Rattle.definitions.specs.Beats.{f32, beats as beatsOf};
-ghost use Rattle.definitions.specs.Notes.{notes as notesOf};
+ghost use Rattle.definitions.specs.Lanes.{most_rows_in};
+ghost use Rattle.definitions.specs.Figures.{minimised_text, densities as densities_of};
+ghost use Rattle.definitions.specs.Beats.{f32, beats as beats_of};
+ghost use Rattle.definitions.specs.Notes.{notes as notes_of};
 ghost use Rattle.definitions.specs.Records.{records};
-ghost use Rattle.definitions.specs.Entries.{chartFigures, mainAnswer, mainText, mainDensities, mainBeats, mainWork, mainNotes};
+ghost use Rattle.definitions.specs.Entries.{figures_of_chart, main_answer, main_text, main_densities, main_beats, main_work, main_notes};
 
 use definitions::{ChartFigures, Refusal};
 
@@ -23,15 +23,15 @@ pub fn chart_figures(
     work: &mut [u16],
     slots: &mut [u8],
 ) -> ChartFigures
-    requires le_lanes { (4 ≤ lanes) × (lanes ≤ 10) × (length «data».now ≤ mostBytes) }
-    requires data_in_bounds { (length «data».now + 1 ≤ length text.old) × ((length «data».now + 1) / 2 + 1 ≤ length densities.old) × (mostRows lanes (length «data».now) ≤ length beats.old) × (10 * lanes * mostRows lanes (length «data».now) ≤ length slots.old) }
-    requires data_in_bounds_2 { mostRows lanes (length «data».now) ≤ length work.old }
-    ensures value { result ≡ chartFigures lanes «data».now }
-    ensures text_after { text.new ≡ padded 0 (length text.old) (minimisedText lanes «data».now) }
-    ensures densities_after { densities.new ≡ padded 0 (length densities.old) (densitiesOf lanes «data».now) }
-    ensures beats_after { beats.new ≡ padded (f32 0) (length beats.old) (beatsOf lanes «data».now) }
+    requires le_lanes { (4 ≤ lanes) × (lanes ≤ 10) × (length «data».now ≤ most_bytes) }
+    requires data_in_bounds { (length «data».now + 1 ≤ length text.old) × ((length «data».now + 1) / 2 + 1 ≤ length densities.old) × (most_rows_in lanes (length «data».now) ≤ length beats.old) × (10 * lanes * most_rows_in lanes (length «data».now) ≤ length slots.old) }
+    requires data_in_bounds_2 { most_rows_in lanes (length «data».now) ≤ length work.old }
+    ensures value { result ≡ figures_of_chart lanes «data».now }
+    ensures text_after { text.new ≡ padded 0 (length text.old) (minimised_text lanes «data».now) }
+    ensures densities_after { densities.new ≡ padded 0 (length densities.old) (densities_of lanes «data».now) }
+    ensures beats_after { beats.new ≡ padded (f32 0) (length beats.old) (beats_of lanes «data».now) }
     ensures work_after { work.new ≡ padded 0 (length work.old) [] }
-    ensures slots_after { slots.new ≡ padded 0 (length slots.old) (records (notesOf lanes «data».now)) }
+    ensures slots_after { slots.new ≡ padded 0 (length slots.old) (records (notes_of lanes «data».now)) }
 {
     let p = chart_pass::read_chart(data, lanes, text, densities, beats, slots);
     let out = p.pass.out;
@@ -66,7 +66,7 @@ pub fn chart_figures(
 }
 
 // Minimised text, densities, row beats, note records, tally and last beat of a text.
-#[tactic(auto, unfolding(definitions::specs::Entries::mainAnswer))]
+#[tactic(auto, unfolding(definitions::specs::Entries::main_answer))]
 pub fn minimize_chart_count_rows_notes(
     data: &[u8],
     lanes: usize,
@@ -76,12 +76,12 @@ pub fn minimize_chart_count_rows_notes(
     work: &mut [u16],
     slots: &mut [u8],
 ) -> Result<ChartFigures, Refusal>
-    ensures value { result ≡ mainAnswer lanes «data».now text.old densities.old beats.old work.old slots.old }
-    ensures text_after { text.new ≡ mainText lanes «data».now text.old densities.old beats.old work.old slots.old }
-    ensures densities_after { densities.new ≡ mainDensities lanes «data».now text.old densities.old beats.old work.old slots.old }
-    ensures beats_after { beats.new ≡ mainBeats lanes «data».now text.old densities.old beats.old work.old slots.old }
-    ensures work_after { work.new ≡ mainWork lanes «data».now text.old densities.old beats.old work.old slots.old }
-    ensures slots_after { slots.new ≡ mainNotes lanes «data».now text.old densities.old beats.old work.old slots.old }
+    ensures value { result ≡ main_answer lanes «data».now text.old densities.old beats.old work.old slots.old }
+    ensures text_after { text.new ≡ main_text lanes «data».now text.old densities.old beats.old work.old slots.old }
+    ensures densities_after { densities.new ≡ main_densities lanes «data».now text.old densities.old beats.old work.old slots.old }
+    ensures beats_after { beats.new ≡ main_beats lanes «data».now text.old densities.old beats.old work.old slots.old }
+    ensures work_after { work.new ≡ main_work lanes «data».now text.old densities.old beats.old work.old slots.old }
+    ensures slots_after { slots.new ≡ main_notes lanes «data».now text.old densities.old beats.old work.old slots.old }
 {
     let len = data.len();
     refusals::text_fits(len)?;

@@ -6,13 +6,13 @@ use native.Mathlib.Nat.{le_trans, le_of_eq, mul-le-mul_right, mul_comm, mul_asso
 use native.Mathlib.Omega.{arith}
 use lib.Ieee.{Float}
 use lib.ListN.{length, take, drop, length-append}
-use Rattle.definitions.specs.Sizes.{measuresBound, rowsBound}
+use Rattle.definitions.specs.Sizes.{measures_bound, row_count_bound}
 use Rattle.definitions.specs.Lists.{joined}
 use Rattle.definitions.specs.Lines.{Row}
 use Rattle.definitions.specs.Measures.{chart}
 use Rattle.definitions.specs.Reduction.{reduce, minimised}
-use Rattle.definitions.specs.Figures.{rowText}
-use Rattle.definitions.specs.Beats.{rowBeats, beatsFrom, measureBeats, beats as beatsOf}
+use Rattle.definitions.specs.Figures.{row_text}
+use Rattle.definitions.specs.Beats.{row_beats, beats_from, measure_beats, beats as beats_of}
 use Rattle.definitions.proofs.Lists.{joined_snoc}
 use Rattle.beats.proofs.Beats.{beats-appended}
 use Rattle.kept_pass.specs.declared.KeptPass.{KeptPass}
@@ -33,7 +33,7 @@ use Rattle.chart_pass.specs.ChartPass.{Charted, SomeCharted, ChartEnded, ChartAl
 rows-there : (L : ℕ) (e : KeptPass) (text : List ℕ) (done : List (List Row)) (cur : List Row) → Closed L e text done cur → rows_at (L + 1) L e.rows (drop e.start text) ≡ cur
 rows-there L e text done cur x =
     form-rows (in-text L)
-    (subst (λ n. RowsStand rowText L n e.start cur text) (sym x.rows) (wrote-holds (in-text L) (44 ∷ 10 ∷ []) text e.start e.out done cur x.wrote))
+    (subst (λ n. RowsStand row_text L n e.start cur text) (sym x.rows) (wrote-holds (in-text L) (44 ∷ 10 ∷ []) text e.start e.out done cur x.wrote))
 
 module _ (L : ℕ) (p : ChartPass) (text densities : List ℕ) (beats : List Float) (slots : List ℕ) (e : KeptPass) (after dens : List ℕ)
     (ends : (done : List (List Row)) (cur : List Row) → Kept L p.pass text densities done cur → MeasureEnded L e after dens done (reduce cur)) where
@@ -48,7 +48,7 @@ module _ (L : ℕ) (p : ChartPass) (text densities : List ℕ) (beats : List Flo
         omega (arith, rows_before, k.rows, k.counted.rows, length-append (joined done) (reduce cur))
 
     pub charted-end : p.pass.counting.rows ≤ length beats → (beats₁ : List Float)
-        → beats₁ ≡ (take p.pass.counting.rows beats ++ rowBeats e.midx e.rows 0 e.rows) ++ drop (p.pass.counting.rows + e.rows) beats
+        → beats₁ ≡ (take p.pass.counting.rows beats ++ row_beats e.midx e.rows 0 e.rows) ++ drop (p.pass.counting.rows + e.rows) beats
         → (s : Noting) (slots₁ : List ℕ)
         → ((ms : List (List Row)) → Noted L p.noting slots ms → Noted L s slots₁ (ms ++ (rows_at (L + 1) L e.rows (drop e.start after) ∷ [])))
         → ChartEnded L (record { pass = e; noting = s }) after dens beats₁ slots₁ done (reduce cur)
@@ -65,7 +65,7 @@ module _ (L : ℕ) (p : ChartPass) (text densities : List ℕ) (beats : List Flo
 
 -- there is room for the walk over the minimised rows
 pub walk-room : (L : ℕ) (p : ChartPass) (text densities : List ℕ) (beats : List Float) (slots : List ℕ) → SomeCharted L p text densities beats slots → (kept : ℕ) (after : List ℕ) → kept ≤ p.pass.rows
-    → p.pass.counting.rows + p.pass.rows < rowsBound → (p.pass.counting.rows + p.pass.rows) * L * 10 ≤ length slots → p.pass.midx ≤ measuresBound
+    → p.pass.counting.rows + p.pass.rows < row_count_bound → (p.pass.counting.rows + p.pass.rows) * L * 10 ≤ length slots → p.pass.midx ≤ measures_bound
     → Walking L p.pass.counting p.noting slots (rows_at (L + 1) L kept (drop p.pass.start after)) 0
 walk-room L p text densities beats slots s kept after less few room least =
     let x = s.charted in
@@ -98,11 +98,11 @@ slots-room L rows most size h room =
 pub chart-all : (L : ℕ) (e : ChartPass) (data-text text densities : List ℕ) (beats : List Float) (slots : List ℕ) (done : List (List Row)) (cur : List Row) → chart L data-text ≡ done ++ (cur ∷ [])
     → Few L (length data-text) (map reduce done) cur → ChartEnded L e text densities beats slots (map reduce done) (reduce cur) → e.pass.out ≤ length text → e.pass.out ≤ length data-text + 1
     → ChartAll L data-text e text densities beats slots
-unfolding beatsOf measureBeats minimised
+unfolding beats_of measure_beats minimised
 chart-all L e data-text text densities beats slots done cur read few x fits short =
     let all : map reduce (chart L data-text) ≡ map reduce done ++ (reduce cur ∷ []) = ap (map reduce) read ∙ map-append reduce done (cur ∷ []) in
     record {
       kept = kept-all L e.pass data-text text densities done cur read few x.ended fits short;
       noted = subst (Noted L e.noting slots) (sym all) x.noted;
-      beats-are = x.beats-are ∙ ap (λ ms. joined (beatsFrom 0 ms)) (sym all);
+      beats-are = x.beats-are ∙ ap (λ ms. joined (beats_from 0 ms)) (sym all);
     }

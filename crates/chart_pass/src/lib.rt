@@ -3,10 +3,10 @@
 #![tactic(auto)]
 
 ghost use Rattle.std.specs.Prelude.{◌≡◌, List, [], ◌∷◌, ◌++◌, ℕ, ◌+◌, ◌*◌, ◌/◌, ◌≤◌, ◌<◌, Float, length};
-ghost use Rattle.definitions.specs.Sizes.{measuresBound, mostBytes, rowsBound};
-ghost use Rattle.definitions.specs.Lanes.{mostRows};
+ghost use Rattle.definitions.specs.Sizes.{measures_bound, most_bytes, row_count_bound};
+ghost use Rattle.definitions.specs.Lanes.{most_rows_in};
 ghost use Rattle.definitions.specs.Lines.{Row};
-ghost use Rattle.taps.specs.Taps.{wideRow, TapCounts};
+ghost use Rattle.taps.specs.Taps.{wide_row, TapCounts};
 ghost use Rattle.definitions.specs.Reduction.{reduce};
 ghost use Rattle.chart_pass.specs.ChartPass.{Charted, SomeCharted, ChartEnded, ChartAll};
 
@@ -32,7 +32,7 @@ fn no_chart() -> ChartPass
 
 // One row more of the open measure.
 fn chart_row(p: ChartPass, text: &mut [u8], row: &[u8]) -> ChartPass
-    requires { (p.pass.out + length row.now + 1 ≤ length text.old) × (p.pass.rows < rowsBound) }
+    requires { (p.pass.out + length row.now + 1 ≤ length text.old) × (p.pass.rows < row_count_bound) }
     ensures by_index { (L : ℕ) (densities : List ℕ) (beats : List Float) (slots : List ℕ) (done : List (List Row)) (cur : List Row) → length row.now ≡ L → Charted L p text.old densities beats slots done cur → Charted L result text.new densities beats slots done (cur ++ (row.now ∷ [])) }
     ensures out_value { result.pass.out ≡ p.pass.out + length row.now + 1 }
 {
@@ -51,8 +51,8 @@ fn end_measure(
     lanes: usize,
     counts: &[u16; 256],
 ) -> ChartPass
-    requires lanes_nonzero { (0 < lanes) × (lanes ≤ 10) × (p.pass.out ≤ length text.old) × SomeCharted lanes p text.old densities.old beats.old slots.old × TapCounts (wideRow lanes) counts.now }
-    requires midx_in_bounds { (p.pass.midx < length densities.old) × (p.pass.midx ≤ measuresBound) × (p.pass.counting.rows + p.pass.rows < rowsBound) }
+    requires lanes_nonzero { (0 < lanes) × (lanes ≤ 10) × (p.pass.out ≤ length text.old) × SomeCharted lanes p text.old densities.old beats.old slots.old × TapCounts (wide_row lanes) counts.now }
+    requires midx_in_bounds { (p.pass.midx < length densities.old) × (p.pass.midx ≤ measures_bound) × (p.pass.counting.rows + p.pass.rows < row_count_bound) }
     requires rows_in_bounds { (p.pass.counting.rows + p.pass.rows ≤ length beats.old) × ((p.pass.counting.rows + p.pass.rows) * lanes * 10 ≤ length slots.old) }
     ensures chart_ended { (done : List (List Row)) (cur : List Row) → Charted lanes p text.old densities.old beats.old slots.old done cur → ChartEnded lanes result text.new densities.new beats.new slots.new done (reduce cur) }
     ensures out_le_out { (result.pass.out ≤ p.pass.out) × (result.pass.midx ≡ p.pass.midx) }
@@ -89,8 +89,8 @@ fn chart_comma(
     lanes: usize,
     counts: &[u16; 256],
 ) -> ChartPass
-    requires lanes_nonzero { (0 < lanes) × (lanes ≤ 10) × (p.pass.out + 2 ≤ length text.old) × SomeCharted lanes p text.old densities.old beats.old slots.old × TapCounts (wideRow lanes) counts.now }
-    requires midx_in_bounds { (p.pass.midx < length densities.old) × (p.pass.midx ≤ measuresBound) × (p.pass.counting.rows + p.pass.rows < rowsBound) }
+    requires lanes_nonzero { (0 < lanes) × (lanes ≤ 10) × (p.pass.out + 2 ≤ length text.old) × SomeCharted lanes p text.old densities.old beats.old slots.old × TapCounts (wide_row lanes) counts.now }
+    requires midx_in_bounds { (p.pass.midx < length densities.old) × (p.pass.midx ≤ measures_bound) × (p.pass.counting.rows + p.pass.rows < row_count_bound) }
     requires rows_in_bounds { (p.pass.counting.rows + p.pass.rows ≤ length beats.old) × ((p.pass.counting.rows + p.pass.rows) * lanes * 10 ≤ length slots.old) }
     ensures charted { (done : List (List Row)) (cur : List Row) → Charted lanes p text.old densities.old beats.old slots.old done cur → Charted lanes result text.new densities.new beats.new slots.new (done ++ (reduce cur ∷ [])) [] }
     ensures out_bound { result.pass.out ≤ p.pass.out + 2 }
@@ -111,8 +111,8 @@ fn read_lines(
     slots: &mut [u8],
     counts: &[u16; 256],
 ) -> ChartPass
-    requires le_lanes { (4 ≤ lanes) × (lanes ≤ 10) × (length «data».now ≤ mostBytes) }
-    requires data_in_bounds { (length «data».now + 1 ≤ length text.old) × ((length «data».now + 1) / 2 + 1 ≤ length densities.old) × (mostRows lanes (length «data».now) ≤ length beats.old) × (10 * lanes * mostRows lanes (length «data».now) ≤ length slots.old) × TapCounts (wideRow lanes) counts.now }
+    requires le_lanes { (4 ≤ lanes) × (lanes ≤ 10) × (length «data».now ≤ most_bytes) }
+    requires data_in_bounds { (length «data».now + 1 ≤ length text.old) × ((length «data».now + 1) / 2 + 1 ≤ length densities.old) × (most_rows_in lanes (length «data».now) ≤ length beats.old) × (10 * lanes * most_rows_in lanes (length «data».now) ≤ length slots.old) × TapCounts (wide_row lanes) counts.now }
     ensures { ChartAll lanes «data».now result text.new densities.new beats.new slots.new }
 {
     let mut p = no_chart();
@@ -138,8 +138,8 @@ pub fn read_chart(
     beats: &mut [f32],
     slots: &mut [u8],
 ) -> ChartPass
-    requires le_lanes { (4 ≤ lanes) × (lanes ≤ 10) × (length «data».now ≤ mostBytes) }
-    requires data_in_bounds { (length «data».now + 1 ≤ length text.old) × ((length «data».now + 1) / 2 + 1 ≤ length densities.old) × (mostRows lanes (length «data».now) ≤ length beats.old) × (10 * lanes * mostRows lanes (length «data».now) ≤ length slots.old) }
+    requires le_lanes { (4 ≤ lanes) × (lanes ≤ 10) × (length «data».now ≤ most_bytes) }
+    requires data_in_bounds { (length «data».now + 1 ≤ length text.old) × ((length «data».now + 1) / 2 + 1 ≤ length densities.old) × (most_rows_in lanes (length «data».now) ≤ length beats.old) × (10 * lanes * most_rows_in lanes (length «data».now) ≤ length slots.old) }
     ensures { ChartAll lanes «data».now result text.new densities.new beats.new slots.new }
 {
     let counts = taps::tap_mask_counts(lanes);

@@ -5,23 +5,23 @@ use mathlib.Core.List.{List}
 use Prim.Native.Nat.{ℕ, ◌+◌, ◌*◌, ◌≤◌}
 use lib.Dec.{eqb}
 use lib.ListN.{length}
-use Rattle.definitions.specs.Sizes.{mostBytes}
+use Rattle.definitions.specs.Sizes.{most_bytes}
 use Rattle.definitions.specs.Lanes.{lanes_of}
 use Rattle.definitions.specs.Figures.{densities, spacings}
 use Rattle.definitions.specs.Notes.{notes}
 use Rattle.definitions.specs.Records.{records}
-use Rattle.sheet_answers.specs.Answers.{sheetFigures}
-use Rattle.chart_sheet.specs.Forms.{form_of, printed, jsonObject, chartSheet}
+use Rattle.sheet_answers.specs.Answers.{sheet_figures}
+use Rattle.chart_sheet.specs.Forms.{form_of, printed, json_object, sheet_in_form}
 use Rattle.chart_sheet.proofs.Lines.{card-lines}
 use Rattle.chart_sheet.proofs.CardRoom.{card-room}
 use Rattle.chart_sheet.proofs.PrintRoom.{print-room}
 use Rattle.chart_sheet.proofs.JsonRoom.{json-room}
 
 -- a form of all answers of a text is the text's sheet
-pub form-sheet : (form lanes : ℕ) (text : List ℕ) → length text ≤ mostBytes
-    → form_of form (sheetFigures (lanes_of lanes) text) (densities (lanes_of lanes) text) (spacings (lanes_of lanes) text) (records (notes (lanes_of lanes) text))
-    ≡ chartSheet form (lanes_of lanes) text
-unfolding form_of chartSheet printed jsonObject sheetFigures
+pub form-sheet : (form lanes : ℕ) (text : List ℕ) → length text ≤ most_bytes
+    → form_of form (sheet_figures (lanes_of lanes) text) (densities (lanes_of lanes) text) (spacings (lanes_of lanes) text) (records (notes (lanes_of lanes) text))
+    ≡ sheet_in_form form (lanes_of lanes) text
+unfolding form_of sheet_in_form printed json_object sheet_figures
 form-sheet form lanes text short = rw (card-lines lanes text short)
 
 -- one of three lists has room where each has
@@ -31,10 +31,10 @@ pick-room n false true a b c p q r = q
 pick-room n false false a b c p q r = r
 
 -- every form of them has room
-pub form-room : (form lanes : ℕ) (text : List ℕ) → length text ≤ mostBytes
-    → length (form_of form (sheetFigures (lanes_of lanes) text) (densities (lanes_of lanes) text) (spacings (lanes_of lanes) text) (records (notes (lanes_of lanes) text))) + 300
+pub form-room : (form lanes : ℕ) (text : List ℕ) → length text ≤ most_bytes
+    → length (form_of form (sheet_figures (lanes_of lanes) text) (densities (lanes_of lanes) text) (spacings (lanes_of lanes) text) (records (notes (lanes_of lanes) text))) + 300
     ≤ 42 * (length text + 1) + 3000
-unfolding form_of sheetFigures
+unfolding form_of sheet_figures
 form-room form lanes text short =
     pick-room (42 * (length text + 1) + 3000) (eqb form 0) (eqb form 1) _ _ _
     (card-room lanes text short)

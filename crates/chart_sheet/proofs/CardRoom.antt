@@ -5,29 +5,29 @@ use Prim.Native.Nat.{ℕ, ◌+◌, ◌*◌, ◌<◌, ◌≤◌}
 use native.Mathlib.Omega.{arith}
 use lib.ListN.{length, get_or, length-append}
 use Rattle.std.specs.Prelude.{codes}
-use Rattle.definitions.specs.Sizes.{mostBytes}
+use Rattle.definitions.specs.Sizes.{most_bytes}
 use Rattle.definitions.specs.Lanes.{lanes_of}
 use Rattle.definitions.specs.Figures.{densities, spacings}
 use Rattle.definitions.specs.Notes.{notes}
-use Rattle.definitions.specs.Records.{kindNumber, records, readNote}
-use Rattle.definitions.specs.Entries.{measureCount, chartFigures}
+use Rattle.definitions.specs.Records.{number_of_kind, records, note_of_record}
+use Rattle.definitions.specs.Entries.{measure_count, figures_of_chart}
 use Rattle.definitions.specs.WriterMakes.{TailMade, Made}
 use Rattle.definitions.specs.declared.Kind.{Kind}
 use Rattle.definitions.specs.declared.Tail.{Tail}
 use Rattle.definitions.specs.declared.Tail.TheVariants.{Without, Row}
 use Rattle.definitions.specs.declared.Note.{Note}
-use Rattle.sheet.specs.Sheet.{figureLine, measureLine, tailField, noteLine, recordLine, measureLines, recordLines, headLines, sheetOf}
+use Rattle.sheet.specs.Sheet.{line_of_figure, line_of_measure, field_of_tail, line_of_note, line_of_record, lines_of_measures, lines_of_records, lines_of_head, sheet_of}
 use Rattle.definitions.specs.declared.ChartFigures.{ChartFigures}
 use Rattle.chart_sheet.proofs.Lengths.{field-digit, field-short, field-length, listed-most}
 use Rattle.chart_sheet.proofs.Counts.{measure-below, density-below, spacing-below, tail-below, reads, room-enough}
 
 -- a head line has a number of at most twenty digits
-head-line : (name : List ℕ) (n c : ℕ) → length name ≤ c → length (figureLine name n) ≤ c + 21
-unfolding figureLine
+head-line : (name : List ℕ) (n c : ℕ) → length name ≤ c → length (line_of_figure name n) ≤ c + 21
+unfolding line_of_figure
 head-line name n c h = rw length-append (omega (arith, field-length n 10))
 
-head-lines : (f : ChartFigures) → length (headLines f) ≤ 164
-unfolding headLines
+head-lines : (f : ChartFigures) → length (lines_of_head f) ≤ 164
+unfolding lines_of_head
 head-lines f =
     simp length-append
     (omega (
@@ -41,60 +41,60 @@ head-lines f =
     ))
 
 -- a measure's line has at most 22 bytes
-measure-line : (m density spaced : ℕ) → m < 100000000 → density < 100000000 → spaced < 10 → length (measureLine m density spaced) ≤ 22
-unfolding measureLine
+measure-line : (m density spaced : ℕ) → m < 100000000 → density < 100000000 → spaced < 10 → length (line_of_measure m density spaced) ≤ 22
+unfolding line_of_measure
 measure-line m density spaced a b c =
     simp length-append (omega (arith, field-short m 32 a, field-short density 32 b, field-digit spaced 10 c))
 
 -- a tail and its line's end
-tail-field : (r : ℕ) (k : Kind) (t : Tail) → TailMade r k t → length (tailField t) ≤ 9
+tail-field : (r : ℕ) (k : Kind) (t : Tail) → TailMade r k t → length (field_of_tail t) ≤ 9
 tail-field r k Without m = omega arith
 tail-field r k (Row j) m = field-short j 10 (tail-below r k j m)
 
 -- a note's line has at most 24 bytes
-note-line : (n : Note) → Made n → length (noteLine n) ≤ 24
-unfolding noteLine
+note-line : (n : Note) → Made n → length (line_of_note n) ≤ 24
+unfolding line_of_note
 note-line n made =
     simp length-append
     (omega (
       arith,
       field-short n.row 32 (omega (arith, made.row)),
       field-digit n.column 32 made.column,
-      field-digit (kindNumber n.kind) 32 (omega (arith, made.kind)),
+      field-digit (number_of_kind n.kind) 32 (omega (arith, made.kind)),
       tail-field n.row n.kind n.tail made.tail,
     ))
 
 -- how the room of a sheet is shared out
 sheet-parts : (f : ChartFigures) (densities spacings records : List ℕ)
-    → length (sheetOf f densities spacings records) ≡ length (headLines f) + (length (measureLines densities spacings f.measures) + length (recordLines records f.notes))
-unfolding sheetOf
+    → length (sheet_of f densities spacings records) ≡ length (lines_of_head f) + (length (lines_of_measures densities spacings f.measures) + length (lines_of_records records f.notes))
+unfolding sheet_of
 sheet-parts f densities spacings records =
-    length-append (headLines f) _ ∙ ap (λ (k : ℕ). length (headLines f) + k) (length-append (measureLines densities spacings f.measures) _)
+    length-append (lines_of_head f) _ ∙ ap (λ (k : ℕ). length (lines_of_head f) + k) (length-append (lines_of_measures densities spacings f.measures) _)
 
-module _ (lanes : ℕ) (text : List ℕ) (short : length text ≤ mostBytes) where
-  record-line : (k : ℕ) → k < length (notes (lanes_of lanes) text) → length (recordLine (readNote (records (notes (lanes_of lanes) text)) k)) ≤ 24
+module _ (lanes : ℕ) (text : List ℕ) (short : length text ≤ most_bytes) where
+  record-line : (k : ℕ) → k < length (notes (lanes_of lanes) text) → length (line_of_record (note_of_record (records (notes (lanes_of lanes) text)) k)) ≤ 24
   record-line k h =
       let back = reads lanes text short k h in
       rw back.read (note-line back.note back.limits)
 
-  pub card-room : length (sheetOf (chartFigures (lanes_of lanes) text) (densities (lanes_of lanes) text) (spacings (lanes_of lanes) text) (records (notes (lanes_of lanes) text))) + 300
+  pub card-room : length (sheet_of (figures_of_chart (lanes_of lanes) text) (densities (lanes_of lanes) text) (spacings (lanes_of lanes) text) (records (notes (lanes_of lanes) text))) + 300
       ≤ 42 * (length text + 1) + 3000
-  unfolding chartFigures
+  unfolding figures_of_chart
   card-room =
       let L = lanes_of lanes in
-      let f = chartFigures L text in
+      let f = figures_of_chart L text in
       let ds = densities L text in
       let ss = spacings L text in
       let rs = records (notes L text) in
       let n = length (notes L text) in
-      let measures : length (measureLines ds ss (measureCount L text)) ≤ 22 * measureCount L text =
-      listed-most (λ (k : ℕ). measureLine k (get_or ds k 0) (get_or ss k 0)) (measureCount L text) 22
+      let measures : length (lines_of_measures ds ss (measure_count L text)) ≤ 22 * measure_count L text =
+      listed-most (λ (k : ℕ). line_of_measure k (get_or ds k 0) (get_or ss k 0)) (measure_count L text) 22
       (λ k h. measure-line k (get_or ds k 0) (get_or ss k 0) (measure-below lanes text short k h) (density-below lanes text short k) (spacing-below L text k))
       in
-      let lines : length (recordLines rs n) ≤ 24 * n = listed-most (λ (k : ℕ). recordLine (readNote rs k)) n 24 record-line in
+      let lines : length (lines_of_records rs n) ≤ 24 * n = listed-most (λ (k : ℕ). line_of_record (note_of_record rs k)) n 24 record-line in
       omega (
         arith,
         sheet-parts f ds ss rs,
-        room-enough lanes text (length (headLines f)) (length (measureLines ds ss (measureCount L text))) (length (recordLines rs n))
+        room-enough lanes text (length (lines_of_head f)) (length (lines_of_measures ds ss (measure_count L text))) (length (lines_of_records rs n))
             (omega (arith, head-lines f)) measures (omega (arith, lines)),
       )

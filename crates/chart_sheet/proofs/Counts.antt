@@ -6,15 +6,15 @@ use native.Mathlib.Nat.{mul-suc, mul_comm, mul-le-mul_right, div-le_self, le-div
 use native.Mathlib.Numerals.{add-one}
 use native.Mathlib.Omega.{arith}
 use lib.ListN.{length, get_or, length-map}
-use Rattle.definitions.specs.Sizes.{mostBytes}
-use Rattle.definitions.specs.Lists.{oneIf}
-use Rattle.definitions.specs.Lanes.{lanes_of, mostRows}
+use Rattle.definitions.specs.Sizes.{most_bytes}
+use Rattle.definitions.specs.Lists.{number_of_bool}
+use Rattle.definitions.specs.Lanes.{lanes_of, most_rows_in}
 use Rattle.definitions.specs.Lines.{Row}
 use Rattle.definitions.specs.Reduction.{minimised}
 use Rattle.definitions.specs.Figures.{density, spacing, densities, spacings}
 use Rattle.definitions.specs.Notes.{notes}
 use Rattle.definitions.specs.Records.{records}
-use Rattle.definitions.specs.Entries.{measureCount, rowCount}
+use Rattle.definitions.specs.Entries.{measure_count, row_count}
 use Rattle.definitions.specs.WriterMakes.{TailMade, ReadsBack, WriterMakes}
 use Rattle.definitions.specs.declared.Kind.{Kind}
 use Rattle.definitions.specs.declared.Kind.TheVariants.{Tap, Hold, Roll, Mine, Lift, Fake}
@@ -26,13 +26,13 @@ use Rattle.definitions.proofs.ReadBack.{records-length}
 use Rattle.definitions.proofs.WriterMakes.{writer-makes}
 
 -- there is a density and a spacing for each measure
-pub densities-count : (L : ℕ) (text : List ℕ) → length (densities L text) ≡ measureCount L text
+pub densities-count : (L : ℕ) (text : List ℕ) → length (densities L text) ≡ measure_count L text
 unfolding densities
 densities-count L text = length-map (minimised L text) density
 
-pub spacings-count : (L : ℕ) (text : List ℕ) → length (spacings L text) ≡ measureCount L text
+pub spacings-count : (L : ℕ) (text : List ℕ) → length (spacings L text) ≡ measure_count L text
 unfolding spacings
-spacings-count L text = length-map (minimised L text) (λ (m : List Row). oneIf (spacing m))
+spacings-count L text = length-map (minimised L text) (λ (m : List Row). number_of_bool (spacing m))
 
 -- and a record for each note
 pub records-count : (ns : List Note) → length (records ns) / 10 ≡ length ns
@@ -52,28 +52,28 @@ shares len LR R M N a b c d = omega arith
 
 module _ (lanes : ℕ) (text : List ℕ) where
   -- 22 bytes a measure, 32 a note and 2,600 beside them
-  pub room-enough : (heads entries lines : ℕ) → heads ≤ 2600 → entries ≤ 22 * measureCount (lanes_of lanes) text
+  pub room-enough : (heads entries lines : ℕ) → heads ≤ 2600 → entries ≤ 22 * measure_count (lanes_of lanes) text
       → lines ≤ 32 * length (notes (lanes_of lanes) text) → heads + entries + lines + 300 ≤ 42 * (length text + 1) + 3000
-  unfolding mostRows
+  unfolding most_rows_in
   room-enough heads entries lines a b c =
       let L = lanes_of lanes in
-      let R = rowCount L text in
+      let R = row_count L text in
       omega (
         arith,
-        shares (length text) (L * R) R (measureCount L text) (length (notes L text))
+        shares (length text) (L * R) R (measure_count L text) (length (notes L text))
             (cells-few L R (lanes-at-most lanes))
             (parts-room (length text) L R (rows_few L text (omega (arith, lanes-at-least lanes))))
             (measures-few L text)
             (notes-few L text),
       )
 
-module _ (lanes : ℕ) (text : List ℕ) (short : length text ≤ mostBytes) where
+module _ (lanes : ℕ) (text : List ℕ) (short : length text ≤ most_bytes) where
   -- numbers of at most eight digits
-  pub measure-below : (k : ℕ) → k < measureCount (lanes_of lanes) text → k < 100000000
+  pub measure-below : (k : ℕ) → k < measure_count (lanes_of lanes) text → k < 100000000
   measure-below k h = omega (arith, measures-few (lanes_of lanes) text)
 
   pub density-below : (k : ℕ) → get_or (densities (lanes_of lanes) text) k 0 < 100000000
-  unfolding mostRows
+  unfolding most_rows_in
   density-below k =
       let L = lanes_of lanes in
       omega (arith, density-few L text k, rows_few L text (omega (arith, lanes-at-least lanes)), div-le_self (length text + 1) (L + 1))

@@ -7,11 +7,11 @@ use native.Mathlib.Omega.{arith}
 use lib.Dec.{eqb}
 use lib.ListN.{length, get_or, length-append}
 use Rattle.std.specs.Prelude.{codes}
-use Rattle.definitions.specs.Sizes.{mostBytes}
+use Rattle.definitions.specs.Sizes.{most_bytes}
 use Rattle.definitions.specs.Lanes.{lanes_of}
 use Rattle.definitions.specs.Figures.{densities, spacings}
 use Rattle.definitions.specs.Notes.{notes}
-use Rattle.definitions.specs.Records.{kindNumber, records, readNote}
+use Rattle.definitions.specs.Records.{number_of_kind, records, note_of_record}
 use Rattle.definitions.specs.WriterMakes.{TailMade, Made}
 use Rattle.definitions.specs.declared.Kind.{Kind}
 use Rattle.definitions.specs.declared.Tail.{Tail}
@@ -19,11 +19,11 @@ use Rattle.definitions.specs.declared.Tail.TheVariants.{Without, Row}
 use Rattle.definitions.specs.declared.Note.{Note}
 use Rattle.definitions.specs.declared.ArrowStats.{ArrowStats}
 use Rattle.definitions.specs.declared.ChartFigures.{ChartFigures}
-use Rattle.sheet.specs.Sheet.{fieldAt}
+use Rattle.sheet.specs.Sheet.{field_at}
 use Rattle.sheet.specs.declared.SheetFigures.{SheetFigures}
 use Rattle.sheet.proofs.Numbers.{number-length}
 use Rattle.sheet.proofs.Names.{field-name}
-use Rattle.sheet_json.specs.Json.{separator, named, figure, lastBeat, jsonHeads, member, members, jsonTallies, densityEntry, densityEntries, truth, spacingEntry, spacingEntries, tailValue, noteValue, recordEntry, recordEntries, jsonLists, jsonOf}
+use Rattle.sheet_json.specs.Json.{separator, named, figure, last_beat_of, json_heads, member, members, json_tallies, entry_of_density, entries_of_densities, truth, entry_of_spacing, entries_of_spacings, value_of_tail, value_of_note, entry_of_record, entries_of_records, json_lists, json_of}
 use Rattle.chart_sheet.proofs.Lengths.{number_short, field-digit, field-short, listed-most}
 use Rattle.chart_sheet.proofs.Counts.{densities-count, spacings-count, records-count, density-below, tail-below, reads, room-enough}
 
@@ -36,8 +36,8 @@ figure-length : (name : List ℕ) (n c : ℕ) → length name ≤ c → length (
 unfolding figure
 figure-length name n c h = rw length-append (omega (arith, named-length name n c h))
 
-last-length : (last : ℕ) → length (lastBeat last) ≤ 106
-unfolding lastBeat
+last-length : (last : ℕ) → length (last_beat_of last) ≤ 106
+unfolding last_beat_of
 last-length last =
     simp length-append
     (omega (
@@ -47,8 +47,8 @@ last-length last =
       figure-length (codes "in_48ths") last 8 (omega arith),
     ))
 
-json-heads : (f : ChartFigures) → length (jsonHeads f) ≤ 200
-unfolding jsonHeads
+json-heads : (f : ChartFigures) → length (json_heads f) ≤ 200
+unfolding json_heads
 json-heads f =
     simp length-append
     (omega (
@@ -73,15 +73,15 @@ member-length i name count h = rw length-append (omega (arith, separator-length 
 members-length : (t : ArrowStats) → length (members t) ≤ 504
 unfolding members
 members-length t =
-    listed-most (λ (i : ℕ). member i (fieldAt t i).0 (fieldAt t i).1) 14 36 (λ i h. member-length i (fieldAt t i).0 (fieldAt t i).1 (field-name t i))
+    listed-most (λ (i : ℕ). member i (field_at t i).0 (field_at t i).1) 14 36 (λ i h. member-length i (field_at t i).0 (field_at t i).1 (field-name t i))
 
-json-tallies : (f : SheetFigures) → length (jsonTallies f) ≤ 1544
-unfolding jsonTallies
+json-tallies : (f : SheetFigures) → length (json_tallies f) ≤ 1544
+unfolding json_tallies
 json-tallies f = simp length-append (omega (arith, members-length f.chart.stats, members-length f.kept.stats, members-length f.judged))
 
 -- ---- Measures: at most nine bytes for a density and six for a spacing
-density-entry : (k density : ℕ) → density < 100000000 → length (densityEntry k density) ≤ 9
-unfolding densityEntry
+density-entry : (k density : ℕ) → density < 100000000 → length (entry_of_density k density) ≤ 9
+unfolding entry_of_density
 density-entry k density h = rw length-append (omega (arith, separator-length k, number_short density h))
 
 truth-length : (spaced : ℕ) → length (truth spaced) ≤ 5
@@ -91,66 +91,66 @@ truth-length spaced = go (eqb spaced 0)
     go true = omega arith
     go false = omega arith
 
-spacing-entry : (k spaced : ℕ) → length (spacingEntry k spaced) ≤ 6
-unfolding spacingEntry
+spacing-entry : (k spaced : ℕ) → length (entry_of_spacing k spaced) ≤ 6
+unfolding entry_of_spacing
 spacing-entry k spaced = rw length-append (omega (arith, separator-length k, truth-length spaced))
 
 -- ---- Notes
-tail-value : (r : ℕ) (k : Kind) (t : Tail) → TailMade r k t → length (tailValue t) ≤ 8
+tail-value : (r : ℕ) (k : Kind) (t : Tail) → TailMade r k t → length (value_of_tail t) ≤ 8
 tail-value r k Without m = omega arith
 tail-value r k (Row j) m = number_short j (tail-below r k j m)
 
-note-value : (n : Note) → Made n → length (noteValue n) ≤ 23
-unfolding noteValue
+note-value : (n : Note) → Made n → length (value_of_note n) ≤ 23
+unfolding value_of_note
 note-value n made =
     simp length-append
     (omega (
       arith,
       field-short n.row 44 (omega (arith, made.row)),
       field-digit n.column 44 made.column,
-      field-digit (kindNumber n.kind) 44 (omega (arith, made.kind)),
+      field-digit (number_of_kind n.kind) 44 (omega (arith, made.kind)),
       tail-value n.row n.kind n.tail made.tail,
     ))
 
 -- a note takes at most 24 bytes
-found-entry : (k : ℕ) (n : Note) → Made n → length (recordEntry k (Ok n)) ≤ 24
-unfolding recordEntry
+found-entry : (k : ℕ) (n : Note) → Made n → length (entry_of_record k (Ok n)) ≤ 24
+unfolding entry_of_record
 found-entry k n made = rw length-append (omega (arith, separator-length k, note-value n made))
 
 json-parts : (f : SheetFigures) (densities spacings records : List ℕ)
-    → length (jsonOf f densities spacings records)
+    → length (json_of f densities spacings records)
     ≤ 1800
-    + (length (densityEntries densities (length densities)) + length (spacingEntries spacings (length spacings)))
-    + length (recordEntries records (length records / 10))
-unfolding jsonOf jsonLists
+    + (length (entries_of_densities densities (length densities)) + length (entries_of_spacings spacings (length spacings)))
+    + length (entries_of_records records (length records / 10))
+unfolding json_of json_lists
 json-parts f densities spacings records =
     simp length-append (omega (arith, json-heads f.chart, json-tallies f))
 
-module _ (f : SheetFigures) (lanes : ℕ) (text : List ℕ) (short : length text ≤ mostBytes) where
-  record-entry : (k : ℕ) → k < length (notes (lanes_of lanes) text) → length (recordEntry k (readNote (records (notes (lanes_of lanes) text)) k)) ≤ 24
+module _ (f : SheetFigures) (lanes : ℕ) (text : List ℕ) (short : length text ≤ most_bytes) where
+  record-entry : (k : ℕ) → k < length (notes (lanes_of lanes) text) → length (entry_of_record k (note_of_record (records (notes (lanes_of lanes) text)) k)) ≤ 24
   record-entry k h =
       let back = reads lanes text short k h in
       rw back.read (found-entry k back.note back.limits)
 
-  pub json-room : length (jsonOf f (densities (lanes_of lanes) text) (spacings (lanes_of lanes) text) (records (notes (lanes_of lanes) text))) + 300
+  pub json-room : length (json_of f (densities (lanes_of lanes) text) (spacings (lanes_of lanes) text) (records (notes (lanes_of lanes) text))) + 300
       ≤ 42 * (length text + 1) + 3000
   json-room =
       let L = lanes_of lanes in
       let ds = densities L text in
       let ss = spacings L text in
       let rs = records (notes L text) in
-      let dense : length (densityEntries ds (length ds)) ≤ 9 * length ds =
-      listed-most (λ (k : ℕ). densityEntry k (get_or ds k 0)) (length ds) 9 (λ k h. density-entry k (get_or ds k 0) (density-below lanes text short k))
+      let dense : length (entries_of_densities ds (length ds)) ≤ 9 * length ds =
+      listed-most (λ (k : ℕ). entry_of_density k (get_or ds k 0)) (length ds) 9 (λ k h. density-entry k (get_or ds k 0) (density-below lanes text short k))
       in
-      let spaced : length (spacingEntries ss (length ss)) ≤ 6 * length ss =
-      listed-most (λ (k : ℕ). spacingEntry k (get_or ss k 0)) (length ss) 6 (λ k h. spacing-entry k (get_or ss k 0))
+      let spaced : length (entries_of_spacings ss (length ss)) ≤ 6 * length ss =
+      listed-most (λ (k : ℕ). entry_of_spacing k (get_or ss k 0)) (length ss) 6 (λ k h. spacing-entry k (get_or ss k 0))
       in
-      let values : length (recordEntries rs (length rs / 10)) ≤ 24 * (length rs / 10) =
-      listed-most (λ (k : ℕ). recordEntry k (readNote rs k)) (length rs / 10) 24 (λ k h. record-entry k (omega (arith, records-count (notes L text))))
+      let values : length (entries_of_records rs (length rs / 10)) ≤ 24 * (length rs / 10) =
+      listed-most (λ (k : ℕ). entry_of_record k (note_of_record rs k)) (length rs / 10) 24 (λ k h. record-entry k (omega (arith, records-count (notes L text))))
       in
       omega (
         arith,
         json-parts f ds ss rs,
-        room-enough lanes text 1800 (length (densityEntries ds (length ds)) + length (spacingEntries ss (length ss))) (length (recordEntries rs (length rs / 10)))
+        room-enough lanes text 1800 (length (entries_of_densities ds (length ds)) + length (entries_of_spacings ss (length ss))) (length (entries_of_records rs (length rs / 10)))
             (omega arith) (omega (arith, densities-count L text, spacings-count L text)) (omega (arith, records-count (notes L text))),
       )

@@ -7,7 +7,7 @@ use native.Mathlib.Omega.{arith}
 use borrow.Author.Tests.{lt-ltb}
 use lib.Dec.{ltb}
 use lib.ListN.{length, length-append, length-replicate}
-use Rattle.sheet.specs.Sheet.{digits, number, numberField, aligned, listed}
+use Rattle.sheet.specs.Sheet.{digits, number, number_field, aligned, listed}
 use Rattle.sheet.proofs.Numbers.{number-length}
 
 -- a number below 10 ^ k has at most k digits
@@ -33,17 +33,17 @@ unfolding number
 number_short n h = digits-few 20 8 n (omega arith) h
 
 -- with the byte after it
-pub field-most : (n after c : ℕ) → length (number n) ≤ c → length (numberField n after) ≤ c + 1
-unfolding numberField
+pub field-most : (n after c : ℕ) → length (number n) ≤ c → length (number_field n after) ≤ c + 1
+unfolding number_field
 field-most n after c h = rw length-append (omega arith)
 
-pub field-digit : (n after : ℕ) → n < 10 → length (numberField n after) ≤ 2
+pub field-digit : (n after : ℕ) → n < 10 → length (number_field n after) ≤ 2
 field-digit n after h = field-most n after 1 (number-digit n h)
 
-pub field-short : (n after : ℕ) → n < 100000000 → length (numberField n after) ≤ 9
+pub field-short : (n after : ℕ) → n < 100000000 → length (number_field n after) ≤ 9
 field-short n after h = field-most n after 8 (number_short n h)
 
-pub field-length : (n after : ℕ) → length (numberField n after) ≤ 21
+pub field-length : (n after : ℕ) → length (number_field n after) ≤ 21
 field-length n after = field-most n after 20 (number-length n)
 
 pub aligned-length : (width n : ℕ) → length (aligned width n) ≤ width + 20

@@ -6,7 +6,7 @@ use Prim.Native.Nat.{ℕ, zero, suc, ◌≤◌, ◌<◌}
 use native.Mathlib.Omega.{arith}
 use lib.ListN.{length, take, get_elem?}
 use lib.Seq.{take-length}
-use Rattle.definitions.specs.Sizes.{mostBytes}
+use Rattle.definitions.specs.Sizes.{most_bytes}
 use Rattle.definitions.specs.Lists.{joined}
 use Rattle.definitions.specs.Lanes.{lanes_of}
 use Rattle.definitions.specs.Figures.{densities, spacings}
@@ -16,13 +16,13 @@ use Rattle.definitions.specs.WriterMakes.{ReadsBack, WriterMakes}
 use Rattle.definitions.specs.declared.Note.{Note}
 use Rattle.reduction.proofs.Blocks.{joined-append}
 use Rattle.definitions.proofs.WriterMakes.{writer-makes}
-use Rattle.sheet.specs.Sheet.{noteLine, recordLines, sheetOf}
-use Rattle.sheet.specs.Card.{noteLines, sheet}
-use Rattle.definitions.specs.Entries.{chartFigures}
+use Rattle.sheet.specs.Sheet.{line_of_note, lines_of_records, sheet_of}
+use Rattle.sheet.specs.Card.{note_lines, sheet}
+use Rattle.definitions.specs.Entries.{figures_of_chart}
 
-map_snoc : (ns : List Note) (n : Note) → map noteLine (ns ++ (n ∷ [])) ≡ map noteLine ns ++ (noteLine n ∷ [])
+map_snoc : (ns : List Note) (n : Note) → map line_of_note (ns ++ (n ∷ [])) ≡ map line_of_note ns ++ (line_of_note n ∷ [])
 map_snoc [] n = refl
-map_snoc (m ∷ ns) n = ap (λ (l : List (List ℕ)). noteLine m ∷ l) (map_snoc ns n)
+map_snoc (m ∷ ns) n = ap (λ (l : List (List ℕ)). line_of_note m ∷ l) (map_snoc ns n)
 
 take_more : (ns : List Note) (k : ℕ) (n : Note) → get_elem? ns k ≡ some n → take (suc k) ns ≡ take k ns ++ (n ∷ [])
 take_more [] k n e = let z : ◌≡◌ {A = ℕ} 0 1 = cc in absurd (omega arith)
@@ -31,20 +31,20 @@ take_more (m ∷ ns) (suc k) n e = ap (λ (l : List Note). m ∷ l) (take_more n
 
 -- the records' lines are the notes'
 record-lines : (ns : List Note) (k : ℕ) → k ≤ length ns → ((j : ℕ) → j < length ns → ReadsBack ns j)
-    → recordLines (records ns) k ≡ joined (map noteLine (take k ns))
+    → lines_of_records (records ns) k ≡ joined (map line_of_note (take k ns))
 record-lines ns zero h back = refl
 record-lines ns (suc k) h back =
     let b : ReadsBack ns k = back k (omega arith) in
     rw (record-lines ns k (omega arith) back, b.read, take_more ns k b.note b.stands, map_snoc, joined-append, append-nil)
 
-module _ (lanes : ℕ) (text : List ℕ) (short : length text ≤ mostBytes) where
-  note-lines-read : recordLines (records (notes (lanes_of lanes) text)) (length (notes (lanes_of lanes) text)) ≡ noteLines (notes (lanes_of lanes) text)
-  unfolding noteLines WriterMakes
+module _ (lanes : ℕ) (text : List ℕ) (short : length text ≤ most_bytes) where
+  note-lines-read : lines_of_records (records (notes (lanes_of lanes) text)) (length (notes (lanes_of lanes) text)) ≡ note_lines (notes (lanes_of lanes) text)
+  unfolding note_lines WriterMakes
   note-lines-read =
       record-lines (notes (lanes_of lanes) text) (length (notes (lanes_of lanes) text)) (omega arith) (writer-makes lanes text short)
-      ∙ ap (λ (l : List Note). joined (map noteLine l)) (take-length (notes (lanes_of lanes) text))
+      ∙ ap (λ (l : List Note). joined (map line_of_note l)) (take-length (notes (lanes_of lanes) text))
 
-  pub card-lines : sheetOf (chartFigures (lanes_of lanes) text) (densities (lanes_of lanes) text) (spacings (lanes_of lanes) text) (records (notes (lanes_of lanes) text))
+  pub card-lines : sheet_of (figures_of_chart (lanes_of lanes) text) (densities (lanes_of lanes) text) (spacings (lanes_of lanes) text) (records (notes (lanes_of lanes) text))
       ≡ sheet (lanes_of lanes) text
-  unfolding sheetOf sheet chartFigures
+  unfolding sheet_of sheet figures_of_chart
   card-lines = rw note-lines-read

@@ -6,36 +6,36 @@ use native.Mathlib.Omega.{arith}
 use lib.Dec.{eqb}
 use lib.ListN.{length, get_or, length-append, length-replicate}
 use Rattle.std.specs.Prelude.{codes}
-use Rattle.definitions.specs.Sizes.{mostBytes}
+use Rattle.definitions.specs.Sizes.{most_bytes}
 use Rattle.definitions.specs.Lanes.{lanes_of}
 use Rattle.definitions.specs.Figures.{densities, spacings}
 use Rattle.definitions.specs.Notes.{notes}
-use Rattle.definitions.specs.Records.{kindNumber, records, readNote}
+use Rattle.definitions.specs.Records.{number_of_kind, records, note_of_record}
 use Rattle.definitions.specs.WriterMakes.{TailMade, Made}
 use Rattle.definitions.specs.declared.Kind.{Kind}
 use Rattle.definitions.specs.declared.Tail.{Tail}
 use Rattle.definitions.specs.declared.Tail.TheVariants.{Without, Row}
 use Rattle.definitions.specs.declared.Note.{Note}
-use Rattle.sheet.specs.Sheet.{aligned, leftAligned, fieldAt}
+use Rattle.sheet.specs.Sheet.{aligned, aligned_left, field_at}
 use Rattle.sheet.proofs.Numbers.{number-length}
 use Rattle.sheet.proofs.Names.{field-name}
 use Rattle.sheet.specs.declared.SheetFigures.{SheetFigures}
 use Rattle.definitions.specs.declared.ChartFigures.{ChartFigures}
-use Rattle.sheet_print.specs.Print.{countLine, three, lastLine, printHeads, tallyLine, tallyLines, tallyHead, printTallies, lineStart, densityEntry, densityLines, densityHead, heldWord, heldLine, heldRecord, heldLines, heldHead, printOf}
+use Rattle.sheet_print.specs.Print.{line_of_count, three, line_of_last_beat, print_heads, line_of_tally, lines_of_tally, head_of_tally, print_tallies, start_of_line, entry_of_density, lines_of_densities, head_of_densities, word_of_held, line_of_held, held_line_of_record, lines_of_held, head_of_held, print_of}
 use Rattle.chart_sheet.proofs.Lengths.{aligned-length, aligned-short, listed-most}
 use Rattle.chart_sheet.proofs.Counts.{densities-count, records-count, measure-below, density-below, tail-below, reads, room-enough}
 
 -- ---- Heads and tallies, with numbers of at most twenty digits
-count-line : (name : List ℕ) (n c : ℕ) → length name ≤ c → length (countLine name n) ≤ c + 30
-unfolding countLine
+count-line : (name : List ℕ) (n c : ℕ) → length name ≤ c → length (line_of_count name n) ≤ c + 30
+unfolding line_of_count
 count-line name n c h = simp length-append (omega (arith, aligned-length 9 n))
 
-last_line : (last : ℕ) → length (lastLine last) ≤ 68
-unfolding lastLine
+last_line : (last : ℕ) → length (line_of_last_beat last) ≤ 68
+unfolding line_of_last_beat
 last_line last = simp length-append (omega (arith, aligned-length 9 (last / 48), number-length (last % 48)))
 
-print-heads : (f : ChartFigures) → length (printHeads f) ≤ 236
-unfolding printHeads
+print-heads : (f : ChartFigures) → length (print_heads f) ≤ 236
+unfolding print_heads
 print-heads f =
     simp length-append
     (omega (
@@ -52,27 +52,27 @@ unfolding three
 three-length a b c = simp length-append (omega (arith, aligned-length 9 a, aligned-length 9 b, aligned-length 9 c))
 
 -- a name of at most twelve bytes in twelve columns
-name-columns : (name : List ℕ) → length name ≤ 12 → length (leftAligned 12 name) ≤ 12
-unfolding leftAligned
+name-columns : (name : List ℕ) → length name ≤ 12 → length (aligned_left 12 name) ≤ 12
+unfolding aligned_left
 name-columns name h = rw (length-append, length-replicate) (omega arith)
 
-tally-line : (name : List ℕ) (main kept judged : ℕ) → length name ≤ 12 → length (tallyLine name main kept judged) ≤ 100
-unfolding tallyLine
+tally-line : (name : List ℕ) (main kept judged : ℕ) → length name ≤ 12 → length (line_of_tally name main kept judged) ≤ 100
+unfolding line_of_tally
 tally-line name main kept judged h = rw length-append (omega (arith, name-columns name h, three-length main kept judged))
 
-tally-lines : (f : SheetFigures) → length (tallyLines f) ≤ 1400
-unfolding tallyLines
+tally-lines : (f : SheetFigures) → length (lines_of_tally f) ≤ 1400
+unfolding lines_of_tally
 tally-lines f =
     let t = f.chart.stats in
-    listed-most (λ (i : ℕ). tallyLine (fieldAt t i).0 (fieldAt t i).1 (fieldAt f.kept.stats i).1 (fieldAt f.judged i).1) 14 100
-    (λ i h. tally-line (fieldAt t i).0 (fieldAt t i).1 (fieldAt f.kept.stats i).1 (fieldAt f.judged i).1 (field-name t i))
+    listed-most (λ (i : ℕ). line_of_tally (field_at t i).0 (field_at t i).1 (field_at f.kept.stats i).1 (field_at f.judged i).1) 14 100
+    (λ i h. tally-line (field_at t i).0 (field_at t i).1 (field_at f.kept.stats i).1 (field_at f.judged i).1 (field-name t i))
 
-print-tallies : (f : SheetFigures) → length (printTallies f) ≤ 1441
-unfolding printTallies tallyHead
+print-tallies : (f : SheetFigures) → length (print_tallies f) ≤ 1441
+unfolding print_tallies head_of_tally
 print-tallies f = simp length-append (omega (arith, tally-lines f))
 
 -- ---- Measures
-line-start : (k : ℕ) → k < 100000000 → length (lineStart k) ≤ 10
+line-start : (k : ℕ) → k < 100000000 → length (start_of_line k) ≤ 10
 line-start k h = go (eqb (k % 16) 0)
   where
     go : (t : Bool) → length (cond t (10 ∷ (aligned 7 k ++ (58 ∷ []))) []) ≤ 10
@@ -80,14 +80,14 @@ line-start k h = go (eqb (k % 16) 0)
     go false = omega arith
 
 -- a measure takes at most 19 bytes
-density-entry : (k density spaced : ℕ) → k < 100000000 → density < 100000000 → length (densityEntry k density spaced) ≤ 19
-unfolding densityEntry
+density-entry : (k density spaced : ℕ) → k < 100000000 → density < 100000000 → length (entry_of_density k density spaced) ≤ 19
+unfolding entry_of_density
 density-entry k density spaced h g =
     rw (length-append, length-append) (omega (arith, line-start k h, aligned-short 3 density 8 g (omega arith) (omega arith)))
 
 -- ---- Notes
-held_word : (k : Kind) → length (heldWord k) ≤ 4
-held_word k = go (eqb (kindNumber k) 2)
+held_word : (k : Kind) → length (word_of_held k) ≤ 4
+held_word k = go (eqb (number_of_kind k) 2)
   where
     go : (t : Bool) → length (cond t (codes "roll") (codes "hold")) ≤ 4
     go true = omega arith
@@ -105,7 +105,7 @@ three-short a b c p q r =
     ))
 
 -- a hold or roll takes at most 32 bytes
-held-line : (n : Note) (t : Tail) → Made n → TailMade n.row n.kind t → length (heldLine n t) ≤ 32
+held-line : (n : Note) (t : Tail) → Made n → TailMade n.row n.kind t → length (line_of_held n t) ≤ 32
 held-line n Without made m = omega arith
 held-line n (Row j) made m =
     rw length-append
@@ -116,35 +116,35 @@ held-line n (Row j) made m =
     ))
 
 print-parts : (f : SheetFigures) (densities spacings records : List ℕ)
-    → length (printOf f densities spacings records)
-    ≤ 1785 + length (densityLines densities spacings (length densities)) + length (heldLines records (length records / 10))
-unfolding printOf densityHead heldHead
+    → length (print_of f densities spacings records)
+    ≤ 1785 + length (lines_of_densities densities spacings (length densities)) + length (lines_of_held records (length records / 10))
+unfolding print_of head_of_densities head_of_held
 print-parts f densities spacings records =
     simp length-append (omega (arith, print-heads f.chart, print-tallies f))
 
-module _ (f : SheetFigures) (lanes : ℕ) (text : List ℕ) (short : length text ≤ mostBytes) where
-  held-record : (k : ℕ) → k < length (notes (lanes_of lanes) text) → length (heldRecord (readNote (records (notes (lanes_of lanes) text)) k)) ≤ 32
+module _ (f : SheetFigures) (lanes : ℕ) (text : List ℕ) (short : length text ≤ most_bytes) where
+  held-record : (k : ℕ) → k < length (notes (lanes_of lanes) text) → length (held_line_of_record (note_of_record (records (notes (lanes_of lanes) text)) k)) ≤ 32
   held-record k h =
       let back = reads lanes text short k h in
       rw back.read (held-line back.note back.note.tail back.limits back.limits.tail)
 
-  pub print-room : length (printOf f (densities (lanes_of lanes) text) (spacings (lanes_of lanes) text) (records (notes (lanes_of lanes) text))) + 300
+  pub print-room : length (print_of f (densities (lanes_of lanes) text) (spacings (lanes_of lanes) text) (records (notes (lanes_of lanes) text))) + 300
       ≤ 42 * (length text + 1) + 3000
   print-room =
       let L = lanes_of lanes in
       let ds = densities L text in
       let ss = spacings L text in
       let rs = records (notes L text) in
-      let measures : length (densityLines ds ss (length ds)) ≤ 19 * length ds =
-      listed-most (λ (k : ℕ). densityEntry k (get_or ds k 0) (get_or ss k 0)) (length ds) 19
+      let measures : length (lines_of_densities ds ss (length ds)) ≤ 19 * length ds =
+      listed-most (λ (k : ℕ). entry_of_density k (get_or ds k 0) (get_or ss k 0)) (length ds) 19
       (λ k h. density-entry k (get_or ds k 0) (get_or ss k 0) (measure-below lanes text short k (omega (arith, densities-count L text))) (density-below lanes text short k))
       in
-      let lines : length (heldLines rs (length rs / 10)) ≤ 32 * (length rs / 10) =
-      listed-most (λ (k : ℕ). heldRecord (readNote rs k)) (length rs / 10) 32 (λ k h. held-record k (omega (arith, records-count (notes L text))))
+      let lines : length (lines_of_held rs (length rs / 10)) ≤ 32 * (length rs / 10) =
+      listed-most (λ (k : ℕ). held_line_of_record (note_of_record rs k)) (length rs / 10) 32 (λ k h. held-record k (omega (arith, records-count (notes L text))))
       in
       omega (
         arith,
         print-parts f ds ss rs,
-        room-enough lanes text 1785 (length (densityLines ds ss (length ds))) (length (heldLines rs (length rs / 10)))
+        room-enough lanes text 1785 (length (lines_of_densities ds ss (length ds))) (length (lines_of_held rs (length rs / 10)))
             (omega arith) (omega (arith, densities-count L text)) (omega (arith, records-count (notes L text))),
       )

@@ -2,68 +2,68 @@
 -- 1 to 6 are document 01's, 19 and 20 are this call's.
 use Rattle.std.specs.Prelude.{List, [], ◌∷◌, ℕ, ◌+◌, ◌*◌, ltb, Float, length, set, Result}
 use Rattle.definitions.specs.Lanes.{lanes_of}
-use Rattle.definitions.specs.Refusals.{refusedIf, longText, shortText, shortMeasures, shortBeats, shortWork, shortNotes, answered, leaves}
-use Rattle.definitions.specs.Figures.{minimisedText, densities, spacings}
+use Rattle.definitions.specs.Refusals.{refused_if, long_text, short_text, short_measures, short_beats, short_work, short_notes, answered, leaves}
+use Rattle.definitions.specs.Figures.{minimised_text, densities, spacings}
 use Rattle.definitions.specs.Beats.{f32, beats}
 use Rattle.definitions.specs.Notes.{notes}
 use Rattle.definitions.specs.Records.{records}
-use Rattle.definitions.specs.Entries.{chartFigures, chartPlaces}
+use Rattle.definitions.specs.Entries.{figures_of_chart, places_of_chart}
 use Rattle.definitions.specs.declared.Refusal.{Refusal}
 use Rattle.definitions.specs.declared.Refusal.TheVariants.{ShortSheet, OtherForm}
-use Rattle.chart_sheet.specs.Forms.{chartSheet}
+use Rattle.chart_sheet.specs.Forms.{sheet_in_form}
 
 -- 19: the sheet slice is shorter than 42 × (len + 1) + 3,000 bytes, which every form of every text of that length has room in.
-unfoldable pub shortSheet : ℕ → ℕ → Result Unit Refusal
-shortSheet len room = refusedIf (ltb room (42 * (len + 1) + 3000)) ShortSheet
+unfoldable pub short_sheet : ℕ → ℕ → Result Unit Refusal
+short_sheet len room = refused_if (ltb room (42 * (len + 1) + 3000)) ShortSheet
 
 -- 20: the form's number is over 2.
-unfoldable pub otherForm : ℕ → Result Unit Refusal
-otherForm form = refusedIf (ltb 2 form) OtherForm
+unfoldable pub other_form : ℕ → Result Unit Refusal
+other_form form = refused_if (ltb 2 form) OtherForm
 
 -- the figures of an accepted text: those of the main call, and in place 7 the bytes of the sheet
-abbrev pub sheetPlaces : ℕ → ℕ → List ℕ → List ℕ
-sheetPlaces form L text = set (chartPlaces (chartFigures L text)) 7 (length (chartSheet form L text))
+abbrev pub places_of_sheet : ℕ → ℕ → List ℕ → List ℕ
+places_of_sheet form L text = set (places_of_chart (figures_of_chart L text)) 7 (length (sheet_in_form form L text))
 
 module _ (lanes form : ℕ) (text out densities₀ spacing₀ : List ℕ) (beats₀ : List Float) (work notes₀ sheet₀ : List ℕ) where
   -- what the call answers
-  unfoldable pub sheetAnswer : Result (List ℕ) Refusal
-  sheetAnswer =
+  unfoldable pub sheet_answer : Result (List ℕ) Refusal
+  sheet_answer =
       answered
-      (longText (length text)
-      ∷ shortText (length text) (length out)
-      ∷ shortMeasures (length text) (length densities₀)
-      ∷ shortMeasures (length text) (length spacing₀)
-      ∷ shortBeats (lanes_of lanes) (length text) (length beats₀)
-      ∷ shortWork (lanes_of lanes) (length text) (length work)
-      ∷ shortNotes (lanes_of lanes) (length text) (length notes₀)
-      ∷ shortSheet (length text) (length sheet₀)
-      ∷ otherForm form
+      (long_text (length text)
+      ∷ short_text (length text) (length out)
+      ∷ short_measures (length text) (length densities₀)
+      ∷ short_measures (length text) (length spacing₀)
+      ∷ short_beats (lanes_of lanes) (length text) (length beats₀)
+      ∷ short_work (lanes_of lanes) (length text) (length work)
+      ∷ short_notes (lanes_of lanes) (length text) (length notes₀)
+      ∷ short_sheet (length text) (length sheet₀)
+      ∷ other_form form
       ∷ [])
-      (sheetPlaces form (lanes_of lanes) text)
+      (places_of_sheet form (lanes_of lanes) text)
 
   -- what it leaves in the text slice
-  abbrev pub sheetText : List ℕ
-  sheetText = leaves 0 sheetAnswer (minimisedText (lanes_of lanes) text) out
+  abbrev pub sheet_text : List ℕ
+  sheet_text = leaves 0 sheet_answer (minimised_text (lanes_of lanes) text) out
 
   -- in the two measure slices
-  abbrev pub sheetDensities : List ℕ
-  sheetDensities = leaves 0 sheetAnswer (densities (lanes_of lanes) text) densities₀
+  abbrev pub sheet_densities : List ℕ
+  sheet_densities = leaves 0 sheet_answer (densities (lanes_of lanes) text) densities₀
 
-  abbrev pub sheetSpacings : List ℕ
-  sheetSpacings = leaves 0 sheetAnswer (spacings (lanes_of lanes) text) spacing₀
+  abbrev pub sheet_spacings : List ℕ
+  sheet_spacings = leaves 0 sheet_answer (spacings (lanes_of lanes) text) spacing₀
 
   -- in the beat slice
-  abbrev pub sheetBeats : List Float
-  sheetBeats = leaves (f32 0) sheetAnswer (beats (lanes_of lanes) text) beats₀
+  abbrev pub sheet_beats : List Float
+  sheet_beats = leaves (f32 0) sheet_answer (beats (lanes_of lanes) text) beats₀
 
   -- in the work slice
-  abbrev pub sheetWork : List ℕ
-  sheetWork = leaves 0 sheetAnswer [] work
+  abbrev pub sheet_work : List ℕ
+  sheet_work = leaves 0 sheet_answer [] work
 
   -- in the note slice
-  abbrev pub sheetNotes : List ℕ
-  sheetNotes = leaves 0 sheetAnswer (records (notes (lanes_of lanes) text)) notes₀
+  abbrev pub sheet_notes : List ℕ
+  sheet_notes = leaves 0 sheet_answer (records (notes (lanes_of lanes) text)) notes₀
 
   -- in the sheet slice
-  abbrev pub sheetLeft : List ℕ
-  sheetLeft = leaves 0 sheetAnswer (chartSheet form (lanes_of lanes) text) sheet₀
+  abbrev pub sheet_left : List ℕ
+  sheet_left = leaves 0 sheet_answer (sheet_in_form form (lanes_of lanes) text) sheet₀

@@ -3,25 +3,25 @@ use Rattle.std.specs.Prelude.{cond, List, ℕ, eqb}
 use Rattle.definitions.specs.Figures.{densities, spacings}
 use Rattle.definitions.specs.Notes.{notes}
 use Rattle.definitions.specs.Records.{records}
-use Rattle.sheet.specs.Sheet.{sheetOf}
+use Rattle.sheet.specs.Sheet.{sheet_of}
 use Rattle.sheet.specs.Card.{sheet}
 use Rattle.sheet.specs.declared.SheetFigures.{SheetFigures}
-use Rattle.sheet_print.specs.Print.{printOf}
-use Rattle.sheet_json.specs.Json.{jsonOf}
-use Rattle.sheet_answers.specs.Answers.{sheetFigures}
+use Rattle.sheet_print.specs.Print.{print_of}
+use Rattle.sheet_json.specs.Json.{json_of}
+use Rattle.sheet_answers.specs.Answers.{sheet_figures}
 
 -- a form from the figures, the densities and spacings of all measures and all note records
 unfoldable pub form_of : ℕ → SheetFigures → List ℕ → List ℕ → List ℕ → List ℕ
-form_of form f ds ss rs = cond (eqb form 0) (sheetOf f.chart ds ss rs) (cond (eqb form 1) (printOf f ds ss rs) (jsonOf f ds ss rs))
+form_of form f ds ss rs = cond (eqb form 0) (sheet_of f.chart ds ss rs) (cond (eqb form 1) (print_of f ds ss rs) (json_of f ds ss rs))
 
 -- the form `print` of a text
 unfoldable pub printed : ℕ → List ℕ → List ℕ
-printed L text = printOf (sheetFigures L text) (densities L text) (spacings L text) (records (notes L text))
+printed L text = print_of (sheet_figures L text) (densities L text) (spacings L text) (records (notes L text))
 
 -- the form `json` of a text
-unfoldable pub jsonObject : ℕ → List ℕ → List ℕ
-jsonObject L text = jsonOf (sheetFigures L text) (densities L text) (spacings L text) (records (notes L text))
+unfoldable pub json_object : ℕ → List ℕ → List ℕ
+json_object L text = json_of (sheet_figures L text) (densities L text) (spacings L text) (records (notes L text))
 
 -- the sheet of a text: document 01's lines, or one of the fuller forms
-unfoldable pub chartSheet : ℕ → ℕ → List ℕ → List ℕ
-chartSheet form L text = cond (eqb form 0) (sheet L text) (cond (eqb form 1) (printed L text) (jsonObject L text))
+unfoldable pub sheet_in_form : ℕ → ℕ → List ℕ → List ℕ
+sheet_in_form form L text = cond (eqb form 0) (sheet L text) (cond (eqb form 1) (printed L text) (json_object L text))

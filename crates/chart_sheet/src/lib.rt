@@ -2,16 +2,16 @@
 #![tactic(auto)]
 
 ghost use Rattle.std.specs.Prelude.{◌≡◌, [], ◌+◌, ◌*◌, ◌/◌, ◌≤◌, length, take, OnOk};
-ghost use Rattle.definitions.specs.Sizes.{mostBytes};
+ghost use Rattle.definitions.specs.Sizes.{most_bytes};
 ghost use Rattle.definitions.specs.Lists.{padded};
-ghost use Rattle.definitions.specs.Lanes.{lanes_of, mostRows};
-ghost use Rattle.definitions.specs.Figures.{minimisedText, densities as densitiesOf, spacings as spacingsOf};
-ghost use Rattle.definitions.specs.Beats.{f32, beats as beatsOf};
-ghost use Rattle.definitions.specs.Notes.{notes as notesOf};
-ghost use Rattle.definitions.specs.Records.{records as recordsOf};
+ghost use Rattle.definitions.specs.Lanes.{lanes_of, most_rows_in};
+ghost use Rattle.definitions.specs.Figures.{minimised_text, densities as densities_of, spacings as spacings_of};
+ghost use Rattle.definitions.specs.Beats.{f32, beats as beats_of};
+ghost use Rattle.definitions.specs.Notes.{notes as notes_of};
+ghost use Rattle.definitions.specs.Records.{records as records_of};
 ghost use Rattle.sheet.specs.Page.{Prints};
-ghost use Rattle.chart_sheet.specs.Forms.{form_of, chartSheet};
-ghost use Rattle.chart_sheet.specs.Entry.{shortSheet, otherForm, sheetPlaces, sheetAnswer, sheetText, sheetDensities, sheetSpacings, sheetBeats, sheetWork, sheetNotes, sheetLeft};
+ghost use Rattle.chart_sheet.specs.Forms.{form_of, sheet_in_form};
+ghost use Rattle.chart_sheet.specs.Entry.{short_sheet, other_form, places_of_sheet, sheet_answer, sheet_text, sheet_densities, sheet_spacings, sheet_beats, sheet_work, sheet_notes, sheet_left};
 
 use definitions::Refusal;
 use figures::chart_places;
@@ -75,18 +75,18 @@ fn write_sheet(
     notes: &mut [u8],
     sheet: &mut [u8],
 ) -> [u64; 32]
-    requires data_len_bound { length «data».now ≤ mostBytes }
+    requires data_len_bound { length «data».now ≤ most_bytes }
     requires data_in_bounds { (length «data».now + 1 ≤ length text.old) × ((length «data».now + 1) / 2 + 1 ≤ length densities.old) × ((length «data».now + 1) / 2 + 1 ≤ length spacing.old) }
-    requires data_in_bounds_2 { (mostRows (lanes_of lanes) (length «data».now) ≤ length beats.old) × (mostRows (lanes_of lanes) (length «data».now) ≤ length work.old) × (10 * lanes_of lanes * mostRows (lanes_of lanes) (length «data».now) ≤ length notes.old) }
+    requires data_in_bounds_2 { (most_rows_in (lanes_of lanes) (length «data».now) ≤ length beats.old) × (most_rows_in (lanes_of lanes) (length «data».now) ≤ length work.old) × (10 * lanes_of lanes * most_rows_in (lanes_of lanes) (length «data».now) ≤ length notes.old) }
     requires data_in_bounds_3 { (42 * (length «data».now + 1) + 3000 ≤ length sheet.old) × (form ≤ 2) }
-    ensures value { result ≡ sheetPlaces form (lanes_of lanes) «data».now }
-    ensures text_after { text.new ≡ padded 0 (length text.old) (minimisedText (lanes_of lanes) «data».now) }
-    ensures densities_after { densities.new ≡ padded 0 (length densities.old) (densitiesOf (lanes_of lanes) «data».now) }
-    ensures spacing_after { spacing.new ≡ padded 0 (length spacing.old) (spacingsOf (lanes_of lanes) «data».now) }
-    ensures beats_after { beats.new ≡ padded (f32 0) (length beats.old) (beatsOf (lanes_of lanes) «data».now) }
+    ensures value { result ≡ places_of_sheet form (lanes_of lanes) «data».now }
+    ensures text_after { text.new ≡ padded 0 (length text.old) (minimised_text (lanes_of lanes) «data».now) }
+    ensures densities_after { densities.new ≡ padded 0 (length densities.old) (densities_of (lanes_of lanes) «data».now) }
+    ensures spacing_after { spacing.new ≡ padded 0 (length spacing.old) (spacings_of (lanes_of lanes) «data».now) }
+    ensures beats_after { beats.new ≡ padded (f32 0) (length beats.old) (beats_of (lanes_of lanes) «data».now) }
     ensures work_after { work.new ≡ padded 0 (length work.old) [] }
-    ensures notes_after { notes.new ≡ padded 0 (length notes.old) (recordsOf (notesOf (lanes_of lanes) «data».now)) }
-    ensures sheet_after { sheet.new ≡ padded 0 (length sheet.old) (chartSheet form (lanes_of lanes) «data».now) }
+    ensures notes_after { notes.new ≡ padded 0 (length notes.old) (records_of (notes_of (lanes_of lanes) «data».now)) }
+    ensures sheet_after { sheet.new ≡ padded 0 (length sheet.old) (sheet_in_form form (lanes_of lanes) «data».now) }
 {
     let columns = reader::lanes_of(lanes);
     let figures = sheet_answers(data, columns, text, densities, spacing, beats, work, notes);
@@ -107,10 +107,10 @@ fn write_sheet(
 }
 
 // The sheet slice has room for every form of such a text.
-#[tactic(auto, unfolding(crate::specs::Entry::shortSheet))]
+#[tactic(auto, unfolding(crate::specs::Entry::short_sheet))]
 fn room_for_sheet(len: usize, room: usize) -> Result<(), Refusal>
-    requires { len ≤ mostBytes }
-    ensures value { result ≡ shortSheet len room }
+    requires { len ≤ most_bytes }
+    ensures value { result ≡ short_sheet len room }
     ensures ok { OnOk result (42 * (len + 1) + 3000 ≤ room) }
 {
     if room < 42 * (len + 1) + 3000 {
@@ -120,9 +120,9 @@ fn room_for_sheet(len: usize, room: usize) -> Result<(), Refusal>
 }
 
 // The form is one of the three.
-#[tactic(auto, unfolding(crate::specs::Entry::otherForm))]
+#[tactic(auto, unfolding(crate::specs::Entry::other_form))]
 fn form_known(form: usize) -> Result<(), Refusal>
-    ensures value { result ≡ otherForm form }
+    ensures value { result ≡ other_form form }
     ensures ok { OnOk result (form ≤ 2) }
 {
     if 2 < form {
@@ -132,7 +132,7 @@ fn form_known(form: usize) -> Result<(), Refusal>
 }
 
 // Form 0 is document 01's card, 1 print, 2 json. The answer has the 32 figures.
-#[tactic(auto, unfolding(crate::specs::Entry::sheetAnswer))]
+#[tactic(auto, unfolding(crate::specs::Entry::sheet_answer))]
 pub fn chart_sheet(
     data: &[u8],
     lanes: usize,
@@ -145,14 +145,14 @@ pub fn chart_sheet(
     notes: &mut [u8],
     sheet: &mut [u8],
 ) -> Result<[u64; 32], Refusal>
-    ensures value { result ≡ sheetAnswer lanes form «data».now text.old densities.old spacing.old beats.old work.old notes.old sheet.old }
-    ensures text_after { text.new ≡ sheetText lanes form «data».now text.old densities.old spacing.old beats.old work.old notes.old sheet.old }
-    ensures densities_after { densities.new ≡ sheetDensities lanes form «data».now text.old densities.old spacing.old beats.old work.old notes.old sheet.old }
-    ensures spacing_after { spacing.new ≡ sheetSpacings lanes form «data».now text.old densities.old spacing.old beats.old work.old notes.old sheet.old }
-    ensures beats_after { beats.new ≡ sheetBeats lanes form «data».now text.old densities.old spacing.old beats.old work.old notes.old sheet.old }
-    ensures work_after { work.new ≡ sheetWork lanes form «data».now text.old densities.old spacing.old beats.old work.old notes.old sheet.old }
-    ensures notes_after { notes.new ≡ sheetNotes lanes form «data».now text.old densities.old spacing.old beats.old work.old notes.old sheet.old }
-    ensures sheet_after { sheet.new ≡ sheetLeft lanes form «data».now text.old densities.old spacing.old beats.old work.old notes.old sheet.old }
+    ensures value { result ≡ sheet_answer lanes form «data».now text.old densities.old spacing.old beats.old work.old notes.old sheet.old }
+    ensures text_after { text.new ≡ sheet_text lanes form «data».now text.old densities.old spacing.old beats.old work.old notes.old sheet.old }
+    ensures densities_after { densities.new ≡ sheet_densities lanes form «data».now text.old densities.old spacing.old beats.old work.old notes.old sheet.old }
+    ensures spacing_after { spacing.new ≡ sheet_spacings lanes form «data».now text.old densities.old spacing.old beats.old work.old notes.old sheet.old }
+    ensures beats_after { beats.new ≡ sheet_beats lanes form «data».now text.old densities.old spacing.old beats.old work.old notes.old sheet.old }
+    ensures work_after { work.new ≡ sheet_work lanes form «data».now text.old densities.old spacing.old beats.old work.old notes.old sheet.old }
+    ensures notes_after { notes.new ≡ sheet_notes lanes form «data».now text.old densities.old spacing.old beats.old work.old notes.old sheet.old }
+    ensures sheet_after { sheet.new ≡ sheet_left lanes form «data».now text.old densities.old spacing.old beats.old work.old notes.old sheet.old }
 {
     let len = data.len();
     refusals::text_fits(len)?;

@@ -2,7 +2,7 @@
 #![tactic(auto)]
 
 ghost use Rattle.std.specs.Prelude.{◌≡◌, [], get_or};
-ghost use Rattle.compare.specs.Agreement.{hasAnswer, sameFigures, numbers, longs, floatBits, bitsOf};
+ghost use Rattle.compare.specs.Agreement.{has_answer, same_stored_figures, numbers, longs, float_bits, bits_of_floats};
 
 use lines::words;
 
@@ -37,7 +37,7 @@ fn wanted_long(want: &[u8], i: usize) -> u64
 
 // A float's bits; what is no number has a number that no four bytes hold.
 fn bits_of(x: f32) -> u64
-    ensures { result ≡ floatBits x }
+    ensures { result ≡ float_bits x }
 {
     if x != x {
         4294967296
@@ -48,14 +48,14 @@ fn bits_of(x: f32) -> u64
 
 // The 32 figures, eight bytes each.
 pub fn same_figures(figures: &[u64; 32], want: &[u8]) -> bool
-    ensures { result ≡ sameFigures figures.now (longs want.now) }
+    ensures { result ≡ same_stored_figures figures.now (longs want.now) }
 {
     want.len() / 8 == 32 && same_longs(figures, want)
 }
 
 // The bytes of an answer, and zeros to the slice's end.
 pub fn same_bytes(bytes: &[u8], want: &[u8]) -> bool
-    ensures { result ≡ hasAnswer bytes.now want.now }
+    ensures { result ≡ has_answer bytes.now want.now }
 {
     want.len() <= bytes.len()
         && bytes
@@ -66,7 +66,7 @@ pub fn same_bytes(bytes: &[u8], want: &[u8]) -> bool
 
 // The numbers of an answer, and zeros to the slice's end.
 pub fn same_numbers(slice: &[u32], want: &[u8]) -> bool
-    ensures { result ≡ hasAnswer slice.now (numbers want.now) }
+    ensures { result ≡ has_answer slice.now (numbers want.now) }
 {
     want.len() / 4 <= slice.len()
         && slice
@@ -77,7 +77,7 @@ pub fn same_numbers(slice: &[u32], want: &[u8]) -> bool
 
 // The numbers of eight bytes of an answer, and zeros to the slice's end.
 pub fn same_longs(slice: &[u64], want: &[u8]) -> bool
-    ensures { result ≡ hasAnswer slice.now (longs want.now) }
+    ensures { result ≡ has_answer slice.now (longs want.now) }
 {
     want.len() / 8 <= slice.len()
         && slice
@@ -88,7 +88,7 @@ pub fn same_longs(slice: &[u64], want: &[u8]) -> bool
 
 // The floats of an answer, and zeros to the slice's end.
 pub fn same_floats(floats: &[f32], want: &[u8]) -> bool
-    ensures { result ≡ hasAnswer (bitsOf floats.now) (numbers want.now) }
+    ensures { result ≡ has_answer (bits_of_floats floats.now) (numbers want.now) }
 {
     want.len() / 4 <= floats.len()
         && floats
@@ -99,7 +99,7 @@ pub fn same_floats(floats: &[f32], want: &[u8]) -> bool
 
 // No answer, and zeros throughout.
 pub fn all_zero(work: &[u16]) -> bool
-    ensures { result ≡ hasAnswer work.now [] }
+    ensures { result ≡ has_answer work.now [] }
 {
     work.iter().all(|x| *x == 0)
 }

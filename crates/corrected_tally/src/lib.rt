@@ -2,15 +2,15 @@
 #![tactic(auto)]
 
 ghost use Rattle.std.specs.Prelude.{◌≡◌, ℕ, ◌≤◌, length, get_or, replicate, List};
-ghost use Rattle.definitions.specs.Sizes.{countBound};
-ghost use Rattle.definitions.specs.Tally.{rowSum, addRow, tally};
+ghost use Rattle.definitions.specs.Sizes.{count_bound};
+ghost use Rattle.definitions.specs.Tally.{row_sum, tally_with_row, tally};
 ghost use Rattle.definitions.specs.Lines.{Row};
-ghost use Rattle.definitions.specs.Correction.{pairedOnly, corrected};
-ghost use Rattle.taps.specs.Taps.{wideRow, TapCounts};
+ghost use Rattle.definitions.specs.Correction.{paired_only, corrected};
+ghost use Rattle.taps.specs.Taps.{wide_row, TapCounts};
 ghost use Rattle.row_tally.specs.Bounds.{Below};
-ghost use Rattle.row_tally.specs.Kept.{keepMask};
+ghost use Rattle.row_tally.specs.Kept.{row_by_mask};
 ghost use Rattle.phantoms.specs.Phantoms.{Counts};
-ghost use Rattle.reader.specs.BackReading.{rowsBack};
+ghost use Rattle.reader.specs.BackReading.{rows_back};
 ghost use Rattle.corrected_tally.specs.Heads.{Room, Heads};
 
 use definitions::ArrowStats;
@@ -21,7 +21,7 @@ use taps::Taps;
 // row of taps in other columns leaves the tracker as it is.
 fn mark_heads(text: &[u8], lanes: usize, trim: bool, work: &mut [u16])
     requires { Room trim lanes text.now work.old × ((i : ℕ) → get_or work.old i 0 ≡ 0) }
-    ensures { Heads (rowsBack trim lanes text.now) work.new }
+    ensures { Heads (rows_back trim lanes text.now) work.new }
 {
     let mut t = holds::no_tracker();
     let mut busy: u32 = 0;
@@ -40,8 +40,8 @@ fn mark_heads(text: &[u8], lanes: usize, trim: bool, work: &mut [u16])
 
 // The tally with one row more, of which only the heads of a mask count: a row of taps alone by the table, and an all-zero row adds nothing.
 fn count_row(t: ArrowStats, row: &[u8], heads: u16, counts: &[u16; 256]) -> ArrowStats
-    requires { (length row.now ≤ 10) × TapCounts (wideRow (length row.now)) counts.now × Below countBound t }
-    ensures { result ≡ addRow t (rowSum (keepMask heads 0 row.now)) }
+    requires { (length row.now ≤ 10) × TapCounts (wide_row (length row.now)) counts.now × Below count_bound t }
+    ensures { result ≡ tally_with_row t (row_sum (row_by_mask heads 0 row.now)) }
 {
     match taps::tap_line_mask(row) {
         Taps::Mask(mask) => row_tally::count_taps(t, mask, taps::is_wide(row.len()), counts),
@@ -57,8 +57,8 @@ fn count_row(t: ArrowStats, row: &[u8], heads: u16, counts: &[u16; 256]) -> Arro
 
 // The tally of the rows with only the heads that the work slice marks.
 fn count_kept(text: &[u8], lanes: usize, trim: bool, work: &[u16]) -> ArrowStats
-    requires { Room trim lanes text.now work.now × Heads (rowsBack trim lanes text.now) work.now }
-    ensures { result ≡ tally (pairedOnly (rowsBack trim lanes text.now)) }
+    requires { Room trim lanes text.now work.now × Heads (rows_back trim lanes text.now) work.now }
+    ensures { result ≡ tally (paired_only (rows_back trim lanes text.now)) }
 {
     let counts = taps::tap_mask_counts(lanes);
     let mut stats = row_tally::no_stats();
@@ -73,7 +73,7 @@ fn count_kept(text: &[u8], lanes: usize, trim: bool, work: &[u16]) -> ArrowStats
 // The tally of the rows of minimised text with only tracker-paired heads. The work slice may hold anything, and is 0 afterwards.
 pub fn recalc_phantom_stats(text: &[u8], lanes: usize, trim: bool, work: &mut [u16]) -> ArrowStats
     requires { Room trim lanes text.now work.old }
-    ensures { (result ≡ tally (pairedOnly (rowsBack trim lanes text.now))) × (work.new ≡ replicate (length work.old) 0) }
+    ensures { (result ≡ tally (paired_only (rows_back trim lanes text.now))) × (work.new ≡ replicate (length work.old) 0) }
 {
     slices::zero_past(&mut *work, 0, 0);
     mark_heads(text, lanes, trim, &mut *work);
@@ -93,7 +93,7 @@ pub fn corrected_stats(
     work: &mut [u16],
 ) -> ArrowStats
     requires { Room trim lanes text.now work.old }
-    ensures value { (rows : List Row) → Counts lanes rows p → stats ≡ tally rows → result ≡ corrected lanes rows (rowsBack trim lanes text.now) }
+    ensures value { (rows : List Row) → Counts lanes rows p → stats ≡ tally rows → result ≡ corrected lanes rows (rows_back trim lanes text.now) }
     ensures work_after { work.new ≡ replicate (length work.old) 0 }
 {
     let steps = stats.total_steps;

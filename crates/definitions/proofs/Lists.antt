@@ -8,7 +8,7 @@ use borrow.Author.Tests.{eqb-true, eqb-false}
 use lib.Dec.{eqb}
 use lib.ListN.{length, take, drop, get_or, length-append, take-append-drop}
 use lib.Seq.{drop-drop, drop-append_seam, drop-append-le}
-use Rattle.definitions.specs.Lists.{oneIf, joined, only_if, those, count, up_to, through, after, afterEach, starts_with}
+use Rattle.definitions.specs.Lists.{number_of_bool, joined, only_if, those, count, up_to, through, after, after_each, starts_with}
 use Rattle.definitions.proofs.Bools.{and_right}
 
 module _ {A : Type 0} where
@@ -62,7 +62,7 @@ module _ {A : Type 0} where
   parts-suc (suc d) (l ∷ ls) = rw append_assoc (ap (λ r. l ++ r) (parts-suc d ls))
 
 -- a test counts for at most one
-pub one-le : (b : Bool) → oneIf b ≤ 1
+pub one-le : (b : Bool) → number_of_bool b ≤ 1
 one-le true = omega arith
 one-le false = omega arith
 
@@ -78,20 +78,20 @@ all-joined none = none
 all-joined (one p a) = all_append p (all-joined a)
 
 -- what stands before the first b is the front of a list
-pub upTo-front : (b : ℕ) (s : List ℕ) → up_to b s ≡ take (length (up_to b s)) s
+pub up_to-front : (b : ℕ) (s : List ℕ) → up_to b s ≡ take (length (up_to b s)) s
 unfolding up_to
-upTo-front b [] = refl
-upTo-front b (x ∷ s) = go (eqb x b) (upTo-front b s)
+up_to-front b [] = refl
+up_to-front b (x ∷ s) = go (eqb x b) (up_to-front b s)
   where
     go : (t : Bool) → up_to b s ≡ take (length (up_to b s)) s → cond t [] (x ∷ up_to b s) ≡ take (length (cond t [] (x ∷ up_to b s))) (x ∷ s)
     go true e = refl
     go false e = ap {B = List ℕ} (λ l. x ∷ l) e
 
 -- and no longer than it
-pub upTo-short : (b : ℕ) (s : List ℕ) → length (up_to b s) ≤ length s
+pub up_to-short : (b : ℕ) (s : List ℕ) → length (up_to b s) ≤ length s
 unfolding up_to
-upTo-short b [] = omega arith
-upTo-short b (x ∷ s) = go (eqb x b) (upTo-short b s)
+up_to-short b [] = omega arith
+up_to-short b (x ∷ s) = go (eqb x b) (up_to-short b s)
   where
     go : (t : Bool) → length (up_to b s) ≤ length s → length (cond t [] (x ∷ up_to b s)) ≤ length (x ∷ s)
     go true h = omega arith
@@ -161,17 +161,17 @@ pub end-append : {t s : List ℕ} (x : IsEnd t s) (r : List ℕ) → t ++ r ≡ 
 end-append {t} {s} x r = ap (λ l. l ++ r) x.part ∙ sym (drop-append-le x.from s r (omega arith))
 
 -- what follows the first n b is the end of a list
-pub afterEach-end : (b n : ℕ) (s : List ℕ) → IsEnd (afterEach b n s) s
+pub after_each-end : (b n : ℕ) (s : List ℕ) → IsEnd (after_each b n s) s
 unfolding after
-afterEach-end b zero s = drop-end 0 s
-afterEach-end b (suc n) s = end-end (afterEach-end b n (after b s)) (drop-end (suc (length (up_to b s))) s)
+after_each-end b zero s = drop-end 0 s
+after_each-end b (suc n) s = end-end (after_each-end b n (after b s)) (drop-end (suc (length (up_to b s))) s)
 
 -- the first b of a list that has one is also the first of a longer list
 pub after-append : (b : ℕ) (s r : List ℕ) → 1 ≤ count (λ x. eqb x b) s → after b (s ++ r) ≡ after b s ++ r
 after-append b [] r h = absurd (omega arith)
 after-append b (x ∷ s) r h = rw (after-cons b x (s ++ r), after-cons b x s) (go (eqb x b) h (after-append b s r))
   where
-    go : (t : Bool) → 1 ≤ oneIf t + count (λ x. eqb x b) s → (1 ≤ count (λ x. eqb x b) s → after b (s ++ r) ≡ after b s ++ r)
+    go : (t : Bool) → 1 ≤ number_of_bool t + count (λ x. eqb x b) s → (1 ≤ count (λ x. eqb x b) s → after b (s ++ r) ≡ after b s ++ r)
         → cond t (s ++ r) (after b (s ++ r)) ≡ cond t s (after b s) ++ r
     go true h ih = refl
     go false h ih = ih (omega arith)
@@ -182,14 +182,14 @@ count-after b [] = omega arith
 count-after b (x ∷ s) = rw after-cons (go (eqb x b) (count-after b s))
   where
     go : (t : Bool) → count (λ x. eqb x b) s ≤ suc (count (λ x. eqb x b) (after b s))
-        → oneIf t + count (λ x. eqb x b) s ≤ suc (count (λ x. eqb x b) (cond t s (after b s)))
+        → number_of_bool t + count (λ x. eqb x b) s ≤ suc (count (λ x. eqb x b) (cond t s (after b s)))
     go true ih = omega arith
     go false ih = omega arith
 
-pub afterEach-append : (b n : ℕ) (s r : List ℕ) → n ≤ count (λ x. eqb x b) s → afterEach b n (s ++ r) ≡ afterEach b n s ++ r
-afterEach-append b zero s r h = refl
-afterEach-append b (suc n) s r h =
-    rw (after-append b s r (omega arith)) (afterEach-append b n (after b s) r (omega (arith, count-after b s)))
+pub after_each-append : (b n : ℕ) (s r : List ℕ) → n ≤ count (λ x. eqb x b) s → after_each b n (s ++ r) ≡ after_each b n s ++ r
+after_each-append b zero s r h = refl
+after_each-append b (suc n) s r h =
+    rw (after-append b s r (omega arith)) (after_each-append b n (after b s) r (omega (arith, count-after b s)))
 
 -- where a b stands before the first c: what follows that b, through the first c
 pub after-through : (b c : ℕ) (s : List ℕ) → eqb b c ≡ false → 1 ≤ count (λ x. eqb x b) (through c s) → after b (through c s) ≡ through c (after b s)
@@ -197,7 +197,7 @@ after-through b c [] n h = let empty : 1 ≤ 0 = rw through-nil at h in absurd (
 after-through b c (x ∷ s) n h =
     rw (through-cons, after-cons b x (cond (eqb x c) [] (through c s)), after-cons b x s) (go (eqb x b) refl (eqb x c) refl (rw through-cons at h) (after-through b c s n))
   where
-    go : (t : Bool) → eqb x b ≡ t → (u : Bool) → eqb x c ≡ u → 1 ≤ oneIf t + count (λ x. eqb x b) (cond u [] (through c s))
+    go : (t : Bool) → eqb x b ≡ t → (u : Bool) → eqb x c ≡ u → 1 ≤ number_of_bool t + count (λ x. eqb x b) (cond u [] (through c s))
         → (1 ≤ count (λ x. eqb x b) (through c s) → after b (through c s) ≡ through c (after b s))
         → cond t (cond u [] (through c s)) (after b (cond u [] (through c s))) ≡ through c (cond t s (after b s))
     go true p true q h ih = absurd (eqb-false b c n (sym (eqb-true x b p) ∙ eqb-true x c q))
@@ -205,12 +205,12 @@ after-through b c (x ∷ s) n h =
     go false p true q h ih = absurd (omega arith)
     go false p false q h ih = ih (omega arith)
 
-pub afterEach-through : (b c n : ℕ) (s : List ℕ) → eqb b c ≡ false → n ≤ count (λ x. eqb x b) (through c s) → afterEach b n (through c s) ≡ through c (afterEach b n s)
-afterEach-through b c zero s m h = refl
-afterEach-through b c (suc n) s m h =
+pub after_each-through : (b c n : ℕ) (s : List ℕ) → eqb b c ≡ false → n ≤ count (λ x. eqb x b) (through c s) → after_each b n (through c s) ≡ through c (after_each b n s)
+after_each-through b c zero s m h = refl
+after_each-through b c (suc n) s m h =
     let e : after b (through c s) ≡ through c (after b s) = after-through b c s m (omega arith) in
     let few : n ≤ count (λ x. eqb x b) (after b (through c s)) = omega (arith, count-after b (through c s)) in
-    rw e (afterEach-through b c n (after b s) m (rw e at few))
+    rw e (after_each-through b c n (after b s) m (rw e at few))
 
 -- a list is what stands before a part that begins at a, the part, and what follows it
 pub around-part : (s t r : List ℕ) (a : ℕ) → t ++ r ≡ drop a s → s ≡ take a s ++ (t ++ drop (a + length t) s)
@@ -219,7 +219,7 @@ around-part s t r a e =
     rw (rest, e) (sym (take-append-drop a s))
 
 -- a list that begins with a word is no shorter
-pub startsWith-length : (word s : List ℕ) → starts_with word s ≡ true → length word ≤ length s
-startsWith-length [] s e = omega arith
-startsWith-length (b ∷ word) [] e = absurd (false≢true e)
-startsWith-length (b ∷ word) (x ∷ s) e = omega (arith, startsWith-length word s (and_right (eqb x b) (starts_with word s) e))
+pub starts_with-length : (word s : List ℕ) → starts_with word s ≡ true → length word ≤ length s
+starts_with-length [] s e = omega arith
+starts_with-length (b ∷ word) [] e = absurd (false≢true e)
+starts_with-length (b ∷ word) (x ∷ s) e = omega (arith, starts_with-length word s (and_right (eqb x b) (starts_with word s) e))

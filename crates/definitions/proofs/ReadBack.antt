@@ -7,9 +7,9 @@ use native.Mathlib.Nat.{div-div-eq-div-mul, div-add-mod', mod-eq_of_lt, mul-div_
 use native.Mathlib.Omega.{arith}
 use lib.ListN.{length, get_or}
 use borrow.Author.Tests.{lt-ltb, lt-leb, eq-eqb}
-use Rattle.definitions.specs.Sizes.{rowNumbersBound}
+use Rattle.definitions.specs.Sizes.{row_numbers_bound}
 use Rattle.definitions.specs.Lists.{joined}
-use Rattle.definitions.specs.Records.{word, kindNumber, tailNumber, fields, encode, records, note_of, readNote}
+use Rattle.definitions.specs.Records.{word, number_of_kind, number_of_tail, fields, encode, records, note_of, note_of_record}
 use Rattle.definitions.specs.declared.Kind.{Kind}
 use Rattle.definitions.specs.declared.Kind.TheVariants.{Tap, Hold, Roll, Mine, Lift, Fake}
 use Rattle.definitions.specs.declared.Tail.{Tail}
@@ -41,23 +41,23 @@ unfolding word fields
 word-tail r t c k h = bytes4-back t h
 
 -- a note that the writer makes is what its fields give
-note-back : (r c : ℕ) (k : Kind) (t : Tail) → c < 10 → r < rowNumbersBound → TailMade r k t
-    → note_of r (tailNumber t) c (kindNumber k) ≡ Ok (record { row = r; tail = t; column = c; kind = k })
+note-back : (r c : ℕ) (k : Kind) (t : Tail) → c < 10 → r < row_numbers_bound → TailMade r k t
+    → note_of r (number_of_tail t) c (number_of_kind k) ≡ Ok (record { row = r; tail = t; column = c; kind = k })
 unfolding note_of
-note-back r c Tap Without p q m = simp (lt-leb 10 c p, lt-leb rowNumbersBound r q)
+note-back r c Tap Without p q m = simp (lt-leb 10 c p, lt-leb row_numbers_bound r q)
 note-back r c Tap (Row j) p q m = absurd m
 note-back r c Hold Without p q m = absurd m
-note-back r c Hold (Row j) p q m = simp (lt-leb 10 c p, lt-leb rowNumbersBound r q, lt-ltb r j m.0, lt-ltb j rowNumbersBound m.1)
+note-back r c Hold (Row j) p q m = simp (lt-leb 10 c p, lt-leb row_numbers_bound r q, lt-ltb r j m.0, lt-ltb j row_numbers_bound m.1)
 note-back r c Roll Without p q m = absurd m
-note-back r c Roll (Row j) p q m = simp (lt-leb 10 c p, lt-leb rowNumbersBound r q, lt-ltb r j m.0, lt-ltb j rowNumbersBound m.1)
-note-back r c Mine Without p q m = simp (lt-leb 10 c p, lt-leb rowNumbersBound r q)
+note-back r c Roll (Row j) p q m = simp (lt-leb 10 c p, lt-leb row_numbers_bound r q, lt-ltb r j m.0, lt-ltb j row_numbers_bound m.1)
+note-back r c Mine Without p q m = simp (lt-leb 10 c p, lt-leb row_numbers_bound r q)
 note-back r c Mine (Row j) p q m = absurd m
-note-back r c Lift Without p q m = simp (lt-leb 10 c p, lt-leb rowNumbersBound r q)
+note-back r c Lift Without p q m = simp (lt-leb 10 c p, lt-leb row_numbers_bound r q)
 note-back r c Lift (Row j) p q m = absurd m
-note-back r c Fake Without p q m = simp (lt-leb 10 c p, lt-leb rowNumbersBound r q)
+note-back r c Fake Without p q m = simp (lt-leb 10 c p, lt-leb row_numbers_bound r q)
 note-back r c Fake (Row j) p q m = absurd m
 
-tail-small : (r : ℕ) (k : Kind) (t : Tail) → TailMade r k t → tailNumber t < 4294967296
+tail-small : (r : ℕ) (k : Kind) (t : Tail) → TailMade r k t → number_of_tail t < 4294967296
 tail-small r k Without m = omega arith
 tail-small r Tap (Row j) m = absurd m
 tail-small r Hold (Row j) m = omega arith
@@ -89,17 +89,17 @@ module _ {A : Type 0} (f : A → List ℕ) (tens : (a : A) → length (f a) ≡ 
 
 row_of : (n : Note) → Made n → word (encode n) 0 ≡ n.row
 unfolding encode
-row_of n m = word_row n.row (tailNumber n.tail) n.column (kindNumber n.kind) (omega (arith, m.row))
+row_of n m = word_row n.row (number_of_tail n.tail) n.column (number_of_kind n.kind) (omega (arith, m.row))
 
-tail_of : (n : Note) → Made n → word (encode n) 4 ≡ tailNumber n.tail
+tail_of : (n : Note) → Made n → word (encode n) 4 ≡ number_of_tail n.tail
 unfolding encode
-tail_of n m = word-tail n.row (tailNumber n.tail) n.column (kindNumber n.kind) (tail-small n.row n.kind n.tail m.tail)
+tail_of n m = word-tail n.row (number_of_tail n.tail) n.column (number_of_kind n.kind) (tail-small n.row n.kind n.tail m.tail)
 
 column-of : (n : Note) → get_or (encode n) 8 0 ≡ n.column
 unfolding encode fields
 column-of n = refl
 
-kind-of : (n : Note) → get_or (encode n) 9 0 ≡ kindNumber n.kind
+kind-of : (n : Note) → get_or (encode n) 9 0 ≡ number_of_kind n.kind
 unfolding encode fields
 kind-of n = refl
 
@@ -109,8 +109,8 @@ all-at (n ∷ ns) d zero (one p ps) h = p
 all-at (n ∷ ns) d (suc k) (one p ps) h = all-at ns d k ps (omega arith)
 
 -- record k of the records of notes that the writer makes is note k
-pub read_back : (ns : List Note) (d : Note) (k : ℕ) → All Made ns → k < length ns → readNote (records ns) k ≡ Ok (get_or ns k d)
-unfolding readNote records
+pub read_back : (ns : List Note) (d : Note) (k : ℕ) → All Made ns → k < length ns → note_of_record (records ns) k ≡ Ok (get_or ns k d)
+unfolding note_of_record records
 read_back ns d k all h =
     let m : Made (get_or ns k d) = all-at ns d k all h in
     let s : List ℕ = joined (map encode ns) in
@@ -120,9 +120,9 @@ read_back ns d k all h =
     let q : k < length s / 10 = rw (l, mul-div_cancel (length ns) {n = 10} (omega arith)) h in
     let w0 : word s (k * 10) ≡ n.row =
     rw (append-nil, add-zero) at (blocks-word encode ten ns [] k 0 d h (omega arith)) ∙ row_of n m in
-    let w4 : word s (k * 10 + 4) ≡ tailNumber n.tail =
+    let w4 : word s (k * 10 + 4) ≡ number_of_tail n.tail =
     rw append-nil at (blocks-word encode ten ns [] k 4 d h (omega arith)) ∙ tail_of n m in
     let b8 : get_or s (k * 10 + 8) 0 ≡ n.column = rw append-nil at (blocks-get encode ten ns [] k 8 d h (omega arith)) ∙ column-of n in
-    let b9 : get_or s (k * 10 + 9) 0 ≡ kindNumber n.kind = rw append-nil at (blocks-get encode ten ns [] k 9 d h (omega arith)) ∙ kind-of n in
+    let b9 : get_or s (k * 10 + 9) 0 ≡ number_of_kind n.kind = rw append-nil at (blocks-get encode ten ns [] k 9 d h (omega arith)) ∙ kind-of n in
     rw (eq-eqb (length s % 10) 0 z, lt-ltb k (length s / 10) q, w0, w4, b8, b9)
     (note-back n.row n.column n.kind n.tail m.column m.row m.tail)

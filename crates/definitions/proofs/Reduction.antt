@@ -22,21 +22,21 @@ use lib.Dec.{eqb, leb}
 use lib.ListN.{length}
 use Rattle.definitions.specs.Lists.{only_if}
 use Rattle.definitions.specs.Lines.{Row}
-use Rattle.definitions.specs.Reduction.{allZero, multiple, offZero, atMultiples, allows, largest, stride, reduce}
+use Rattle.definitions.specs.Reduction.{all_zero, multiple, off_zero, at_multiples, allows, largest, stride, reduce}
 use Rattle.definitions.proofs.Bools.{and_left, and-false}
 
 -- Stride 1 is allowed, and keeps every row.
 one-multiple : (i : ℕ) → multiple 1 i ≡ true
 one-multiple i = rw mod-one
 
-one-off : (i : ℕ) (rs : List Row) → offZero 1 i rs ≡ true
+one-off : (i : ℕ) (rs : List Row) → off_zero 1 i rs ≡ true
 one-off i [] = refl
 one-off i (r ∷ rs) = rw (one-multiple i) (one-off (suc i) rs)
 
 one-allowed : (rs : List Row) → allows rs 1 ≡ true
 one-allowed rs = rw (one-multiple (length rs)) (one-off 0 rs)
 
-one-all : (i : ℕ) (rs : List Row) → atMultiples 1 i rs ≡ rs
+one-all : (i : ℕ) (rs : List Row) → at_multiples 1 i rs ≡ rs
 one-all i [] = refl
 one-all i (r ∷ rs) = rw (one-multiple i) (ap (λ l. r ∷ l) (one-all (suc i) rs))
 
@@ -90,7 +90,7 @@ stride-is r rs =
       greatest =
           λ e h.
           let d : 2 ^ e ≤ length (r ∷ rs) =
-          le_of_dvd (omega arith) (dvd_of_mod-eq-zero (2 ^ e) (eqb-true _ 0 (and_left _ (offZero (2 ^ e) 0 (r ∷ rs)) h))) in
+          le_of_dvd (omega arith) (dvd_of_mod-eq-zero (2 ^ e) (eqb-true _ 0 (and_left _ (off_zero (2 ^ e) 0 (r ∷ rs)) h))) in
           largest-greatest (length (r ∷ rs)) (r ∷ rs) e (omega (arith, below_power e)) h;
     }
 
@@ -103,7 +103,7 @@ evens (r ∷ r' ∷ rs) = r ∷ evens rs
 abbrev pub halvable : List Row → Bool
 halvable [] = true
 halvable (r ∷ []) = false
-halvable (r ∷ r' ∷ rs) = allZero r' && halvable rs
+halvable (r ∷ r' ∷ rs) = all_zero r' && halvable rs
 
 abbrev pub halved : ℕ → List Row → List Row
 halved zero rs = rs
@@ -123,7 +123,7 @@ odd-multiple s i n e =
     ne_eqb (n % (2 * s)) 0
     (λ q. let h : n % 2 ≡ 0 = mod-eq-zero_of_dvd 2 (dvd_trans 2 (dvd-mul_right 2 s) (dvd_of_mod-eq-zero (2 * s) q)) in omega arith)
 
-at-double : (s n i : ℕ) → n ≡ 2 * i → (rs : List Row) → atMultiples (2 * s) n rs ≡ atMultiples s i (evens rs)
+at-double : (s n i : ℕ) → n ≡ 2 * i → (rs : List Row) → at_multiples (2 * s) n rs ≡ at_multiples s i (evens rs)
 at-double s n i e [] = refl
 at-double s n i e (r ∷ []) = rw (even-multiple s i n e)
 at-double s n i e (r ∷ r' ∷ rs) =
@@ -141,13 +141,13 @@ regroup false true false d = refl
 regroup false false c d = refl
 
 off-double : (s n i : ℕ) → n ≡ 2 * i → (k : ℕ) (rs : List Row) → length rs ≡ 2 * k
-    → offZero (2 * s) n rs ≡ (halvable rs && offZero s i (evens rs))
+    → off_zero (2 * s) n rs ≡ (halvable rs && off_zero s i (evens rs))
 off-double s n i e k [] l = refl
 off-double s n i e k (r ∷ []) l = absurd (omega arith)
 off-double s n i e zero (r ∷ r' ∷ rs) l = absurd (omega arith)
 off-double s n i e (suc k) (r ∷ r' ∷ rs) l =
     rw (even-multiple s i n e, odd-multiple s i (suc n) (omega arith), off-double s (suc (suc n)) (suc i) (omega arith) k rs (omega arith))
-    (regroup (multiple s i || allZero r) (allZero r') (halvable rs) (offZero s (suc i) (evens rs)))
+    (regroup (multiple s i || all_zero r) (all_zero r') (halvable rs) (off_zero s (suc i) (evens rs)))
 
 evens-length : (k : ℕ) (rs : List Row) → length rs ≡ 2 * k → length (evens rs) ≡ k
 evens-length k [] l = omega arith
@@ -159,7 +159,7 @@ odd-length : (k : ℕ) (rs : List Row) → length rs ≡ suc (2 * k) → halvabl
 odd-length k [] l = absurd (omega arith)
 odd-length k (r ∷ []) l = refl
 odd-length zero (r ∷ r' ∷ rs) l = absurd (omega arith)
-odd-length (suc k) (r ∷ r' ∷ rs) l = rw (odd-length k rs (omega arith)) (and-false (allZero r'))
+odd-length (suc k) (r ∷ r' ∷ rs) l = rw (odd-length k rs (omega arith)) (and-false (all_zero r'))
 
 parity : (n : ℕ) → ((k : ℕ) × (n ≡ 2 * k)) ⊎ ((k : ℕ) × (n ≡ suc (2 * k)))
 parity zero = inl (0, refl)
@@ -176,7 +176,7 @@ allows-double s rs = ⊎_elim even odd (parity (length rs))
     even : (k : ℕ) × (length rs ≡ 2 * k) → allows rs (2 * s) ≡ (halvable rs && allows (evens rs) s)
     even h =
         rw (even-multiple s h.0 (length rs) h.1, off-double s 0 0 refl h.0 rs h.1, evens-length h.0 rs h.1)
-        (swap (multiple s h.0) (halvable rs) (offZero s 0 (evens rs)))
+        (swap (multiple s h.0) (halvable rs) (off_zero s 0 (evens rs)))
 
     odd : (k : ℕ) × (length rs ≡ suc (2 * k)) → allows rs (2 * s) ≡ (halvable rs && allows (evens rs) s)
     odd h = rw (odd-multiple s h.0 (length rs) h.1, odd-length h.0 rs h.1)
@@ -195,14 +195,14 @@ largest-one : (k : ℕ) (rs : List Row) → halvable rs ≡ false → largest k 
 largest-one zero rs h = refl
 largest-one (suc k) rs h = rw (pow-succ' 2 k, allows-double (2 ^ k) rs, h) (largest-one k rs h)
 
-largest-halved : (k : ℕ) (rs : List Row) → atMultiples (largest k rs) 0 rs ≡ halved k rs
+largest-halved : (k : ℕ) (rs : List Row) → at_multiples (largest k rs) 0 rs ≡ halved k rs
 largest-halved zero rs = one-all 0 rs
 largest-halved (suc k) rs = go (halvable rs) refl (largest-halved k (evens rs))
   where
-    go : (t : Bool) → halvable rs ≡ t → atMultiples (largest k (evens rs)) 0 (evens rs) ≡ halved k (evens rs)
-        → atMultiples (largest (suc k) rs) 0 rs ≡ cond t (halved k (evens rs)) rs
-    go true h ih = ap (λ s. atMultiples s 0 rs) (largest-double k rs h) ∙ at-double (largest k (evens rs)) 0 0 refl rs ∙ ih
-    go false h ih = ap (λ s. atMultiples s 0 rs) (largest-one (suc k) rs h) ∙ one-all 0 rs
+    go : (t : Bool) → halvable rs ≡ t → at_multiples (largest k (evens rs)) 0 (evens rs) ≡ halved k (evens rs)
+        → at_multiples (largest (suc k) rs) 0 rs ≡ cond t (halved k (evens rs)) rs
+    go true h ih = ap (λ s. at_multiples s 0 rs) (largest-double k rs h) ∙ at-double (largest k (evens rs)) 0 0 refl rs ∙ ih
+    go false h ih = ap (λ s. at_multiples s 0 rs) (largest-one (suc k) rs h) ∙ one-all 0 rs
 
 -- The two forms are one.
 pub reduce-halved : (rs : List Row) → reduce rs ≡ halved (length rs) rs

@@ -9,57 +9,57 @@ use borrow.Author.Tests.{leb-true, leb-false, ltb-false, eqb-false, le-leb, le-l
 use lib.Dec.{eqb, leb, ltb}
 use lib.ListN.{length, drop, get_or, length-drop, get_or-eq_default}
 use lib.Seq.{drop-drop, get_or-drop}
-use Rattle.definitions.specs.Sizes.{mostBytes}
-use Rattle.definitions.specs.Lists.{only_if, through, after, afterEach}
+use Rattle.definitions.specs.Sizes.{most_bytes}
+use Rattle.definitions.specs.Lists.{only_if, through, after, after_each}
 use Rattle.definitions.specs.Lines.{cut, trim}
-use Rattle.definitions.specs.Refusals.{refusedIf, longText, answered, numberTold}
+use Rattle.definitions.specs.Refusals.{refused_if, long_text, answered, number_told}
 use Rattle.definitions.specs.declared.ChartPlace.{ChartPlace}
 use Rattle.definitions.specs.declared.Refusal.TheVariants.{LongText, FewFields, OtherType, NoChart}
-use Rattle.definitions.specs.SmFile.{isTagged, tag_of, notesTag, blockText, blockEnd, startsBlock, blocks_from, blocks, colons, data_of, smTag, smText, smLanes, smData, smStart, smAnswer, smNumber}
+use Rattle.definitions.specs.SmFile.{is_tagged, tag_of, notes_tag, block_text, block_end, starts_block, blocks_from, blocks, colons, data_of, sm_tag, sm_text, sm_lanes, sm_data, sm_start, sm_answer, sm_number}
 use Rattle.definitions.specs.SmBlocks.{DataInFile, SemicolonLast, BlocksApart, LeastRefused}
 use Rattle.definitions.specs.declared.Tag.{Tag}
 use Rattle.definitions.proofs.Bools.{and_left, and_right}
-use Rattle.definitions.proofs.Lists.{through-after, through-short, through-last, IsEnd, end-append, afterEach-end, afterEach-append, afterEach-through, around-part, startsWith-length}
-use Rattle.definitions.proofs.ChartRows.{trim-short, lineBytes, cut-bytes}
+use Rattle.definitions.proofs.Lists.{through-after, through-short, through-last, IsEnd, end-append, after_each-end, after_each-append, after_each-through, around-part, starts_with-length}
+use Rattle.definitions.proofs.ChartRows.{trim-short, line_bytes, cut-bytes}
 
 -- ---- Blocks
 -- a block ends within the file if its tag does
-pub end-within : (file : List ℕ) (t : Tag) → t.end ≤ length file → blockEnd file t ≤ length file
-unfolding blockEnd blockText
+pub end-within : (file : List ℕ) (t : Tag) → t.end ≤ length file → block_end file t ≤ length file
+unfolding block_end block_text
 end-within file t h = omega (arith, through-short 59 (drop t.end file), length-drop t.end file)
 
 -- a block that starts at `past` or later and is a part of the file
 record Placed (file : List ℕ) (past : ℕ) (t : Tag) : Type 0 where
   pub later : past ≤ t.line
-  pub nonempty : t.line < blockEnd file t
-  pub within : blockEnd file t ≤ length file
+  pub nonempty : t.line < block_end file t
+  pub within : block_end file t ≤ length file
 
 -- so is one that starts at a line of the file
-placed : (file : List ℕ) (past at : ℕ) (line : List ℕ) → at + length line ≤ length file → startsBlock past at line ≡ true → Placed file past (tag_of notesTag at line)
-unfolding startsBlock isTagged tag_of notesTag blockEnd
+placed : (file : List ℕ) (past at : ℕ) (line : List ℕ) → at + length line ≤ length file → starts_block past at line ≡ true → Placed file past (tag_of notes_tag at line)
+unfolding starts_block is_tagged tag_of notes_tag block_end
 placed file past at line h e =
-    let long : 7 ≤ length (trim line) = startsWith-length notesTag (trim line) (and_right (leb past at) (isTagged notesTag line) e) in
+    let long : 7 ≤ length (trim line) = starts_with-length notes_tag (trim line) (and_right (leb past at) (is_tagged notes_tag line) e) in
     record {
-      later = leb-true past at (and_left (leb past at) (isTagged notesTag line) e);
+      later = leb-true past at (and_left (leb past at) (is_tagged notes_tag line) e);
       nonempty = omega arith;
-      within = end-within file (tag_of notesTag at line) (omega (arith, trim-short line));
+      within = end-within file (tag_of notes_tag at line) (omega (arith, trim-short line));
     }
 
 -- blocks each of which starts where the one before it ends, or later, the first at `past` or later
 data Rising (file : List ℕ) : ℕ → List Tag → Type 0 where
   none : {past : ℕ} → Rising file past []
-  next : {past : ℕ} {t : Tag} {ts : List Tag} → Placed file past t → Rising file (blockEnd file t) ts → Rising file past (t ∷ ts)
+  next : {past : ℕ} {t : Tag} {ts : List Tag} → Placed file past t → Rising file (block_end file t) ts → Rising file past (t ∷ ts)
 
 -- so are those of lines that end where the file does
-rising-from : (file : List ℕ) (past at : ℕ) (lines : List (List ℕ)) → at + lineBytes lines ≡ length file + 1 → Rising file past (blocks_from file past at lines)
+rising-from : (file : List ℕ) (past at : ℕ) (lines : List (List ℕ)) → at + line_bytes lines ≡ length file + 1 → Rising file past (blocks_from file past at lines)
 unfolding blocks_from
 rising-from file past at [] h = none
 rising-from file past at (line ∷ lines) h =
-    go (startsBlock past at line) refl (λ p. rising-from file p (at + length line + 1) lines (omega arith))
+    go (starts_block past at line) refl (λ p. rising-from file p (at + length line + 1) lines (omega arith))
   where
-    go : (b : Bool) → startsBlock past at line ≡ b → ((p : ℕ) → Rising file p (blocks_from file p (at + length line + 1) lines))
-        → Rising file past (only_if b (tag_of notesTag at line ∷ []) ++ blocks_from file (cond b (blockEnd file (tag_of notesTag at line)) past) (at + length line + 1) lines)
-    go true e rest = next (placed file past at line (omega arith) e) (rest (blockEnd file (tag_of notesTag at line)))
+    go : (b : Bool) → starts_block past at line ≡ b → ((p : ℕ) → Rising file p (blocks_from file p (at + length line + 1) lines))
+        → Rising file past (only_if b (tag_of notes_tag at line ∷ []) ++ blocks_from file (cond b (block_end file (tag_of notes_tag at line)) past) (at + length line + 1) lines)
+    go true e rest = next (placed file past at line (omega arith) e) (rest (block_end file (tag_of notes_tag at line)))
     go false e rest = rest past
 
 rising : (file : List ℕ) → Rising file 0 (blocks file)
@@ -75,88 +75,88 @@ placed_at d (suc i) (next p r) h =
     record { later = omega (arith, p.later, p.nonempty, q.later); nonempty = q.nonempty; within = q.within }
 
 apart-at : {file : List ℕ} {past : ℕ} {ts : List Tag} (d : Tag) (i j : ℕ) → Rising file past ts → i < j → j < length ts
-    → blockEnd file (get_or ts i d) ≤ (get_or ts j d).line
+    → block_end file (get_or ts i d) ≤ (get_or ts j d).line
 apart-at d i j none h l = absurd (omega arith)
 apart-at d i zero (next p r) h l = absurd (omega arith)
 apart-at d zero (suc j) (next p r) h l = (placed_at d j r (omega arith)).later
 apart-at d (suc i) (suc j) (next p r) h l = apart-at d i j r (omega arith) (omega arith)
 
 -- the tag that is named where there is no block
-abbrev no-tag : Tag
-no-tag = record { line = 0; end = 0 }
+abbrev no_tag : Tag
+no_tag = record { line = 0; end = 0 }
 
 pub blocks-apart : BlocksApart
-unfolding BlocksApart smTag
+unfolding BlocksApart sm_tag
 blocks-apart file =
     record {
-      nonempty = λ i h. (placed_at no-tag i (rising file) h).nonempty;
-      within = λ i h. (placed_at no-tag i (rising file) h).within;
-      rising = λ i j. apart-at no-tag i j (rising file);
+      nonempty = λ i h. (placed_at no_tag i (rising file) h).nonempty;
+      within = λ i h. (placed_at no_tag i (rising file) h).within;
+      rising = λ i j. apart-at no_tag i j (rising file);
     }
 
 -- ---- The data of a block
 module _ (file : List ℕ) (k : ℕ) where
-  data-end : IsEnd (smData file k) (smText file k)
-  unfolding smData data_of
-  data-end = afterEach-end 58 5 (smText file k)
+  data-end : IsEnd (sm_data file k) (sm_text file k)
+  unfolding sm_data data_of
+  data-end = after_each-end 58 5 (sm_text file k)
 
   -- it begins so far into the block's text
-  start-at : smStart file k ≡ (smTag file k).end + data-end.from
-  unfolding smStart
+  start-at : sm_start file k ≡ (sm_tag file k).end + data-end.from
+  unfolding sm_start
   start-at = omega (arith, data-end.size)
 
   -- it ends where its block does
-  pub data-to-end : smStart file k + length (smData file k) ≡ blockEnd file (smTag file k)
-  unfolding blockEnd smText
+  pub data-to-end : sm_start file k + length (sm_data file k) ≡ block_end file (sm_tag file k)
+  unfolding block_end sm_text
   data-to-end = omega (arith, start-at, data-end.size)
 
   -- the file from its start on is the data and what follows the block
-  pub data-then : smData file k ++ after 59 (drop (smTag file k).end file) ≡ drop (smStart file k) file
-  unfolding smText blockText
+  pub data-then : sm_data file k ++ after 59 (drop (sm_tag file k).end file) ≡ drop (sm_start file k) file
+  unfolding sm_text block_text
   data-then =
-      end-append data-end (after 59 (drop (smTag file k).end file))
-      ∙ ap (drop data-end.from) (through-after 59 (drop (smTag file k).end file))
-      ∙ drop-drop data-end.from (smTag file k).end file
+      end-append data-end (after 59 (drop (sm_tag file k).end file))
+      ∙ ap (drop data-end.from) (through-after 59 (drop (sm_tag file k).end file))
+      ∙ drop-drop data-end.from (sm_tag file k).end file
       ∙ ap (λ n. drop n file) (sym start-at)
 
   -- a block ends within the file, and so does what is named where there is no block k
-  block_within : blockEnd file (smTag file k) ≤ length file
-  unfolding BlocksApart smTag
+  block_within : block_end file (sm_tag file k) ≤ length file
+  unfolding BlocksApart sm_tag
   block_within =
       elim (dec_lt k (length (blocks file))) [
         | yes h ↦ (blocks-apart file).within k h
         | no h ↦
             let past : length (blocks file) ≤ k = omega arith in
-            rw (get_or-eq_default (blocks file) no-tag past) (end-within file no-tag (omega arith))
+            rw (get_or-eq_default (blocks file) no_tag past) (end-within file no_tag (omega arith))
       ]
 
 pub data-in-file : DataInFile
 unfolding DataInFile
 data-in-file file k =
     record {
-      parts = around-part file (smData file k) (after 59 (drop (smTag file k).end file)) (smStart file k) (data-then file k);
+      parts = around-part file (sm_data file k) (after 59 (drop (sm_tag file k).end file)) (sm_start file k) (data-then file k);
       within = omega (arith, data-to-end file k, block_within file k);
     }
 
 pub semicolon-last : SemicolonLast
-unfolding SemicolonLast smText blockText
+unfolding SemicolonLast sm_text block_text
 semicolon-last file k i h e =
-    let d : IsEnd (smData file k) (smText file k) = data-end file k in
-    let same : get_or (smData file k) i 0 ≡ get_or (smText file k) (d.from + i) 0 = ap (λ l. get_or l i 0) d.part ∙ get_or-drop d.from (smText file k) i 0 in
-    through-last 59 (drop (smTag file k).end file) (d.from + i) (omega (arith, d.size)) (sym same ∙ e)
+    let d : IsEnd (sm_data file k) (sm_text file k) = data-end file k in
+    let same : get_or (sm_data file k) i 0 ≡ get_or (sm_text file k) (d.from + i) 0 = ap (λ l. get_or l i 0) d.part ∙ get_or-drop d.from (sm_text file k) i 0 in
+    through-last 59 (drop (sm_tag file k).end file) (d.from + i) (omega (arith, d.size)) (sym same ∙ e)
 
 -- ---- The number that is answered, by its four tests
-abbrev numberBy : Bool → Bool → Bool → Bool → ChartPlace → ℕ
-numberBy a b c d p = numberTold (answered (refusedIf a LongText ∷ refusedIf b NoChart ∷ refusedIf c FewFields ∷ refusedIf d OtherType ∷ []) p)
+abbrev number_by : Bool → Bool → Bool → Bool → ChartPlace → ℕ
+number_by a b c d p = number_told (answered (refused_if a LongText ∷ refused_if b NoChart ∷ refused_if c FewFields ∷ refused_if d OtherType ∷ []) p)
 
-none-held : (a b c d : Bool) (p : ChartPlace) → numberBy a b c d p ≡ 0 → (a ≡ false) × (b ≡ false) × (c ≡ false) × (d ≡ false)
+none-held : (a b c d : Bool) (p : ChartPlace) → number_by a b c d p ≡ 0 → (a ≡ false) × (b ≡ false) × (c ≡ false) × (d ≡ false)
 none-held true b c d p e = absurd (omega arith)
 none-held false true c d p e = absurd (omega arith)
 none-held false false true d p e = absurd (omega arith)
 none-held false false false true p e = absurd (omega arith)
 none-held false false false false p e = (refl, refl, refl, refl)
 
-second-held : (a b c d : Bool) (p : ChartPlace) → numberBy a b c d p ≡ 11 → b ≡ true
+second-held : (a b c d : Bool) (p : ChartPlace) → number_by a b c d p ≡ 11 → b ≡ true
 second-held true b c d p e = absurd (omega arith)
 second-held false true c d p e = refl
 second-held false false true d p e = absurd (omega arith)
@@ -165,43 +165,43 @@ second-held false false false false p e = absurd (omega arith)
 
 -- what holds of a block that is accepted
 pub record Accepted (file : List ℕ) (k : ℕ) : Type 0 where
-  pub short : length file ≤ mostBytes
+  pub short : length file ≤ most_bytes
   pub there : k < length (blocks file)
-  pub fields : 5 ≤ colons (smText file k)
-  pub known : smLanes file k ≡ 0 → ⊥
+  pub fields : 5 ≤ colons (sm_text file k)
+  pub known : sm_lanes file k ≡ 0 → ⊥
 
 module _ (file : List ℕ) (k : ℕ) where
-  pub accepted : smNumber file k ≡ 0 → Accepted file k
-  unfolding smAnswer longText
+  pub accepted : sm_number file k ≡ 0 → Accepted file k
+  unfolding sm_answer long_text
   accepted e =
-      let h = none-held (ltb mostBytes (length file)) (leb (length (blocks file)) k) (ltb (colons (smText file k)) 5) (eqb (smLanes file k) 0) _ e in
+      let h = none-held (ltb most_bytes (length file)) (leb (length (blocks file)) k) (ltb (colons (sm_text file k)) 5) (eqb (sm_lanes file k) 0) _ e in
       record {
-        short = ltb-false mostBytes (length file) h.0;
+        short = ltb-false most_bytes (length file) h.0;
         there = leb-false (length (blocks file)) k h.1;
-        fields = ltb-false (colons (smText file k)) 5 h.2;
-        known = eqb-false (smLanes file k) 0 h.3;
+        fields = ltb-false (colons (sm_text file k)) 5 h.2;
+        known = eqb-false (sm_lanes file k) 0 h.3;
       }
 
   -- the data is what runs from its start through the first `;`
-  pub data-through : smNumber file k ≡ 0 → through 59 (drop (smStart file k) file) ≡ smData file k
-  unfolding smData data_of smText blockText colons
+  pub data-through : sm_number file k ≡ 0 → through 59 (drop (sm_start file k) file) ≡ sm_data file k
+  unfolding sm_data data_of sm_text block_text colons
   data-through e =
-      let text : List ℕ = drop (smTag file k).end file in
-      let enough : 5 ≤ colons (smText file k) = (accepted e).fields in
-      let from_start : drop (smStart file k) file ≡ afterEach 58 5 text =
-      sym (data-then file k) ∙ sym (afterEach-append 58 5 (smText file k) (after 59 text) enough) ∙ ap (afterEach 58 5) (through-after 59 text) in
-      ap (through 59) from_start ∙ sym (afterEach-through 58 59 5 text refl enough)
+      let text : List ℕ = drop (sm_tag file k).end file in
+      let enough : 5 ≤ colons (sm_text file k) = (accepted e).fields in
+      let from_start : drop (sm_start file k) file ≡ after_each 58 5 text =
+      sym (data-then file k) ∙ sym (after_each-append 58 5 (sm_text file k) (after 59 text) enough) ∙ ap (after_each 58 5) (through-after 59 text) in
+      ap (through 59) from_start ∙ sym (after_each-through 58 59 5 text refl enough)
 
   -- 11 is answered from the number of blocks on, and nowhere else
-  from-blocks : length file ≤ mostBytes → length (blocks file) ≤ k → smNumber file k ≡ 11
-  unfolding smAnswer longText
-  from-blocks short h = simp (le-ltb mostBytes (length file) short, le-leb (length (blocks file)) k h)
+  from-blocks : length file ≤ most_bytes → length (blocks file) ≤ k → sm_number file k ≡ 11
+  unfolding sm_answer long_text
+  from-blocks short h = simp (le-ltb most_bytes (length file) short, le-leb (length (blocks file)) k h)
 
-  only-from-blocks : smNumber file k ≡ 11 → length (blocks file) ≤ k
-  unfolding smAnswer longText
+  only-from-blocks : sm_number file k ≡ 11 → length (blocks file) ≤ k
+  unfolding sm_answer long_text
   only-from-blocks e =
       leb-true (length (blocks file)) k
-      (second-held (ltb mostBytes (length file)) (leb (length (blocks file)) k) (ltb (colons (smText file k)) 5) (eqb (smLanes file k) 0) _ e)
+      (second-held (ltb most_bytes (length file)) (leb (length (blocks file)) k) (ltb (colons (sm_text file k)) 5) (eqb (sm_lanes file k) 0) _ e)
 
 pub least-refused : LeastRefused
 unfolding LeastRefused

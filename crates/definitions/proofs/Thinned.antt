@@ -6,7 +6,7 @@ use Prim.Native.Nat.{ℕ, suc}
 use lib.ListN.{length}
 use Rattle.definitions.specs.Lists.{joined, only_if}
 use Rattle.definitions.specs.Lines.{Row}
-use Rattle.definitions.specs.Reduction.{allZero, multiple, offZero, atMultiples, stride, reduce}
+use Rattle.definitions.specs.Reduction.{all_zero, multiple, off_zero, at_multiples, stride, reduce}
 use Rattle.definitions.proofs.Reduction.{stride-is}
 use Rattle.definitions.proofs.Bools.{and_left, and_right}
 use Rattle.definitions.proofs.Lists.{All, none as no_more, one}
@@ -15,20 +15,20 @@ use Rattle.definitions.proofs.Lists.{All, none as no_more, one}
 pub data Thinned : List Row → List Row → Type 0 where
   none : Thinned [] []
   keep : {r : Row} {s t : List Row} → Thinned s t → Thinned (r ∷ s) (r ∷ t)
-  leave : {r : Row} {s t : List Row} → allZero r ≡ true → Thinned s t → Thinned (r ∷ s) t
+  leave : {r : Row} {s t : List Row} → all_zero r ≡ true → Thinned s t → Thinned (r ∷ s) t
 
 thinned-append : {s t u v : List Row} → Thinned s t → Thinned u v → Thinned (s ++ u) (t ++ v)
 thinned-append none q = q
 thinned-append (keep p) q = keep (thinned-append p q)
 thinned-append (leave z p) q = leave z (thinned-append p q)
 
-multiples-thin : (s i : ℕ) (rs : List Row) → offZero s i rs ≡ true → Thinned rs (atMultiples s i rs)
+multiples-thin : (s i : ℕ) (rs : List Row) → off_zero s i rs ≡ true → Thinned rs (at_multiples s i rs)
 multiples-thin s i [] h = none
 multiples-thin s i (r ∷ rs) h =
-    go (multiple s i) (and_left _ (offZero s (suc i) rs) h) (multiples-thin s (suc i) rs (and_right (multiple s i || allZero r) _ h))
+    go (multiple s i) (and_left _ (off_zero s (suc i) rs) h) (multiples-thin s (suc i) rs (and_right (multiple s i || all_zero r) _ h))
   where
-    go : (t : Bool) → (t || allZero r) ≡ true → Thinned rs (atMultiples s (suc i) rs)
-        → Thinned (r ∷ rs) (only_if t (r ∷ []) ++ atMultiples s (suc i) rs)
+    go : (t : Bool) → (t || all_zero r) ≡ true → Thinned rs (at_multiples s (suc i) rs)
+        → Thinned (r ∷ rs) (only_if t (r ∷ []) ++ at_multiples s (suc i) rs)
     go true z p = keep p
     go false z p = leave z p
 

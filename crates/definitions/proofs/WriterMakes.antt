@@ -7,16 +7,16 @@ use Prim.Native.Nat.{ℕ, zero, suc, ◌+◌, ◌≤◌, ◌<◌}
 use native.Mathlib.Nat.{div-le_self}
 use native.Mathlib.Omega.{arith}
 use lib.ListN.{length, get_or, get_elem?}
-use Rattle.definitions.specs.Sizes.{mostBytes, rowNumbersBound}
+use Rattle.definitions.specs.Sizes.{most_bytes, row_numbers_bound}
 use Rattle.definitions.specs.Lists.{joined}
-use Rattle.definitions.specs.Lanes.{lanes_of, mostRows}
+use Rattle.definitions.specs.Lanes.{lanes_of, most_rows_in}
 use Rattle.definitions.specs.Lines.{Row}
 use Rattle.definitions.specs.Cells.{cell_of}
 use Rattle.definitions.specs.Reduction.{minimised}
-use Rattle.definitions.specs.Notes.{effect_of, effectAt, tailOf, cellNotes, rowNotes, notesFrom, notes}
-use Rattle.definitions.specs.Records.{kindNumber, records, readNote}
-use Rattle.definitions.specs.Refusals.{numberTold, replaces}
-use Rattle.definitions.specs.Entries.{noteFigures}
+use Rattle.definitions.specs.Notes.{effect_of, effect_at, tail_row_of, cell_notes, row_notes, notes_from, notes}
+use Rattle.definitions.specs.Records.{number_of_kind, records, note_of_record}
+use Rattle.definitions.specs.Refusals.{number_told, replaces}
+use Rattle.definitions.specs.Entries.{figures_of_note}
 use Rattle.definitions.specs.WriterMakes.{TailMade, Made, ReadsBack, WriterMakes}
 use Rattle.definitions.specs.declared.Cell.{Cell}
 use Rattle.definitions.specs.declared.Cell.TheVariants as cell
@@ -34,7 +34,7 @@ use Rattle.definitions.proofs.Tails.{tail_within}
 use Rattle.definitions.proofs.ReadBack.{all-at, read_back}
 
 -- ---- The limits
-kind-below : (k : Kind) → kindNumber k < 6
+kind-below : (k : Kind) → number_of_kind k < 6
 kind-below Tap = omega arith
 kind-below Hold = omega arith
 kind-below Roll = omega arith
@@ -47,7 +47,7 @@ abbrev Proper : NoteEffect → Type 0
 Proper Nothing = Unit {0}
 Proper Closes = Unit {0}
 Proper (Single k) = (i : ℕ) → TailMade i k tail.Without
-Proper (Head k) = (i j : ℕ) → (i < j) × (j < rowNumbersBound) → TailMade i k (tail.Row j)
+Proper (Head k) = (i j : ℕ) → (i < j) × (j < row_numbers_bound) → TailMade i k (tail.Row j)
 
 proper : (x : Cell) → Proper (effect_of x)
 proper cell.Empty = tt
@@ -63,38 +63,38 @@ proper cell.LowerMine = λ i. tt
 proper cell.LowerLift = λ i. tt
 proper cell.LowerFake = λ i. tt
 
-proper-at : (b : ℕ) → Proper (effectAt b)
-unfolding effectAt
+proper-at : (b : ℕ) → Proper (effect_at b)
+unfolding effect_at
 proper-at b = proper (cell_of b)
 
-made-cell : (x : NoteEffect) → Proper x → (i c : ℕ) → i < rowNumbersBound → c < 10 → (t : Option ℕ) → ((j : ℕ) → t ≡ some j → (i < j) × (j < rowNumbersBound))
-    → All Made (cellNotes x i c t)
+made-cell : (x : NoteEffect) → Proper x → (i c : ℕ) → i < row_numbers_bound → c < 10 → (t : Option ℕ) → ((j : ℕ) → t ≡ some j → (i < j) × (j < row_numbers_bound))
+    → All Made (cell_notes x i c t)
 made-cell Nothing p i c hi hc t h = no_more
 made-cell Closes p i c hi hc t h = no_more
 made-cell (Single k) p i c hi hc t h = one (record { column = hc; kind = kind-below k; row = hi; tail = p i }) no_more
 made-cell (Head k) p i c hi hc none h = no_more
 made-cell (Head k) p i c hi hc (some j) h = one (record { column = hc; kind = kind-below k; row = hi; tail = p i j (h j refl) }) no_more
 
-made_row : (i c : ℕ) (bs : Row) (rs : List Row) → i + suc (length rs) ≤ rowNumbersBound → c + length bs ≤ 10 → All Made (rowNotes i c bs rs)
+made_row : (i c : ℕ) (bs : Row) (rs : List Row) → i + suc (length rs) ≤ row_numbers_bound → c + length bs ≤ 10 → All Made (row_notes i c bs rs)
 made_row i c [] rs h w = no_more
 made_row i c (b ∷ bs) rs h w =
     all_append
-    (made-cell (effectAt b) (proper-at b) i c (omega arith) (omega arith) (tailOf c (suc i) rs) (λ j e. let t = tail_within c (suc i) rs j e in omega arith))
+    (made-cell (effect_at b) (proper-at b) i c (omega arith) (omega arith) (tail_row_of c (suc i) rs) (λ j e. let t = tail_within c (suc i) rs j e in omega arith))
     (made_row i (suc c) bs rs h (omega arith))
 
 -- the notes of rows of at most ten cells, numbered below 16,777,216
-made-notes : (i : ℕ) (rs : List Row) → i + length rs ≤ rowNumbersBound → All (λ r. length r ≤ 10) rs → All Made (notesFrom i rs)
+made-notes : (i : ℕ) (rs : List Row) → i + length rs ≤ row_numbers_bound → All (λ r. length r ≤ 10) rs → All Made (notes_from i rs)
 made-notes i [] h no_more = no_more
 made-notes i (r ∷ rs) h (one g w) =
     all_append (made_row i zero r rs h (omega arith)) (made-notes (suc i) rs (omega arith) w)
 
 -- a text that is accepted has rows of at most ten cells, and few enough of them
-module _ (L : ℕ) (some_lane : 1 ≤ L) (ten-lanes : L ≤ 10) (text : List ℕ) (short : length text ≤ mostBytes) where
+module _ (L : ℕ) (some_lane : 1 ≤ L) (ten-lanes : L ≤ 10) (text : List ℕ) (short : length text ≤ most_bytes) where
   narrow : All (λ r. length r ≤ 10) (joined (minimised L text))
   narrow = all_map (λ r x. omega (arith, x.size)) (all-joined (minimised-rows L text some_lane))
 
-  few : length (joined (minimised L text)) ≤ rowNumbersBound
-  unfolding mostRows
+  few : length (joined (minimised L text)) ≤ row_numbers_bound
+  unfolding most_rows_in
   few = omega (arith, minimised-rows-few L text some_lane, div-le_self (length text + 1) (L + 1))
 
   made : All Made (notes L text)
@@ -113,14 +113,14 @@ stands_at (n ∷ ns) (suc k) h = stands_at ns k (omega arith)
 
 reads-back : (ns : List Note) → All Made ns → (k : ℕ) → k < length ns → ReadsBack ns k
 reads-back ns all k h =
-    let back : readNote (records ns) k ≡ Ok (get_or ns k no_note) = read_back ns no_note k all h in
+    let back : note_of_record (records ns) k ≡ Ok (get_or ns k no_note) = read_back ns no_note k all h in
     record {
       note = get_or ns k no_note;
       stands = stands_at ns k h;
       limits = all-at ns no_note k all h;
       read = back;
-      number = ap numberTold back;
-      places = λ old. ap (λ (r : Result Note Refusal). replaces r noteFigures old) back;
+      number = ap number_told back;
+      places = λ old. ap (λ (r : Result Note Refusal). replaces r figures_of_note old) back;
     }
 
 pub writer-makes : WriterMakes

@@ -25,26 +25,26 @@ unfoldable pub fused : ℕ → Float → ℕ → Float
 fused r x a = round binary32 false (r * num x + a * den x) (den x)
 
 -- "Row beat, r of n rows in measure m: [..] the beat is r × step + 4 × m"
-unfoldable pub rowBeat : ℕ → ℕ → ℕ → Float
-rowBeat m r n = fused r (step n) (4 * m)
+unfoldable pub beat_of_row : ℕ → ℕ → ℕ → Float
+beat_of_row m r n = fused r (step n) (4 * m)
 
 -- the beats of k rows of n in measure m, from row r on
-abbrev pub rowBeats : ℕ → ℕ → ℕ → ℕ → List Float
-rowBeats m n r zero = []
-rowBeats m n r (suc k) = rowBeat m r n ∷ rowBeats m n (suc r) k
+abbrev pub row_beats : ℕ → ℕ → ℕ → ℕ → List Float
+row_beats m n r zero = []
+row_beats m n r (suc k) = beat_of_row m r n ∷ row_beats m n (suc r) k
 
 -- the row beats of each measure, of measures numbered from m
-abbrev pub beatsFrom : ℕ → List (List Row) → List (List Float)
-beatsFrom m [] = []
-beatsFrom m (x ∷ xs) = rowBeats m (length x) 0 (length x) ∷ beatsFrom (suc m) xs
+abbrev pub beats_from : ℕ → List (List Row) → List (List Float)
+beats_from m [] = []
+beats_from m (x ∷ xs) = row_beats m (length x) 0 (length x) ∷ beats_from (suc m) xs
 
 -- the row beats of each measure of a text
-unfoldable pub measureBeats : ℕ → List ℕ → List (List Float)
-measureBeats L text = beatsFrom 0 (minimised L text)
+unfoldable pub measure_beats : ℕ → List ℕ → List (List Float)
+measure_beats L text = beats_from 0 (minimised L text)
 
 -- the row beats of a text
 unfoldable pub beats : ℕ → List ℕ → List Float
-beats L text = joined (measureBeats L text)
+beats L text = joined (measure_beats L text)
 
 -- "m, r, n give 4 × m + 4 × r / n in 64-bit floats, each step rounded once"
 unfoldable pub beat : ℕ → ℕ → ℕ → Float
@@ -55,9 +55,9 @@ unfoldable pub whole : Float → ℕ
 whole x = closest (num x) (den x)
 
 -- "that times 48 is rounded to a whole number, ties to even": the last beat in 48ths
-unfoldable pub lastRow : ℕ → ℕ → ℕ → ℕ
-lastRow m r n = whole (mul binary64 (beat m r n) (f64 48))
+unfoldable pub last_row : ℕ → ℕ → ℕ → ℕ
+last_row m r n = whole (mul binary64 (beat m r n) (f64 48))
 
 -- "and divided by 48" (`note_row_to_beat`)
-unfoldable pub rowToBeat : ℕ → Float
-rowToBeat k = div binary64 (f64 k) (f64 48)
+unfoldable pub row_to_beat : ℕ → Float
+row_to_beat k = div binary64 (f64 k) (f64 48)

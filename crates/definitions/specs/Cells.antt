@@ -29,46 +29,46 @@ abbrev pub byte_at : ℕ → Row → ℕ
 byte_at c r = get_or r c 48
 
 -- "The arrows are the cells 1, 2 and 4."
-abbrev pub isArrow : Cell → Bool
-isArrow Empty = false
-isArrow Tap = true
-isArrow Hold = true
-isArrow Tail = false
-isArrow Roll = true
-isArrow Mine = false
-isArrow Lift = false
-isArrow Fake = false
-isArrow KeySound = false
-isArrow LowerMine = false
-isArrow LowerLift = false
-isArrow LowerFake = false
+abbrev pub is_arrow : Cell → Bool
+is_arrow Empty = false
+is_arrow Tap = true
+is_arrow Hold = true
+is_arrow Tail = false
+is_arrow Roll = true
+is_arrow Mine = false
+is_arrow Lift = false
+is_arrow Fake = false
+is_arrow KeySound = false
+is_arrow LowerMine = false
+is_arrow LowerLift = false
+is_arrow LowerFake = false
 
 -- What a cell does to the tracker's stack and to the phantom depth of its column: 2 and 4 open, 3 closes, and 1, M, L, F block.
-abbrev pub holdEffect : Cell → DepthEffect
-holdEffect Empty = Nothing
-holdEffect Tap = Blocks
-holdEffect Hold = Opens
-holdEffect Tail = Closes
-holdEffect Roll = Opens
-holdEffect Mine = Blocks
-holdEffect Lift = Blocks
-holdEffect Fake = Blocks
-holdEffect KeySound = Nothing
-holdEffect LowerMine = Nothing
-holdEffect LowerLift = Nothing
-holdEffect LowerFake = Nothing
+abbrev pub hold_effect : Cell → DepthEffect
+hold_effect Empty = Nothing
+hold_effect Tap = Blocks
+hold_effect Hold = Opens
+hold_effect Tail = Closes
+hold_effect Roll = Opens
+hold_effect Mine = Blocks
+hold_effect Lift = Blocks
+hold_effect Fake = Blocks
+hold_effect KeySound = Nothing
+hold_effect LowerMine = Nothing
+hold_effect LowerLift = Nothing
+hold_effect LowerFake = Nothing
 
 -- What a cell does to the depth that the last beat goes by: the same, and K blocks too.
-abbrev pub objectEffect : Cell → DepthEffect
-objectEffect Empty = Nothing
-objectEffect Tap = Blocks
-objectEffect Hold = Opens
-objectEffect Tail = Closes
-objectEffect Roll = Opens
-objectEffect Mine = Blocks
-objectEffect Lift = Blocks
-objectEffect Fake = Blocks
-objectEffect KeySound = Blocks
-objectEffect LowerMine = Nothing
-objectEffect LowerLift = Nothing
-objectEffect LowerFake = Nothing
+abbrev pub object_effect : Cell → DepthEffect
+object_effect Empty = Nothing
+object_effect Tap = Blocks
+object_effect Hold = Opens
+object_effect Tail = Closes
+object_effect Roll = Opens
+object_effect Mine = Blocks
+object_effect Lift = Blocks
+object_effect Fake = Blocks
+object_effect KeySound = Blocks
+object_effect LowerMine = Nothing
+object_effect LowerLift = Nothing
+object_effect LowerFake = Nothing

@@ -1,92 +1,92 @@
 -- Document 01, "Correction": the phantom depths, when a tally is counted anew, and with which heads.
 use Rattle.std.specs.Prelude.{Bool, true, false, cond, ◌&&◌, ◌||◌, not, List, [], ◌∷◌, ℕ, suc, ◌-◌, eqb, ltb}
-use Rattle.definitions.specs.Lists.{count, joined, someColumn}
+use Rattle.definitions.specs.Lists.{count, joined, some_column}
 use Rattle.definitions.specs.Lines.{Row}
 use Rattle.definitions.specs.Cells.{byte_at}
-use Rattle.definitions.specs.Tracker.{Pair, pairs, isHeadOf, holdAt}
+use Rattle.definitions.specs.Tracker.{Pair, pairs, is_head_of, hold_at}
 use Rattle.definitions.specs.Tally.{tally}
 use Rattle.definitions.specs.declared.DepthEffect.{DepthEffect}
 use Rattle.definitions.specs.declared.DepthEffect.TheVariants.{Nothing, Blocks, Opens, Closes}
 use Rattle.definitions.specs.declared.ArrowStats.{ArrowStats}
 
 -- "Phantom depth rises at 2 and 4, falls at 3 to no less than 0, and is never reset."
-abbrev pub phantomStep : DepthEffect → ℕ → ℕ
-phantomStep Nothing d = d
-phantomStep Blocks d = d
-phantomStep Opens d = suc d
-phantomStep Closes d = d - 1
+abbrev pub phantom_step : DepthEffect → ℕ → ℕ
+phantom_step Nothing d = d
+phantom_step Blocks d = d
+phantom_step Opens d = suc d
+phantom_step Closes d = d - 1
 
 -- the phantom depth of column c after rows, from the depth d on
-abbrev pub phantomAfter : ℕ → ℕ → List Row → ℕ
-phantomAfter c d [] = d
-phantomAfter c d (r ∷ rs) = phantomAfter c (phantomStep (holdAt (byte_at c r)) d) rs
+abbrev pub phantom_after : ℕ → ℕ → List Row → ℕ
+phantom_after c d [] = d
+phantom_after c d (r ∷ rs) = phantom_after c (phantom_step (hold_at (byte_at c r)) d) rs
 
 -- "a 1, M, L or F met in a column whose phantom depth is not 0"
-abbrev pub meetsPhantom : DepthEffect → ℕ → Bool
-meetsPhantom Nothing d = false
-meetsPhantom Blocks d = ltb 0 d
-meetsPhantom Opens d = false
-meetsPhantom Closes d = false
+abbrev pub meets_phantom : DepthEffect → ℕ → Bool
+meets_phantom Nothing d = false
+meets_phantom Blocks d = ltb 0 d
+meets_phantom Opens d = false
+meets_phantom Closes d = false
 
 -- one is met in column c of rows, from the depth d on
-abbrev pub phantomMet : ℕ → ℕ → List Row → Bool
-phantomMet c d [] = false
-phantomMet c d (r ∷ rs) = meetsPhantom (holdAt (byte_at c r)) d || phantomMet c (phantomStep (holdAt (byte_at c r)) d) rs
+abbrev pub phantom_met : ℕ → ℕ → List Row → Bool
+phantom_met c d [] = false
+phantom_met c d (r ∷ rs) = meets_phantom (hold_at (byte_at c r)) d || phantom_met c (phantom_step (hold_at (byte_at c r)) d) rs
 
 -- a head, 2 or 4
-abbrev pub isOpening : DepthEffect → Bool
-isOpening Nothing = false
-isOpening Blocks = false
-isOpening Opens = true
-isOpening Closes = false
+abbrev pub is_opening : DepthEffect → Bool
+is_opening Nothing = false
+is_opening Blocks = false
+is_opening Opens = true
+is_opening Closes = false
 
 -- a tail, 3
-abbrev pub isClosing : DepthEffect → Bool
-isClosing Nothing = false
-isClosing Blocks = false
-isClosing Opens = false
-isClosing Closes = true
+abbrev pub is_closing : DepthEffect → Bool
+is_closing Nothing = false
+is_closing Blocks = false
+is_closing Opens = false
+is_closing Closes = true
 
 -- the heads and the tails of rows
-abbrev pub headCount : List Row → ℕ
-headCount rows = count (λ b. isOpening (holdAt b)) (joined rows)
+abbrev pub head_count : List Row → ℕ
+head_count rows = count (λ b. is_opening (hold_at b)) (joined rows)
 
 -- the tails of rows
-abbrev pub tailCount : List Row → ℕ
-tailCount rows = count (λ b. isClosing (holdAt b)) (joined rows)
+abbrev pub tail_count : List Row → ℕ
+tail_count rows = count (λ b. is_closing (hold_at b)) (joined rows)
 
 -- "if there is a head, and besides one of these holds (heads ≠ tails; a 1, M, L or F met in a column whose phantom depth is not 0; a phantom
 -- depth left over)", of rows of L bytes
 unfoldable pub corrects : ℕ → List Row → Bool
 corrects L rows =
-    ltb 0 (headCount rows)
-    && (not (eqb (headCount rows) (tailCount rows))
-    || someColumn L (λ c. phantomMet c 0 rows || ltb 0 (phantomAfter c 0 rows)))
+    ltb 0 (head_count rows)
+    && (not (eqb (head_count rows) (tail_count rows))
+    || some_column L (λ c. phantom_met c 0 rows || ltb 0 (phantom_after c 0 rows)))
 
 -- a cell as it is counted anew: a head that is not paired is an empty cell, a `0`
-abbrev pub keepHead : DepthEffect → Bool → ℕ → ℕ
-keepHead Nothing p b = b
-keepHead Blocks p b = b
-keepHead Opens p b = cond p b 48
-keepHead Closes p b = b
+abbrev pub head_if_paired : DepthEffect → Bool → ℕ → ℕ
+head_if_paired Nothing p b = b
+head_if_paired Blocks p b = b
+head_if_paired Opens p b = cond p b 48
+head_if_paired Closes p b = b
 
 -- row i from column c on, where ps has the pairs of each column
-abbrev pub keepRow : (ℕ → List Pair) → ℕ → ℕ → Row → Row
-keepRow ps i c [] = []
-keepRow ps i c (b ∷ r) = keepHead (holdAt b) (isHeadOf i (ps c)) b ∷ keepRow ps i (suc c) r
+abbrev pub keep_row : (ℕ → List Pair) → ℕ → ℕ → Row → Row
+keep_row ps i c [] = []
+keep_row ps i c (b ∷ r) = head_if_paired (hold_at b) (is_head_of i (ps c)) b ∷ keep_row ps i (suc c) r
 
 -- rows numbered from i, each with its paired heads alone
-abbrev pub keepFrom : (ℕ → List Pair) → ℕ → List Row → List Row
-keepFrom ps i [] = []
-keepFrom ps i (r ∷ rs) = keepRow ps i 0 r ∷ keepFrom ps (suc i) rs
+abbrev pub keep_from : (ℕ → List Pair) → ℕ → List Row → List Row
+keep_from ps i [] = []
+keep_from ps i (r ∷ rs) = keep_row ps i 0 r ∷ keep_from ps (suc i) rs
 
 -- the rows "with only tracker-paired heads"
-unfoldable pub pairedOnly : List Row → List Row
-pairedOnly rows = keepFrom (pairs rows) 0 rows
+unfoldable pub paired_only : List Row → List Row
+paired_only rows = keep_from (pairs rows) 0 rows
 
 -- t "keeping `total_steps`", which is n
-abbrev pub withSteps : ℕ → ArrowStats → ArrowStats
-withSteps n t =
+abbrev pub tally_with_steps : ℕ → ArrowStats → ArrowStats
+tally_with_steps n t =
     record {
       total_arrows = t.total_arrows;
       left = t.left;
@@ -107,4 +107,4 @@ withSteps n t =
 -- the tally of rows, corrected over `back`, the rows as that pass reads them again
 unfoldable pub corrected : ℕ → List Row → List Row → ArrowStats
 corrected L rows back =
-    cond (corrects L rows) (withSteps (tally rows).total_steps (tally (pairedOnly back))) (tally rows)
+    cond (corrects L rows) (tally_with_steps (tally rows).total_steps (tally (paired_only back))) (tally rows)

@@ -2,15 +2,15 @@
 use Rattle.std.specs.Prelude.{◌≡◌, ◌≢◌, ◌⊎◌, Bool, true, false, cond, ◌&&◌, not, List, [], ◌∷◌, ℕ, suc, ◌+◌, ◌≤◌, ◌<◌, eqb, ltb, leb, length, take, drop, get_or}
 use Rattle.std.proofs.Math.ListN.{get_elem?}
 use Rattle.definitions.specs.Lists.{among, joined, those}
-use Rattle.definitions.specs.Lines.{Row, cut, lineKind}
+use Rattle.definitions.specs.Lines.{Row, cut, line_kind}
 use Rattle.definitions.specs.Cells.{byte_at}
 use Rattle.definitions.specs.Measures.{chart}
 use Rattle.definitions.specs.Reduction.{minimised}
 use Rattle.definitions.specs.Figures.{densities, spacings}
-use Rattle.definitions.specs.Beats.{measureBeats}
-use Rattle.definitions.specs.Objects.{lastBeat}
+use Rattle.definitions.specs.Beats.{measure_beats}
+use Rattle.definitions.specs.Objects.{last_beat_of}
 use Rattle.definitions.specs.Notes.{notes}
-use Rattle.definitions.specs.Entries.{rowCount}
+use Rattle.definitions.specs.Entries.{row_count}
 use Rattle.definitions.specs.declared.LineKind.{LineKind}
 use Rattle.definitions.specs.declared.LineKind.TheVariants as line
 use Rattle.definitions.specs.declared.Kind.{Kind}
@@ -42,21 +42,21 @@ ends line.Row = false
 -- "A line is in measure d if before it d measures have ended and the reading has not, and it ends neither itself."
 pub record InMeasure (L d : ℕ) (p : Standing) (l : List ℕ) : Type 0 where
   pub standing : p ≡ ended d
-  pub inside : ends (lineKind L l) ≡ false
+  pub inside : ends (line_kind L l) ≡ false
 
 -- Striking out some lines of measure d from the first list of lines leaves the second.
 pub data Struck (L d : ℕ) : Standing → List (List ℕ) → List (List ℕ) → Type 0 where
   done : {p : Standing} → Struck L d p [] []
   kept : {p : Standing} {l : List ℕ} {xs ys : List (List ℕ)}
-      → Struck L d (after p (lineKind L l)) xs ys → Struck L d p (l ∷ xs) (l ∷ ys)
+      → Struck L d (after p (line_kind L l)) xs ys → Struck L d p (l ∷ xs) (l ∷ ys)
   out : {p : Standing} {l : List ℕ} {xs ys : List (List ℕ)} → InMeasure L d p l → Struck L d p xs ys → Struck L d p (l ∷ xs) ys
 
 -- "Two texts, one called old and the other new, differ only in lines of d if striking out some lines of d from each, the old and the new
 -- lines, leaves the same list of lines."
 pub record Differ (L d : ℕ) (old new : List ℕ) : Type 0 where
   pub left : List (List ℕ)
-  pub fromOld : Struck L d (ended 0) (cut old) left
-  pub fromNew : Struck L d (ended 0) (cut new) left
+  pub from_old : Struck L d (ended 0) (cut old) left
+  pub from_new : Struck L d (ended 0) (cut new) left
 
 -- As many, and at every place but d the same.
 pub record SameBut {A : Type 0} (d : ℕ) (s t : List A) : Type 0 where
@@ -69,28 +69,28 @@ pub data Each {A : Type 0} (R : A → A → Type 0) : List A → List A → Type
   next : {a b : A} {s t : List A} → R a b → Each R s t → Each R (a ∷ s) (b ∷ t)
 
 -- Of a text at L lanes: the minimised rows before measure d, those of d and those of the later measures.
-abbrev pub rowsBefore : ℕ → ℕ → List ℕ → List Row
-rowsBefore L d text = joined (take d (minimised L text))
+abbrev pub rows_above : ℕ → ℕ → List ℕ → List Row
+rows_above L d text = joined (take d (minimised L text))
 
 -- the minimised rows of measure d
 abbrev pub rows_of : ℕ → ℕ → List ℕ → List Row
 rows_of L d text = get_or (minimised L text) d []
 
 -- those of the measures after d
-abbrev pub rowsLater : ℕ → ℕ → List ℕ → List Row
-rowsLater L d text = joined (drop (suc d) (minimised L text))
+abbrev pub rows_later : ℕ → ℕ → List ℕ → List Row
+rows_later L d text = joined (drop (suc d) (minimised L text))
 
 -- All rows of the later measures, before minimising, which drops only rows that are all zero.
-abbrev pub allLater : ℕ → ℕ → List ℕ → List Row
-allLater L d text = joined (drop (suc d) (chart L text))
+abbrev pub all_later : ℕ → ℕ → List ℕ → List Row
+all_later L d text = joined (drop (suc d) (chart L text))
 
 -- The notes headed in measures before d, and in measures after d. "A note is headed in its row's measure."
 abbrev pub earlier : ℕ → ℕ → List ℕ → List Note
-earlier L d text = those (λ x. ltb x.row (length (rowsBefore L d text))) (notes L text)
+earlier L d text = those (λ x. ltb x.row (length (rows_above L d text))) (notes L text)
 
 -- the notes headed in measures after d
 abbrev pub later : ℕ → ℕ → List ℕ → List Note
-later L d text = those (λ x. leb (length (rowsBefore L (suc d) text)) x.row) (notes L text)
+later L d text = those (λ x. leb (length (rows_above L (suc d) text)) x.row) (notes L text)
 
 -- "The shift, from old to new, is d's minimised row count in the new text less that in the old; a note without a tail stays without one."
 -- With a rows in the old text and b in the new, x moves to y where y + a = x + b.
@@ -110,12 +110,12 @@ unfoldable pub stops : ℕ → Bool
 stops b = among b (49 ∷ 50 ∷ 51 ∷ 52 ∷ 77 ∷ 76 ∷ 70 ∷ 109 ∷ 108 ∷ 102 ∷ [])
 
 -- a byte 2 or 4, and the kind of a note that it heads
-unfoldable pub isHead : ℕ → Bool
-isHead b = among b (50 ∷ 52 ∷ [])
+unfoldable pub is_head : ℕ → Bool
+is_head b = among b (50 ∷ 52 ∷ [])
 
 -- the kind of the note that a 2 or a 4 heads
-unfoldable pub headKind : ℕ → Kind
-headKind b = cond (eqb b 50) Hold Roll
+unfoldable pub head_kind : ℕ → Kind
+head_kind b = cond (eqb b 50) Hold Roll
 
 -- no 1 2 3 4 M L F m l f stands in column c of rows
 abbrev pub untouched : ℕ → List Row → Bool
@@ -123,16 +123,16 @@ untouched c [] = true
 untouched c (r ∷ rs) = not (stops (byte_at c r)) && untouched c rs
 
 -- the byte at row i and column c of rows
-abbrev pub byteIn : List Row → ℕ → ℕ → ℕ
-byteIn rows i c = byte_at c (get_or rows i [])
+abbrev pub byte_in : List Row → ℕ → ℕ → ℕ
+byte_in rows i c = byte_at c (get_or rows i [])
 
 -- "A 2 or 4 before d is open where d begins if no 1 2 3 4 M L F m l f follows it in its column before d": rows are those before d
 abbrev pub open_in : List Row → ℕ → ℕ → Bool
-open_in rows i c = isHead (byteIn rows i c) && untouched c (drop (suc i) rows)
+open_in rows i c = is_head (byte_in rows i c) && untouched c (drop (suc i) rows)
 
 -- the note's head is one of those open where d begins
 abbrev pub open_at : ℕ → ℕ → List ℕ → Note → Bool
-open_at L d text x = open_in (rowsBefore L d text) x.row x.column
+open_at L d text x = open_in (rows_above L d text) x.row x.column
 
 -- "Its note may differ between the texts: in each it is missing or has that row, column and kind and a tail in d or later": in row s or later,
 -- where d begins at row s, and in one of the text's n minimised rows
@@ -147,30 +147,30 @@ object b = among b (49 ∷ 77 ∷ 76 ∷ 70 ∷ 75 ∷ [])
 
 -- rows hold a 1, M, L, F or K
 unfoldable pub HoldObject : List Row → Type 0
-HoldObject rows = (c : ℕ) × ((i : ℕ) × (object (byteIn rows i c) ≡ true))
+HoldObject rows = (c : ℕ) × ((i : ℕ) × (object (byte_in rows i c) ≡ true))
 
 -- in each column with a 3 (51), such a cell stands before the first 3: before each 3
 unfoldable pub ObjectFirst : List Row → Type 0
-ObjectFirst rows = (c i : ℕ) → byteIn rows i c ≡ 51 → (j : ℕ) × (j < i) × (object (byteIn rows j c) ≡ true)
+ObjectFirst rows = (c i : ℕ) → byte_in rows i c ≡ 51 → (j : ℕ) × (j < i) × (object (byte_in rows j c) ≡ true)
 
 -- Demand 3. Damage in one measure stays there.
 pub record DamageStays (L d : ℕ) (old new : List ℕ) : Type 0 where
   -- Both have the same number of measures, and every other measure has the same minimised rows, row beats, density and spacing in both.
   pub same_rows : SameBut d (minimised L old) (minimised L new)
-  pub same-beats : SameBut d (measureBeats L old) (measureBeats L new)
+  pub same-beats : SameBut d (measure_beats L old) (measure_beats L new)
   pub same-density : SameBut d (densities L old) (densities L new)
   pub same-spacing : SameBut d (spacings L old) (spacings L new)
   -- The notes headed in later measures are the same in number, order and every field, but for the one shift added to rows and tails.
   pub later-notes : Each (Shifted (length (rows_of L d old)) (length (rows_of L d new))) (later L d old) (later L d new)
   -- The notes headed earlier are the same in number, order and every field, leaving out exactly those of the heads open where d begins,
   -- which are heads of the rows before d, the same in both texts.
-  pub same-before : rowsBefore L d old ≡ rowsBefore L d new
+  pub same-before : rows_above L d old ≡ rows_above L d new
   pub earlier-notes : those (λ x. not (open_at L d old x)) (earlier L d old) ≡ those (λ x. not (open_at L d new x)) (earlier L d new)
   -- The note of such a head is in each text missing or has that row, column and kind and a tail in d or later, which is a row of that text.
   pub open-heads : (i c : ℕ)
-      → open_in (rowsBefore L d old) i c ≡ true
-      → MissingOrLate (length (rowsBefore L d old)) (rowCount L old) i c (headKind (byteIn (rowsBefore L d old) i c)) (notes L old)
-      × MissingOrLate (length (rowsBefore L d old)) (rowCount L new) i c (headKind (byteIn (rowsBefore L d old) i c)) (notes L new)
+      → open_in (rows_above L d old) i c ≡ true
+      → MissingOrLate (length (rows_above L d old)) (row_count L old) i c (head_kind (byte_in (rows_above L d old) i c)) (notes L old)
+      × MissingOrLate (length (rows_above L d old)) (row_count L new) i c (head_kind (byte_in (rows_above L d old) i c)) (notes L new)
   -- The last beat is the same too where later measures hold a 1, M, L, F or K, and in them, in each column with a 3, such a cell stands
   -- before the first 3. "Equal floats have equal bits."
-  pub same-last : HoldObject (allLater L d old) → ObjectFirst (allLater L d old) → lastBeat L old ≡ lastBeat L new
+  pub same-last : HoldObject (all_later L d old) → ObjectFirst (all_later L d old) → last_beat_of L old ≡ last_beat_of L new

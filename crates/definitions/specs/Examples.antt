@@ -5,20 +5,20 @@ use Prim.Native.String.{String, [] as end, ◌∷◌ as ◌then◌}
 use Rattle.std.specs.Float.{binary32, binary64}
 use Rattle.std.specs.Float.Ieee.{to_bits, of_int, round, add, mul, div}
 use Rattle.definitions.specs.Lists.{joined}
-use Rattle.definitions.specs.Lines.{Row, isBlank, isRow, kind_of, lineKind}
+use Rattle.definitions.specs.Lines.{Row, is_blank_byte, is_row_line, kind_of, line_kind}
 use Rattle.definitions.specs.Cells.{cell_of}
 use Rattle.definitions.specs.Measures.{chart}
 use Rattle.definitions.specs.Reduction.{stride, reduce, minimised}
-use Rattle.definitions.specs.Figures.{minimisedText, isStep, densities, spacings}
-use Rattle.definitions.specs.Beats.{f32, f64, step, fused, rowBeat, measureBeats, beats, beat, whole, lastRow, rowToBeat}
-use Rattle.definitions.specs.Objects.{objectAt, lastObject, last48, lastBeat}
-use Rattle.definitions.specs.Tracker.{holdAt, pairs}
-use Rattle.definitions.specs.Notes.{effectAt, notes}
-use Rattle.definitions.specs.Tally.{rowSumBy, rowSum, addRow, tally}
-use Rattle.definitions.specs.Correction.{corrects, pairedOnly, corrected}
-use Rattle.definitions.specs.ReadBack.{readBack, mainTally, keptTally}
-use Rattle.definitions.specs.Judged.{judgedSum, judgeRow, openBefore, judgedRows, judgedTally}
-use Rattle.definitions.specs.Entries.{noteFigures}
+use Rattle.definitions.specs.Figures.{minimised_text, is_step, densities, spacings}
+use Rattle.definitions.specs.Beats.{f32, f64, step, fused, beat_of_row, measure_beats, beats, beat, whole, last_row, row_to_beat}
+use Rattle.definitions.specs.Objects.{object_at, last_object, last48, last_beat_of}
+use Rattle.definitions.specs.Tracker.{hold_at, pairs}
+use Rattle.definitions.specs.Notes.{effect_at, notes}
+use Rattle.definitions.specs.Tally.{row_sum_by, row_sum, tally_with_row, tally}
+use Rattle.definitions.specs.Correction.{corrects, paired_only, corrected}
+use Rattle.definitions.specs.ReadBack.{rows_read_back, main_tally, kept_tally}
+use Rattle.definitions.specs.Judged.{judged_sum, judge_row, open_before, judged_rows, judged_tally}
+use Rattle.definitions.specs.Entries.{figures_of_note}
 use Rattle.definitions.specs.declared.ArrowStats.{ArrowStats}
 
 -- the bytes of a text in ASCII, `|` (124) for byte 10 and `^` (94) for byte 13
@@ -38,32 +38,32 @@ field steps t = t.total_steps
 field mines t = t.mines
 field holds t = t.holds
 
--- What an example speaks of. `rowCounts` are the minimised rows of each measure; `note-list` has for each note its row, tail (4,294,967,295 for
+-- What an example speaks of. `row_counts` are the minimised rows of each measure; `note_list` has for each note its row, tail (4,294,967,295 for
 -- none), column and kind.
 pub data Figure : Type 0 where
-  text density spacing rowCounts beat-list last note-list : Figure
+  text density spacing row_counts beat_list last note_list : Figure
   main kept judged : Field → Figure
 
 -- that figure of a text at L lanes, in numbers; floats by their bits
 unfoldable pub figure : Figure → ℕ → List ℕ → List ℕ
-figure text L s = minimisedText L s
+figure text L s = minimised_text L s
 figure density L s = densities L s
 figure spacing L s = spacings L s
-figure rowCounts L s = map (λ (m : List Row). length m) (minimised L s)
-figure beat-list L s = map (to_bits binary32) (beats L s)
-figure last L s = to_bits binary64 (lastBeat L s) ∷ []
-figure note-list L s = joined (map noteFigures (notes L s))
-figure (main f) L s = field f (mainTally L s) ∷ []
-figure (kept f) L s = field f (keptTally L s) ∷ []
-figure (judged f) L s = field f (judgedTally L s) ∷ []
+figure row_counts L s = map (λ (m : List Row). length m) (minimised L s)
+figure beat_list L s = map (to_bits binary32) (beats L s)
+figure last L s = to_bits binary64 (last_beat_of L s) ∷ []
+figure note_list L s = joined (map figures_of_note (notes L s))
+figure (main f) L s = field f (main_tally L s) ∷ []
+figure (kept f) L s = field f (kept_tally L s) ∷ []
+figure (judged f) L s = field f (judged_tally L s) ∷ []
 
 -- whole beats as the bits of 32-bit floats, and one as those of a 64-bit float
-abbrev pub wholeBeats : List ℕ → List ℕ
-wholeBeats ks = map (λ (k : ℕ). to_bits binary32 (f32 k)) ks
+abbrev pub whole_beats : List ℕ → List ℕ
+whole_beats ks = map (λ (k : ℕ). to_bits binary32 (f32 k)) ks
 
 -- one whole beat as the bits of a 64-bit float
-abbrev pub wholeBeat : ℕ → List ℕ
-wholeBeat k = to_bits binary64 (f64 k) ∷ []
+abbrev pub whole_beat : ℕ → List ℕ
+whole_beat k = to_bits binary64 (f64 k) ∷ []
 
 -- One thing that an example says, and an example.
 pub record Says : Type 0 where
@@ -93,47 +93,47 @@ table =
     ((text is [])
     ∷ (density is 0 ∷ [])
     ∷ (spacing is 1 ∷ [])
-    ∷ (beat-list is [])
-    ∷ (last is wholeBeat 0)
+    ∷ (beat_list is [])
+    ∷ (last is whole_beat 0)
     ∷ [])
     -- P2
     ∷ at4 "0000|0000|0000|0000"
-    ((rowCounts is 1 ∷ [])
+    ((row_counts is 1 ∷ [])
     ∷ (density is 0 ∷ [])
     ∷ (spacing is 0 ∷ [])
-    ∷ (beat-list is wholeBeats (0 ∷ []))
+    ∷ (beat_list is whole_beats (0 ∷ []))
     ∷ [])
     -- P3
-    ∷ at4 "0000|0000|0000|0000|0000|0000|0000|0000|0000|0000|0000|0000" ((rowCounts is 3 ∷ []) ∷ [])
+    ∷ at4 "0000|0000|0000|0000|0000|0000|0000|0000|0000|0000|0000|0000" ((row_counts is 3 ∷ []) ∷ [])
     -- P4
     ∷ at4 "1000|0000|0100|0000"
     ((text is bytes "1000|0100|")
     ∷ (density is 2 ∷ [])
     ∷ (spacing is 1 ∷ [])
-    ∷ (beat-list is wholeBeats (0 ∷ 2 ∷ []))
-    ∷ (last is wholeBeat 2)
+    ∷ (beat_list is whole_beats (0 ∷ 2 ∷ []))
+    ∷ (last is whole_beat 2)
     ∷ [])
     -- P5
     ∷ at4 "2000|3000"
-    ((note-list is 0 ∷ 1 ∷ 0 ∷ 1 ∷ [])
-    ∷ (last is wholeBeat 2)
+    ((note_list is 0 ∷ 1 ∷ 0 ∷ 1 ∷ [])
+    ∷ (last is whole_beat 2)
     ∷ (spacing is 0 ∷ [])
     ∷ [])
     -- P6
     ∷ at4 "2000|m000|3000|0000"
-    ((note-list is 1 ∷ 4294967295 ∷ 0 ∷ 3 ∷ [])
+    ((note_list is 1 ∷ 4294967295 ∷ 0 ∷ 3 ∷ [])
     ∷ (main holds is 1 ∷ [])
     ∷ (main mines is 1 ∷ [])
-    ∷ (last is wholeBeat 2)
+    ∷ (last is whole_beat 2)
     ∷ [])
     -- P7
     ∷ at4 "2000|K000|3000|0000"
-    ((note-list is 0 ∷ 2 ∷ 0 ∷ 1 ∷ [])
-    ∷ (last is wholeBeat 1)
+    ((note_list is 0 ∷ 2 ∷ 0 ∷ 1 ∷ [])
+    ∷ (last is whole_beat 1)
     ∷ [])
     -- P8
     ∷ at4 "2000|2000|2000|2000|2000|2000|2000|2000|2000|3000|3000|3000|3000|3000|3000|3000|3000|3000"
-    ((note-list is 8 ∷ 9 ∷ 0 ∷ 1 ∷ [])
+    ((note_list is 8 ∷ 9 ∷ 0 ∷ 1 ∷ [])
     ∷ (main holds is 9 ∷ [])
     ∷ (judged holds is 8 ∷ [])
     ∷ [])
@@ -145,19 +145,19 @@ table =
     ∷ (kept steps is 2 ∷ [])
     ∷ [])
     -- P10
-    ∷ at4 "1000|,1111|0100" ((rowCounts is 1 ∷ 1 ∷ []) ∷ [])
+    ∷ at4 "1000|,1111|0100" ((row_counts is 1 ∷ 1 ∷ []) ∷ [])
     -- P11
     ∷ record { lanes = 5; given = bytes "00001"; says = (main arrows is 1 ∷ []) ∷ (main left is 1 ∷ []) ∷ [] }
     ∷ []
 
 -- what the definitions give for an example, and what it says
-abbrev pub given-by-definitions : Example → List (List ℕ)
-given-by-definitions e = map (λ (s : Says). figure s.of e.lanes e.given) e.says
+abbrev pub given_by_definitions : Example → List (List ℕ)
+given_by_definitions e = map (λ (s : Says). figure s.of e.lanes e.given) e.says
 
 -- what an example says
 abbrev pub said : Example → List (List ℕ)
 said e = map (λ (s : Says). s.value) e.says
 
-pub examples-hold : map given-by-definitions table ≡ map said table
-unfolding table figure minimisedText densities spacings isStep beats measureBeats rowBeat fused step beat whole lastRow rowToBeat lastBeat last48 lastObject objectAt notes effectAt mainTally keptTally judgedTally judgedRows openBefore judgeRow judgedSum corrected corrects pairedOnly pairs holdAt tally addRow rowSum rowSumBy readBack minimised reduce stride chart lineKind kind_of isRow isBlank cell_of to_bits of_int round add mul div
+pub examples-hold : map given_by_definitions table ≡ map said table
+unfolding table figure minimised_text densities spacings is_step beats measure_beats beat_of_row fused step beat whole last_row row_to_beat last_beat_of last48 last_object object_at notes effect_at main_tally kept_tally judged_tally judged_rows open_before judge_row judged_sum corrected corrects paired_only pairs hold_at tally tally_with_row row_sum row_sum_by rows_read_back minimised reduce stride chart line_kind kind_of is_row_line is_blank_byte cell_of to_bits of_int round add mul div
 examples-hold = refl

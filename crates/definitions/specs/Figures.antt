@@ -1,38 +1,38 @@
 -- Document 01: minimised text, density and spacing. Each is a function of the measures' minimised rows.
 use Rattle.std.specs.Prelude.{Bool, true, false, ◌&&◌, ◌||◌, List, [], ◌∷◌, ◌++◌, map, ℕ}
-use Rattle.definitions.specs.Lists.{oneIf, count}
+use Rattle.definitions.specs.Lists.{number_of_bool, count}
 use Rattle.definitions.specs.Lines.{Row}
-use Rattle.definitions.specs.Cells.{cell_of, isArrow}
+use Rattle.definitions.specs.Cells.{cell_of, is_arrow}
 use Rattle.definitions.specs.Reduction.{minimised}
 
 -- "each row and byte 10"
-abbrev pub rowText : List Row → List ℕ
-rowText [] = []
-rowText (r ∷ rs) = r ++ (10 ∷ rowText rs)
+abbrev pub row_text : List Row → List ℕ
+row_text [] = []
+row_text (r ∷ rs) = r ++ (10 ∷ row_text rs)
 
 -- "after each `,` line the two bytes `,` and 10. The `;` is not written." "A measure without rows writes nothing."
 abbrev pub text_of : List (List Row) → List ℕ
 text_of [] = []
-text_of (m ∷ []) = rowText m
-text_of (m ∷ m' ∷ ms) = rowText m ++ (44 ∷ 10 ∷ text_of (m' ∷ ms))
+text_of (m ∷ []) = row_text m
+text_of (m ∷ m' ∷ ms) = row_text m ++ (44 ∷ 10 ∷ text_of (m' ∷ ms))
 
 -- the minimised text of a text
-unfoldable pub minimisedText : ℕ → List ℕ → List ℕ
-minimisedText L text = text_of (minimised L text)
+unfoldable pub minimised_text : ℕ → List ℕ → List ℕ
+minimised_text L text = text_of (minimised L text)
 
 -- a row "with a 1, 2 or 4"
-unfoldable pub isStep : Row → Bool
-isStep [] = false
-isStep (b ∷ r) = isArrow (cell_of b) || isStep r
+unfoldable pub is_step : Row → Bool
+is_step [] = false
+is_step (b ∷ r) = is_arrow (cell_of b) || is_step r
 
 -- "Density: minimised rows with a 1, 2 or 4."
 abbrev pub density : List Row → ℕ
-density rs = count isStep rs
+density rs = count is_step rs
 
 -- "Spacing: true where the measure has no rows or each minimised row has a 1, 2 or 4."
 abbrev pub spacing : List Row → Bool
 spacing [] = true
-spacing (r ∷ rs) = isStep r && spacing rs
+spacing (r ∷ rs) = is_step r && spacing rs
 
 -- the density of each measure of a text
 unfoldable pub densities : ℕ → List ℕ → List ℕ
@@ -40,4 +40,4 @@ densities L text = map density (minimised L text)
 
 -- "1 true and 0 false"
 unfoldable pub spacings : ℕ → List ℕ → List ℕ
-spacings L text = map (λ (m : List Row). oneIf (spacing m)) (minimised L text)
+spacings L text = map (λ (m : List Row). number_of_bool (spacing m)) (minimised L text)

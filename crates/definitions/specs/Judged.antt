@@ -1,54 +1,54 @@
 -- Document 01, "Judged tally".
 use Rattle.std.specs.Prelude.{Bool, true, false, ◌&&◌, not, List, [], ◌∷◌, ℕ, suc, ◌+◌, eqb, ltb, leb, get_or}
-use Rattle.definitions.specs.Lists.{count, sumColumns}
+use Rattle.definitions.specs.Lists.{count, sum_columns}
 use Rattle.definitions.specs.Lines.{Row}
 use Rattle.definitions.specs.Cells.{cell_of}
 use Rattle.definitions.specs.Tracker.{Pair, pairs}
-use Rattle.definitions.specs.Tally.{rowSumBy, noStats, addSum}
-use Rattle.definitions.specs.Correction.{keepRow}
-use Rattle.definitions.specs.ReadBack.{readBack}
+use Rattle.definitions.specs.Tally.{row_sum_by, empty_stats, tally_with_sum}
+use Rattle.definitions.specs.Correction.{keep_row}
+use Rattle.definitions.specs.ReadBack.{rows_read_back}
 use Rattle.definitions.specs.declared.Cell.{Cell}
 use Rattle.definitions.specs.declared.Cell.TheVariants.{Empty, Tap, Hold, Tail, Roll, Mine, Lift, Fake, KeySound, LowerMine, LowerLift, LowerFake}
 use Rattle.definitions.specs.declared.RowSum.{RowSum}
 use Rattle.definitions.specs.declared.ArrowStats.{ArrowStats}
 
 -- "one flag byte a row (0 unjudged, else judged). A row past the flags is judged."
-unfoldable pub judgedAt : List ℕ → ℕ → Bool
-judgedAt flags i = not (eqb (get_or flags i 1) 0)
+unfoldable pub judged_at : List ℕ → ℕ → Bool
+judged_at flags i = not (eqb (get_or flags i 1) 0)
 
 -- "On a judged row the arrows are 1, L, l and tracker-paired heads": of a row that has only such heads left
-abbrev pub isJudgedArrow : Cell → Bool
-isJudgedArrow Empty = false
-isJudgedArrow Tap = true
-isJudgedArrow Hold = true
-isJudgedArrow Tail = false
-isJudgedArrow Roll = true
-isJudgedArrow Mine = false
-isJudgedArrow Lift = true
-isJudgedArrow Fake = false
-isJudgedArrow KeySound = false
-isJudgedArrow LowerMine = false
-isJudgedArrow LowerLift = true
-isJudgedArrow LowerFake = false
+abbrev pub is_judged_arrow : Cell → Bool
+is_judged_arrow Empty = false
+is_judged_arrow Tap = true
+is_judged_arrow Hold = true
+is_judged_arrow Tail = false
+is_judged_arrow Roll = true
+is_judged_arrow Mine = false
+is_judged_arrow Lift = true
+is_judged_arrow Fake = false
+is_judged_arrow KeySound = false
+is_judged_arrow LowerMine = false
+is_judged_arrow LowerLift = true
+is_judged_arrow LowerFake = false
 
 -- "On an unjudged row each 1, L, l, M, m, F, f and paired head is one fake."
-abbrev pub isUnjudgedFake : Cell → Bool
-isUnjudgedFake Empty = false
-isUnjudgedFake Tap = true
-isUnjudgedFake Hold = true
-isUnjudgedFake Tail = false
-isUnjudgedFake Roll = true
-isUnjudgedFake Mine = true
-isUnjudgedFake Lift = true
-isUnjudgedFake Fake = true
-isUnjudgedFake KeySound = false
-isUnjudgedFake LowerMine = true
-isUnjudgedFake LowerLift = true
-isUnjudgedFake LowerFake = true
+abbrev pub is_unjudged_fake : Cell → Bool
+is_unjudged_fake Empty = false
+is_unjudged_fake Tap = true
+is_unjudged_fake Hold = true
+is_unjudged_fake Tail = false
+is_unjudged_fake Roll = true
+is_unjudged_fake Mine = true
+is_unjudged_fake Lift = true
+is_unjudged_fake Fake = true
+is_unjudged_fake KeySound = false
+is_unjudged_fake LowerMine = true
+is_unjudged_fake LowerLift = true
+is_unjudged_fake LowerFake = true
 
 -- a sum of n fakes and nothing else
-abbrev pub onlyFakes : ℕ → RowSum
-onlyFakes n =
+abbrev pub sum_of_fakes : ℕ → RowSum
+sum_of_fakes n =
     record {
       arrows = 0;
       left = 0;
@@ -64,38 +64,38 @@ onlyFakes n =
     }
 
 -- what a row adds up to, judged or not
-unfoldable pub judgedSum : Bool → Row → RowSum
-judgedSum true r = rowSumBy isJudgedArrow r
-judgedSum false r = onlyFakes (count (λ b. isUnjudgedFake (cell_of b)) r)
+unfoldable pub judged_sum : Bool → Row → RowSum
+judged_sum true r = row_sum_by is_judged_arrow r
+judged_sum false r = sum_of_fakes (count (λ b. is_unjudged_fake (cell_of b)) r)
 
 -- "It is a hand if it has an arrow, mine or fake and its arrows plus the holds open before it make 3 or more." "`holding` stays 0."
-unfoldable pub judgeRow : ArrowStats → Bool → ℕ → RowSum → ArrowStats
-judgeRow t judged held s =
-    addSum t s (judged && (leb 1 (s.arrows + s.mines + s.fakes) && leb 3 (s.arrows + held))) 0
+unfoldable pub judge_row : ArrowStats → Bool → ℕ → RowSum → ArrowStats
+judge_row t judged held s =
+    tally_with_sum t s (judged && (leb 1 (s.arrows + s.mines + s.fakes) && leb 3 (s.arrows + held))) 0
 
 -- The holds of a column's pairs that are open before row i, where J says which rows are judged. "Only heads on judged rows open holds, each
 -- through its tail's row."
-abbrev pub openOf : (ℕ → Bool) → ℕ → List Pair → ℕ
-openOf J i ps = count (λ (p : Pair). J p.head && (ltb p.head i && leb i p.tail)) ps
+abbrev pub open_of : (ℕ → Bool) → ℕ → List Pair → ℕ
+open_of J i ps = count (λ (p : Pair). J p.head && (ltb p.head i && leb i p.tail)) ps
 
 -- of all L columns
-unfoldable pub openBefore : ℕ → (ℕ → Bool) → (ℕ → List Pair) → ℕ → ℕ
-openBefore L J ps i = sumColumns L (λ c. openOf J i (ps c))
+unfoldable pub open_before : ℕ → (ℕ → Bool) → (ℕ → List Pair) → ℕ → ℕ
+open_before L J ps i = sum_columns L (λ c. open_of J i (ps c))
 
 -- the tally t with rows more, numbered from i, where ps has the pairs of each column
-abbrev pub judgeFrom : ℕ → (ℕ → Bool) → (ℕ → List Pair) → ArrowStats → ℕ → List Row → ArrowStats
-judgeFrom L J ps t i [] = t
-judgeFrom L J ps t i (r ∷ rs) =
-    judgeFrom L J ps (judgeRow t (J i) (openBefore L J ps i) (judgedSum (J i) (keepRow ps i 0 r))) (suc i) rs
+abbrev pub judge_from : ℕ → (ℕ → Bool) → (ℕ → List Pair) → ArrowStats → ℕ → List Row → ArrowStats
+judge_from L J ps t i [] = t
+judge_from L J ps t i (r ∷ rs) =
+    judge_from L J ps (judge_row t (J i) (open_before L J ps i) (judged_sum (J i) (keep_row ps i 0 r))) (suc i) rs
 
 -- the judged tally of rows
-unfoldable pub judgedRows : ℕ → (ℕ → Bool) → List Row → ArrowStats
-judgedRows L J rows = judgeFrom L J (pairs rows) noStats 0 rows
+unfoldable pub judged_rows : ℕ → (ℕ → Bool) → List Row → ArrowStats
+judged_rows L J rows = judge_from L J (pairs rows) empty_stats 0 rows
 
 -- "rows from `parse_minimized_rows`, then `process_rows_judgable`": every row is judged
-unfoldable pub judgedTally : ℕ → List ℕ → ArrowStats
-judgedTally L text = judgedRows L (λ i. true) (readBack L text)
+unfoldable pub judged_tally : ℕ → List ℕ → ArrowStats
+judged_tally L text = judged_rows L (λ i. true) (rows_read_back L text)
 
 -- "or `process_timing_rows` with one flag byte a row"
-unfoldable pub flaggedTally : ℕ → List ℕ → List ℕ → ArrowStats
-flaggedTally L flags text = judgedRows L (judgedAt flags) (readBack L text)
+unfoldable pub flagged_tally : ℕ → List ℕ → List ℕ → ArrowStats
+flagged_tally L flags text = judged_rows L (judged_at flags) (rows_read_back L text)

@@ -7,5 +7,5 @@ unfoldable pub lanes_of : ℕ → ℕ
 lanes_of n = cond (among n (5 ∷ 8 ∷ 10 ∷ [])) n 4
 
 -- "R is (len + 1) div (L + 1), the most rows a text can hold."
-unfoldable pub mostRows : ℕ → ℕ → ℕ
-mostRows L len = (len + 1) / (L + 1)
+unfoldable pub most_rows_in : ℕ → ℕ → ℕ
+most_rows_in L len = (len + 1) / (L + 1)

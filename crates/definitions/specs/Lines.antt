@@ -1,6 +1,6 @@
 -- Document 01, "Lines, cells, measures": the lines of a text, and what a line is.
 use Rattle.std.specs.Prelude.{Bool, true, false, cond, List, [], ◌∷◌, ℕ, eqb, leb, length, take}
-use Rattle.definitions.specs.Lists.{toFirst, among}
+use Rattle.definitions.specs.Lists.{to_first, among}
 use Rattle.definitions.specs.declared.LineKind.{LineKind}
 use Rattle.definitions.specs.declared.LineKind.TheVariants as kind
 
@@ -11,7 +11,7 @@ Row = List ℕ
 -- "The text is cut at byte 10. An empty text is one empty line."
 abbrev pub cut_at : Bool → ℕ → List (List ℕ) → List (List ℕ)
 cut_at true b ls = [] ∷ ls
-cut_at false b ls = toFirst b ls
+cut_at false b ls = to_first b ls
 
 -- the lines of a text
 abbrev pub cut : List ℕ → List (List ℕ)
@@ -19,17 +19,17 @@ cut [] = [] ∷ []
 cut (b ∷ s) = cut_at (eqb b 10) b (cut s)
 
 -- "leading blanks (9, 10, 12, 13, 32) taken off by `skip_ws`"
-unfoldable pub isBlank : ℕ → Bool
-isBlank b = among b (9 ∷ 10 ∷ 12 ∷ 13 ∷ 32 ∷ [])
+unfoldable pub is_blank_byte : ℕ → Bool
+is_blank_byte b = among b (9 ∷ 10 ∷ 12 ∷ 13 ∷ 32 ∷ [])
 
 -- a line without its leading blanks
 abbrev pub trim : List ℕ → List ℕ
 trim [] = []
-trim (b ∷ s) = cond (isBlank b) (trim s) (b ∷ s)
+trim (b ∷ s) = cond (is_blank_byte b) (trim s) (b ∷ s)
 
 -- "a line of at least L bytes is a row, its first L bytes": the row test, of a line that is nothing else
-unfoldable pub isRow : ℕ → List ℕ → Bool
-isRow L l = leb L (length l)
+unfoldable pub is_row_line : ℕ → List ℕ → Bool
+is_row_line L l = leb L (length l)
 
 -- What a line is whose leading blanks are off. "An empty line, or one starting with `/`, is passed over. One starting with `,` ends a
 -- measure, and the rest of that line is ignored. One starting with `;` ends the last measure and the reading. Otherwise a line of at least
@@ -40,12 +40,12 @@ kind_of L (b ∷ s) =
     cond (eqb b 47) kind.Passed
     (cond (eqb b 44) kind.Comma
     (cond (eqb b 59) kind.Semi
-    (cond (isRow L (b ∷ s)) kind.Row kind.Passed)))
+    (cond (is_row_line L (b ∷ s)) kind.Row kind.Passed)))
 
 -- the kind of a line, and its row where it is one
-unfoldable pub lineKind : ℕ → List ℕ → LineKind
-lineKind L l = kind_of L (trim l)
+unfoldable pub line_kind : ℕ → List ℕ → LineKind
+line_kind L l = kind_of L (trim l)
 
 -- a line's row
-abbrev pub lineRow : ℕ → List ℕ → Row
-lineRow L l = take L (trim l)
+abbrev pub line_row : ℕ → List ℕ → Row
+line_row L l = take L (trim l)

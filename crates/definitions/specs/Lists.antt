@@ -2,15 +2,15 @@
 use Rattle.std.specs.Prelude.{Bool, true, false, cond, ◌||◌, ◌&&◌, List, [], ◌∷◌, ◌++◌, ℕ, zero, suc, ◌+◌, ◌-◌, eqb, length, take, drop, replicate}
 
 -- 1 where the test holds, else 0
-abbrev pub oneIf : Bool → ℕ
-oneIf true = 1
-oneIf false = 0
+abbrev pub number_of_bool : Bool → ℕ
+number_of_bool true = 1
+number_of_bool false = 0
 
 module _ {A : Type 0} where
   -- a put in front of the first of some lists
-  abbrev pub toFirst : A → List (List A) → List (List A)
-  toFirst a [] = (a ∷ []) ∷ []
-  toFirst a (l ∷ ls) = (a ∷ l) ∷ ls
+  abbrev pub to_first : A → List (List A) → List (List A)
+  to_first a [] = (a ∷ []) ∷ []
+  to_first a (l ∷ ls) = (a ∷ l) ∷ ls
 
   -- the lists one after the other
   abbrev pub joined : List (List A) → List A
@@ -30,21 +30,21 @@ module _ {A : Type 0} where
   -- how many pass a test
   abbrev pub count : (A → Bool) → List A → ℕ
   count p [] = 0
-  count p (a ∷ l) = oneIf (p a) + count p l
+  count p (a ∷ l) = number_of_bool (p a) + count p l
 
   -- the answer, and z in every place after it, n in all
   abbrev pub padded : A → ℕ → List A → List A
   padded z n l = l ++ replicate (n - length l) z
 
 -- one of the first n columns passes a test
-abbrev pub someColumn : ℕ → (ℕ → Bool) → Bool
-someColumn zero p = false
-someColumn (suc n) p = someColumn n p || p n
+abbrev pub some_column : ℕ → (ℕ → Bool) → Bool
+some_column zero p = false
+some_column (suc n) p = some_column n p || p n
 
 -- a number summed over the first n columns
-abbrev pub sumColumns : ℕ → (ℕ → ℕ) → ℕ
-sumColumns zero f = 0
-sumColumns (suc n) f = sumColumns n f + f n
+abbrev pub sum_columns : ℕ → (ℕ → ℕ) → ℕ
+sum_columns zero f = 0
+sum_columns (suc n) f = sum_columns n f + f n
 
 -- a byte is among these
 abbrev pub among : ℕ → List ℕ → Bool
@@ -65,9 +65,9 @@ unfoldable pub after : ℕ → List ℕ → List ℕ
 after b s = drop (suc (length (up_to b s))) s
 
 -- what follows the first n of them
-abbrev pub afterEach : ℕ → ℕ → List ℕ → List ℕ
-afterEach b zero s = s
-afterEach b (suc n) s = afterEach b n (after b s)
+abbrev pub after_each : ℕ → ℕ → List ℕ → List ℕ
+after_each b zero s = s
+after_each b (suc n) s = after_each b n (after b s)
 
 -- whether a list begins with a word
 abbrev pub starts_with : List ℕ → List ℕ → Bool

@@ -30,8 +30,8 @@ effect_of cell.LowerLift = Single Lift
 effect_of cell.LowerFake = Single Fake
 
 -- the effect of a byte
-unfoldable pub effectAt : ℕ → NoteEffect
-effectAt b = effect_of (cell_of b)
+unfoldable pub effect_at : ℕ → NoteEffect
+effect_at b = effect_of (cell_of b)
 
 -- what a cell at row i says of the head open above it: its tail row, that it is dropped, or what the rows after it say
 abbrev pub meets : NoteEffect → ℕ → Option ℕ → Option ℕ
@@ -41,36 +41,36 @@ meets (Single k) i later = none
 meets (Head k) i later = none
 
 -- the tail row of a head in column c, with these rows after it, numbered from i. "Heads open at the end are dropped."
-abbrev pub tailOf : ℕ → ℕ → List Row → Option ℕ
-tailOf c i [] = none
-tailOf c i (r ∷ rs) = meets (effectAt (byte_at c r)) i (tailOf c (suc i) rs)
+abbrev pub tail_row_of : ℕ → ℕ → List Row → Option ℕ
+tail_row_of c i [] = none
+tail_row_of c i (r ∷ rs) = meets (effect_at (byte_at c r)) i (tail_row_of c (suc i) rs)
 
 -- a note without a tail
-abbrev pub plainNote : ℕ → ℕ → Kind → List Note
-plainNote i c k = record { row = i; tail = tail.Without; column = c; kind = k } ∷ []
+abbrev pub plain_note : ℕ → ℕ → Kind → List Note
+plain_note i c k = record { row = i; tail = tail.Without; column = c; kind = k } ∷ []
 
 -- a note with the tail row that its head has; without one it is dropped
-abbrev pub heldNote : ℕ → ℕ → Kind → Option ℕ → List Note
-heldNote i c k none = []
-heldNote i c k (some j) = record { row = i; tail = tail.Row j; column = c; kind = k } ∷ []
+abbrev pub held_note : ℕ → ℕ → Kind → Option ℕ → List Note
+held_note i c k none = []
+held_note i c k (some j) = record { row = i; tail = tail.Row j; column = c; kind = k } ∷ []
 
 -- the note headed by a cell at row i and column c, in a list of at most one, given the tail row that a head there has
-abbrev pub cellNotes : NoteEffect → ℕ → ℕ → Option ℕ → List Note
-cellNotes Nothing i c t = []
-cellNotes Closes i c t = []
-cellNotes (Single k) i c t = plainNote i c k
-cellNotes (Head k) i c t = heldNote i c k t
+abbrev pub cell_notes : NoteEffect → ℕ → ℕ → Option ℕ → List Note
+cell_notes Nothing i c t = []
+cell_notes Closes i c t = []
+cell_notes (Single k) i c t = plain_note i c k
+cell_notes (Head k) i c t = held_note i c k t
 
 -- the notes of row i from column c on, with these rows after it
-abbrev pub rowNotes : ℕ → ℕ → Row → List Row → List Note
-rowNotes i c [] rs = []
-rowNotes i c (b ∷ bs) rs = cellNotes (effectAt b) i c (tailOf c (suc i) rs) ++ rowNotes i (suc c) bs rs
+abbrev pub row_notes : ℕ → ℕ → Row → List Row → List Note
+row_notes i c [] rs = []
+row_notes i c (b ∷ bs) rs = cell_notes (effect_at b) i c (tail_row_of c (suc i) rs) ++ row_notes i (suc c) bs rs
 
 -- the notes of rows numbered from i. "Notes stand in rising row, then column."
-abbrev pub notesFrom : ℕ → List Row → List Note
-notesFrom i [] = []
-notesFrom i (r ∷ rs) = rowNotes i zero r rs ++ notesFrom (suc i) rs
+abbrev pub notes_from : ℕ → List Row → List Note
+notes_from i [] = []
+notes_from i (r ∷ rs) = row_notes i zero r rs ++ notes_from (suc i) rs
 
 -- the notes of a text: "rows numbered through all minimised rows of the chart"
 unfoldable pub notes : ℕ → List ℕ → List Note
-notes L text = notesFrom 0 (joined (minimised L text))
+notes L text = notes_from 0 (joined (minimised L text))

@@ -3,9 +3,9 @@ use Rattle.std.specs.Prelude.{Bool, true, false, ◌||◌, List, [], ◌∷◌, 
 use Rattle.std.proofs.Math.Option.{Option, none, some}
 use Rattle.definitions.specs.Lists.{only_if}
 use Rattle.definitions.specs.Lines.{Row}
-use Rattle.definitions.specs.Cells.{cell_of, byte_at, objectEffect}
+use Rattle.definitions.specs.Cells.{cell_of, byte_at, object_effect}
 use Rattle.definitions.specs.Reduction.{minimised}
-use Rattle.definitions.specs.Beats.{lastRow, rowToBeat}
+use Rattle.definitions.specs.Beats.{last_row, row_to_beat}
 use Rattle.definitions.specs.declared.DepthEffect.{DepthEffect}
 use Rattle.definitions.specs.declared.DepthEffect.TheVariants.{Nothing, Blocks, Opens, Closes}
 
@@ -17,37 +17,37 @@ deeper Opens d = suc d
 deeper Closes d = d - 1
 
 -- "it has 1, M, L, F or K, or a 3 in a column whose depth is over 0"
-abbrev pub isObject : DepthEffect → ℕ → Bool
-isObject Nothing d = false
-isObject Blocks d = true
-isObject Opens d = false
-isObject Closes d = ltb 0 d
+abbrev pub is_object : DepthEffect → ℕ → Bool
+is_object Nothing d = false
+is_object Blocks d = true
+is_object Opens d = false
+is_object Closes d = ltb 0 d
 
 -- the effect of a byte
-unfoldable pub objectAt : ℕ → DepthEffect
-objectAt b = objectEffect (cell_of b)
+unfoldable pub object_at : ℕ → DepthEffect
+object_at b = object_effect (cell_of b)
 
 -- The depth of each column.
 abbrev pub Depths : Type 0
 Depths = ℕ → ℕ
 
 -- the depths after a row
-abbrev pub afterRow : Depths → Row → Depths
-afterRow D r = λ c. deeper (objectAt (byte_at c r)) (D c)
+abbrev pub after_row : Depths → Row → Depths
+after_row D r = λ c. deeper (object_at (byte_at c r)) (D c)
 
 -- the depths after rows
-abbrev pub afterRows : Depths → List Row → Depths
-afterRows D [] = D
-afterRows D (r ∷ rs) = afterRows (afterRow D r) rs
+abbrev pub after_rows : Depths → List Row → Depths
+after_rows D [] = D
+after_rows D (r ∷ rs) = after_rows (after_row D r) rs
 
 -- a row, from column c on, is an object row
-abbrev pub objectFrom : Depths → ℕ → Row → Bool
-objectFrom D c [] = false
-objectFrom D c (b ∷ r) = isObject (objectAt b) (D c) || objectFrom D (suc c) r
+abbrev pub object_from : Depths → ℕ → Row → Bool
+object_from D c [] = false
+object_from D c (b ∷ r) = is_object (object_at b) (D c) || object_from D (suc c) r
 
 -- a row is an object row where the depths before it are D
-abbrev pub objectRow : Depths → Row → Bool
-objectRow D r = objectFrom D 0 r
+abbrev pub object_row : Depths → Row → Bool
+object_row D r = object_from D 0 r
 
 -- A row's place: row r of the n rows of measure m.
 pub record Place : Type 0 where
@@ -56,15 +56,15 @@ pub record Place : Type 0 where
   pub n : ℕ
 
 -- the object rows among those rows of measure m, with n rows in all, that are numbered from r
-abbrev pub objectsIn : Depths → ℕ → ℕ → ℕ → List Row → List Place
-objectsIn D m r n [] = []
-objectsIn D m r n (x ∷ xs) =
-    only_if (objectRow D x) (record { m = m; r = r; n = n } ∷ []) ++ objectsIn (afterRow D x) m (suc r) n xs
+abbrev pub objects_in : Depths → ℕ → ℕ → ℕ → List Row → List Place
+objects_in D m r n [] = []
+objects_in D m r n (x ∷ xs) =
+    only_if (object_row D x) (record { m = m; r = r; n = n } ∷ []) ++ objects_in (after_row D x) m (suc r) n xs
 
 -- the object rows of measures numbered from m
-abbrev pub objectsFrom : Depths → ℕ → List (List Row) → List Place
-objectsFrom D m [] = []
-objectsFrom D m (x ∷ xs) = objectsIn D m 0 (length x) x ++ objectsFrom (afterRows D x) (suc m) xs
+abbrev pub objects_from : Depths → ℕ → List (List Row) → List Place
+objects_from D m [] = []
+objects_from D m (x ∷ xs) = objects_in D m 0 (length x) x ++ objects_from (after_rows D x) (suc m) xs
 
 -- the last of some places
 abbrev pub last_of : List Place → Option Place
@@ -73,18 +73,18 @@ last_of (p ∷ []) = some p
 last_of (p ∷ q ∷ ps) = last_of (q ∷ ps)
 
 -- the last object row, if there is one
-unfoldable pub lastObject : ℕ → List ℕ → Option Place
-lastObject L text = last_of (objectsFrom (λ c. 0) 0 (minimised L text))
+unfoldable pub last_object : ℕ → List ℕ → Option Place
+last_object L text = last_of (objects_from (λ c. 0) 0 (minimised L text))
 
 -- The last beat in 48ths. "With no object row it is 0."
 abbrev pub place48 : Option Place → ℕ
 place48 none = 0
-place48 (some p) = lastRow p.m p.r p.n
+place48 (some p) = last_row p.m p.r p.n
 
 -- a text's last beat in 48ths
 unfoldable pub last48 : ℕ → List ℕ → ℕ
-last48 L text = place48 (lastObject L text)
+last48 L text = place48 (last_object L text)
 
 -- The last beat as a 64-bit float.
-unfoldable pub lastBeat : ℕ → List ℕ → Float
-lastBeat L text = rowToBeat (last48 L text)
+unfoldable pub last_beat_of : ℕ → List ℕ → Float
+last_beat_of L text = row_to_beat (last48 L text)

@@ -1,6 +1,6 @@
 -- Document 01's note records: ten bytes each, and reading one back with the refusals 7 and 8.
 use Rattle.std.specs.Prelude.{cond, List, [], ◌∷◌, ◌++◌, map, ℕ, ◌+◌, ◌*◌, ◌/◌, ◌%◌, eqb, ltb, leb, length, get_or, Result, Ok, Err}
-use Rattle.definitions.specs.Sizes.{rowNumbersBound}
+use Rattle.definitions.specs.Sizes.{row_numbers_bound}
 use Rattle.definitions.specs.Lists.{joined}
 use Rattle.definitions.specs.declared.Kind.{Kind}
 use Rattle.definitions.specs.declared.Kind.TheVariants.{Tap, Hold, Roll, Mine, Lift, Fake}
@@ -19,18 +19,18 @@ unfoldable pub word : List ℕ → ℕ → ℕ
 word s at = get_or s at 0 + 256 * get_or s (at + 1) 0 + 65536 * get_or s (at + 2) 0 + 16777216 * get_or s (at + 3) 0
 
 -- "0 tap, 1 hold, 2 roll, 3 mine, 4 lift, 5 fake"
-abbrev pub kindNumber : Kind → ℕ
-kindNumber Tap = 0
-kindNumber Hold = 1
-kindNumber Roll = 2
-kindNumber Mine = 3
-kindNumber Lift = 4
-kindNumber Fake = 5
+abbrev pub number_of_kind : Kind → ℕ
+number_of_kind Tap = 0
+number_of_kind Hold = 1
+number_of_kind Roll = 2
+number_of_kind Mine = 3
+number_of_kind Lift = 4
+number_of_kind Fake = 5
 
 -- "Tail is 4,294,967,295 for none."
-abbrev pub tailNumber : Tail → ℕ
-tailNumber Without = 4294967295
-tailNumber (Row j) = j
+abbrev pub number_of_tail : Tail → ℕ
+number_of_tail Without = 4294967295
+number_of_tail (Row j) = j
 
 -- "row u32, tail u32 [..], column u8, kind u8"
 unfoldable pub fields : ℕ → ℕ → ℕ → ℕ → List ℕ
@@ -38,7 +38,7 @@ fields row tail column kind = bytes4 row ++ (bytes4 tail ++ (column ∷ kind ∷
 
 -- a note's ten bytes
 unfoldable pub encode : Note → List ℕ
-encode n = fields n.row (tailNumber n.tail) n.column (kindNumber n.kind)
+encode n = fields n.row (number_of_tail n.tail) n.column (number_of_kind n.kind)
 
 -- "back to back, no header"
 unfoldable pub records : List Note → List ℕ
@@ -54,14 +54,14 @@ plain_of row tail column kind =
 abbrev pub held_of : ℕ → ℕ → ℕ → Kind → Result Note Refusal
 held_of row tail column kind =
     cond (ltb row tail)
-    (cond (ltb tail rowNumbersBound) (Ok (record { row = row; tail = Row tail; column = column; kind = kind })) (Err BadRecord))
+    (cond (ltb tail row_numbers_bound) (Ok (record { row = row; tail = Row tail; column = column; kind = kind })) (Err BadRecord))
     (Err BadRecord)
 
 -- of any fields
 unfoldable pub note_of : ℕ → ℕ → ℕ → ℕ → Result Note Refusal
 note_of row tail column kind =
     cond (leb 10 column) (Err BadRecord)
-    (cond (leb rowNumbersBound row) (Err BadRecord)
+    (cond (leb row_numbers_bound row) (Err BadRecord)
     (cond (eqb kind 0) (plain_of row tail column Tap)
     (cond (eqb kind 1) (held_of row tail column Hold)
     (cond (eqb kind 2) (held_of row tail column Roll)
@@ -71,8 +71,8 @@ note_of row tail column kind =
     (Err BadRecord))))))))
 
 -- "7: the records' length is not a multiple of 10, or the asked record's number is not below length div 10."
-unfoldable pub readNote : List ℕ → ℕ → Result Note Refusal
-readNote s k =
+unfoldable pub note_of_record : List ℕ → ℕ → Result Note Refusal
+note_of_record s k =
     cond (eqb (length s % 10) 0)
     (cond (ltb k (length s / 10))
     (note_of (word s (k * 10)) (word s (k * 10 + 4)) (get_or s (k * 10 + 8) 0) (get_or s (k * 10 + 9) 0))

@@ -5,27 +5,27 @@ use Rattle.definitions.specs.Lines.{Row}
 use Rattle.definitions.specs.Measures.{chart}
 
 -- "the all-zero test, which asks for L bytes `0`"
-abbrev pub allZero : Row → Bool
-allZero [] = true
-allZero (b ∷ r) = eqb b 48 && allZero r
+abbrev pub all_zero : Row → Bool
+all_zero [] = true
+all_zero (b ∷ r) = eqb b 48 && all_zero r
 
 -- i is a multiple of s
 abbrev pub multiple : ℕ → ℕ → Bool
 multiple s i = eqb (i % s) 0
 
 -- of rows numbered from i: "every row off its multiples all zero"
-abbrev pub offZero : ℕ → ℕ → List Row → Bool
-offZero s i [] = true
-offZero s i (r ∷ rs) = (multiple s i || allZero r) && offZero s (suc i) rs
+abbrev pub off_zero : ℕ → ℕ → List Row → Bool
+off_zero s i [] = true
+off_zero s i (r ∷ rs) = (multiple s i || all_zero r) && off_zero s (suc i) rs
 
 -- of rows numbered from i: "only multiples stay"
-abbrev pub atMultiples : ℕ → ℕ → List Row → List Row
-atMultiples s i [] = []
-atMultiples s i (r ∷ rs) = only_if (multiple s i) (r ∷ []) ++ atMultiples s (suc i) rs
+abbrev pub at_multiples : ℕ → ℕ → List Row → List Row
+at_multiples s i [] = []
+at_multiples s i (r ∷ rs) = only_if (multiple s i) (r ∷ []) ++ at_multiples s (suc i) rs
 
 -- it "divides the row count and has every row off its multiples all zero"
 abbrev pub allows : List Row → ℕ → Bool
-allows rs s = multiple s (length rs) && offZero s 0 rs
+allows rs s = multiple s (length rs) && off_zero s 0 rs
 
 -- the largest power of two that they allow, with an exponent up to k; 1 is always allowed
 abbrev pub largest : ℕ → List Row → ℕ
@@ -38,7 +38,7 @@ stride rs = largest (length rs) rs
 
 -- the rows of a measure that stay
 unfoldable pub reduce : List Row → List Row
-reduce rs = atMultiples (stride rs) 0 rs
+reduce rs = at_multiples (stride rs) 0 rs
 
 -- the minimised rows of each measure
 unfoldable pub minimised : ℕ → List ℕ → List (List Row)

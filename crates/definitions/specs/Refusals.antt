@@ -1,9 +1,9 @@
 -- Document 01, "What a call can be told": the refusals by their numbers, the conditions of 1 to 6, their order, and what a call leaves in what it
 -- was lent. 7 and 8 are in Records.antt, 9 to 11 in SmFile.antt.
 use Rattle.std.specs.Prelude.{Bool, cond, List, [], ◌∷◌, ℕ, ◌+◌, ◌*◌, ◌/◌, ltb, length, Result, Ok, Err}
-use Rattle.definitions.specs.Sizes.{mostBytes}
+use Rattle.definitions.specs.Sizes.{most_bytes}
 use Rattle.definitions.specs.Lists.{padded}
-use Rattle.definitions.specs.Lanes.{mostRows}
+use Rattle.definitions.specs.Lanes.{most_rows_in}
 use Rattle.definitions.specs.declared.Refusal.{Refusal}
 use Rattle.definitions.specs.declared.Refusal.TheVariants.{LongText, ShortText, ShortMeasures, ShortBeats, ShortWork, ShortNotes, NoRecord, BadRecord, FewFields, OtherType, NoChart, ShortSheet, OtherForm}
 
@@ -24,32 +24,32 @@ number_of ShortSheet = 19
 number_of OtherForm = 20
 
 -- what a check answers: this refusal where the condition holds
-abbrev pub refusedIf : Bool → Refusal → Result Unit Refusal
-refusedIf t r = cond t (Err r) (Ok tt)
+abbrev pub refused_if : Bool → Refusal → Result Unit Refusal
+refused_if t r = cond t (Err r) (Ok tt)
 
 -- "1: len is over 16,777,215."
-unfoldable pub longText : ℕ → Result Unit Refusal
-longText len = refusedIf (ltb mostBytes len) LongText
+unfoldable pub long_text : ℕ → Result Unit Refusal
+long_text len = refused_if (ltb most_bytes len) LongText
 
 -- "2: the text slice (bytes) is shorter than len + 1."
-unfoldable pub shortText : ℕ → ℕ → Result Unit Refusal
-shortText len room = refusedIf (ltb room (len + 1)) ShortText
+unfoldable pub short_text : ℕ → ℕ → Result Unit Refusal
+short_text len room = refused_if (ltb room (len + 1)) ShortText
 
 -- "3: the measure slice (u32 densities, or bytes for spacing, 1 true and 0 false) is shorter than (len + 1) div 2 + 1."
-unfoldable pub shortMeasures : ℕ → ℕ → Result Unit Refusal
-shortMeasures len room = refusedIf (ltb room ((len + 1) / 2 + 1)) ShortMeasures
+unfoldable pub short_measures : ℕ → ℕ → Result Unit Refusal
+short_measures len room = refused_if (ltb room ((len + 1) / 2 + 1)) ShortMeasures
 
 -- "4: the beat slice (f32) is shorter than R."
-unfoldable pub shortBeats : ℕ → ℕ → ℕ → Result Unit Refusal
-shortBeats L len room = refusedIf (ltb room (mostRows L len)) ShortBeats
+unfoldable pub short_beats : ℕ → ℕ → ℕ → Result Unit Refusal
+short_beats L len room = refused_if (ltb room (most_rows_in L len)) ShortBeats
 
 -- "5: the work slice (u16) is shorter than R."
-unfoldable pub shortWork : ℕ → ℕ → ℕ → Result Unit Refusal
-shortWork L len room = refusedIf (ltb room (mostRows L len)) ShortWork
+unfoldable pub short_work : ℕ → ℕ → ℕ → Result Unit Refusal
+short_work L len room = refused_if (ltb room (most_rows_in L len)) ShortWork
 
 -- "6: the note slice (bytes) is shorter than 10 × L × R."
-unfoldable pub shortNotes : ℕ → ℕ → ℕ → Result Unit Refusal
-shortNotes L len room = refusedIf (ltb room (10 * L * mostRows L len)) ShortNotes
+unfoldable pub short_notes : ℕ → ℕ → ℕ → Result Unit Refusal
+short_notes L len room = refused_if (ltb room (10 * L * most_rows_in L len)) ShortNotes
 
 -- "Checked in rising order": the first check that refuses refuses the call; where none does, it is accepted and answers x.
 abbrev pub answered : {T : Type 0} → List (Result Unit Refusal) → T → Result T Refusal
@@ -58,9 +58,9 @@ answered (Ok u ∷ checks) x = answered checks x
 answered (Err r ∷ checks) x = Err r
 
 -- the number that a call returns: 0 where it is accepted
-abbrev pub numberTold : {T : Type 0} → Result T Refusal → ℕ
-numberTold (Ok x) = 0
-numberTold (Err r) = number_of r
+abbrev pub number_told : {T : Type 0} → Result T Refusal → ℕ
+number_told (Ok x) = 0
+number_told (Err r) = number_of r
 
 -- What a call leaves in a slice lent for writing that held `old`. "A refusal returns its number alone and writes nothing."
 -- "After an accepted call every entry past the answer in a slice lent for writing is 0"

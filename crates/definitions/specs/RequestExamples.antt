@@ -2,9 +2,9 @@
 use Rattle.std.specs.Prelude.{◌≡◌, refl, cond, List, [], ◌∷◌, map, ℕ, eqb, length}
 use Prim.Native.String.{String}
 use Rattle.definitions.specs.Lists.{up_to, through, after}
-use Rattle.definitions.specs.Lines.{isBlank}
-use Rattle.definitions.specs.Refusals.{longText}
-use Rattle.definitions.specs.SmFile.{isTagged, tag_of, notesTag, blockText, blockEnd, startsBlock, blocks_from, blocks, colons, data_of, type_of, typeLanes, smTag, smText, smLanes, smData, smStart, smAnswer, smNumber}
+use Rattle.definitions.specs.Lines.{is_blank_byte}
+use Rattle.definitions.specs.Refusals.{long_text}
+use Rattle.definitions.specs.SmFile.{is_tagged, tag_of, notes_tag, block_text, block_end, starts_block, blocks_from, blocks, colons, data_of, type_of, lanes_of_type, sm_tag, sm_text, sm_lanes, sm_data, sm_start, sm_answer, sm_number}
 use Rattle.definitions.specs.Examples.{bytes}
 
 -- One question to a file, and the answer.
@@ -14,8 +14,8 @@ pub record Example : Type 0 where
   pub answer : List ℕ
 
 -- E1's answer for block k of a file: 0, the lane count, where the data begins and the data, or a refusal's number alone
-unfoldable pub smTold : List ℕ → ℕ → List ℕ
-smTold file k = smNumber file k ∷ cond (eqb (smNumber file k) 0) (smLanes file k ∷ smStart file k ∷ smData file k) []
+unfoldable pub sm_told : List ℕ → ℕ → List ℕ
+sm_told file k = sm_number file k ∷ cond (eqb (sm_number file k) 0) (sm_lanes file k ∷ sm_start file k ∷ sm_data file k) []
 
 -- block k of that file has so many lanes, and this data from that place on
 abbrev pub chart : String → ℕ → ℕ → ℕ → String → Example
@@ -52,6 +52,6 @@ table =
     ∷ refused "#NOTES:lights-cabinet:::::;" 1 11
     ∷ []
 
-pub request-examples-hold : map (λ (e : Example). smTold (bytes e.file) e.k) table ≡ map (λ (e : Example). e.answer) table
-unfolding table smTold smAnswer longText smStart smData smLanes smText smTag typeLanes type_of data_of colons blocks blocks_from startsBlock blockEnd blockText notesTag tag_of isTagged after up_to through isBlank
+pub request-examples-hold : map (λ (e : Example). sm_told (bytes e.file) e.k) table ≡ map (λ (e : Example). e.answer) table
+unfolding table sm_told sm_answer long_text sm_start sm_data sm_lanes sm_text sm_tag lanes_of_type type_of data_of colons blocks blocks_from starts_block block_end block_text notes_tag tag_of is_tagged after up_to through is_blank_byte
 request-examples-hold = refl

@@ -1,8 +1,8 @@
 -- Document 01, "Tally": what one row adds up to, and the plain tally of rows.
 use Rattle.std.specs.Prelude.{Bool, ◌&&◌, List, [], ◌∷◌, ℕ, suc, ◌+◌, ◌-◌, ◌%◌, eqb, leb}
-use Rattle.definitions.specs.Lists.{oneIf, count}
+use Rattle.definitions.specs.Lists.{number_of_bool, count}
 use Rattle.definitions.specs.Lines.{Row}
-use Rattle.definitions.specs.Cells.{cell_of, isArrow}
+use Rattle.definitions.specs.Cells.{cell_of, is_arrow}
 use Rattle.definitions.specs.declared.Cell.{Cell}
 use Rattle.definitions.specs.declared.Cell.TheVariants.{Empty, Tap, Hold, Tail, Roll, Mine, Lift, Fake, KeySound, LowerMine, LowerLift, LowerFake}
 use Rattle.definitions.specs.declared.RowSum.{RowSum}
@@ -13,19 +13,19 @@ pub data CountKind : Type 0 where
   nothing hold roll tail mine lift fake : CountKind
 
 -- "The Rust also reads m, l, f as mine, lift, fake"
-abbrev pub countedAs : Cell → CountKind
-countedAs Empty = nothing
-countedAs Tap = nothing
-countedAs Hold = hold
-countedAs Tail = tail
-countedAs Roll = roll
-countedAs Mine = mine
-countedAs Lift = lift
-countedAs Fake = fake
-countedAs KeySound = nothing
-countedAs LowerMine = mine
-countedAs LowerLift = lift
-countedAs LowerFake = fake
+abbrev pub counted_as : Cell → CountKind
+counted_as Empty = nothing
+counted_as Tap = nothing
+counted_as Hold = hold
+counted_as Tail = tail
+counted_as Roll = roll
+counted_as Mine = mine
+counted_as Lift = lift
+counted_as Fake = fake
+counted_as KeySound = nothing
+counted_as LowerMine = mine
+counted_as LowerLift = lift
+counted_as LowerFake = fake
 
 -- a number for each, so that two can be compared
 abbrev pub place : CountKind → ℕ
@@ -39,26 +39,26 @@ place fake = 6
 
 -- the cells of a row that are counted so
 abbrev pub counted : CountKind → Row → ℕ
-counted k r = count (λ b. eqb (place (countedAs (cell_of b))) (place k)) r
+counted k r = count (λ b. eqb (place (counted_as (cell_of b))) (place k)) r
 
 -- the cells of a row, from column c on, that pass a test of column and cell
-abbrev pub countFrom : (ℕ → Cell → Bool) → ℕ → Row → ℕ
-countFrom p c [] = 0
-countFrom p c (b ∷ r) = oneIf (p c (cell_of b)) + countFrom p (suc c) r
+abbrev pub count_from : (ℕ → Cell → Bool) → ℕ → Row → ℕ
+count_from p c [] = 0
+count_from p c (b ∷ r) = number_of_bool (p c (cell_of b)) + count_from p (suc c) r
 
 -- "Column mod 4 gives left, down, up, right": 0, 1, 2, 3
 abbrev pub direction : ℕ → ℕ
 direction c = c % 4
 
 -- What a row adds up to, where `arrow` says which cells are arrows.
-unfoldable pub rowSumBy : (Cell → Bool) → Row → RowSum
-rowSumBy arrow r =
+unfoldable pub row_sum_by : (Cell → Bool) → Row → RowSum
+row_sum_by arrow r =
     record {
-      arrows = countFrom (λ c x. arrow x) 0 r;
-      left = countFrom (λ c x. arrow x && eqb (direction c) 0) 0 r;
-      down = countFrom (λ c x. arrow x && eqb (direction c) 1) 0 r;
-      up = countFrom (λ c x. arrow x && eqb (direction c) 2) 0 r;
-      right = countFrom (λ c x. arrow x && eqb (direction c) 3) 0 r;
+      arrows = count_from (λ c x. arrow x) 0 r;
+      left = count_from (λ c x. arrow x && eqb (direction c) 0) 0 r;
+      down = count_from (λ c x. arrow x && eqb (direction c) 1) 0 r;
+      up = count_from (λ c x. arrow x && eqb (direction c) 2) 0 r;
+      right = count_from (λ c x. arrow x && eqb (direction c) 3) 0 r;
       holds = counted hold r;
       rolls = counted roll r;
       tails = counted tail r;
@@ -68,12 +68,12 @@ rowSumBy arrow r =
     }
 
 -- "The arrows are the cells 1, 2 and 4."
-unfoldable pub rowSum : Row → RowSum
-rowSum r = rowSumBy isArrow r
+unfoldable pub row_sum : Row → RowSum
+row_sum r = row_sum_by is_arrow r
 
 -- the tally of no rows
-abbrev pub noStats : ArrowStats
-noStats =
+abbrev pub empty_stats : ArrowStats
+empty_stats =
     record {
       total_arrows = 0;
       left = 0;
@@ -93,17 +93,17 @@ noStats =
 
 -- A tally with one row more, where `hand` says whether it is a hand and `holding` what is held after it. "A step is a row with" an arrow;
 -- "a jump has at least 2 such cells".
-abbrev pub addSum : ArrowStats → RowSum → Bool → ℕ → ArrowStats
-addSum t s hand holding =
+abbrev pub tally_with_sum : ArrowStats → RowSum → Bool → ℕ → ArrowStats
+tally_with_sum t s hand holding =
     record {
       total_arrows = t.total_arrows + s.arrows;
       left = t.left + s.left;
       down = t.down + s.down;
       up = t.up + s.up;
       right = t.right + s.right;
-      total_steps = t.total_steps + oneIf (leb 1 s.arrows);
-      jumps = t.jumps + oneIf (leb 2 s.arrows);
-      hands = t.hands + oneIf hand;
+      total_steps = t.total_steps + number_of_bool (leb 1 s.arrows);
+      jumps = t.jumps + number_of_bool (leb 2 s.arrows);
+      hands = t.hands + number_of_bool hand;
       mines = t.mines + s.mines;
       holds = t.holds + s.holds;
       rolls = t.rolls + s.rolls;
@@ -114,17 +114,17 @@ addSum t s hand holding =
 
 -- "a hand is a step whose such cells plus `holding` before the row make 3 or more. Then holding becomes the larger of 0 and holding + heads
 -- − tails" (a difference of ℕ stops at 0)
-unfoldable pub addRow : ArrowStats → RowSum → ArrowStats
-addRow t s =
-    addSum t s
+unfoldable pub tally_with_row : ArrowStats → RowSum → ArrowStats
+tally_with_row t s =
+    tally_with_sum t s
     (leb 1 s.arrows && leb 3 (s.arrows + t.holding))
     (t.holding + (s.holds + s.rolls) - s.tails)
 
 -- a tally with rows more
-abbrev pub tallyFrom : ArrowStats → List Row → ArrowStats
-tallyFrom t [] = t
-tallyFrom t (r ∷ rs) = tallyFrom (addRow t (rowSum r)) rs
+abbrev pub tally_from : ArrowStats → List Row → ArrowStats
+tally_from t [] = t
+tally_from t (r ∷ rs) = tally_from (tally_with_row t (row_sum r)) rs
 
 -- the plain tally of rows
 unfoldable pub tally : List Row → ArrowStats
-tally rows = tallyFrom noStats rows
+tally rows = tally_from empty_stats rows

@@ -3,12 +3,12 @@
 use Rattle.std.specs.Prelude.{◌≡◌, List, ℕ, ◌≤◌, ◌<◌, length, Ok}
 use Rattle.std.proofs.Math.Option.{some}
 use Rattle.std.proofs.Math.ListN.{get_elem?}
-use Rattle.definitions.specs.Sizes.{mostBytes, rowNumbersBound}
+use Rattle.definitions.specs.Sizes.{most_bytes, row_numbers_bound}
 use Rattle.definitions.specs.Lanes.{lanes_of}
 use Rattle.definitions.specs.Notes.{notes}
-use Rattle.definitions.specs.Records.{kindNumber, records, readNote}
-use Rattle.definitions.specs.Refusals.{numberTold, replaces}
-use Rattle.definitions.specs.Entries.{noteFigures}
+use Rattle.definitions.specs.Records.{number_of_kind, records, note_of_record}
+use Rattle.definitions.specs.Refusals.{number_told, replaces}
+use Rattle.definitions.specs.Entries.{figures_of_note}
 use Rattle.definitions.specs.declared.Kind.{Kind}
 use Rattle.definitions.specs.declared.Kind.TheVariants.{Tap, Hold, Roll, Mine, Lift, Fake}
 use Rattle.definitions.specs.declared.Tail.{Tail}
@@ -20,9 +20,9 @@ abbrev pub TailMade : ℕ → Kind → Tail → Type 0
 TailMade r Tap Without = Unit {0}
 TailMade r Tap (Row j) = ⊥
 TailMade r Hold Without = ⊥
-TailMade r Hold (Row j) = (r < j) × (j < rowNumbersBound)
+TailMade r Hold (Row j) = (r < j) × (j < row_numbers_bound)
 TailMade r Roll Without = ⊥
-TailMade r Roll (Row j) = (r < j) × (j < rowNumbersBound)
+TailMade r Roll (Row j) = (r < j) × (j < row_numbers_bound)
 TailMade r Mine Without = Unit {0}
 TailMade r Mine (Row j) = ⊥
 TailMade r Lift Without = Unit {0}
@@ -34,20 +34,20 @@ TailMade r Fake (Row j) = ⊥
 -- the others."
 pub record Made (n : Note) : Type 0 where
   pub column : n.column < 10
-  pub kind : kindNumber n.kind < 6
-  pub row : n.row < rowNumbersBound
+  pub kind : number_of_kind n.kind < 6
+  pub row : n.row < row_numbers_bound
   pub tail : TailMade n.row n.kind n.tail
 
--- Record k of these notes keeps the limits and is read back as note k: by `readNote`, and from outside by the number 0 and the note's places.
+-- Record k of these notes keeps the limits and is read back as note k: by `note_of_record`, and from outside by the number 0 and the note's places.
 pub record ReadsBack (ns : List Note) (k : ℕ) : Type 0 where
   pub note : Note
   pub stands : get_elem? ns k ≡ some note
   pub limits : Made note
-  pub read : readNote (records ns) k ≡ Ok note
-  pub number : numberTold (readNote (records ns) k) ≡ 0
-  pub places : (old : List ℕ) → replaces (readNote (records ns) k) noteFigures old ≡ noteFigures note
+  pub read : note_of_record (records ns) k ≡ Ok note
+  pub number : number_told (note_of_record (records ns) k) ≡ 0
+  pub places : (old : List ℕ) → replaces (note_of_record (records ns) k) figures_of_note old ≡ figures_of_note note
 
 -- For every lane number and every text that no call refuses for its length, this holds of each record of its notes.
 unfoldable pub WriterMakes : Type 0
 WriterMakes =
-    (lanes : ℕ) (text : List ℕ) → length text ≤ mostBytes → (k : ℕ) → k < length (notes (lanes_of lanes) text) → ReadsBack (notes (lanes_of lanes) text) k
+    (lanes : ℕ) (text : List ℕ) → length text ≤ most_bytes → (k : ℕ) → k < length (notes (lanes_of lanes) text) → ReadsBack (notes (lanes_of lanes) text) k

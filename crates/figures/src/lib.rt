@@ -3,9 +3,9 @@
 #![tactic(auto)]
 
 ghost use Rattle.std.specs.Prelude.{◌≡◌, [], ◌∷◌};
-ghost use Rattle.definitions.specs.Entries.{figures as figuresOf, noTally, tallyFigures, noteFigures, chartPlaces, keptPlaces, timingPlaces, measuresPlaces, lastPlaces, judgedPlaces};
-ghost use Rattle.definitions.specs.Lists.{oneIf};
-ghost use Rattle.definitions.specs.Records.{tailNumber};
+ghost use Rattle.definitions.specs.Entries.{figures as stored_figures, no_tally, tally_figures, figures_of_note, places_of_chart, places_of_kept, places_of_timing, places_of_measures, places_of_last, places_of_judged};
+ghost use Rattle.definitions.specs.Lists.{number_of_bool};
+ghost use Rattle.definitions.specs.Records.{number_of_tail};
 
 use definitions::{ArrowStats, ChartFigures, KeptFigures, LastBeat, Note, Tail, TimingFigures};
 use note_records::{NO_TAIL_ROW, kind_number};
@@ -28,7 +28,7 @@ fn figures_of(
     last_row: u64,
     t: ArrowStats,
 ) -> [u64; 32]
-    ensures { result ≡ figuresOf bytes measures rows notes last_bits (oneIf heads) last_row (tallyFigures t) }
+    ensures { result ≡ stored_figures bytes measures rows notes last_bits (number_of_bool heads) last_row (tally_figures t) }
 {
     [
         bytes as u64,
@@ -75,7 +75,7 @@ fn without_tally(
     heads: bool,
     last_row: u64,
 ) -> [u64; 32]
-    ensures { result ≡ figuresOf bytes measures rows 0 last_bits (oneIf heads) last_row noTally }
+    ensures { result ≡ stored_figures bytes measures rows 0 last_bits (number_of_bool heads) last_row no_tally }
 {
     let none = row_tally::no_stats();
     figures_of(bytes, measures, rows, 0, last_bits, heads, last_row, none)
@@ -83,7 +83,7 @@ fn without_tally(
 
 // What the main call answers.
 pub fn chart_places(f: ChartFigures) -> [u64; 32]
-    ensures { result ≡ chartPlaces f }
+    ensures { result ≡ places_of_chart f }
 {
     let stats = f.stats;
     figures_of(
@@ -100,7 +100,7 @@ pub fn chart_places(f: ChartFigures) -> [u64; 32]
 
 // What the kept-row call answers.
 pub fn kept_places(f: KeptFigures) -> [u64; 32]
-    ensures { result ≡ keptPlaces f }
+    ensures { result ≡ places_of_kept f }
 {
     let stats = f.stats;
     figures_of(f.bytes, f.measures, f.rows as usize, 0, 0, false, 0, stats)
@@ -108,35 +108,35 @@ pub fn kept_places(f: KeptFigures) -> [u64; 32]
 
 // What the call for timing rows answers.
 pub fn timing_places(f: TimingFigures) -> [u64; 32]
-    ensures { result ≡ timingPlaces f }
+    ensures { result ≡ places_of_timing f }
 {
     without_tally(f.bytes, 0, f.rows, 0, f.heads, 0)
 }
 
 // How many measures there are.
 pub fn measures_places(n: usize) -> [u64; 32]
-    ensures { result ≡ measuresPlaces n }
+    ensures { result ≡ places_of_measures n }
 {
     without_tally(0, n, 0, 0, false, 0)
 }
 
 // A last beat.
 pub fn last_places(f: LastBeat) -> [u64; 32]
-    ensures { result ≡ lastPlaces f }
+    ensures { result ≡ places_of_last f }
 {
     without_tally(0, 0, 0, f.bits, false, f.row)
 }
 
 // A judged tally.
 pub fn judged_places(t: ArrowStats) -> [u64; 32]
-    ensures { result ≡ judgedPlaces t }
+    ensures { result ≡ places_of_judged t }
 {
     figures_of(0, 0, 0, 0, 0, false, 0, t)
 }
 
 // A tail as the number of its row.
 fn tail_number(tail: Tail) -> u32
-    ensures { result ≡ tailNumber tail }
+    ensures { result ≡ number_of_tail tail }
 {
     match tail {
         Tail::Without => NO_TAIL_ROW,
@@ -146,7 +146,7 @@ fn tail_number(tail: Tail) -> u32
 
 // The four places of a note.
 pub fn note_figures(n: Note) -> [u64; 4]
-    ensures { result ≡ noteFigures n }
+    ensures { result ≡ figures_of_note n }
 {
     let tail = n.tail;
     let kind = n.kind;

@@ -13,24 +13,24 @@ use lib.Seq.{drop-drop, get_or-drop}
 use borrow.Author.Tests.{le-leb, lt-leb}
 use Rattle.definitions.specs.Lists.{up_to, through, only_if}
 use Rattle.definitions.specs.Lines.{trim}
-use Rattle.definitions.specs.SmFile.{isTagged, tag_of, notesTag, blockText, blockEnd, startsBlock, blocks_from}
+use Rattle.definitions.specs.SmFile.{is_tagged, tag_of, notes_tag, block_text, block_end, starts_block, blocks_from}
 use Rattle.definitions.specs.declared.Tag.{Tag}
 use Rattle.definitions.proofs.Bools.{and-false}
-use Rattle.definitions.proofs.Lists.{startsWith-length}
+use Rattle.definitions.proofs.Lists.{starts_with-length}
 use Rattle.definitions.proofs.SmBlocks.{end-within}
 use Rattle.definitions.proofs.ChartRows.{trim-short}
-use Rattle.lines.specs.Lines.{firstLine, lines_from}
+use Rattle.lines.specs.Lines.{first_line, lines_from}
 use Rattle.lines.proofs.Lines.{lines_next, lines_end, line-within}
-use Rattle.files.specs.Tags.{firstTag}
-use Rattle.files.specs.Sm.{pastBlock}
+use Rattle.files.specs.Tags.{first_tag}
+use Rattle.files.specs.Sm.{line_past_block}
 use Rattle.files.specs.declared.FoundTag.TheVariants.{At, Nothing}
-use Rattle.files.proofs.Words.{through-ends, upTo-drop, upTo-byte}
+use Rattle.files.proofs.Words.{through-ends, up_to-drop, up_to-byte}
 use Rattle.files.proofs.Tags.{tag-none, tag-here, tag-next}
 
 module _ (file : List ℕ) where
   -- the line at a place, where the next one starts, and the blocks from a place on
   abbrev line_at : ℕ → List ℕ
-  line_at at = firstLine (drop at file)
+  line_at at = first_line (drop at file)
 
   abbrev pub next_at : ℕ → ℕ
   next_at at = at + length (line_at at) + 1
@@ -39,24 +39,24 @@ module _ (file : List ℕ) where
   from past at = blocks_from file past at (lines_from file at)
 
   -- a line that starts no block
-  step-none : (past at : ℕ) → at ≤ length file → startsBlock past at (line_at at) ≡ false → from past at ≡ from past (next_at at)
+  step-none : (past at : ℕ) → at ≤ length file → starts_block past at (line_at at) ≡ false → from past at ≡ from past (next_at at)
   unfolding blocks_from
   step-none past at h e = rw (lines_next file at h) (simp e)
 
   -- a line inside a block
   step-inside : (past at : ℕ) → at ≤ length file → at < past → from past at ≡ from past (next_at at)
-  unfolding startsBlock
+  unfolding starts_block
   step-inside past at h w = step-none past at h (simp (lt-leb past at w))
 
   -- a line without the tag
-  step_other : (past at : ℕ) → at ≤ length file → isTagged notesTag (line_at at) ≡ false → from past at ≡ from past (next_at at)
-  unfolding startsBlock
+  step_other : (past at : ℕ) → at ≤ length file → is_tagged notes_tag (line_at at) ≡ false → from past at ≡ from past (next_at at)
+  unfolding starts_block
   step_other past at h e = step-none past at h (rw e (and-false (leb past at)))
 
   -- a line that starts a block
-  step_block : (past at : ℕ) → at ≤ length file → past ≤ at → isTagged notesTag (line_at at) ≡ true
-      → from past at ≡ tag_of notesTag at (line_at at) ∷ from (blockEnd file (tag_of notesTag at (line_at at))) (next_at at)
-  unfolding blocks_from startsBlock
+  step_block : (past at : ℕ) → at ≤ length file → past ≤ at → is_tagged notes_tag (line_at at) ≡ true
+      → from past at ≡ tag_of notes_tag at (line_at at) ∷ from (block_end file (tag_of notes_tag at (line_at at))) (next_at at)
+  unfolding blocks_from starts_block
   step_block past at h w e = rw (lines_next file at h) (simp (le-leb past at w, e))
 
   -- past the end
@@ -66,35 +66,35 @@ module _ (file : List ℕ) where
 
   -- where the blocks before a line end does not matter
   pub any-past : (past at : ℕ) (lines : List (List ℕ)) → past ≤ at → blocks_from file past at lines ≡ blocks_from file 0 at lines
-  unfolding blocks_from startsBlock
+  unfolding blocks_from starts_block
   any-past past at [] h = refl
   any-past past at (l ∷ lines) h =
       simp (le-leb past at h, le-leb 0 at (omega arith))
-      (go (isTagged notesTag l) (any-past past (at + length l + 1) lines (omega arith)))
+      (go (is_tagged notes_tag l) (any-past past (at + length l + 1) lines (omega arith)))
     where
       go : (t : Bool) → blocks_from file past (at + length l + 1) lines ≡ blocks_from file 0 (at + length l + 1) lines
-          → only_if t (tag_of notesTag at l ∷ []) ++ blocks_from file (cond t (blockEnd file (tag_of notesTag at l)) past) (at + length l + 1) lines
-          ≡ only_if t (tag_of notesTag at l ∷ []) ++ blocks_from file (cond t (blockEnd file (tag_of notesTag at l)) 0) (at + length l + 1) lines
+          → only_if t (tag_of notes_tag at l ∷ []) ++ blocks_from file (cond t (block_end file (tag_of notes_tag at l)) past) (at + length l + 1) lines
+          ≡ only_if t (tag_of notes_tag at l ∷ []) ++ blocks_from file (cond t (block_end file (tag_of notes_tag at l)) 0) (at + length l + 1) lines
       go true ih = refl
       go false ih = ih
 
   -- from a place on a line on, the line ends where it did
   line-rest : (at e : ℕ) → at ≤ e → e ≤ at + length (line_at at) → next_at e ≡ next_at at
-  unfolding firstLine
+  unfolding first_line
   line-rest at e h w =
       let d : at + (e - at) ≡ e = omega arith in
       let same : drop (e - at) (drop at file) ≡ drop e file = drop-drop (e - at) at file ∙ ap (λ n. drop n file) d in
-      let u = upTo-drop 10 (drop at file) (e - at) (omega arith) in
+      let u = up_to-drop 10 (drop at file) (e - at) (omega arith) in
       omega (arith, u, ap (λ l. length (up_to 10 l)) same)
 
   -- what stands before a line that is not the first is byte 10
   before-line : (at : ℕ) → at + length (line_at at) < length file → get_or file (at + length (line_at at)) 0 ≡ 10
-  unfolding firstLine
-  before-line at h = sym (get_or-drop at file (length (up_to 10 (drop at file))) 0) ∙ upTo-byte 10 (drop at file) (omega (arith, length-drop at file))
+  unfolding first_line
+  before-line at h = sym (get_or-drop at file (length (up_to 10 (drop at file))) 0) ∙ up_to-byte 10 (drop at file) (omega (arith, length-drop at file))
 
   -- an empty line has no tag
-  none-tagged : isTagged notesTag (firstLine []) ≡ false
-  unfolding isTagged notesTag firstLine up_to
+  none-tagged : is_tagged notes_tag (first_line []) ≡ false
+  unfolding is_tagged notes_tag first_line up_to
   none-tagged = refl
 
   -- The lines that begin before e, where the block ends on whose lines they stand, start none; nor does one at e, which is past a `;` or the
@@ -124,20 +124,20 @@ module _ (file : List ℕ) where
   -- What is known of the first tag from `off` on.
   pub record TagMet (off : ℕ) (t : Tag) : Type 0 where
     pub within : t.line ≤ length file
-    pub tagged : isTagged notesTag (line_at t.line) ≡ true
-    pub is : t ≡ tag_of notesTag t.line (line_at t.line)
+    pub tagged : is_tagged notes_tag (line_at t.line) ≡ true
+    pub is : t ≡ tag_of notes_tag t.line (line_at t.line)
     pub starts : from 0 off ≡ from 0 t.line
 
   -- from the line at `off`, and the tags after it
-  met : (off : ℕ) (t : Tag) → off ≤ length file → (b : Bool) → isTagged notesTag (line_at off) ≡ b → firstTag notesTag off (lines_from file off) ≡ At t
-      → (firstTag notesTag (next_at off) (lines_from file (next_at off)) ≡ At t → TagMet (next_at off) t) → TagMet off t
-  unfolding isTagged tag_of
+  met : (off : ℕ) (t : Tag) → off ≤ length file → (b : Bool) → is_tagged notes_tag (line_at off) ≡ b → first_tag notes_tag off (lines_from file off) ≡ At t
+      → (first_tag notes_tag (next_at off) (lines_from file (next_at off)) ≡ At t → TagMet (next_at off) t) → TagMet off t
+  unfolding is_tagged tag_of
   met off t h true tagged e later =
-      let here = tag-here notesTag file off (line_at off) (trim (line_at off)) h refl refl tagged in
-      let is : tag_of notesTag off (line_at off) ≡ t = cc in
+      let here = tag-here notes_tag file off (line_at off) (trim (line_at off)) h refl refl tagged in
+      let is : tag_of notes_tag off (line_at off) ≡ t = cc in
       subst (TagMet off) is (record { within = h; tagged = tagged; is = refl; starts = refl })
   met off t h false other e later =
-      let m = later (sym (tag-next notesTag file off (line_at off) (trim (line_at off)) h refl refl other) ∙ e) in
+      let m = later (sym (tag-next notes_tag file off (line_at off) (trim (line_at off)) h refl refl other) ∙ e) in
       record {
         within = m.within;
         tagged = m.tagged;
@@ -146,39 +146,39 @@ module _ (file : List ℕ) where
       }
 
   -- the line that it stands on is met first, and no line before it starts a block
-  tag-met : (n off : ℕ) (t : Tag) → length file < off + n → firstTag notesTag off (lines_from file off) ≡ At t → TagMet off t
+  tag-met : (n off : ℕ) (t : Tag) → length file < off + n → first_tag notes_tag off (lines_from file off) ≡ At t → TagMet off t
   tag-met zero off t b e =
-      let none = tag-none notesTag file off (omega arith) in
+      let none = tag-none notes_tag file off (omega arith) in
       let z : ◌≡◌ {A = ℕ} 0 1 = cc in
       absurd (omega arith)
   tag-met (suc n) off t b e = elim (dec_lt (length file) off) [
     | yes past ↦
-        let none = tag-none notesTag file off past in
+        let none = tag-none notes_tag file off past in
         let z : ◌≡◌ {A = ℕ} 0 1 = cc in
         absurd (omega arith)
     | no not ↦
         let within : off ≤ length file = omega arith in
-        met off t within (isTagged notesTag (line_at off)) refl e (tag-met n (next_at off) t (omega arith))
+        met off t within (is_tagged notes_tag (line_at off)) refl e (tag-met n (next_at off) t (omega arith))
   ]
 
   -- What the first tag from `off` on says of the blocks from there on.
   pub record BlockMet (off : ℕ) (t : Tag) : Type 0 where
     pub tag_in : t.end ≤ length file
-    pub in-file : pastBlock file t ≤ length file + 1
-    pub starts : from 0 off ≡ t ∷ from 0 (pastBlock file t)
+    pub in-file : line_past_block file t ≤ length file + 1
+    pub starts : from 0 off ≡ t ∷ from 0 (line_past_block file t)
 
   -- a tag lies on its line
   tag-on-line : (t : Tag) {off : ℕ} → TagMet off t → (t.line < t.end) × (t.end ≤ length file)
-  unfolding tag_of notesTag isTagged
+  unfolding tag_of notes_tag is_tagged
   tag-on-line t m =
       let l = line_at t.line in
       let place : t.end ≡ t.line + (length l - length (trim l)) + 7 = ap (λ (u : Tag). u.end) m.is in
-      let long = startsWith-length notesTag (trim l) m.tagged in
+      let long = starts_with-length notes_tag (trim l) m.tagged in
       (omega arith, omega (arith, long, trim-short l, line-within file t.line m.within))
 
   -- a block ends with a `;` or the file
-  last_byte : (t : Tag) → t.end ≤ length file → (blockEnd file t ≡ length file) ⊎ (get_or file (blockEnd file t - 1) 0 ≡ 10 → ⊥)
-  unfolding blockEnd blockText
+  last_byte : (t : Tag) → t.end ≤ length file → (block_end file t ≡ length file) ⊎ (get_or file (block_end file t - 1) 0 ≡ 10 → ⊥)
+  unfolding block_end block_text
   last_byte t h = ⊎_elim
       (λ all. inl (omega (arith, all, length-drop t.end file)))
       (λ some. inr (λ newline.
@@ -188,56 +188,56 @@ module _ (file : List ℕ) where
       (through-ends 59 (drop t.end file))
 
   -- a block ends after its tag
-  end_after : (t : Tag) → t.end ≤ blockEnd file t
-  unfolding blockEnd
+  end_after : (t : Tag) → t.end ≤ block_end file t
+  unfolding block_end
   end_after t = omega arith
 
   -- the blocks from `off` on: the one whose tag is found, and those after its lines
-  pub block-met : (off : ℕ) (t : Tag) → firstTag notesTag off (lines_from file off) ≡ At t → BlockMet off t
-  unfolding pastBlock
+  pub block-met : (off : ℕ) (t : Tag) → first_tag notes_tag off (lines_from file off) ≡ At t → BlockMet off t
+  unfolding line_past_block
   block-met off t e =
       let m = tag-met (suc (length file)) off t (omega arith) e in
       let p = tag-on-line t m in
-      let ends : blockEnd file t ≤ length file = end-within file t p.1 in
-      let after : t.end ≤ blockEnd file t = end_after t in
-      let inside = sym (step-inside (blockEnd file t) t.line m.within (omega (arith, p.0))) in
+      let ends : block_end file t ≤ length file = end-within file t p.1 in
+      let after : t.end ≤ block_end file t = end_after t in
+      let inside = sym (step-inside (block_end file t) t.line m.within (omega (arith, p.0))) in
       record {
         tag_in = p.1;
-        in-file = omega (arith, line-within file (blockEnd file t) ends);
+        in-file = omega (arith, line-within file (block_end file t) ends);
         starts =
             m.starts
             ∙ step_block 0 t.line m.within (omega arith) m.tagged
-            ∙ ap (λ (u : Tag). u ∷ from (blockEnd file u) (next_at t.line)) (sym m.is)
-            ∙ ap (λ (l : List Tag). t ∷ l) (inside ∙ skip (blockEnd file t) (suc (length file)) t.line (omega arith) (omega (arith, p.0)) ends (last_byte t p.1));
+            ∙ ap (λ (u : Tag). u ∷ from (block_end file u) (next_at t.line)) (sym m.is)
+            ∙ ap (λ (l : List Tag). t ∷ l) (inside ∙ skip (block_end file t) (suc (length file)) t.line (omega arith) (omega (arith, p.0)) ends (last_byte t p.1));
       }
 
-  unmet : (off : ℕ) → off ≤ length file → (b : Bool) → isTagged notesTag (line_at off) ≡ b → firstTag notesTag off (lines_from file off) ≡ Nothing
-      → (firstTag notesTag (next_at off) (lines_from file (next_at off)) ≡ Nothing → from 0 (next_at off) ≡ []) → from 0 off ≡ []
-  unfolding isTagged
+  unmet : (off : ℕ) → off ≤ length file → (b : Bool) → is_tagged notes_tag (line_at off) ≡ b → first_tag notes_tag off (lines_from file off) ≡ Nothing
+      → (first_tag notes_tag (next_at off) (lines_from file (next_at off)) ≡ Nothing → from 0 (next_at off) ≡ []) → from 0 off ≡ []
+  unfolding is_tagged
   unmet off h true tagged e later =
-      let here = tag-here notesTag file off (line_at off) (trim (line_at off)) h refl refl tagged in
+      let here = tag-here notes_tag file off (line_at off) (trim (line_at off)) h refl refl tagged in
       let z : ◌≡◌ {A = ℕ} 0 1 = cc in
       absurd (omega arith)
   unmet off h false other e later =
-      step_other 0 off h other ∙ later (sym (tag-next notesTag file off (line_at off) (trim (line_at off)) h refl refl other) ∙ e)
+      step_other 0 off h other ∙ later (sym (tag-next notes_tag file off (line_at off) (trim (line_at off)) h refl refl other) ∙ e)
 
   -- where no tag is found there is no block
-  pub none-met : (n off : ℕ) → length file < off + n → firstTag notesTag off (lines_from file off) ≡ Nothing → from 0 off ≡ []
+  pub none-met : (n off : ℕ) → length file < off + n → first_tag notes_tag off (lines_from file off) ≡ Nothing → from 0 off ≡ []
   none-met zero off b e = step_end 0 off (omega arith)
   none-met (suc n) off b e = elim (dec_lt (length file) off) [
     | yes past ↦ step_end 0 off past
     | no not ↦
         let within : off ≤ length file = omega arith in
-        unmet off within (isTagged notesTag (line_at off)) refl e (none-met n (next_at off) (omega arith))
+        unmet off within (is_tagged notes_tag (line_at off)) refl e (none-met n (next_at off) (omega arith))
   ]
 
 -- where the line begins after the one on which a block ends, by what was read of the block and of its line
-pub past-told : (file : List ℕ) (t : Tag) (text rest : List ℕ) → text ≡ through 59 (drop t.end file) → rest ≡ firstLine (drop (t.end + length text) file) → t.end + length text + length rest + 1 ≡ pastBlock file t
-unfolding pastBlock blockEnd blockText
+pub past-told : (file : List ℕ) (t : Tag) (text rest : List ℕ) → text ≡ through 59 (drop t.end file) → rest ≡ first_line (drop (t.end + length text) file) → t.end + length text + length rest + 1 ≡ line_past_block file t
+unfolding line_past_block block_end block_text
 past-told file t text rest et er = rw (er, et)
 
-pub past-within : (file : List ℕ) (t : Tag) (text rest : List ℕ) → t.end ≤ length file → text ≡ through 59 (drop t.end file) → rest ≡ firstLine (drop (t.end + length text) file) → t.end + length text + length rest ≤ length file
-unfolding blockEnd blockText
+pub past-within : (file : List ℕ) (t : Tag) (text rest : List ℕ) → t.end ≤ length file → text ≡ through 59 (drop t.end file) → rest ≡ first_line (drop (t.end + length text) file) → t.end + length text + length rest ≤ length file
+unfolding block_end block_text
 past-within file t text rest h et er =
     let ends = end-within file t h in
     let long : t.end + length text ≤ length file = omega (arith, ends, ap length et) in

@@ -9,18 +9,18 @@ use lib.Dec.{leb}
 use lib.ListN.{length, get_or, drop, length-drop, length-map, drop_of_length-le}
 use lib.Seq.{drop-drop}
 use borrow.Author.Tests.{le-leb, lt-leb, le-ltb}
-use Rattle.definitions.specs.Sizes.{mostBytes}
+use Rattle.definitions.specs.Sizes.{most_bytes}
 use Rattle.definitions.specs.Lists.{only_if, through}
 use Rattle.definitions.specs.Lines.{cut}
-use Rattle.definitions.specs.SmFile.{isTagged, tag_of, notesTag, blockText, blockEnd, startsBlock, blocks_from, blocks, data_of, type_of, typeLanes, smTag, smText, smLanes, smData, smStart, smChecks, smPlace, smAnswer, smNumber}
-use Rattle.definitions.specs.Refusals.{longText}
+use Rattle.definitions.specs.SmFile.{is_tagged, tag_of, notes_tag, block_text, block_end, starts_block, blocks_from, blocks, data_of, type_of, lanes_of_type, sm_tag, sm_text, sm_lanes, sm_data, sm_start, sm_checks, sm_place, sm_answer, sm_number}
+use Rattle.definitions.specs.Refusals.{long_text}
 use Rattle.definitions.specs.SmBlocks.{LeastRefused}
 use Rattle.definitions.proofs.Refusals.{told-alike}
 use Rattle.definitions.specs.declared.Tag.{Tag}
 use Rattle.definitions.proofs.SmBlocks.{least-refused}
 use Rattle.lines.specs.Lines.{lines_from}
-use Rattle.files.specs.Tags.{firstTag}
-use Rattle.files.specs.Sm.{pastBlock}
+use Rattle.files.specs.Tags.{first_tag}
+use Rattle.files.specs.Sm.{line_past_block}
 use Rattle.files.specs.Rest.{RestAnswered}
 use Rattle.files.specs.declared.FoundTag.{FoundTag}
 use Rattle.files.specs.declared.FoundTag.TheVariants.{At, Nothing}
@@ -43,7 +43,7 @@ get_d_map f (a ∷ l) (suc k) d e h = get_d_map f l k d e (omega arith)
 
 -- an empty file has no block
 no_blocks : blocks [] ≡ []
-unfolding blocks blocks_from startsBlock isTagged notesTag
+unfolding blocks blocks_from starts_block is_tagged notes_tag
 no_blocks = refl
 
 -- the lines from a place of the file on are those of the file from there on
@@ -56,40 +56,40 @@ module _ (file : List ℕ) (p : ℕ) where
   abbrev moved : Tag → Tag
   moved t = record { line = p + t.line; end = p + t.end }
 
-  text-moved : (t : Tag) → blockText file (moved t) ≡ blockText (drop p file) t
-  unfolding blockText
+  text-moved : (t : Tag) → block_text file (moved t) ≡ block_text (drop p file) t
+  unfolding block_text
   text-moved t = ap (through 59) (sym (drop-drop t.end p file))
 
-  end_moved : (t : Tag) → blockEnd file (moved t) ≡ p + blockEnd (drop p file) t
-  unfolding blockEnd
+  end_moved : (t : Tag) → block_end file (moved t) ≡ p + block_end (drop p file) t
+  unfolding block_end
   end_moved t = omega (arith, ap length (text-moved t))
 
-  tag-moved : (at : ℕ) (line : List ℕ) → tag_of notesTag (p + at) line ≡ moved (tag_of notesTag at line)
+  tag-moved : (at : ℕ) (line : List ℕ) → tag_of notes_tag (p + at) line ≡ moved (tag_of notes_tag at line)
   unfolding tag_of
   tag-moved at line = ap (λ e. record { line = p + at; end = e }) (omega arith)
 
-  test-moved : (past at : ℕ) (line : List ℕ) → startsBlock (p + past) (p + at) line ≡ startsBlock past at line
-  unfolding startsBlock
+  test-moved : (past at : ℕ) (line : List ℕ) → starts_block (p + past) (p + at) line ≡ starts_block past at line
+  unfolding starts_block
   test-moved past at line = rw (leb-moved p past at)
 
   blocks-moved : (past at : ℕ) (lines : List (List ℕ)) → blocks_from file (p + past) (p + at) lines ≡ map moved (blocks_from (drop p file) past at lines)
   unfolding blocks_from
   blocks-moved past at [] = refl
   blocks-moved past at (line ∷ lines) =
-      rw (test-moved past at line) (go (startsBlock past at line) (λ q. blocks-moved q (at + length line + 1) lines))
+      rw (test-moved past at line) (go (starts_block past at line) (λ q. blocks-moved q (at + length line + 1) lines))
     where
       place : p + at + length line + 1 ≡ p + (at + length line + 1)
       place = omega arith
 
       go : (b : Bool) → ((q : ℕ) → blocks_from file (p + q) (p + (at + length line + 1)) lines ≡ map moved (blocks_from (drop p file) q (at + length line + 1) lines))
-          → only_if b (tag_of notesTag (p + at) line ∷ []) ++ blocks_from file (cond b (blockEnd file (tag_of notesTag (p + at) line)) (p + past)) (p + at + length line + 1) lines
-          ≡ map moved (only_if b (tag_of notesTag at line ∷ []) ++ blocks_from (drop p file) (cond b (blockEnd (drop p file) (tag_of notesTag at line)) past) (at + length line + 1) lines)
+          → only_if b (tag_of notes_tag (p + at) line ∷ []) ++ blocks_from file (cond b (block_end file (tag_of notes_tag (p + at) line)) (p + past)) (p + at + length line + 1) lines
+          ≡ map moved (only_if b (tag_of notes_tag at line ∷ []) ++ blocks_from (drop p file) (cond b (block_end (drop p file) (tag_of notes_tag at line)) past) (at + length line + 1) lines)
       go true ih =
-          ap (λ (t : Tag). t ∷ blocks_from file (blockEnd file t) (p + at + length line + 1) lines) (tag-moved at line)
-          ∙ ap (λ (l : List Tag). moved (tag_of notesTag at line) ∷ l)
-          (ap (λ q. blocks_from file q (p + at + length line + 1) lines) (end_moved (tag_of notesTag at line))
-          ∙ ap (λ n. blocks_from file (p + blockEnd (drop p file) (tag_of notesTag at line)) n lines) place
-          ∙ ih (blockEnd (drop p file) (tag_of notesTag at line)))
+          ap (λ (t : Tag). t ∷ blocks_from file (block_end file t) (p + at + length line + 1) lines) (tag-moved at line)
+          ∙ ap (λ (l : List Tag). moved (tag_of notes_tag at line) ∷ l)
+          (ap (λ q. blocks_from file q (p + at + length line + 1) lines) (end_moved (tag_of notes_tag at line))
+          ∙ ap (λ n. blocks_from file (p + block_end (drop p file) (tag_of notes_tag at line)) n lines) place
+          ∙ ih (block_end (drop p file) (tag_of notes_tag at line)))
       go false ih = ap (λ n. blocks_from file (p + past) n lines) place ∙ ih past
 
   all_moved : blocks_from file (p + 0) (p + 0) (cut (drop p file)) ≡ map moved (blocks (drop p file))
@@ -113,68 +113,68 @@ module _ (file : List ℕ) (p : ℕ) where
   ]
 
 -- a file's first block, and those after its lines
-first_block : (file : List ℕ) → 0 < length (blocks file) → blocks file ≡ smTag file 0 ∷ from file 0 (pastBlock file (smTag file 0))
-unfolding smTag
-first_block file h = go (firstTag notesTag 0 (lines_from file 0)) refl
+first_block : (file : List ℕ) → 0 < length (blocks file) → blocks file ≡ sm_tag file 0 ∷ from file 0 (line_past_block file (sm_tag file 0))
+unfolding sm_tag
+first_block file h = go (first_tag notes_tag 0 (lines_from file 0)) refl
   where
-    go : (f : FoundTag) → firstTag notesTag 0 (lines_from file 0) ≡ f → blocks file ≡ smTag file 0 ∷ from file 0 (pastBlock file (smTag file 0))
+    go : (f : FoundTag) → first_tag notes_tag 0 (lines_from file 0) ≡ f → blocks file ≡ sm_tag file 0 ∷ from file 0 (line_past_block file (sm_tag file 0))
     go Nothing e =
         let none = at_first file ∙ none-met file (suc (length file)) 0 (omega arith) e in
         absurd (omega (arith, ap length none))
     go (At t) e =
         let all = at_first file ∙ (block-met file 0 t e).starts in
         let is : get_or (blocks file) 0 (record { line = 0; end = 0 }) ≡ t = (drop_head (blocks file) 0 t (record { line = 0; end = 0 }) _ all).1 in
-        all ∙ ap (λ (u : Tag). u ∷ from file 0 (pastBlock file u)) (sym is)
+        all ∙ ap (λ (u : Tag). u ∷ from file 0 (line_past_block file u)) (sym is)
 
-module _ (file : List ℕ) (short : length file ≤ mostBytes) (some : 0 < length (blocks file)) where
+module _ (file : List ℕ) (short : length file ≤ most_bytes) (some : 0 < length (blocks file)) where
   abbrev p : ℕ
-  p = pastBlock file (smTag file 0)
+  p = line_past_block file (sm_tag file 0)
 
   abbrev rest : List ℕ
   rest = drop p file
 
-  all_blocks : blocks file ≡ smTag file 0 ∷ map (moved file p) (blocks rest)
-  all_blocks = first_block file some ∙ ap (λ (l : List Tag). smTag file 0 ∷ l) (from-moved file p)
+  all_blocks : blocks file ≡ sm_tag file 0 ∷ map (moved file p) (blocks rest)
+  all_blocks = first_block file some ∙ ap (λ (l : List Tag). sm_tag file 0 ∷ l) (from-moved file p)
 
   count : length (blocks file) ≡ suc (length (blocks rest))
   count = ap length all_blocks ∙ ap suc (length-map (blocks rest) (moved file p))
 
   module _ (k : ℕ) where
-    tag_same : k < length (blocks rest) → smTag file (suc k) ≡ moved file p (smTag rest k)
-    unfolding smTag
+    tag_same : k < length (blocks rest) → sm_tag file (suc k) ≡ moved file p (sm_tag rest k)
+    unfolding sm_tag
     tag_same h = ap (λ (l : List Tag). get_or l (suc k) (record { line = 0; end = 0 })) all_blocks ∙ get_d_map (moved file p) (blocks rest) k _ _ h
 
-    text_same : k < length (blocks rest) → smText rest k ≡ smText file (suc k)
-    unfolding smText
-    text_same h = sym (ap (blockText file) (tag_same h) ∙ text-moved file p (smTag rest k))
+    text_same : k < length (blocks rest) → sm_text rest k ≡ sm_text file (suc k)
+    unfolding sm_text
+    text_same h = sym (ap (block_text file) (tag_same h) ∙ text-moved file p (sm_tag rest k))
 
-    lanes-same : k < length (blocks rest) → smLanes rest k ≡ smLanes file (suc k)
-    unfolding smLanes
-    lanes-same h = ap (λ (t : List ℕ). typeLanes (type_of t)) (text_same h)
+    lanes-same : k < length (blocks rest) → sm_lanes rest k ≡ sm_lanes file (suc k)
+    unfolding sm_lanes
+    lanes-same h = ap (λ (t : List ℕ). lanes_of_type (type_of t)) (text_same h)
 
-    part_same : k < length (blocks rest) → smData rest k ≡ smData file (suc k)
-    unfolding smData
+    part_same : k < length (blocks rest) → sm_data rest k ≡ sm_data file (suc k)
+    unfolding sm_data
     part_same h = ap data_of (text_same h)
 
-    start-same : k < length (blocks rest) → p + smStart rest k ≡ smStart file (suc k)
-    unfolding smStart
+    start-same : k < length (blocks rest) → p + sm_start rest k ≡ sm_start file (suc k)
+    unfolding sm_start
     start-same h = omega (arith, ap (λ (t : Tag). t.end) (tag_same h), ap length (text_same h), ap length (part_same h))
 
-    number-there : k < length (blocks rest) → smNumber rest k ≡ smNumber file (suc k)
-    unfolding smAnswer longText
+    number-there : k < length (blocks rest) → sm_number rest k ≡ sm_number file (suc k)
+    unfolding sm_answer long_text
     number-there h =
-        let less : length rest ≤ mostBytes = omega (arith, length-drop p file) in
+        let less : length rest ≤ most_bytes = omega (arith, length-drop p file) in
         let more : suc k < length (blocks file) = omega (arith, count) in
-        told-alike (smChecks rest k) (smPlace rest k) (smPlace file (suc k))
-        ∙ simp (le-ltb mostBytes (length rest) less, le-ltb mostBytes (length file) short, lt-leb (length (blocks rest)) k h, lt-leb (length (blocks file)) (suc k) more)
+        told-alike (sm_checks rest k) (sm_place rest k) (sm_place file (suc k))
+        ∙ simp (le-ltb most_bytes (length rest) less, le-ltb most_bytes (length file) short, lt-leb (length (blocks rest)) k h, lt-leb (length (blocks file)) (suc k) more)
         (rw (text_same h, lanes-same h))
 
-    number_same : smNumber rest k ≡ smNumber file (suc k)
+    number_same : sm_number rest k ≡ sm_number file (suc k)
     unfolding LeastRefused
     number_same = elim (dec_lt k (length (blocks rest))) [
       | yes h ↦ number-there h
       | no h ↦
-          let less : length rest ≤ mostBytes = omega (arith, length-drop p file) in
+          let less : length rest ≤ most_bytes = omega (arith, length-drop p file) in
           let past : length (blocks rest) ≤ k = omega arith in
           let past_all : length (blocks file) ≤ suc k = omega (arith, count) in
           (least-refused rest less).greater k past ∙ sym ((least-refused file short).greater (suc k) past_all)

@@ -1,4 +1,4 @@
--- Laws of `starts_with`, `up_to`, `through` and `trimEnd`, as std's functions on slices meet them.
+-- Laws of `starts_with`, `up_to`, `through` and `without_end_blanks`, as std's functions on slices meet them.
 use mathlib.Core.Logic.{◌⊎◌, inl, inr, ⊎_elim}
 use mathlib.Core.Path.{◌≡◌, refl, ap, sym, ◌∙◌}
 use mathlib.Core.Bool.{Bool, true, false, cond}
@@ -15,8 +15,8 @@ use Rattle.std.specs.List.{starts_with as std_starts}
 use Rattle.std.specs.Str.{IsTrimAsciiEnd}
 use Rattle.std.proofs.lemmas.Bool.Decides.{nat_tests}
 use Rattle.definitions.specs.Lists.{up_to, through, starts_with}
-use Rattle.definitions.specs.Lines.{isBlank}
-use Rattle.definitions.specs.SmFile.{trimEnd}
+use Rattle.definitions.specs.Lines.{is_blank_byte}
+use Rattle.definitions.specs.SmFile.{without_end_blanks}
 use Rattle.definitions.proofs.Lists.{through-nil, through-cons}
 
 -- std's test for a word at the start
@@ -35,8 +35,8 @@ before-at b (x ∷ s) (suc n) h none there =
     (ap suc (before-at b s n (omega arith) (λ k p. none (suc k) (omega arith)) (λ p. there (omega arith))))
 
 -- std's white space
-blank-std : (b : ℕ) → is_ascii_whitespace b ≡ isBlank b
-unfolding isBlank
+blank-std : (b : ℕ) → is_ascii_whitespace b ≡ is_blank_byte b
+unfolding is_blank_byte
 blank-std b = grind (arith, nat_tests)
 
 -- the part through a byte, by what stands before it
@@ -51,7 +51,7 @@ through-all b s h = take_all (suc (length (up_to b s))) s (omega arith)
 pub ruleset throughs = (through-more, through-all)
 
 -- a list that is blank from n on, and not at the place before n
-trim-at : (s : List ℕ) (n : ℕ) → n ≤ length s → ((k : ℕ) → n ≤ k → k < length s → isBlank (get_or s k 0) ≡ true) → ((k : ℕ) → suc k ≡ n → isBlank (get_or s k 0) ≡ false) → take n s ≡ trimEnd s
+trim-at : (s : List ℕ) (n : ℕ) → n ≤ length s → ((k : ℕ) → n ≤ k → k < length s → is_blank_byte (get_or s k 0) ≡ true) → ((k : ℕ) → suc k ≡ n → is_blank_byte (get_or s k 0) ≡ false) → take n s ≡ without_end_blanks s
 trim-at [] zero h all last = refl
 trim-at [] (suc n) h all last = absurd (omega arith)
 trim-at (b ∷ s) zero h all last =
@@ -63,7 +63,7 @@ trim-at (b ∷ x ∷ s) (suc (suc n)) h all last =
     rw (← trim-at (x ∷ s) (suc n) (omega arith) (λ k p q. all (suc k) (omega arith) (omega arith)) (λ k e. last (suc k) (ap suc e))) refl
 
 -- std's list without the white space at its end
-pub trim_std : (s r : List ℕ) → IsTrimAsciiEnd s r → r ≡ trimEnd s
+pub trim_std : (s r : List ℕ) → IsTrimAsciiEnd s r → r ≡ without_end_blanks s
 trim_std s r e =
     e.1 ∙ trim-at s e.0 e.3 (λ k p q. sym (blank-std (get_or s k 0)) ∙ e.4 k p q)
     (λ k p. let z : e.0 - 1 ≡ k = omega arith in sym (blank-std (get_or s k 0)) ∙ rw z at (e.5 (omega arith)))
@@ -84,21 +84,21 @@ through-ends b (x ∷ s) = rw (through-cons b x s) (go (eqb x b) refl (through-e
         ih
 
 -- from a place before the first b on, that b stands where it did
-pub upTo-drop : (b : ℕ) (s : List ℕ) (d : ℕ) → d ≤ length (up_to b s) → d + length (up_to b (drop d s)) ≡ length (up_to b s)
+pub up_to-drop : (b : ℕ) (s : List ℕ) (d : ℕ) → d ≤ length (up_to b s) → d + length (up_to b (drop d s)) ≡ length (up_to b s)
 unfolding up_to
-upTo-drop b s zero h = omega arith
-upTo-drop b [] (suc d) h = absurd (omega arith)
-upTo-drop b (x ∷ s) (suc d) h = go (eqb x b) (upTo-drop b s d) h
+up_to-drop b s zero h = omega arith
+up_to-drop b [] (suc d) h = absurd (omega arith)
+up_to-drop b (x ∷ s) (suc d) h = go (eqb x b) (up_to-drop b s d) h
   where
     go : (t : Bool) → (d ≤ length (up_to b s) → d + length (up_to b (drop d s)) ≡ length (up_to b s)) → suc d ≤ length (cond t [] (x ∷ up_to b s)) → suc d + length (up_to b (drop d s)) ≡ length (cond t [] (x ∷ up_to b s))
     go true ih w = absurd (omega arith)
     go false ih w = omega (arith, ih (omega arith))
 
 -- what stands there is b
-pub upTo-byte : (b : ℕ) (s : List ℕ) → length (up_to b s) < length s → get_or s (length (up_to b s)) 0 ≡ b
+pub up_to-byte : (b : ℕ) (s : List ℕ) → length (up_to b s) < length s → get_or s (length (up_to b s)) 0 ≡ b
 unfolding up_to
-upTo-byte b [] h = absurd (omega arith)
-upTo-byte b (x ∷ s) h = go (eqb x b) refl (upTo-byte b s) h
+up_to-byte b [] h = absurd (omega arith)
+up_to-byte b (x ∷ s) h = go (eqb x b) refl (up_to-byte b s) h
   where
     go : (t : Bool) → eqb x b ≡ t → (length (up_to b s) < length s → get_or s (length (up_to b s)) 0 ≡ b) → length (cond t [] (x ∷ up_to b s)) < length (x ∷ s) → get_or (x ∷ s) (length (cond t [] (x ∷ up_to b s))) 0 ≡ b
     go true e ih w = eqb-true x b e

@@ -5,11 +5,11 @@
 pub mod sm;
 
 ghost use Rattle.std.specs.Prelude.{◌≡◌, ◌+◌, ◌≤◌, length};
-ghost use Rattle.definitions.specs.Sizes.{mostBytes};
+ghost use Rattle.definitions.specs.Sizes.{most_bytes};
 ghost use Rattle.definitions.specs.Lists.{starts_with, same, up_to, through};
-ghost use Rattle.definitions.specs.SmFile.{trimEnd, type_of, typeLanes};
+ghost use Rattle.definitions.specs.SmFile.{without_end_blanks, type_of, lanes_of_type};
 ghost use Rattle.lines.specs.Lines.{lines_from};
-ghost use Rattle.files.specs.Tags.{firstTag};
+ghost use Rattle.files.specs.Tags.{first_tag};
 
 use definitions::Tag;
 
@@ -54,7 +54,7 @@ pub fn through_byte(s: &[u8], b: u8) -> &[u8]
 
 // The part without the blanks at its end: ASCII's white space is what `lines::is_blank` takes as blank.
 pub fn trim_end(s: &[u8]) -> &[u8]
-    ensures { result.now ≡ trimEnd s.now }
+    ensures { result.now ≡ without_end_blanks s.now }
 {
     s.trim_ascii_end()
 }
@@ -68,9 +68,9 @@ pub fn type_name(fields: &[u8]) -> &[u8]
 }
 
 // The lane count of a type; 0 for another type name.
-#[tactic(auto, unfolding(definitions::specs::SmFile::typeLanes))]
+#[tactic(auto, unfolding(definitions::specs::SmFile::lanes_of_type))]
 pub fn type_lanes(name: &[u8]) -> usize
-    ensures { result ≡ typeLanes name.now }
+    ensures { result ≡ lanes_of_type name.now }
 {
     if is_same(name, b"dance-single") {
         4
@@ -87,8 +87,8 @@ pub fn type_lanes(name: &[u8]) -> usize
 
 // The tag of the first line from the one at `start` on that begins, after blanks, with `word`.
 pub fn next_tag(file: &[u8], start: usize, word: &[u8]) -> FoundTag
-    requires { (length file.now ≤ mostBytes) × (start ≤ mostBytes + 1) × (length word.now ≤ 16) }
-    ensures { result ≡ firstTag word.now start (lines_from file.now start) }
+    requires { (length file.now ≤ most_bytes) × (start ≤ most_bytes + 1) × (length word.now ≤ 16) }
+    ensures { result ≡ first_tag word.now start (lines_from file.now start) }
 {
     let mut off = start;
     while off <= file.len() {

@@ -1,10 +1,10 @@
 // Document 02's E1: the charts inside an SM file. A block is found by its tag. The blocks before the one that is asked for are passed over from
 // tag to `;`, and not line by line.
 ghost use Rattle.std.specs.Prelude.{◌≡◌, ◌≤◌, ◌+◌, length, drop};
-ghost use Rattle.definitions.specs.Sizes.{mostBytes};
+ghost use Rattle.definitions.specs.Sizes.{most_bytes};
 ghost use Rattle.definitions.specs.Lists.{through};
-ghost use Rattle.definitions.specs.SmFile.{smAnswer};
-ghost use Rattle.files.specs.Sm.{pastBlock, blockAt, fieldsEnd, textAnswer};
+ghost use Rattle.definitions.specs.SmFile.{sm_answer};
+ghost use Rattle.files.specs.Sm.{line_past_block, tag_of_block, end_of_fields, text_answer};
 
 use crate::FoundTag;
 use definitions::{ChartPlace, Refusal, Tag};
@@ -12,8 +12,8 @@ use lines::Found;
 
 // Where the first line after the block with this tag begins: a line on which the block ends is passed over.
 fn past_block(file: &[u8], tag: Tag) -> usize
-    requires { (length file.now ≤ mostBytes) × (tag.end ≤ length file.now) }
-    ensures { result ≡ pastBlock file.now tag }
+    requires { (length file.now ≤ most_bytes) × (tag.end ≤ length file.now) }
+    ensures { result ≡ line_past_block file.now tag }
 {
     let end = tag.end;
     let text = crate::through_byte(&file[end..], b';');
@@ -24,8 +24,8 @@ fn past_block(file: &[u8], tag: Tag) -> usize
 
 // The tag of block `k`: `k` of them are passed over.
 fn block_at(file: &[u8], k: usize) -> FoundTag
-    requires { length file.now ≤ mostBytes }
-    ensures { result ≡ blockAt file.now k }
+    requires { length file.now ≤ most_bytes }
+    ensures { result ≡ tag_of_block file.now k }
 {
     let mut off = 0;
     for passed in 0..k {
@@ -39,7 +39,7 @@ fn block_at(file: &[u8], k: usize) -> FoundTag
 
 // Where the five fields at the start of `text` end, each by a `:`; nothing where a `;` or the end comes first.
 fn fields_end(text: &[u8]) -> Found
-    ensures { result ≡ fieldsEnd text.now }
+    ensures { result ≡ end_of_fields text.now }
 {
     let mut left: usize = 5;
     for (i, b) in text.iter().enumerate() {
@@ -60,7 +60,7 @@ fn fields_end(text: &[u8]) -> Found
 // The answer for the block whose text after its tag begins at `end`.
 fn answer_at(file: &[u8], end: usize) -> Result<ChartPlace, Refusal>
     requires { end ≤ length file.now }
-    ensures { result ≡ textAnswer end (through 59 (drop end file.now)) }
+    ensures { result ≡ text_answer end (through 59 (drop end file.now)) }
 {
     let text = &file[end..];
     match fields_end(text) {
@@ -79,9 +79,9 @@ fn answer_at(file: &[u8], end: usize) -> Result<ChartPlace, Refusal>
 }
 
 // The chart of block `k` of an SM file.
-#[tactic(auto, unfolding(definitions::specs::SmFile::smAnswer))]
+#[tactic(auto, unfolding(definitions::specs::SmFile::sm_answer))]
 pub fn sm_chart(file: &[u8], k: usize) -> Result<ChartPlace, Refusal>
-    ensures { result ≡ smAnswer file.now k }
+    ensures { result ≡ sm_answer file.now k }
 {
     refusals::text_fits(file.len())?;
     match block_at(file, k) {

@@ -8,25 +8,25 @@ use native.Mathlib.Omega.{arith}
 use borrow.Author.Tests.{ne_eqb}
 use lib.Dec.{eqb}
 use lib.ListN.{length}
-use Rattle.definitions.specs.Lists.{sumColumns}
+use Rattle.definitions.specs.Lists.{sum_columns}
 use Rattle.definitions.specs.Lines.{Row}
 use Rattle.definitions.specs.Cells.{byte_at}
-use Rattle.definitions.specs.Tracker.{Pair, paired, holdAt, pairs}
+use Rattle.definitions.specs.Tracker.{Pair, paired, hold_at, pairs}
 use Rattle.definitions.specs.declared.DepthEffect.{DepthEffect}
 use Rattle.definitions.specs.declared.DepthEffect.TheVariants.{Nothing, Blocks, Opens, Closes}
 use Rattle.definitions.proofs.Lists.{All, none, one, all_map}
-use Rattle.holds.specs.Tracks.{stackAfter, endsIn, ends_at}
+use Rattle.holds.specs.Tracks.{stack_after, ends_in, ends_at}
 use Rattle.holds.proofs.Pairs.{pairs-snoc, count-append, count_none, Placed, placed}
 
 -- a sum of the same numbers, and of none past column k
-pub sum_same : (m : ℕ) (f g : ℕ → ℕ) → ((c : ℕ) → c < m → f c ≡ g c) → sumColumns m f ≡ sumColumns m g
+pub sum_same : (m : ℕ) (f g : ℕ → ℕ) → ((c : ℕ) → c < m → f c ≡ g c) → sum_columns m f ≡ sum_columns m g
 sum_same zero f g h = refl
 sum_same (suc m) f g h =
     let a = sum_same m f g (λ c l. h c (omega arith)) in
     let b = h m (omega arith) in
     omega arith
 
-pub sum-beyond : (k m : ℕ) (f : ℕ → ℕ) → k ≤ m → ((c : ℕ) → k ≤ c → f c ≡ 0) → sumColumns m f ≡ sumColumns k f
+pub sum-beyond : (k m : ℕ) (f : ℕ → ℕ) → k ≤ m → ((c : ℕ) → k ≤ c → f c ≡ 0) → sum_columns m f ≡ sum_columns k f
 sum-beyond k zero f h z = let e : k ≡ 0 = omega arith in rw e
 sum-beyond k (suc m) f h z =
     elim (dec_lt m k) [
@@ -38,13 +38,13 @@ sum-beyond k (suc m) f h z =
     ]
 
 -- no pair of these ends at row i
-pub none_end : (J : ℕ → Bool) (i : ℕ) {ps : List Pair} → All (λ p. p.tail ≡ i → ⊥) ps → endsIn J i ps ≡ 0
+pub none_end : (J : ℕ → Bool) (i : ℕ) {ps : List Pair} → All (λ p. p.tail ≡ i → ⊥) ps → ends_in J i ps ≡ 0
 none_end J i a =
     count_none (λ (p : Pair). eqb p.tail i && J p.head)
     (all_map (λ p (n : p.tail ≡ i → ⊥). ap (λ b. b && J p.head) (ne_eqb p.tail i n)) a)
 
 -- none of rows' pairs ends past them
-pub ends-late : (J : ℕ → Bool) (rows : List Row) (c i : ℕ) → length rows ≤ i → endsIn J i (pairs rows c) ≡ 0
+pub ends-late : (J : ℕ → Bool) (rows : List Row) (c i : ℕ) → length rows ≤ i → ends_in J i (pairs rows c) ≡ 0
 ends-late J rows c i h =
     none_end J i (all_map (λ p (q : Placed (length rows) p). λ e. let l = q.inside in omega arith) (placed rows c))
 
@@ -57,15 +57,15 @@ tail-here Closes row [] = none
 tail-here Closes row (h ∷ st) = one refl none
 
 module _ (J : ℕ → Bool) (rows : List Row) (r : Row) where
-  ends_snoc : (c i : ℕ) → endsIn J i (pairs (rows ++ (r ∷ [])) c)
-      ≡ endsIn J i (pairs rows c) + endsIn J i (paired (holdAt (byte_at c r)) (length rows) (stackAfter rows c))
+  ends_snoc : (c i : ℕ) → ends_in J i (pairs (rows ++ (r ∷ [])) c)
+      ≡ ends_in J i (pairs rows c) + ends_in J i (paired (hold_at (byte_at c r)) (length rows) (stack_after rows c))
   ends_snoc c i =
-      ap (endsIn J i) (pairs-snoc rows r c)
-      ∙ count-append (λ (p : Pair). eqb p.tail i && J p.head) (pairs rows c) (paired (holdAt (byte_at c r)) (length rows) (stackAfter rows c))
+      ap (ends_in J i) (pairs-snoc rows r c)
+      ∙ count-append (λ (p : Pair). eqb p.tail i && J p.head) (pairs rows c) (paired (hold_at (byte_at c r)) (length rows) (stack_after rows c))
 
   -- at the new row: what its cell pairs with
-  pub ends-new : (c : ℕ) → endsIn J (length rows) (pairs (rows ++ (r ∷ [])) c)
-      ≡ endsIn J (length rows) (paired (holdAt (byte_at c r)) (length rows) (stackAfter rows c))
+  pub ends-new : (c : ℕ) → ends_in J (length rows) (pairs (rows ++ (r ∷ [])) c)
+      ≡ ends_in J (length rows) (paired (hold_at (byte_at c r)) (length rows) (stack_after rows c))
   ends-new c =
       let a = ends_snoc c (length rows) in
       let b = ends-late J rows c (length rows) (omega arith) in
@@ -75,12 +75,12 @@ module _ (J : ℕ → Bool) (rows : List Row) (r : Row) where
   pub ends-old : (i : ℕ) → (i ≡ length rows → ⊥) → ends_at J (rows ++ (r ∷ [])) i ≡ ends_at J rows i
   unfolding ends_at
   ends-old i n =
-      sum_same 10 (λ c. endsIn J i (pairs (rows ++ (r ∷ [])) c)) (λ c. endsIn J i (pairs rows c))
+      sum_same 10 (λ c. ends_in J i (pairs (rows ++ (r ∷ [])) c)) (λ c. ends_in J i (pairs rows c))
       (λ c l.
       let a = ends_snoc c i in
       let b =
       none_end J i
-      (all_map (λ p (q : p.tail ≡ length rows). λ e. n (sym e ∙ q)) (tail-here (holdAt (byte_at c r)) (length rows) (stackAfter rows c))) in
+      (all_map (λ p (q : p.tail ≡ length rows). λ e. n (sym e ∙ q)) (tail-here (hold_at (byte_at c r)) (length rows) (stack_after rows c))) in
       omega arith)
 
 pub ends-none : (J : ℕ → Bool) (i : ℕ) → ends_at J [] i ≡ 0

@@ -8,26 +8,26 @@ use native.Mathlib.Omega.{arith}
 use borrow.Author.Tests.{eqb-true}
 use lib.Dec.{eqb, ltb}
 use lib.ListN.{length, get_or}
-use Rattle.definitions.specs.Lists.{oneIf, sumColumns}
+use Rattle.definitions.specs.Lists.{number_of_bool, sum_columns}
 use Rattle.definitions.specs.Lines.{Row}
-use Rattle.definitions.specs.Cells.{cell_of, byte_at, holdEffect}
-use Rattle.definitions.specs.Tracker.{Pair, nextStack, paired, holdAt, pairsFrom, pairs, isHeadOf}
-use Rattle.definitions.specs.Tally.{countedAs, place, counted, hold, roll}
-use Rattle.definitions.specs.Correction.{isOpening, keepHead, keepRow}
+use Rattle.definitions.specs.Cells.{cell_of, byte_at, hold_effect}
+use Rattle.definitions.specs.Tracker.{Pair, next_stack, paired, hold_at, pairs_from, pairs, is_head_of}
+use Rattle.definitions.specs.Tally.{counted_as, place, counted, hold, roll}
+use Rattle.definitions.specs.Correction.{is_opening, head_if_paired, keep_row}
 use Rattle.definitions.specs.declared.Cell.{Cell}
 use Rattle.definitions.specs.declared.Cell.TheVariants as cell
 use Rattle.definitions.specs.declared.DepthEffect.{DepthEffect}
 use Rattle.definitions.specs.declared.DepthEffect.TheVariants.{Nothing, Blocks, Opens, Closes}
 use Rattle.definitions.proofs.Lists.{All, none, one, all_append}
-use Rattle.holds.specs.Tracks.{pairedHeads}
+use Rattle.holds.specs.Tracks.{paired_heads}
 use Rattle.holds.proofs.Ends.{sum_same}
 
 module _ (c : ℕ) (at : ℕ → Row) where
   -- row h has a head in column c, where `at` says which row that is
   abbrev Heads : ℕ → Type 0
-  Heads h = holdAt (byte_at c (at h)) ≡ Opens
+  Heads h = hold_at (byte_at c (at h)) ≡ Opens
 
-  heads-next : (e : DepthEffect) (i : ℕ) (st : List ℕ) → (e ≡ Opens → Heads i) → All Heads st → All Heads (nextStack e i st)
+  heads-next : (e : DepthEffect) (i : ℕ) (st : List ℕ) → (e ≡ Opens → Heads i) → All Heads st → All Heads (next_stack e i st)
   heads-next Nothing i st h a = a
   heads-next Blocks i st h a = none
   heads-next Opens i st h a = go (ltb (length st) 8)
@@ -46,42 +46,42 @@ module _ (c : ℕ) (at : ℕ → Row) where
   heads-paired Closes i (x ∷ st) (one l a) = one l none
 
   heads-from : (i : ℕ) (st : List ℕ) (rs : List Row) → ((k : ℕ) → k < length rs → at (i + k) ≡ get_or rs k []) → All Heads st
-      → All (λ (p : Pair). Heads p.head) (pairsFrom c i st rs)
+      → All (λ (p : Pair). Heads p.head) (pairs_from c i st rs)
   heads-from i st [] f a = none
   heads-from i st (r ∷ rs) f a =
       let here : at i ≡ r = let z : i + 0 ≡ i = omega arith in rw z at (f 0 (omega arith)) in
-      all_append (heads-paired (holdAt (byte_at c r)) i st a)
-      (heads-from (suc i) (nextStack (holdAt (byte_at c r)) i st) rs
+      all_append (heads-paired (hold_at (byte_at c r)) i st a)
+      (heads-from (suc i) (next_stack (hold_at (byte_at c r)) i st) rs
       (λ k h. let z : i + suc k ≡ suc i + k = omega arith in rw z at (f (suc k) (omega arith)))
-      (heads-next (holdAt (byte_at c r)) i st (λ e. rw here e) a))
+      (heads-next (hold_at (byte_at c r)) i st (λ e. rw here e) a))
 
-head_in : (P : ℕ → Type 0) (i : ℕ) {ps : List Pair} → All (λ (p : Pair). P p.head) ps → isHeadOf i ps ≡ true → P i
+head_in : (P : ℕ → Type 0) (i : ℕ) {ps : List Pair} → All (λ (p : Pair). P p.head) ps → is_head_of i ps ≡ true → P i
 head_in P i none h = absurd (false≢true h)
 head_in P i (one {a = p} {l = ps} q a) h = go (eqb i p.head) refl (head_in P i a)
   where
-    go : (b : Bool) → eqb i p.head ≡ b → (isHeadOf i ps ≡ true → P i) → P i
+    go : (b : Bool) → eqb i p.head ≡ b → (is_head_of i ps ≡ true → P i) → P i
     go true e rest = rw (eqb-true i p.head e) q
     go false e rest = rest (rw e at h)
 
 -- a paired head is a head
-pub head-opens : (rows : List Row) (c i : ℕ) → isHeadOf i (pairs rows c) ≡ true → holdAt (byte_at c (get_or rows i [])) ≡ Opens
+pub head-opens : (rows : List Row) (c i : ℕ) → is_head_of i (pairs rows c) ≡ true → hold_at (byte_at c (get_or rows i [])) ≡ Opens
 unfolding pairs
 head-opens rows c i h =
-    head_in (λ k. holdAt (byte_at c (get_or rows k [])) ≡ Opens) i
+    head_in (λ k. hold_at (byte_at c (get_or rows k [])) ≡ Opens) i
     (heads-from c (λ k. get_or rows k []) 0 [] rows (λ k l. ap (λ n. get_or rows n []) (zero-add k)) none)
     h
 
 -- ---- A row's kept heads
 -- 1 where a byte is a head, 0 where it is none
-abbrev headsOf : ℕ → ℕ
-headsOf b = oneIf (eqb (place (countedAs (cell_of b))) (place hold)) + oneIf (eqb (place (countedAs (cell_of b))) (place roll))
+abbrev heads_of : ℕ → ℕ
+heads_of b = number_of_bool (eqb (place (counted_as (cell_of b))) (place hold)) + number_of_bool (eqb (place (counted_as (cell_of b))) (place roll))
 
-effect-heads : (b : ℕ) → headsOf b ≡ oneIf (isOpening (holdAt b))
-unfolding holdAt
+effect-heads : (b : ℕ) → heads_of b ≡ number_of_bool (is_opening (hold_at b))
+unfolding hold_at
 effect-heads b = go (cell_of b)
   where
     go : (x : Cell)
-        → oneIf (eqb (place (countedAs x)) (place hold)) + oneIf (eqb (place (countedAs x)) (place roll)) ≡ oneIf (isOpening (holdEffect x))
+        → number_of_bool (eqb (place (counted_as x)) (place hold)) + number_of_bool (eqb (place (counted_as x)) (place roll)) ≡ number_of_bool (is_opening (hold_effect x))
     go cell.Empty = refl
     go cell.Tap = refl
     go cell.Hold = refl
@@ -95,37 +95,37 @@ effect-heads b = go (cell_of b)
     go cell.LowerLift = refl
     go cell.LowerFake = refl
 
-empty-none : headsOf 48 ≡ 0
+empty-none : heads_of 48 ≡ 0
 unfolding cell_of
 empty-none = refl
 
 -- a head that is kept is counted, and one that is not kept is not
-kept-cell : (b : ℕ) (p : Bool) → (p ≡ true → holdAt b ≡ Opens) → headsOf (keepHead (holdAt b) p b) ≡ oneIf p
-kept-cell b true h = rw (h refl) (effect-heads b ∙ ap (λ e. oneIf (isOpening e)) (h refl))
-kept-cell b false h = go (holdAt b) (effect-heads b)
+kept-cell : (b : ℕ) (p : Bool) → (p ≡ true → hold_at b ≡ Opens) → heads_of (head_if_paired (hold_at b) p b) ≡ number_of_bool p
+kept-cell b true h = rw (h refl) (effect-heads b ∙ ap (λ e. number_of_bool (is_opening e)) (h refl))
+kept-cell b false h = go (hold_at b) (effect-heads b)
   where
-    go : (e : DepthEffect) → headsOf b ≡ oneIf (isOpening e) → headsOf (keepHead e false b) ≡ 0
+    go : (e : DepthEffect) → heads_of b ≡ number_of_bool (is_opening e) → heads_of (head_if_paired e false b) ≡ 0
     go Nothing q = q
     go Blocks q = q
     go Opens q = empty-none
     go Closes q = q
 
-sum-front : (n : ℕ) (f : ℕ → ℕ) → sumColumns (suc n) f ≡ f 0 + sumColumns n (λ c. f (suc c))
+sum-front : (n : ℕ) (f : ℕ → ℕ) → sum_columns (suc n) f ≡ f 0 + sum_columns n (λ c. f (suc c))
 sum-front zero f = omega arith
 sum-front (suc n) f = let e = sum-front n f in omega arith
 
-heads-kept : (ps : ℕ → List Pair) (i c : ℕ) (r : Row) → ((k : ℕ) → isHeadOf i (ps (c + k)) ≡ true → holdAt (byte_at k r) ≡ Opens)
-    → counted hold (keepRow ps i c r) + counted roll (keepRow ps i c r) ≡ sumColumns (length r) (λ k. oneIf (isHeadOf i (ps (c + k))))
+heads-kept : (ps : ℕ → List Pair) (i c : ℕ) (r : Row) → ((k : ℕ) → is_head_of i (ps (c + k)) ≡ true → hold_at (byte_at k r) ≡ Opens)
+    → counted hold (keep_row ps i c r) + counted roll (keep_row ps i c r) ≡ sum_columns (length r) (λ k. number_of_bool (is_head_of i (ps (c + k))))
 heads-kept ps i c [] h = refl
 heads-kept ps i c (b ∷ r) h =
     let first : c + 0 ≡ c = omega arith in
-    let here = kept-cell b (isHeadOf i (ps c)) (λ e. h 0 (rw first e)) in
+    let here = kept-cell b (is_head_of i (ps c)) (λ e. h 0 (rw first e)) in
     let rest = heads-kept ps i (suc c) r (λ k e. h (suc k) (rw (further k) e)) in
-    let start : oneIf (isHeadOf i (ps (c + 0))) ≡ oneIf (isHeadOf i (ps c)) = rw first in
-    let front = sum-front (length r) (λ k. oneIf (isHeadOf i (ps (c + k)))) in
+    let start : number_of_bool (is_head_of i (ps (c + 0))) ≡ number_of_bool (is_head_of i (ps c)) = rw first in
+    let front = sum-front (length r) (λ k. number_of_bool (is_head_of i (ps (c + k)))) in
     let same =
-    sum_same (length r) (λ k. oneIf (isHeadOf i (ps (c + suc k)))) (λ k. oneIf (isHeadOf i (ps (suc c + k))))
-    (λ k l. ap (λ n. oneIf (isHeadOf i (ps n))) (further k)) in
+    sum_same (length r) (λ k. number_of_bool (is_head_of i (ps (c + suc k)))) (λ k. number_of_bool (is_head_of i (ps (suc c + k))))
+    (λ k l. ap (λ n. number_of_bool (is_head_of i (ps n))) (further k)) in
     omega arith
   where
     further : (k : ℕ) → c + suc k ≡ suc c + k
@@ -133,8 +133,8 @@ heads-kept ps i c (b ∷ r) h =
 
 -- What a tally of the row's kept cells counts as holds and rolls is its paired heads.
 pub kept-heads : (rows : List Row) (i : ℕ) (r : Row) → get_or rows i [] ≡ r
-    → counted hold (keepRow (pairs rows) i 0 r) + counted roll (keepRow (pairs rows) i 0 r) ≡ pairedHeads (length r) (pairs rows) i
+    → counted hold (keep_row (pairs rows) i 0 r) + counted roll (keep_row (pairs rows) i 0 r) ≡ paired_heads (length r) (pairs rows) i
 kept-heads rows i r e =
     heads-kept (pairs rows) i 0 r (λ k h. rw (← e) (head-opens rows k i (rw zero-add at h)))
-    ∙ sum_same (length r) (λ k. oneIf (isHeadOf i (pairs rows (0 + k)))) (λ k. oneIf (isHeadOf i (pairs rows k)))
-    (λ k l. ap (λ n. oneIf (isHeadOf i (pairs rows n))) (zero-add k))
+    ∙ sum_same (length r) (λ k. number_of_bool (is_head_of i (pairs rows (0 + k)))) (λ k. number_of_bool (is_head_of i (pairs rows k)))
+    (λ k l. ap (λ n. number_of_bool (is_head_of i (pairs rows n))) (zero-add k))

@@ -10,14 +10,14 @@ use lib.Dec.{eqb}
 use lib.Bits.{bit_or}
 use lib.ListN.{length, get_or, length-set}
 use lib.Seq.{get_or-set_same, get_or-set_other}
-use Rattle.definitions.specs.Lists.{oneIf}
-use Rattle.definitions.specs.Tracker.{Pair, paired, isHeadOf}
+use Rattle.definitions.specs.Lists.{number_of_bool}
+use Rattle.definitions.specs.Tracker.{Pair, paired, is_head_of}
 use Rattle.definitions.specs.declared.DepthEffect.{DepthEffect}
 use Rattle.definitions.specs.declared.DepthEffect.TheVariants as effect
 use Rattle.definitions.proofs.Lists.{All, none, one}
 use Rattle.taps.specs.Taps.{bit}
-use Rattle.holds.specs.Stacks.{endedAt}
-use Rattle.holds.specs.Tracks.{endsIn, marked, judgedHead}
+use Rattle.holds.specs.Stacks.{ended_at}
+use Rattle.holds.specs.Tracks.{ends_in, marked, judged_head}
 use Rattle.holds.specs.declared.Ended.{Ended}
 use Rattle.holds.specs.declared.Ended.TheVariants.{Nothing, Head}
 use Rattle.holds.proofs.Bits.{or_same, or-other, or-high}
@@ -35,7 +35,7 @@ head-before effect.Closes row i [] a = none
 head-before effect.Closes row i (h ∷ st) (one l a) = one l none
 
 -- what a cell pairs with was open
-pub ended-below : (e : DepthEffect) (row i : ℕ) (st : List ℕ) (ended : Ended) → endedAt row ended ≡ paired e row st → Stacked i st → Below i ended
+pub ended-below : (e : DepthEffect) (row i : ℕ) (st : List ℕ) (ended : Ended) → ended_at row ended ≡ paired e row st → Stacked i st → Below i ended
 ended-below e row i st Nothing p s h q = let z : ◌≡◌ {A = ℕ} 0 1 = cc in absurd (omega arith)
 ended-below e row i st (Head x) p s h q = let same : x ≡ h = cc in rw (← same) (go (rw (← p) at (head-before e row i st s.before)))
   where
@@ -45,7 +45,7 @@ ended-below e row i st (Head x) p s h q = let same : x ≡ h = cc in rw (← sam
 module _ (work : List ℕ) (k : ℕ) (i : ℕ) where
   -- bit k is that of the entry, or of the head
   pub marked-same : (ended : Ended) (row : ℕ) → Below (length work) ended
-      → eqb (bit k (get_or (marked ended k work) i 0)) 1 ≡ (eqb (bit k (get_or work i 0)) 1 || isHeadOf i (endedAt row ended))
+      → eqb (bit k (get_or (marked ended k work) i 0)) 1 ≡ (eqb (bit k (get_or work i 0)) 1 || is_head_of i (ended_at row ended))
   marked-same Nothing row b = sym (or-false (eqb (bit k (get_or work i 0)) 1))
   marked-same (Head h) row b =
       elim (ℕ_discrete i h) [
@@ -90,19 +90,19 @@ marked-length (Head h) k work = length-set work h (bit_or (get_or work h 0) (2 ^
 
 -- the count of a judged head is that of the pair that ends
 pub judged-ends : (J : ℕ → Bool) (work : List ℕ) (row : ℕ) (ended : Ended) → Below row ended
-    → ((i : ℕ) → i < row → get_or work i 0 / 16384 ≡ oneIf (J i))
-    → judgedHead ended work ≡ endsIn J row (endedAt row ended)
+    → ((i : ℕ) → i < row → get_or work i 0 / 16384 ≡ number_of_bool (J i))
+    → judged_head ended work ≡ ends_in J row (ended_at row ended)
 judged-ends J work row Nothing b judged = refl
 judged-ends J work row (Head h) b judged =
-    judged h (b h refl) ∙ sym (ap (λ x. oneIf (x && J h) + 0) (eq-eqb row row refl) ∙ plus (oneIf (J h)))
+    judged h (b h refl) ∙ sym (ap (λ x. number_of_bool (x && J h) + 0) (eq-eqb row row refl) ∙ plus (number_of_bool (J h)))
   where
     plus : (n : ℕ) → n + 0 ≡ n
     plus n = omega arith
 
-pub judged-one : (J : ℕ → Bool) (row : ℕ) (ended : Ended) → endsIn J row (endedAt row ended) ≤ 1
+pub judged-one : (J : ℕ → Bool) (row : ℕ) (ended : Ended) → ends_in J row (ended_at row ended) ≤ 1
 judged-one J row Nothing = omega arith
 judged-one J row (Head h) = go (eqb row row && J h)
   where
-    go : (b : Bool) → oneIf b + 0 ≤ 1
+    go : (b : Bool) → number_of_bool b + 0 ≤ 1
     go true = omega arith
     go false = omega arith

@@ -11,21 +11,21 @@ use borrow.Author.Tests.{lt-ltb, le-ltb, le-leb, lt-leb, eq-eqb, ne_eqb, eqb-tru
 use lib.Dec.{eqb, ltb, leb}
 use lib.ListN.{length}
 use Rattle.definitions.proofs.Bools.{equal-turned}
-use Rattle.definitions.specs.Lists.{oneIf, count, sumColumns}
+use Rattle.definitions.specs.Lists.{number_of_bool, count, sum_columns}
 use Rattle.definitions.specs.Lines.{Row}
 use Rattle.definitions.specs.Cells.{byte_at}
-use Rattle.definitions.specs.Tracker.{Pair, nextStack, paired, holdAt, pairsFrom, pairs, isHeadOf}
-use Rattle.definitions.specs.Judged.{openOf, openBefore}
+use Rattle.definitions.specs.Tracker.{Pair, next_stack, paired, hold_at, pairs_from, pairs, is_head_of}
+use Rattle.definitions.specs.Judged.{open_of, open_before}
 use Rattle.definitions.specs.declared.DepthEffect.{DepthEffect}
 use Rattle.definitions.specs.declared.DepthEffect.TheVariants.{Nothing, Blocks, Opens, Closes}
 use Rattle.definitions.proofs.Lists.{one-le, All, none, one}
-use Rattle.holds.specs.Tracks.{endsIn, ends_at, pairedHeads}
+use Rattle.holds.specs.Tracks.{ends_in, ends_at, paired_heads}
 use Rattle.holds.proofs.Pairs.{count-append, Placed, placed, pairs-narrow}
 use Rattle.holds.proofs.Ends.{sum-beyond}
 
 -- One pair, of a head before its tail.
 one-pair : (j : Bool) (h t i : ℕ) → h < t
-    → oneIf (j && (ltb h (i + 1) && leb (i + 1) t)) + oneIf (eqb t i && j) ≡ oneIf (j && (ltb h i && leb i t)) + oneIf (j && eqb h i)
+    → number_of_bool (j && (ltb h (i + 1) && leb (i + 1) t)) + number_of_bool (eqb t i && j) ≡ number_of_bool (j && (ltb h i && leb i t)) + number_of_bool (j && eqb h i)
 one-pair false h t i l = rw (and-false (eqb t i))
 one-pair true h t i l =
     elim (dec_lt h i) [
@@ -83,14 +83,14 @@ one-pair true h t i l =
     ]
 
 -- the pairs whose head is at row i, and of these the judged ones
-abbrev headsIn : ℕ → List Pair → ℕ
-headsIn i ps = count (λ (p : Pair). eqb p.head i) ps
+abbrev heads_in : ℕ → List Pair → ℕ
+heads_in i ps = count (λ (p : Pair). eqb p.head i) ps
 
-abbrev judgedIn : (ℕ → Bool) → ℕ → List Pair → ℕ
-judgedIn J i ps = count (λ (p : Pair). J p.head && eqb p.head i) ps
+abbrev judged_in : (ℕ → Bool) → ℕ → List Pair → ℕ
+judged_in J i ps = count (λ (p : Pair). J p.head && eqb p.head i) ps
 
 open_step : (J : ℕ → Bool) (i n : ℕ) {ps : List Pair} → All (Placed n) ps
-    → openOf J (i + 1) ps + endsIn J i ps ≡ openOf J i ps + judgedIn J i ps
+    → open_of J (i + 1) ps + ends_in J i ps ≡ open_of J i ps + judged_in J i ps
 open_step J i n none = refl
 open_step J i n (one {a = p} h q) =
     let a = one-pair (J p.head) p.head p.tail i h.proper in
@@ -101,18 +101,18 @@ open_step J i n (one {a = p} h q) =
 abbrev times : ℕ → List ℕ → ℕ
 times k st = count (λ h. eqb h k) st
 
-push-times : (b : Bool) (k i : ℕ) (st : List ℕ) → times k (cond b (i ∷ st) st) ≤ times k st + oneIf (eqb i k)
+push-times : (b : Bool) (k i : ℕ) (st : List ℕ) → times k (cond b (i ∷ st) st) ≤ times k st + number_of_bool (eqb i k)
 push-times true k i st = omega arith
 push-times false k i st = omega arith
 
-next-times : (e : DepthEffect) (k i : ℕ) (st : List ℕ) → headsIn k (paired e i st) + times k (nextStack e i st) ≤ times k st + oneIf (eqb i k)
+next-times : (e : DepthEffect) (k i : ℕ) (st : List ℕ) → heads_in k (paired e i st) + times k (next_stack e i st) ≤ times k st + number_of_bool (eqb i k)
 next-times Nothing k i st = omega arith
 next-times Blocks k i st = omega arith
 next-times Opens k i st = omega (arith, push-times (ltb (length st) 8) k i st)
 next-times Closes k i [] = omega arith
 next-times Closes k i (h ∷ st) = omega arith
 
-from-here : (i k : ℕ) → oneIf (eqb i k) + oneIf (leb (suc i) k) ≡ oneIf (leb i k)
+from-here : (i k : ℕ) → number_of_bool (eqb i k) + number_of_bool (leb (suc i) k) ≡ number_of_bool (leb i k)
 from-here i k =
     elim (dec_lt i k) [
       | yes a ↦ simp (ne_eqb i k (λ e. omega arith), le-leb (suc i) k (omega arith), le-leb i k (omega arith))
@@ -123,39 +123,39 @@ from-here i k =
           ]
     ]
 
-once-from : (c : ℕ) (rs : List Row) (i k : ℕ) (st : List ℕ) → headsIn k (pairsFrom c i st rs) ≤ times k st + oneIf (leb i k)
+once-from : (c : ℕ) (rs : List Row) (i k : ℕ) (st : List ℕ) → heads_in k (pairs_from c i st rs) ≤ times k st + number_of_bool (leb i k)
 once-from c [] i k st = omega arith
 once-from c (r ∷ rs) i k st =
-    let next = nextStack (holdAt (byte_at c r)) i st in
-    let a = count-append (λ (p : Pair). eqb p.head k) (paired (holdAt (byte_at c r)) i st) (pairsFrom c (suc i) next rs) in
+    let next = next_stack (hold_at (byte_at c r)) i st in
+    let a = count-append (λ (p : Pair). eqb p.head k) (paired (hold_at (byte_at c r)) i st) (pairs_from c (suc i) next rs) in
     let b = once-from c rs (suc i) k next in
-    let d = next-times (holdAt (byte_at c r)) k i st in
+    let d = next-times (hold_at (byte_at c r)) k i st in
     let e = from-here i k in
     omega arith
 
-once : (rows : List Row) (c k : ℕ) → headsIn k (pairs rows c) ≤ 1
+once : (rows : List Row) (c k : ℕ) → heads_in k (pairs rows c) ≤ 1
 unfolding pairs
 once rows c k = let a = once-from c rows 0 k [] in let b = one-le (leb 0 k) in omega arith
 
 -- so row i is a head as often as it is one
-head-count : (i : ℕ) (ps : List Pair) → headsIn i ps ≤ 1 → headsIn i ps ≡ oneIf (isHeadOf i ps)
+head-count : (i : ℕ) (ps : List Pair) → heads_in i ps ≤ 1 → heads_in i ps ≡ number_of_bool (is_head_of i ps)
 head-count i [] h = refl
 head-count i (p ∷ ps) h = go (equal-turned p.head i) (eqb i p.head) refl (head-count i ps (omega arith))
   where
-    go : eqb p.head i ≡ eqb i p.head → (b : Bool) → eqb i p.head ≡ b → headsIn i ps ≡ oneIf (isHeadOf i ps)
-        → headsIn i (p ∷ ps) ≡ oneIf (b || isHeadOf i ps)
-    go f true e q = let a = ap oneIf (f ∙ e) in omega arith
-    go f false e q = let a = ap oneIf (f ∙ e) in omega arith
+    go : eqb p.head i ≡ eqb i p.head → (b : Bool) → eqb i p.head ≡ b → heads_in i ps ≡ number_of_bool (is_head_of i ps)
+        → heads_in i (p ∷ ps) ≡ number_of_bool (b || is_head_of i ps)
+    go f true e q = let a = ap number_of_bool (f ∙ e) in omega arith
+    go f false e q = let a = ap number_of_bool (f ∙ e) in omega arith
 
 cond-zero : (a : Bool) → ◌≡◌ {A = ℕ} (cond a 0 0) 0
 cond-zero true = refl
 cond-zero false = refl
 
 -- where it is judged
-judged-one : (J : ℕ → Bool) (h i : ℕ) (b : Bool) → eqb h i ≡ b → oneIf (J h && b) ≡ cond (J i) (oneIf b) 0
+judged-one : (J : ℕ → Bool) (h i : ℕ) (b : Bool) → eqb h i ≡ b → number_of_bool (J h && b) ≡ cond (J i) (number_of_bool b) 0
 judged-one J h i true e = rw (eqb-true h i e) (last (J i))
   where
-    last : (a : Bool) → oneIf (a && true) ≡ cond a 1 0
+    last : (a : Bool) → number_of_bool (a && true) ≡ cond a 1 0
     last true = refl
     last false = refl
 judged-one J h i false e = rw (and-false (J h)) (sym (cond-zero (J i)))
@@ -164,62 +164,62 @@ cond-add : (a : Bool) (x y : ℕ) → cond a x 0 + cond a y 0 ≡ cond a (x + y)
 cond-add true x y = refl
 cond-add false x y = refl
 
-judged-count : (J : ℕ → Bool) (i : ℕ) (ps : List Pair) → judgedIn J i ps ≡ cond (J i) (headsIn i ps) 0
+judged-count : (J : ℕ → Bool) (i : ℕ) (ps : List Pair) → judged_in J i ps ≡ cond (J i) (heads_in i ps) 0
 judged-count J i [] = sym (cond-zero (J i))
 judged-count J i (p ∷ ps) =
     ap₂ (λ (x y : ℕ). x + y) (judged-one J p.head i (eqb p.head i) refl) (judged-count J i ps)
-    ∙ cond-add (J i) (oneIf (eqb p.head i)) (headsIn i ps)
+    ∙ cond-add (J i) (number_of_bool (eqb p.head i)) (heads_in i ps)
 
-headed : (J : ℕ → Bool) (rows : List Row) (c i : ℕ) → judgedIn J i (pairs rows c) ≡ cond (J i) (oneIf (isHeadOf i (pairs rows c))) 0
+headed : (J : ℕ → Bool) (rows : List Row) (c i : ℕ) → judged_in J i (pairs rows c) ≡ cond (J i) (number_of_bool (is_head_of i (pairs rows c))) 0
 headed J rows c i = judged-count J i (pairs rows c) ∙ ap (λ n. cond (J i) n 0) (head-count i (pairs rows c) (once rows c i))
 
 -- ---- Over the columns
 columns-step : (J : ℕ → Bool) (rows : List Row) (i L : ℕ)
-    → sumColumns L (λ c. openOf J (i + 1) (pairs rows c)) + sumColumns L (λ c. endsIn J i (pairs rows c))
-    ≡ sumColumns L (λ c. openOf J i (pairs rows c)) + cond (J i) (pairedHeads L (pairs rows) i) 0
+    → sum_columns L (λ c. open_of J (i + 1) (pairs rows c)) + sum_columns L (λ c. ends_in J i (pairs rows c))
+    ≡ sum_columns L (λ c. open_of J i (pairs rows c)) + cond (J i) (paired_heads L (pairs rows) i) 0
 columns-step J rows i zero = omega (arith, cond-zero (J i))
 columns-step J rows i (suc L) =
     let a = columns-step J rows i L in
     let b = open_step J i (length rows) (placed rows L) in
     let d = headed J rows L i in
-    let e = cond-add (J i) (pairedHeads L (pairs rows) i) (oneIf (isHeadOf i (pairs rows L))) in
+    let e = cond-add (J i) (paired_heads L (pairs rows) i) (number_of_bool (is_head_of i (pairs rows L))) in
     omega arith
 
 -- rows of at most L cells have their ends in the first L columns
 ends-narrow : (J : ℕ → Bool) (L : ℕ) (rows : List Row) (i : ℕ) → L ≤ 10 → All (λ r. length r ≤ L) rows
-    → ends_at J rows i ≡ sumColumns L (λ c. endsIn J i (pairs rows c))
+    → ends_at J rows i ≡ sum_columns L (λ c. ends_in J i (pairs rows c))
 unfolding ends_at
 ends-narrow J L rows i h a =
-    sum-beyond L 10 (λ c. endsIn J i (pairs rows c)) h (λ c l. ap (endsIn J i) (pairs-narrow L c rows l a))
+    sum-beyond L 10 (λ c. ends_in J i (pairs rows c)) h (λ c l. ap (ends_in J i) (pairs-narrow L c rows l a))
 
 module _ (L : ℕ) (J : ℕ → Bool) (rows : List Row) where
   -- The holds open before a row are those open before the row before it, less what ended there, and with the judged heads of that row.
   pub opens : (i : ℕ) → L ≤ 10 → All (λ r. length r ≤ L) rows
-      → openBefore L J (pairs rows) (i + 1) + ends_at J rows i
-      ≡ openBefore L J (pairs rows) i + cond (J i) (pairedHeads L (pairs rows) i) 0
-  unfolding openBefore
+      → open_before L J (pairs rows) (i + 1) + ends_at J rows i
+      ≡ open_before L J (pairs rows) i + cond (J i) (paired_heads L (pairs rows) i) 0
+  unfolding open_before
   opens i h a = rw (ends-narrow J L rows i h a) (columns-step J rows i L)
 
-  none_open : (ps : List Pair) → openOf J 0 ps ≡ 0
+  none_open : (ps : List Pair) → open_of J 0 ps ≡ 0
   none_open [] = refl
   none_open (p ∷ ps) = rw (le-ltb p.head 0 (omega arith), and-false (J p.head), zero-add) (none_open ps)
 
   -- none is open before the first row
-  pub opens-start : openBefore L J (pairs rows) 0 ≡ 0
-  unfolding openBefore
-  opens-start = sum-beyond 0 L (λ c. openOf J 0 (pairs rows c)) (omega arith) (λ c h. none_open (pairs rows c))
+  pub opens-start : open_before L J (pairs rows) 0 ≡ 0
+  unfolding open_before
+  opens-start = sum-beyond 0 L (λ c. open_of J 0 (pairs rows c)) (omega arith) (λ c h. none_open (pairs rows c))
 
 -- a row has at most L heads, so at most L more are open after each row
-pub heads-most : (L : ℕ) (ps : ℕ → List Pair) (i : ℕ) → pairedHeads L ps i ≤ L
+pub heads-most : (L : ℕ) (ps : ℕ → List Pair) (i : ℕ) → paired_heads L ps i ≤ L
 heads-most zero ps i = omega arith
-heads-most (suc L) ps i = omega (arith, heads-most L ps i, one-le (isHeadOf i (ps L)))
+heads-most (suc L) ps i = omega (arith, heads-most L ps i, one-le (is_head_of i (ps L)))
 
-pub opens-most : (L : ℕ) (J : ℕ → Bool) (rows : List Row) → L ≤ 10 → All (λ r. length r ≤ L) rows → (i : ℕ) → openBefore L J (pairs rows) i ≤ L * i
+pub opens-most : (L : ℕ) (J : ℕ → Bool) (rows : List Row) → L ≤ 10 → All (λ r. length r ≤ L) rows → (i : ℕ) → open_before L J (pairs rows) i ≤ L * i
 opens-most L J rows h a zero = omega (arith, opens-start L J rows, mul-zero L)
 opens-most L J rows h a (suc i) =
-    let e : openBefore L J (pairs rows) (suc i) + ends_at J rows i
-    ≡ openBefore L J (pairs rows) i + cond (J i) (pairedHeads L (pairs rows) i) 0 = rw add-one at (opens L J rows i h a) in
-    omega (arith, opens-most L J rows h a i, mul-suc L i, at_most (J i) (pairedHeads L (pairs rows) i), heads-most L (pairs rows) i)
+    let e : open_before L J (pairs rows) (suc i) + ends_at J rows i
+    ≡ open_before L J (pairs rows) i + cond (J i) (paired_heads L (pairs rows) i) 0 = rw add-one at (opens L J rows i h a) in
+    omega (arith, opens-most L J rows h a i, mul-suc L i, at_most (J i) (paired_heads L (pairs rows) i), heads-most L (pairs rows) i)
   where
     at_most : (b : Bool) (n : ℕ) → cond b n 0 ≤ n
     at_most true n = omega arith

@@ -12,56 +12,56 @@ use Rattle.definitions.proofs.Columns.{past_end}
 use Rattle.definitions.specs.Lists.{count}
 use Rattle.definitions.specs.Lines.{Row}
 use Rattle.definitions.specs.Cells.{byte_at}
-use Rattle.definitions.specs.Tracker.{Pair, nextStack, paired, holdAt, pairsFrom, pairs, isHeadOf}
+use Rattle.definitions.specs.Tracker.{Pair, next_stack, paired, hold_at, pairs_from, pairs, is_head_of}
 use Rattle.definitions.specs.declared.DepthEffect.{DepthEffect}
 use Rattle.definitions.specs.declared.DepthEffect.TheVariants.{Nothing, Blocks, Opens, Closes}
 use Rattle.definitions.proofs.Lists.{All, none, one, all_append, all_map}
-use Rattle.holds.specs.Tracks.{stackFrom, stackAfter}
+use Rattle.holds.specs.Tracks.{stack_from, stack_after}
 
 -- ---- One row more
 from-snoc : (c i : ℕ) (st : List ℕ) (rs : List Row) (r : Row)
-    → stackFrom c i st (rs ++ (r ∷ [])) ≡ nextStack (holdAt (byte_at c r)) (i + length rs) (stackFrom c i st rs)
-from-snoc c i st [] r = ap (λ n. nextStack (holdAt (byte_at c r)) n st) (omega arith)
+    → stack_from c i st (rs ++ (r ∷ [])) ≡ next_stack (hold_at (byte_at c r)) (i + length rs) (stack_from c i st rs)
+from-snoc c i st [] r = ap (λ n. next_stack (hold_at (byte_at c r)) n st) (omega arith)
 from-snoc c i st (q ∷ rs) r =
-    from-snoc c (suc i) (nextStack (holdAt (byte_at c q)) i st) rs r
-    ∙ ap (λ n. nextStack (holdAt (byte_at c r)) n (stackFrom c (suc i) (nextStack (holdAt (byte_at c q)) i st) rs)) (omega arith)
+    from-snoc c (suc i) (next_stack (hold_at (byte_at c q)) i st) rs r
+    ∙ ap (λ n. next_stack (hold_at (byte_at c r)) n (stack_from c (suc i) (next_stack (hold_at (byte_at c q)) i st) rs)) (omega arith)
 
 pub stack_snoc : (rows : List Row) (r : Row) (c : ℕ)
-    → stackAfter (rows ++ (r ∷ [])) c ≡ nextStack (holdAt (byte_at c r)) (length rows) (stackAfter rows c)
-unfolding stackAfter
-stack_snoc rows r c = from-snoc c 0 [] rows r ∙ ap (λ n. nextStack (holdAt (byte_at c r)) n (stackFrom c 0 [] rows)) (zero-add (length rows))
+    → stack_after (rows ++ (r ∷ [])) c ≡ next_stack (hold_at (byte_at c r)) (length rows) (stack_after rows c)
+unfolding stack_after
+stack_snoc rows r c = from-snoc c 0 [] rows r ∙ ap (λ n. next_stack (hold_at (byte_at c r)) n (stack_from c 0 [] rows)) (zero-add (length rows))
 
 pairs-from-snoc : (c i : ℕ) (st : List ℕ) (rs : List Row) (r : Row)
-    → pairsFrom c i st (rs ++ (r ∷ [])) ≡ pairsFrom c i st rs ++ paired (holdAt (byte_at c r)) (i + length rs) (stackFrom c i st rs)
+    → pairs_from c i st (rs ++ (r ∷ [])) ≡ pairs_from c i st rs ++ paired (hold_at (byte_at c r)) (i + length rs) (stack_from c i st rs)
 pairs-from-snoc c i st [] r =
-    append-nil (paired (holdAt (byte_at c r)) i st) ∙ ap (λ n. paired (holdAt (byte_at c r)) n st) (omega arith)
+    append-nil (paired (hold_at (byte_at c r)) i st) ∙ ap (λ n. paired (hold_at (byte_at c r)) n st) (omega arith)
 pairs-from-snoc c i st (q ∷ rs) r =
-    let first = paired (holdAt (byte_at c q)) i st in
-    let next = nextStack (holdAt (byte_at c q)) i st in
+    let first = paired (hold_at (byte_at c q)) i st in
+    let next = next_stack (hold_at (byte_at c q)) i st in
     ap (λ l. first ++ l) (pairs-from-snoc c (suc i) next rs r)
-    ∙ sym (append_assoc first (pairsFrom c (suc i) next rs) (paired (holdAt (byte_at c r)) (suc i + length rs) (stackFrom c (suc i) next rs)))
-    ∙ ap (λ n. (first ++ pairsFrom c (suc i) next rs) ++ paired (holdAt (byte_at c r)) n (stackFrom c (suc i) next rs)) (omega arith)
+    ∙ sym (append_assoc first (pairs_from c (suc i) next rs) (paired (hold_at (byte_at c r)) (suc i + length rs) (stack_from c (suc i) next rs)))
+    ∙ ap (λ n. (first ++ pairs_from c (suc i) next rs) ++ paired (hold_at (byte_at c r)) n (stack_from c (suc i) next rs)) (omega arith)
 
 pub pairs-snoc : (rows : List Row) (r : Row) (c : ℕ)
-    → pairs (rows ++ (r ∷ [])) c ≡ pairs rows c ++ paired (holdAt (byte_at c r)) (length rows) (stackAfter rows c)
-unfolding pairs stackAfter
+    → pairs (rows ++ (r ∷ [])) c ≡ pairs rows c ++ paired (hold_at (byte_at c r)) (length rows) (stack_after rows c)
+unfolding pairs stack_after
 pairs-snoc rows r c =
     pairs-from-snoc c 0 [] rows r
-    ∙ ap (λ n. pairsFrom c 0 [] rows ++ paired (holdAt (byte_at c r)) n (stackFrom c 0 [] rows)) (zero-add (length rows))
+    ∙ ap (λ n. pairs_from c 0 [] rows ++ paired (hold_at (byte_at c r)) n (stack_from c 0 [] rows)) (zero-add (length rows))
 
 -- past the row's last cell a column stays as it is
-pub stack-beyond : (rows : List Row) (r : Row) (c : ℕ) → length r ≤ c → stackAfter (rows ++ (r ∷ [])) c ≡ stackAfter rows c
-stack-beyond rows r c h = stack_snoc rows r c ∙ ap (λ e. nextStack e (length rows) (stackAfter rows c)) (past_end r c h)
+pub stack-beyond : (rows : List Row) (r : Row) (c : ℕ) → length r ≤ c → stack_after (rows ++ (r ∷ [])) c ≡ stack_after rows c
+stack-beyond rows r c h = stack_snoc rows r c ∙ ap (λ e. next_stack e (length rows) (stack_after rows c)) (past_end r c h)
 
 pub pairs-beyond : (rows : List Row) (r : Row) (c : ℕ) → length r ≤ c → pairs (rows ++ (r ∷ [])) c ≡ pairs rows c
 pairs-beyond rows r c h =
-    pairs-snoc rows r c ∙ ap (λ e. pairs rows c ++ paired e (length rows) (stackAfter rows c)) (past_end r c h) ∙ append-nil (pairs rows c)
+    pairs-snoc rows r c ∙ ap (λ e. pairs rows c ++ paired e (length rows) (stack_after rows c)) (past_end r c h) ∙ append-nil (pairs rows c)
 
 -- ---- Heads and counts of two lists of pairs
-pub heads-append : (i : ℕ) (ps qs : List Pair) → isHeadOf i (ps ++ qs) ≡ (isHeadOf i ps || isHeadOf i qs)
+pub heads-append : (i : ℕ) (ps qs : List Pair) → is_head_of i (ps ++ qs) ≡ (is_head_of i ps || is_head_of i qs)
 heads-append i [] qs = refl
 heads-append i (p ∷ ps) qs =
-    ap (λ b. eqb i p.head || b) (heads-append i ps qs) ∙ sym (or_assoc (eqb i p.head) (isHeadOf i ps) (isHeadOf i qs))
+    ap (λ b. eqb i p.head || b) (heads-append i ps qs) ∙ sym (or_assoc (eqb i p.head) (is_head_of i ps) (is_head_of i qs))
 
 pub count-append : {A : Type 0} (p : A → Bool) (s t : List A) → count p (s ++ t) ≡ count p s + count p t
 count-append p [] t = omega arith
@@ -85,7 +85,7 @@ pub record Placed (n : ℕ) (p : Pair) : Type 0 where
 earlier : {i : ℕ} {st : List ℕ} → All (λ h. h < i) st → All (λ h. h < suc i) st
 earlier {i} a = all_map (λ h (l : h < i). omega arith) a
 
-stacked-next : (e : DepthEffect) (i : ℕ) (st : List ℕ) → Stacked i st → Stacked (suc i) (nextStack e i st)
+stacked-next : (e : DepthEffect) (i : ℕ) (st : List ℕ) → Stacked i st → Stacked (suc i) (next_stack e i st)
 stacked-next Nothing i st s = record { few = s.few; before = earlier s.before }
 stacked-next Blocks i st s = record { few = omega arith; before = none }
 stacked-next Opens i st s = go (ltb (length st) 8) refl
@@ -115,25 +115,25 @@ placed-more : {m n : ℕ} {ps : List Pair} → m ≤ n → All (Placed m) ps →
 placed-more {m} {n} h a = all_map (λ p (q : Placed m p). record { proper = q.proper; inside = let l = q.inside in omega arith }) a
 
 module _ (c : ℕ) where
-  stacked-from : (i : ℕ) (st : List ℕ) (rs : List Row) → Stacked i st → Stacked (i + length rs) (stackFrom c i st rs)
+  stacked-from : (i : ℕ) (st : List ℕ) (rs : List Row) → Stacked i st → Stacked (i + length rs) (stack_from c i st rs)
   stacked-from i st [] s = let e : i + 0 ≡ i = omega arith in rw e s
   stacked-from i st (r ∷ rs) s =
       let e : i + suc (length rs) ≡ suc i + length rs = omega arith in
-      rw e (stacked-from (suc i) (nextStack (holdAt (byte_at c r)) i st) rs (stacked-next (holdAt (byte_at c r)) i st s))
+      rw e (stacked-from (suc i) (next_stack (hold_at (byte_at c r)) i st) rs (stacked-next (hold_at (byte_at c r)) i st s))
 
-  placed-from : (i : ℕ) (st : List ℕ) (rs : List Row) → Stacked i st → All (Placed (i + length rs)) (pairsFrom c i st rs)
+  placed-from : (i : ℕ) (st : List ℕ) (rs : List Row) → Stacked i st → All (Placed (i + length rs)) (pairs_from c i st rs)
   placed-from i st [] s = none
   placed-from i st (r ∷ rs) s =
       let e : i + suc (length rs) ≡ suc i + length rs = omega arith in
       all_append
-      (placed-more (omega arith) (placed-next (holdAt (byte_at c r)) i st s))
-      (rw e (placed-from (suc i) (nextStack (holdAt (byte_at c r)) i st) rs (stacked-next (holdAt (byte_at c r)) i st s)))
+      (placed-more (omega arith) (placed-next (hold_at (byte_at c r)) i st s))
+      (rw e (placed-from (suc i) (next_stack (hold_at (byte_at c r)) i st) rs (stacked-next (hold_at (byte_at c r)) i st s)))
 
 no-heads : Stacked 0 []
 no-heads = record { few = omega arith; before = none }
 
-pub stacked : (rows : List Row) (c : ℕ) → Stacked (length rows) (stackAfter rows c)
-unfolding stackAfter
+pub stacked : (rows : List Row) (c : ℕ) → Stacked (length rows) (stack_after rows c)
+unfolding stack_after
 stacked rows c = rw zero-add at (stacked-from c 0 [] rows no-heads)
 
 pub placed : (rows : List Row) (c : ℕ) → All (Placed (length rows)) (pairs rows c)
@@ -141,7 +141,7 @@ unfolding pairs
 placed rows c = rw zero-add at (placed-from c 0 [] rows no-heads)
 
 -- ---- Rows of at most L cells have no pairs past column L.
-narrow-from : (L c i : ℕ) {rs : List Row} → L ≤ c → All (λ r. length r ≤ L) rs → pairsFrom c i [] rs ≡ []
+narrow-from : (L c i : ℕ) {rs : List Row} → L ≤ c → All (λ r. length r ≤ L) rs → pairs_from c i [] rs ≡ []
 narrow-from L c i h none = refl
 narrow-from L c i h (one {a = r} l a) = rw (past_end r c (omega arith)) (narrow-from L c (suc i) h a)
 

@@ -7,13 +7,13 @@ use native.Mathlib.Omega.{arith}
 use lib.ListN.{length, get_or}
 use Rattle.definitions.specs.Lines.{Row}
 use Rattle.definitions.specs.Cells.{cell_of, byte_at}
-use Rattle.definitions.specs.Tracker.{nextStack, paired, holdAt, pairs, isHeadOf}
-use Rattle.definitions.specs.Correction.{isOpening, isClosing}
+use Rattle.definitions.specs.Tracker.{next_stack, paired, hold_at, pairs, is_head_of}
+use Rattle.definitions.specs.Correction.{is_opening, is_closing}
 use Rattle.definitions.specs.declared.DepthEffect.{DepthEffect}
 use Rattle.taps.specs.Taps.{bit, FreeTaps, FreeAre}
 use Rattle.taps.proofs.Free.{Free, zero-cell, tap-there, free-cell}
 use Rattle.holds.specs.Stacks.{tracker, stack_of}
-use Rattle.holds.specs.Tracks.{endsIn, ends_at, TracksJudged, CellsDone, Leaves}
+use Rattle.holds.specs.Tracks.{ends_in, ends_at, TracksJudged, CellsDone, Leaves}
 use Rattle.holds.specs.declared.Tracker.{Tracker}
 use Rattle.holds.proofs.Pairs.{stack_snoc, pairs-snoc}
 use Rattle.holds.proofs.Ends.{sum_same, ends-late}
@@ -24,13 +24,13 @@ no-depth heads depths c z = rw z
 
 -- a cell of such a row: a `0`, or a `1` in a column without an open head
 module _ (busy c i : ℕ) (st : List ℕ) (z : bit c busy ≡ 0 → st ≡ []) where
-  free-stack : {b : ℕ} → Free busy c b → nextStack (holdAt b) i st ≡ st
-  unfolding holdAt cell_of
+  free-stack : {b : ℕ} → Free busy c b → next_stack (hold_at b) i st ≡ st
+  unfolding hold_at cell_of
   free-stack (zero-cell e) = rw e
   free-stack (tap-there e f) = rw (e, z f)
 
-  free-pairs : {b : ℕ} → Free busy c b → paired (holdAt b) i st ≡ []
-  unfolding holdAt cell_of
+  free-pairs : {b : ℕ} → Free busy c b → paired (hold_at b) i st ≡ []
+  unfolding hold_at cell_of
   free-pairs (zero-cell e) = rw e
   free-pairs (tap-there e f) = rw e
 
@@ -43,14 +43,14 @@ free-leaves busy m heads depths r f a =
 
 -- neither opens nor closes
 abbrev Keeps : DepthEffect → Type 0
-Keeps e = (isOpening e || isClosing e) ≡ false
+Keeps e = (is_opening e || is_closing e) ≡ false
 
 -- none of its cells is a head or a tail
-pub free-keeps : (busy m : ℕ) (r : Row) → FreeTaps busy m r → (c : ℕ) → Keeps (holdAt (byte_at c r))
-unfolding holdAt cell_of
+pub free-keeps : (busy m : ℕ) (r : Row) → FreeTaps busy m r → (c : ℕ) → Keeps (hold_at (byte_at c r))
+unfolding hold_at cell_of
 free-keeps busy m r f c = go (free-cell busy m r f c)
   where
-    go : {b : ℕ} → Free busy c b → Keeps (holdAt b)
+    go : {b : ℕ} → Free busy c b → Keeps (hold_at b)
     go (zero-cell e) = rw e
     go (tap-there e z) = rw e
 
@@ -64,13 +64,13 @@ leaves-done J rows cells t work l s =
           λ c h.
           record {
             stack = (s.columns c h).stack ∙ sym (stack_snoc rows cells c ∙ rw (← (s.columns c h).stack) (l.stack c (length rows) h));
-            marks = λ i. (s.columns c h).marks i ∙ ap (isHeadOf i) (sym (same c h));
+            marks = λ i. (s.columns c h).marks i ∙ ap (is_head_of i) (sym (same c h));
           };
       high = λ i. refl;
       later = s.later;
       ends =
-          sym (sum_same 10 (λ c. endsIn J (length rows) (pairs (rows ++ (cells ∷ [])) c)) (λ c. 0)
-          (λ c h. ap (endsIn J (length rows)) (same c h) ∙ ends-late J rows c (length rows) (omega arith)));
+          sym (sum_same 10 (λ c. ends_in J (length rows) (pairs (rows ++ (cells ∷ [])) c)) (λ c. 0)
+          (λ c h. ap (ends_in J (length rows)) (same c h) ∙ ends-late J rows c (length rows) (omega arith)));
       few = omega arith;
     }
   where

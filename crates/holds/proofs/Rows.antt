@@ -8,12 +8,12 @@ use native.Mathlib.Omega.{arith}
 use lib.Dec.{eqb}
 use lib.ListN.{length, get_or, set, length-append}
 use lib.Seq.{get_or-set_same, get_or-set_other}
-use Rattle.definitions.specs.Lists.{oneIf}
+use Rattle.definitions.specs.Lists.{number_of_bool}
 use Rattle.definitions.specs.Lines.{Row}
-use Rattle.definitions.specs.Tracker.{pairs, isHeadOf}
+use Rattle.definitions.specs.Tracker.{pairs, is_head_of}
 use Rattle.taps.specs.Taps.{bit}
 use Rattle.holds.specs.Stacks.{stack_of}
-use Rattle.holds.specs.Tracks.{stackAfter, ends_at, Column, TracksJudged, CellsDone}
+use Rattle.holds.specs.Tracks.{stack_after, ends_at, Column, TracksJudged, CellsDone}
 use Rattle.holds.specs.declared.Tracker.{Tracker}
 use Rattle.holds.proofs.Bits.{high_bit, entry-bit, entry-ends, entry-judged, high_part}
 use Rattle.holds.proofs.Ends.{ends-old, ends-none}
@@ -36,7 +36,7 @@ module _
     (room : row < length work')
   where
     entry : ℕ
-    entry = 16384 * oneIf judged + 1024 * n
+    entry = 16384 * number_of_bool judged + 1024 * n
 
     -- an entry at the new row, and at any other
     by_place : (P : ℕ → ℕ → Type 0) → P row entry → ((i : ℕ) → (i ≡ row → ⊥) → P i (get_or work' i 0)) → (i : ℕ) → P i (get_or (set work' row entry) i 0)
@@ -53,23 +53,23 @@ module _
         record {
           stack = q.stack;
           marks =
-              by_place (λ i w. eqb (bit c w) 1 ≡ isHeadOf i (pairs (rows ++ (cells ∷ [])) c))
-              (ap (λ x. eqb x 1) (entry-bit c (oneIf judged) n h ∙ sym (zero_bit c h) ∙ ap (bit c) (sym (d.later row (omega arith)))) ∙ q.marks row)
+              by_place (λ i w. eqb (bit c w) 1 ≡ is_head_of i (pairs (rows ++ (cells ∷ [])) c))
+              (ap (λ x. eqb x 1) (entry-bit c (number_of_bool judged) n h ∙ sym (zero_bit c h) ∙ ap (bit c) (sym (d.later row (omega arith)))) ∙ q.marks row)
               (λ i e. q.marks i);
         }
 
-    pub row_done : TracksJudged J (rows ++ (cells ∷ [])) t' (set work' row (16384 * oneIf judged + 1024 * n))
+    pub row_done : TracksJudged J (rows ++ (cells ∷ [])) t' (set work' row (16384 * number_of_bool judged + 1024 * n))
     unfolding entry
     row_done =
         record {
           columns = column;
           ends =
               by_place (λ i w. w / 1024 % 16 ≡ ends_at J (rows ++ (cells ∷ [])) i)
-              (entry-ends (oneIf judged) n d.few ∙ d.ends ∙ ap (ends_at J (rows ++ (cells ∷ []))) size)
+              (entry-ends (number_of_bool judged) n d.few ∙ d.ends ∙ ap (ends_at J (rows ++ (cells ∷ []))) size)
               (λ i e. ap (λ x. x % 16) (d.high i) ∙ s.ends i ∙ sym (ends-old J rows cells i (λ q. e (q ∙ size))));
           judged =
-              by_place (λ i w. i < length (rows ++ (cells ∷ [])) → w / 16384 ≡ oneIf (J i))
-              (λ l. entry-judged (oneIf judged) n d.few ∙ ap oneIf (sym here))
+              by_place (λ i w. i < length (rows ++ (cells ∷ [])) → w / 16384 ≡ number_of_bool (J i))
+              (λ l. entry-judged (number_of_bool judged) n d.few ∙ ap number_of_bool (sym here))
               (λ i e l.
               let longer = length-append rows (cells ∷ []) in
               high_part (get_or work' i 0) ∙ ap (λ x. x / 16) (d.high i) ∙ sym (high_part (get_or work i 0)) ∙ s.judged i (omega arith));
@@ -82,7 +82,7 @@ module _
 -- before the first row
 pub tracks-start : (J : ℕ → Bool) (t : Tracker) (work : List ℕ) → ((c : ℕ) → c < 10 → stack_of t c ≡ []) → ((i : ℕ) → get_or work i 0 ≡ 0)
     → TracksJudged J [] t work
-unfolding stackAfter pairs
+unfolding stack_after pairs
 tracks-start J t work h z =
     record {
       columns = λ c l. record { stack = h c l; marks = λ i. ap (λ x. eqb x 1) (ap (bit c) (z i) ∙ zero_bit c l) };

@@ -9,19 +9,19 @@ use borrow.Author.Tests.{lt-ltb, le-ltb}
 use lib.ListN.{length, get_or, set, length-set}
 use lib.Seq.{get_or-set_same, get_or-set_other}
 use Rattle.definitions.specs.declared.DepthEffect.TheVariants.{Nothing, Blocks, Opens, Closes}
-use Rattle.holds.specs.Stacks.{tracker, stackAt, stack_of, Sized, TrackReady, TrackStepped}
+use Rattle.holds.specs.Stacks.{tracker, stack_at, stack_of, Sized, TrackReady, TrackStepped}
 use Rattle.holds.specs.declared.Tracker.{Tracker}
 
 pub stack-length : (t : Tracker) (c : ℕ) → length (stack_of t c) ≡ get_or t.depths c 0
 unfolding stack_of
 stack-length t c = go (get_or t.depths c 0)
   where
-    go : (d : ℕ) → length (stackAt t.heads c d) ≡ d
+    go : (d : ℕ) → length (stack_at t.heads c d) ≡ d
     go zero = refl
     go (suc d) = ap suc (go d)
 
 -- a store at a place that is none of the first d of column c
-stack_set : (hs : List ℕ) (c d p v : ℕ) → ((k : ℕ) → k < d → 8 * c + k ≡ p → ⊥) → stackAt (set hs p v) c d ≡ stackAt hs c d
+stack_set : (hs : List ℕ) (c d p v : ℕ) → ((k : ℕ) → k < d → 8 * c + k ≡ p → ⊥) → stack_at (set hs p v) c d ≡ stack_at hs c d
 stack_set hs c zero p v n = refl
 stack_set hs c (suc d) p v n =
     ap₂ (λ (x : ℕ) (xs : List ℕ). x ∷ xs)
@@ -35,16 +35,16 @@ apart c d x y n hx hy e =
 
 module _ (hs ds : List ℕ) (c : ℕ) (r : TrackReady c (tracker hs ds)) where
   -- another depth of column c
-  depth_same : (n : ℕ) → stack_of (tracker hs (set ds c n)) c ≡ stackAt hs c n
+  depth_same : (n : ℕ) → stack_of (tracker hs (set ds c n)) c ≡ stack_at hs c n
   unfolding stack_of
-  depth_same n = ap (stackAt hs c) (get_or-set_same ds c n 0 (omega arith))
+  depth_same n = ap (stack_at hs c) (get_or-set_same ds c n 0 (omega arith))
 
   depth-sized : (n : ℕ) → Sized (tracker hs (set ds c n))
   depth-sized n = record { wide = r.sized.wide; deep = length-set ds c n ∙ r.sized.deep }
 
   depth-other : (n d : ℕ) → (d ≡ c → ⊥) → stack_of (tracker hs (set ds c n)) d ≡ stack_of (tracker hs ds) d
   unfolding stack_of
-  depth-other n d ne = ap (stackAt hs d) (get_or-set_other ds c d n 0 ne)
+  depth-other n d ne = ap (stack_at hs d) (get_or-set_other ds c d n 0 ne)
 
   -- a cell that does nothing, and one that blocks
   pub step-nothing : (row : ℕ) → TrackStepped Nothing row c (tracker hs ds) (tracker hs ds) []
@@ -62,7 +62,7 @@ module _ (hs ds : List ℕ) (c : ℕ) (r : TrackReady c (tracker hs ds)) where
       let place = 8 * c + get_or ds c 0 in
       record {
         stack =
-            ap (stackAt (set hs place row) c) (get_or-set_same ds c (get_or ds c 0 + 1) 0 (omega arith) ∙ add-one (get_or ds c 0))
+            ap (stack_at (set hs place row) c) (get_or-set_same ds c (get_or ds c 0 + 1) 0 (omega arith) ∙ add-one (get_or ds c 0))
             ∙ ap₂ (λ (x : ℕ) (xs : List ℕ). x ∷ xs)
             (get_or-set_same hs place row 0 (omega arith))
             (stack_set hs c (get_or ds c 0) place row (λ k m e. omega arith))
@@ -71,7 +71,7 @@ module _ (hs ds : List ℕ) (c : ℕ) (r : TrackReady c (tracker hs ds)) where
         sized = record { wide = length-set hs place row ∙ r.sized.wide; deep = (depth-sized (get_or ds c 0 + 1)).deep };
         others =
             λ d k ne.
-            ap (stackAt (set hs place row) d) (get_or-set_other ds c d (get_or ds c 0 + 1) 0 ne)
+            ap (stack_at (set hs place row) d) (get_or-set_other ds c d (get_or ds c 0 + 1) 0 ne)
             ∙ stack_set hs d (get_or ds d 0) place row (λ j m e. apart c d (get_or ds c 0) j ne h (omega (arith, r.low d k)) e);
       }
 
@@ -89,7 +89,7 @@ module _ (hs ds : List ℕ) (c : ℕ) (r : TrackReady c (tracker hs ds)) where
       → TrackStepped Closes row c (tracker hs ds) (tracker hs (set ds c (get_or ds c 0 - 1))) (record { head = get_or hs at 0; tail = row } ∷ [])
   unfolding stack_of
   step-closes row at h e =
-      let shown : stackAt hs c (get_or ds c 0) ≡ get_or hs at 0 ∷ stackAt hs c (get_or ds c 0 - 1) = top (get_or ds c 0) h e in
+      let shown : stack_at hs c (get_or ds c 0) ≡ get_or hs at 0 ∷ stack_at hs c (get_or ds c 0 - 1) = top (get_or ds c 0) h e in
       record {
         stack = depth_same (get_or ds c 0 - 1) ∙ sym (rw shown);
         pairs = sym (rw shown);
@@ -97,7 +97,7 @@ module _ (hs ds : List ℕ) (c : ℕ) (r : TrackReady c (tracker hs ds)) where
         others = λ d k ne. depth-other (get_or ds c 0 - 1) d ne;
       }
     where
-      top : (n : ℕ) → 0 < n → at ≡ 8 * c + n - 1 → stackAt hs c n ≡ get_or hs at 0 ∷ stackAt hs c (n - 1)
+      top : (n : ℕ) → 0 < n → at ≡ 8 * c + n - 1 → stack_at hs c n ≡ get_or hs at 0 ∷ stack_at hs c (n - 1)
       top zero h e = absurd (omega arith)
       top (suc n) h e = let p : at ≡ 8 * c + n = omega arith in let q : suc n - 1 ≡ n = omega arith in rw (p, q)
 
@@ -105,5 +105,5 @@ module _ (hs ds : List ℕ) (c : ℕ) (r : TrackReady c (tracker hs ds)) where
   unfolding stack_of
   step-none row h =
       let z : get_or ds c 0 ≡ 0 = omega arith in
-      let empty : stackAt hs c (get_or ds c 0) ≡ [] = ap (stackAt hs c) z in
+      let empty : stack_at hs c (get_or ds c 0) ≡ [] = ap (stack_at hs c) z in
       record { stack = rw empty; pairs = sym (rw empty); sized = r.sized; others = λ d k ne. refl }

@@ -9,12 +9,12 @@ use native.Mathlib.Nat.{le_of_suc-le-suc, not-suc-le-zero}
 use native.Mathlib.Omega.{arith}
 use lib.Dec.{eqb}
 use lib.ListN.{length, get_or}
-use Rattle.definitions.specs.Lists.{oneIf, sumColumns}
+use Rattle.definitions.specs.Lists.{number_of_bool, sum_columns}
 use Rattle.definitions.specs.Lines.{Row}
 use Rattle.definitions.specs.Cells.{byte_at}
-use Rattle.definitions.specs.Tracker.{nextStack, paired, holdAt, pairs, isHeadOf}
-use Rattle.holds.specs.Stacks.{Sized, TrackReady, TrackStepped, endedAt}
-use Rattle.holds.specs.Tracks.{stackAfter, endsIn, ends_at, Column, TracksJudged, Reached, CellsDone, marked, judgedHead}
+use Rattle.definitions.specs.Tracker.{next_stack, paired, hold_at, pairs, is_head_of}
+use Rattle.holds.specs.Stacks.{Sized, TrackReady, TrackStepped, ended_at}
+use Rattle.holds.specs.Tracks.{stack_after, ends_in, ends_at, Column, TracksJudged, Reached, CellsDone, marked, judged_head}
 use Rattle.holds.specs.declared.Tracker.{Tracker}
 use Rattle.holds.specs.declared.Ended.{Ended}
 use Rattle.holds.proofs.Stacks.{stack-length}
@@ -29,8 +29,8 @@ pub record Swept (J : ℕ → Bool) (rows : List Row) (cells : Row) (k : ℕ) (w
   pub left : (c : ℕ) → k ≤ c → c < 10 → Column rows c t work
   pub high : (i : ℕ) → get_or work i 0 / 1024 ≡ get_or work₀ i 0 / 1024
   pub later : (i : ℕ) → length rows ≤ i → get_or work i 0 ≡ 0
-  pub judged : (i : ℕ) → i < length rows → get_or work i 0 / 16384 ≡ oneIf (J i)
-  pub ends : n ≡ sumColumns k (λ c. endsIn J (length rows) (pairs (rows ++ (cells ∷ [])) c))
+  pub judged : (i : ℕ) → i < length rows → get_or work i 0 / 16384 ≡ number_of_bool (J i)
+  pub ends : n ≡ sum_columns k (λ c. ends_in J (length rows) (pairs (rows ++ (cells ∷ [])) c))
   pub few : n ≤ k
 
 pub sweep-start : (J : ℕ → Bool) (rows : List Row) (cells : Row) (t : Tracker) (work : List ℕ) → TracksJudged J rows t work
@@ -55,7 +55,7 @@ inside-row (x ∷ r) (suc i) h = inside-row r i (le_of_suc-le-suc h)
 -- Any column has at most eight open heads.
 column-low : {rows : List Row} {c : ℕ} {t : Tracker} {work : List ℕ} → Column rows c t work → get_or t.depths c 0 ≤ 8
 column-low {rows} {c} {t} s =
-    let e : get_or t.depths c 0 ≡ length (stackAfter rows c) = sym (stack-length t c) ∙ ap length s.stack in
+    let e : get_or t.depths c 0 ≡ length (stack_after rows c) = sym (stack-length t c) ∙ ap length s.stack in
     omega (arith, (stacked rows c).few)
 
 -- Another column: nothing of it changes.
@@ -93,17 +93,17 @@ module _
         (row : ℕ)
         (size : length rows ≡ row)
         (more : k < length cells)
-        (m : TrackStepped (holdAt (get_or cells k 0)) row k t t' (endedAt row ended))
+        (m : TrackStepped (hold_at (get_or cells k 0)) row k t t' (ended_at row ended))
       where
         here : Column rows k t work
         here = s.left k (omega arith) inside
 
         -- the cell's effect on the definition's stack
-        pairs-here : endedAt (length rows) ended ≡ paired (holdAt (byte_at k cells)) (length rows) (stackAfter rows k)
+        pairs-here : ended_at (length rows) ended ≡ paired (hold_at (byte_at k cells)) (length rows) (stack_after rows k)
         pairs-here = rw (size, ← inside-row cells k more, ← here.stack) m.pairs
 
         pub sweep-below : Below (length rows) ended
-        sweep-below = ended-below (holdAt (byte_at k cells)) (length rows) (length rows) (stackAfter rows k) ended pairs-here (stacked rows k)
+        sweep-below = ended-below (hold_at (byte_at k cells)) (length rows) (length rows) (stack_after rows k) ended pairs-here (stacked rows k)
 
         module _ (room : row < length work) where
           in-work : Below (length work) ended
@@ -113,7 +113,7 @@ module _
           column-here =
               record {
                 stack =
-                    m.stack ∙ ap (nextStack (holdAt (get_or cells k 0)) row) here.stack
+                    m.stack ∙ ap (next_stack (hold_at (get_or cells k 0)) row) here.stack
                     ∙ rw (inside-row cells k more, ← size, stack_snoc rows cells k);
                 marks =
                     λ i.
@@ -121,16 +121,16 @@ module _
                     ∙ rw (here.marks i, pairs-here, pairs-snoc rows cells k, heads-append i (pairs rows k));
               }
 
-          judged-here : judgedHead ended work ≡ endsIn J (length rows) (pairs (rows ++ (cells ∷ [])) k)
+          judged-here : judged_head ended work ≡ ends_in J (length rows) (pairs (rows ++ (cells ∷ [])) k)
           judged-here =
               judged-ends J work (length rows) ended sweep-below s.judged
-              ∙ ap (endsIn J (length rows)) pairs-here
+              ∙ ap (ends_in J (length rows)) pairs-here
               ∙ sym (ends-new J rows cells k)
 
-          sweep-one : judgedHead ended work ≤ 1
+          sweep-one : judged_head ended work ≤ 1
           sweep-one = rw (judged-ends J work (length rows) ended sweep-below s.judged) (judged-one J (length rows) ended)
 
-          pub sweep-next : Swept J rows cells (k + 1) work₀ t' (marked ended k work) (n + judgedHead ended work)
+          pub sweep-next : Swept J rows cells (k + 1) work₀ t' (marked ended k work) (n + judged_head ended work)
           sweep-next =
               record {
                 done =
@@ -163,8 +163,8 @@ sweep-end J rows cells k work₀ t work n s h l =
       later = s.later;
       ends =
           s.ends
-          ∙ sym (sum-beyond k 10 (λ c. endsIn J (length rows) (pairs (rows ++ (cells ∷ [])) c)) l
-          (λ c m. ap (endsIn J (length rows)) (pairs-beyond rows cells c (omega arith)) ∙ ends-late J rows c (length rows) (omega arith)));
+          ∙ sym (sum-beyond k 10 (λ c. ends_in J (length rows) (pairs (rows ++ (cells ∷ [])) c)) l
+          (λ c m. ap (ends_in J (length rows)) (pairs-beyond rows cells c (omega arith)) ∙ ends-late J rows c (length rows) (omega arith)));
       few = omega (arith, s.few);
     }
   where
@@ -172,7 +172,7 @@ sweep-end J rows cells k work₀ t work n s h l =
     beyond c m q =
         record {
           stack = q.stack ∙ sym (stack-beyond rows cells c m);
-          marks = λ i. q.marks i ∙ sym (ap (isHeadOf i) (pairs-beyond rows cells c m));
+          marks = λ i. q.marks i ∙ sym (ap (is_head_of i) (pairs-beyond rows cells c m));
         }
 
 -- The loop's invariant: of whatever rows the tracker and the work slice were, they are swept up to column k.
@@ -208,7 +208,7 @@ module _
       pub sweeping-ready : TrackReady k t
       sweeping-ready = sweep-ready from.judging from.rows cells k work₀ t work n swept (omega arith) s.sized
 
-      module _ (t' : Tracker) (ended : Ended) (m : TrackStepped (holdAt (get_or cells k 0)) row k t t' (endedAt row ended)) (room : row < length work₀) where
+      module _ (t' : Tracker) (ended : Ended) (m : TrackStepped (hold_at (get_or cells k 0)) row k t t' (ended_at row ended)) (room : row < length work₀) where
         in-room : row < length work
         in-room = let e = s.long in omega arith
 
@@ -218,7 +218,7 @@ module _
             let in-work = in-room in
             omega (arith, sweep-below from.judging from.rows cells k work₀ t work n swept (omega arith) t' ended row from.size more m h q)
 
-        pub sweeping-next : (work' : List ℕ) (j : ℕ) → work' ≡ marked ended k work → j ≡ judgedHead ended work
+        pub sweeping-next : (work' : List ℕ) (j : ℕ) → work' ≡ marked ended k work → j ≡ judged_head ended work
             → Sweeping row cells work₀ t₀ t' work' (n + j) (k + 1)
         sweeping-next work' j p q =
             rw (p, q)

@@ -1,6 +1,6 @@
 -- The stacks of open heads in the tracker's flat arrays.
 use Rattle.std.specs.Prelude.{◌≡◌, List, [], ◌∷◌, ℕ, zero, suc, ◌+◌, ◌*◌, ◌≤◌, ◌<◌, length, get_or}
-use Rattle.definitions.specs.Tracker.{Pair, nextStack, paired}
+use Rattle.definitions.specs.Tracker.{Pair, next_stack, paired}
 use Rattle.definitions.specs.declared.DepthEffect.{DepthEffect}
 use Rattle.holds.specs.declared.Tracker.{Tracker}
 use Rattle.holds.specs.declared.Ended.{Ended}
@@ -10,13 +10,13 @@ abbrev pub tracker : List ℕ → List ℕ → Tracker
 tracker hs ds = record { heads = hs; depths = ds }
 
 -- the first d heads at column c's places, newest first
-abbrev pub stackAt : List ℕ → ℕ → ℕ → List ℕ
-stackAt hs c zero = []
-stackAt hs c (suc d) = get_or hs (8 * c + d) 0 ∷ stackAt hs c d
+abbrev pub stack_at : List ℕ → ℕ → ℕ → List ℕ
+stack_at hs c zero = []
+stack_at hs c (suc d) = get_or hs (8 * c + d) 0 ∷ stack_at hs c d
 
 -- the open heads of a column, newest first
 unfoldable pub stack_of : Tracker → ℕ → List ℕ
-stack_of t c = stackAt t.heads c (get_or t.depths c 0)
+stack_of t c = stack_at t.heads c (get_or t.depths c 0)
 
 -- no column has more than eight open heads
 abbrev pub Shallow : List ℕ → Type 0
@@ -34,13 +34,13 @@ pub record TrackReady (c : ℕ) (t : Tracker) : Type 0 where
   pub low : Shallow t.depths
 
 -- the pair of a tail at this row
-abbrev pub endedAt : ℕ → Ended → List Pair
-endedAt row Nothing = []
-endedAt row (Head h) = record { head = h; tail = row } ∷ []
+abbrev pub ended_at : ℕ → Ended → List Pair
+ended_at row Nothing = []
+ended_at row (Head h) = record { head = h; tail = row } ∷ []
 
 -- What a cell of a row does in column c: its stack, the pairs that it makes, and that the other columns stay.
 pub record TrackStepped (e : DepthEffect) (row c : ℕ) (t t' : Tracker) (ps : List Pair) : Type 0 where
-  pub stack : stack_of t' c ≡ nextStack e row (stack_of t c)
+  pub stack : stack_of t' c ≡ next_stack e row (stack_of t c)
   pub pairs : ps ≡ paired e row (stack_of t c)
   pub sized : Sized t'
   pub others : (d : ℕ) → d < 10 → (d ≡ c → ⊥) → stack_of t' d ≡ stack_of t d

@@ -2,12 +2,12 @@
 #![tactic(auto)]
 
 ghost use Rattle.std.specs.Prelude.{◌≡◌, true, List, [], ◌∷◌, ◌++◌, ℕ, ◌+◌, ◌*◌, ◌≤◌, ◌<◌, length};
-ghost use Rattle.definitions.specs.Lists.{oneIf};
+ghost use Rattle.definitions.specs.Lists.{number_of_bool};
 ghost use Rattle.definitions.specs.Lines.{Row};
-ghost use Rattle.definitions.specs.Tracker.{holdAt};
+ghost use Rattle.definitions.specs.Tracker.{hold_at};
 ghost use Rattle.definitions.specs.declared.DepthEffect;
-ghost use Rattle.holds.specs.Stacks.{tracker, stack_of, Sized, TrackReady, TrackStepped, endedAt};
-ghost use Rattle.holds.specs.Tracks.{marked, judgedHead, Tracks, Reached, CellsTracked, RowTracked, Leaves};
+ghost use Rattle.holds.specs.Stacks.{tracker, stack_of, Sized, TrackReady, TrackStepped, ended_at};
+ghost use Rattle.holds.specs.Tracks.{marked, judged_head, Tracks, Reached, CellsTracked, RowTracked, Leaves};
 
 use definitions::DepthEffect;
 
@@ -52,7 +52,7 @@ fn pushed(heads: &mut [u32; 80], depths: &mut [u32; 10], row: u32, column: usize
 // The newest head off its column's stack.
 fn popped(heads: &[u32; 80], depths: &mut [u32; 10], column: usize) -> Ended
     requires { TrackReady column (tracker heads.now depths.old) }
-    ensures { (row : ℕ) → TrackStepped DepthEffect.Closes row column (tracker heads.now depths.old) (tracker heads.now depths.new) (endedAt row result) }
+    ensures { (row : ℕ) → TrackStepped DepthEffect.Closes row column (tracker heads.now depths.old) (tracker heads.now depths.new) (ended_at row result) }
 {
     let depth = depths[column];
     if 0 < depth {
@@ -73,7 +73,7 @@ fn track_cell(
     b: u8,
 ) -> Ended
     requires { TrackReady column (tracker heads.old depths.old) }
-    ensures { TrackStepped (holdAt b) row column (tracker heads.old depths.old) (tracker heads.new depths.new) (endedAt row result) }
+    ensures { TrackStepped (hold_at b) row column (tracker heads.old depths.old) (tracker heads.new depths.new) (ended_at row result) }
 {
     match cells::hold_effect(b) {
         DepthEffect::Nothing => Ended::Nothing,
@@ -92,7 +92,7 @@ fn track_cell(
 // Marks the head that a cell in this column paired with in its row's entry, and counts it where that row is judged.
 fn mark(work: &mut [u16], ended: Ended, column: usize) -> u16
     requires { (column < 10) × ((h : ℕ) → ended ≡ Ended.Head h → h < length work.old) }
-    ensures { (result ≡ judgedHead ended work.old) × (work.new ≡ marked ended column work.old) }
+    ensures { (result ≡ judged_head ended work.old) × (work.new ≡ marked ended column work.old) }
 {
     match ended {
         Ended::Nothing => 0,
@@ -129,7 +129,7 @@ fn track_cells(
 // The entry of a row before any of its heads is paired.
 fn row_entry(judged: bool, ends: u16) -> u16
     requires { ends ≤ 10 }
-    ensures { result ≡ 16384 * oneIf judged + 1024 * ends }
+    ensures { result ≡ 16384 * number_of_bool judged + 1024 * ends }
 {
     if judged {
         16384 + 1024 * ends

@@ -8,17 +8,17 @@ use native.Mathlib.Omega.{arith}
 use lib.Dec.{eqb}
 use lib.ListN.{length, get_or, length-append}
 use lib.Pow.{field, mod-mod-pow}
-use Rattle.definitions.specs.Sizes.{countBound}
-use Rattle.definitions.specs.Lists.{oneIf}
+use Rattle.definitions.specs.Sizes.{count_bound}
+use Rattle.definitions.specs.Lists.{number_of_bool}
 use Rattle.definitions.specs.Lines.{Row}
 use Rattle.definitions.proofs.Lists.{All}
 use Rattle.definitions.specs.Cells.{byte_at}
-use Rattle.definitions.specs.Tracker.{pairs, holdAt}
-use Rattle.definitions.specs.Tally.{noStats, rowSumBy}
-use Rattle.definitions.specs.Correction.{keepRow}
-use Rattle.definitions.specs.Judged.{judgedSum, judgeRow, openBefore, judgeFrom, judgedRows}
+use Rattle.definitions.specs.Tracker.{pairs, hold_at}
+use Rattle.definitions.specs.Tally.{empty_stats, row_sum_by}
+use Rattle.definitions.specs.Correction.{keep_row}
+use Rattle.definitions.specs.Judged.{judged_sum, judge_row, open_before, judge_from, judged_rows}
 use Rattle.taps.specs.Taps.{bit}
-use Rattle.holds.specs.Tracks.{pairedHeads}
+use Rattle.holds.specs.Tracks.{paired_heads}
 use Rattle.holds.proofs.Opens.{opens, opens-start, opens-most}
 use Rattle.holds.proofs.Heads.{kept-heads}
 use Rattle.holds.proofs.Tails.{none-ends}
@@ -26,21 +26,21 @@ use Rattle.holds.proofs.Passed.{free-keeps}
 use Rattle.row_tally.proofs.Taps.{taps-heads}
 use Rattle.taps.specs.Taps.{FreeTaps}
 use Rattle.row_tally.specs.Bounds.{Below}
-use Rattle.row_tally.specs.Kept.{keepMask}
+use Rattle.row_tally.specs.Kept.{row_by_mask}
 use Rattle.row_tally.proofs.Bounds.{below_more, below_none, below-judged-line}
 use Rattle.row_tally.proofs.Kept.{keep_mask, keep-length, keep-whole}
 use Rattle.row_tally.proofs.Rows.{judge-snoc}
 use Rattle.judged.specs.declared.TimingStats.{TimingStats}
-use Rattle.judged.specs.Timing.{headsOf, endsOf, isJudged, timingSum, newHolds, noTiming, timingRow, timingTaps, WorkEntries}
+use Rattle.judged.specs.Timing.{heads_of, ends_of, is_judged, timing_sum, new_holds, empty_timing, timing_row, timing_taps, WorkEntries}
 
 -- J says which rows are judged. `all` are the rows of the text, and `rows` those that have come.
 pub record Tallying (J : ℕ → Bool) (L : ℕ) (all rows : List Row) (row : ℕ) (t : TimingStats) : Type 0 where
   pub size : length rows ≡ row
-  pub stats : t.stats ≡ judgeFrom L J (pairs all) noStats 0 rows
-  pub active : t.active ≡ openBefore L J (pairs all) row
+  pub stats : t.stats ≡ judge_from L J (pairs all) empty_stats 0 rows
+  pub active : t.active ≡ open_before L J (pairs all) row
   pub below : Below (10 * row) t.stats
 
-pub tallying-start : (J : ℕ → Bool) (L : ℕ) (all : List Row) (t : TimingStats) → t ≡ noTiming → Tallying J L all [] 0 t
+pub tallying-start : (J : ℕ → Bool) (L : ℕ) (all : List Row) (t : TimingStats) → t ≡ empty_timing → Tallying J L all [] 0 t
 tallying-start J L all t e = rw e (record { size = refl; stats = refl; active = sym (opens-start L J all); below = below_none })
 
 -- the columns' bits of an entry
@@ -51,21 +51,21 @@ low_bit c m h =
     ∙ ap (λ n. n / 2 ^ c) (ap (λ k. m % 2 ^ k % 2 ^ (1 + c)) e ∙ mod-mod-pow m (10 - (1 + c)) (1 + c))
     ∙ field m 1 c
 
-one-is : (b : Bool) → eqb (oneIf b) 1 ≡ b
+one-is : (b : Bool) → eqb (number_of_bool b) 1 ≡ b
 one-is true = refl
 one-is false = refl
 
 module _ (J : ℕ → Bool) (L : ℕ) (all rows : List Row) (row : ℕ) (t : TimingStats) (x : Tallying J L all rows row t) where
   -- the tally so far may have a row more, and at most ten holds are opened in a row
-  pub tallying-few : 10 * length rows ≤ countBound → L ≤ 10 → All (λ (r : Row). length r ≤ L) all → Below countBound t.stats × (t.active ≤ countBound)
+  pub tallying-few : 10 * length rows ≤ count_bound → L ≤ 10 → All (λ (r : Row). length r ≤ L) all → Below count_bound t.stats × (t.active ≤ count_bound)
   tallying-few b m short =
-      let few : 10 * row ≤ countBound = omega (arith, x.size) in
+      let few : 10 * row ≤ count_bound = omega (arith, x.size) in
       let active : t.active ≤ 10 * row = le_trans (rw x.active (opens-most L J all m short row)) (mul-le-mul_right row m) in
-      (below_more (10 * row) countBound t.stats few x.below, le_trans active few)
+      (below_more (10 * row) count_bound t.stats few x.below, le_trans active few)
 
-  pub tallying-end : all ≡ rows → t.stats ≡ judgedRows L J all
-  unfolding judgedRows
-  tallying-end e = x.stats ∙ ap (judgeFrom L J (pairs all) noStats 0) (sym e)
+  pub tallying-end : all ≡ rows → t.stats ≡ judged_rows L J all
+  unfolding judged_rows
+  tallying-end e = x.stats ∙ ap (judge_from L J (pairs all) empty_stats 0) (sym e)
 
   module _ (cells : Row) (wide : length cells ≡ L) (here : get_or all (length rows) [] ≡ cells) (inside : length rows < length all)
       (work : List ℕ) (m : L ≤ 10) (short : All (λ (r : Row). length r ≤ L) all) (w : WorkEntries J all work) where
@@ -76,44 +76,44 @@ module _ (J : ℕ → Bool) (L : ℕ) (all rows : List Row) (row : ℕ) (t : Tim
     at-row = ap (λ n. get_or all n []) (sym x.size) ∙ here
 
     -- the row's entry by its parts
-    judged-is : isJudged entry ≡ J row
+    judged-is : is_judged entry ≡ J row
     judged-is = ap (λ n. eqb n 1) (w.tracks.judged row (rw (← x.size) inside)) ∙ one-is (J row)
 
-    kept-is : keepMask (headsOf entry) 0 cells ≡ keepRow (pairs all) row 0 cells
+    kept-is : row_by_mask (heads_of entry) 0 cells ≡ keep_row (pairs all) row 0 cells
     kept-is =
-        keep_mask (pairs all) row (headsOf entry) cells
+        keep_mask (pairs all) row (heads_of entry) cells
         (λ c k.
         let i : c < 10 = omega (arith, wide) in
         ap (λ n. eqb n 1) (low_bit c entry i) ∙ (w.tracks.columns c i).marks row)
 
-    sum_is : timingSum entry cells ≡ judgedSum (J row) (keepRow (pairs all) row 0 cells)
-    unfolding timingSum
+    sum_is : timing_sum entry cells ≡ judged_sum (J row) (keep_row (pairs all) row 0 cells)
+    unfolding timing_sum
     sum_is = rw (judged-is, kept-is)
 
     -- the holds that it opens
-    opened : (b : Bool) → (judgedSum b (keepRow (pairs all) row 0 cells)).holds + (judgedSum b (keepRow (pairs all) row 0 cells)).rolls ≡ cond b (pairedHeads L (pairs all) row) 0
-    unfolding judgedSum rowSumBy
-    opened true = kept-heads all row cells at-row ∙ ap (λ n. pairedHeads n (pairs all) row) wide
+    opened : (b : Bool) → (judged_sum b (keep_row (pairs all) row 0 cells)).holds + (judged_sum b (keep_row (pairs all) row 0 cells)).rolls ≡ cond b (paired_heads L (pairs all) row) 0
+    unfolding judged_sum row_sum_by
+    opened true = kept-heads all row cells at-row ∙ ap (λ n. paired_heads n (pairs all) row) wide
     opened false = refl
 
-    heads-are : newHolds entry cells ≡ cond (J row) (pairedHeads L (pairs all) row) 0
-    unfolding newHolds
+    heads-are : new_holds entry cells ≡ cond (J row) (paired_heads L (pairs all) row) 0
+    unfolding new_holds
     heads-are = rw sum_is (opened (J row))
 
-    step : openBefore L J (pairs all) (row + 1) + endsOf entry ≡ t.active + newHolds entry cells
+    step : open_before L J (pairs all) (row + 1) + ends_of entry ≡ t.active + new_holds entry cells
     step = rw (w.tracks.ends row, x.active, heads-are) (opens L J all row m short)
 
     -- no more holds end than are open
-    pub tallying-enough : endsOf entry ≤ t.active + newHolds entry cells
+    pub tallying-enough : ends_of entry ≤ t.active + new_holds entry cells
     tallying-enough = omega (arith, step)
 
-    after : judgeRow t.stats (isJudged entry) t.active (timingSum entry cells) ≡ judgeFrom L J (pairs all) noStats 0 (rows ++ (cells ∷ []))
+    after : judge_row t.stats (is_judged entry) t.active (timing_sum entry cells) ≡ judge_from L J (pairs all) empty_stats 0 (rows ++ (cells ∷ []))
     after =
         rw (judged-is, sum_is, x.stats, x.active, ← x.size)
-        (sym (rw zero-add at (judge-snoc (pairs all) L J noStats 0 rows cells)))
+        (sym (rw zero-add at (judge-snoc (pairs all) L J empty_stats 0 rows cells)))
 
-    pub tallying-row : (t' : TimingStats) → t' ≡ timingRow t entry cells → Tallying J L all (rows ++ (cells ∷ [])) (row + 1) t'
-    unfolding timingRow timingSum
+    pub tallying-row : (t' : TimingStats) → t' ≡ timing_row t entry cells → Tallying J L all (rows ++ (cells ∷ [])) (row + 1) t'
+    unfolding timing_row timing_sum
     tallying-row t' f =
         rw f
         (record {
@@ -122,18 +122,18 @@ module _ (J : ℕ → Bool) (L : ℕ) (all rows : List Row) (row : ℕ) (t : Tim
           active = omega (arith, step);
           below =
               below_more (10 * row + 10) (10 * (row + 1)) _ (omega arith)
-              (below-judged-line (10 * row) t.stats (isJudged entry) t.active (keepMask (headsOf entry) 0 cells)
+              (below-judged-line (10 * row) t.stats (is_judged entry) t.active (row_by_mask (heads_of entry) 0 cells)
               (rw keep-length (omega (arith, wide))) x.below);
         })
 
     -- a row of taps alone counts as it is, and opens and ends no hold
-    pub tallying-taps : (m : ℕ) → FreeTaps 0 m cells → (t' : TimingStats) → t' ≡ timingTaps t entry cells → Tallying J L all (rows ++ (cells ∷ [])) (row + 1) t'
-    unfolding timingRow newHolds
+    pub tallying-taps : (m : ℕ) → FreeTaps 0 m cells → (t' : TimingStats) → t' ≡ timing_taps t entry cells → Tallying J L all (rows ++ (cells ∷ [])) (row + 1) t'
+    unfolding timing_row new_holds
     tallying-taps m f t' q =
         let keeps = free-keeps 0 m cells f in
         let kept = keep-whole (pairs all) row 0 cells (λ k l o. absurd (true≢false (rw o at (keeps k)))) in
-        let sum = sum_is ∙ ap₂ judgedSum (sym judged-is) kept in
+        let sum = sum_is ∙ ap₂ judged_sum (sym judged-is) kept in
         let none =
         w.tracks.ends row
-        ∙ none-ends J all row (λ c o. true≢false (rw (ap (λ (x : Row). holdAt (byte_at c x)) (sym at-row) ∙ o) at (keeps c))) in
-        tallying-row t' (q ∙ sym (rw (sum, none, taps-heads cells m f.mask (isJudged entry)) (simp (add-zero, sub-zero))))
+        ∙ none-ends J all row (λ c o. true≢false (rw (ap (λ (x : Row). hold_at (byte_at c x)) (sym at-row) ∙ o) at (keeps c))) in
+        tallying-row t' (q ∙ sym (rw (sum, none, taps-heads cells m f.mask (is_judged entry)) (simp (add-zero, sub-zero))))

@@ -1,52 +1,52 @@
 -- What the private functions of the judged tallies work with: the rows' entries in the work slice, and the tally by them.
 use Rattle.std.specs.Prelude.{Bool, true, false, List, ℕ, ◌+◌, ◌-◌, ◌/◌, ◌%◌, eqb}
 use Rattle.definitions.specs.Lines.{Row}
-use Rattle.definitions.specs.Tally.{noStats}
-use Rattle.definitions.specs.Judged.{judgedAt, judgedSum, judgeRow}
+use Rattle.definitions.specs.Tally.{empty_stats}
+use Rattle.definitions.specs.Judged.{judged_at, judged_sum, judge_row}
 use Rattle.definitions.specs.declared.RowSum.{RowSum}
 use Rattle.holds.specs.Tracks.{TracksJudged}
 use Rattle.holds.specs.declared.Tracker.{Tracker}
-use Rattle.row_tally.specs.Kept.{keepMask}
+use Rattle.row_tally.specs.Kept.{row_by_mask}
 use Rattle.judged.specs.declared.TimingStats.{TimingStats}
 
 -- which rows are judged: all, or by the flags
-abbrev pub judgedBy : Bool → List ℕ → ℕ → Bool
-judgedBy true flags i = true
-judgedBy false flags i = judgedAt flags i
+abbrev pub judged_by : Bool → List ℕ → ℕ → Bool
+judged_by true flags i = true
+judged_by false flags i = judged_at flags i
 
 -- the parts of a row's entry: its paired heads, the holds that end there, and whether it is judged
-abbrev pub headsOf : ℕ → ℕ
-headsOf entry = entry % 1024
+abbrev pub heads_of : ℕ → ℕ
+heads_of entry = entry % 1024
 
-abbrev pub endsOf : ℕ → ℕ
-endsOf entry = entry / 1024 % 16
+abbrev pub ends_of : ℕ → ℕ
+ends_of entry = entry / 1024 % 16
 
-abbrev pub isJudged : ℕ → Bool
-isJudged entry = eqb (entry / 16384) 1
+abbrev pub is_judged : ℕ → Bool
+is_judged entry = eqb (entry / 16384) 1
 
 -- what a row adds up to by its entry, and the holds that it opens
-unfoldable pub timingSum : ℕ → Row → RowSum
-timingSum entry cells = judgedSum (isJudged entry) (keepMask (headsOf entry) 0 cells)
+unfoldable pub timing_sum : ℕ → Row → RowSum
+timing_sum entry cells = judged_sum (is_judged entry) (row_by_mask (heads_of entry) 0 cells)
 
-unfoldable pub newHolds : ℕ → Row → ℕ
-newHolds entry cells = (timingSum entry cells).holds + (timingSum entry cells).rolls
+unfoldable pub new_holds : ℕ → Row → ℕ
+new_holds entry cells = (timing_sum entry cells).holds + (timing_sum entry cells).rolls
 
-abbrev pub noTiming : TimingStats
-noTiming = record { stats = noStats; active = 0 }
+abbrev pub empty_timing : TimingStats
+empty_timing = record { stats = empty_stats; active = 0 }
 
 -- with one row more
-unfoldable pub timingRow : TimingStats → ℕ → Row → TimingStats
-timingRow t entry cells =
+unfoldable pub timing_row : TimingStats → ℕ → Row → TimingStats
+timing_row t entry cells =
     record {
-      stats = judgeRow t.stats (isJudged entry) t.active (timingSum entry cells);
-      active = t.active + newHolds entry cells - endsOf entry;
+      stats = judge_row t.stats (is_judged entry) t.active (timing_sum entry cells);
+      active = t.active + new_holds entry cells - ends_of entry;
     }
 
 -- with one row of taps alone more, at which no hold begins or ends
-abbrev pub timingTaps : TimingStats → ℕ → Row → TimingStats
-timingTaps t entry cells =
+abbrev pub timing_taps : TimingStats → ℕ → Row → TimingStats
+timing_taps t entry cells =
     record {
-      stats = judgeRow t.stats (isJudged entry) t.active (judgedSum (isJudged entry) cells);
+      stats = judge_row t.stats (is_judged entry) t.active (judged_sum (is_judged entry) cells);
       active = t.active;
     }
 

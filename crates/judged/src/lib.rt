@@ -2,17 +2,17 @@
 #![tactic(auto)]
 
 ghost use Rattle.std.specs.Prelude.{◌≡◌, Bool, [], ℕ, ◌+◌, ◌≤◌, length};
-ghost use Rattle.definitions.specs.Sizes.{countBound, mostBytes};
+ghost use Rattle.definitions.specs.Sizes.{count_bound, most_bytes};
 ghost use Rattle.definitions.specs.Lists.{padded};
-ghost use Rattle.definitions.specs.Lanes.{lanes_of, mostRows};
-ghost use Rattle.definitions.specs.ReadBack.{readBack};
-ghost use Rattle.definitions.specs.Judged.{judgedRows};
-ghost use Rattle.definitions.specs.Entries.{judgedChecked, judgedAnswer, flaggedAnswer, judgedWork};
+ghost use Rattle.definitions.specs.Lanes.{lanes_of, most_rows_in};
+ghost use Rattle.definitions.specs.ReadBack.{rows_read_back};
+ghost use Rattle.definitions.specs.Judged.{judged_rows};
+ghost use Rattle.definitions.specs.Entries.{judged_checked, judged_answer, flagged_answer, judged_work};
 ghost use Rattle.definitions.specs.Lines.{Row};
-ghost use Rattle.taps.specs.Taps.{tapLineMask, Fits, TapCounts};
+ghost use Rattle.taps.specs.Taps.{mask_of_line, Fits, TapCounts};
 ghost use Rattle.taps.specs.declared.Taps.TheVariants.{Mask};
 ghost use Rattle.row_tally.specs.Bounds.{Below};
-ghost use Rattle.judged.specs.Timing.{judgedBy, endsOf, newHolds, noTiming, timingRow, timingTaps, WorkEntries, SomeWorkEntries};
+ghost use Rattle.judged.specs.Timing.{judged_by, ends_of, new_holds, empty_timing, timing_row, timing_taps, WorkEntries, SomeWorkEntries};
 
 use definitions::{ArrowStats, Refusal};
 use judged_pass::CleanTally;
@@ -27,7 +27,7 @@ pub struct TimingStats {
 
 // Whether row i is judged: every row where all are, else by its flag. A row past the flags is judged.
 fn is_judged(all: bool, flags: &[u8], i: usize) -> bool
-    ensures { result ≡ judgedBy all flags.now i }
+    ensures { result ≡ judged_by all flags.now i }
 {
     if all {
         return true;
@@ -41,8 +41,8 @@ fn is_judged(all: bool, flags: &[u8], i: usize) -> bool
 // The entry of each row in the work slice, as the Rust's `TimingRow`: its paired heads, how many holds of judged heads end there, and whether
 // it is judged. `busy` has the columns with an open head: a row of taps in other columns leaves the tracker as it is.
 fn track_timing_rows(data: &[u8], lanes: usize, all: bool, flags: &[u8], work: &mut [u16])
-    requires { (length «data».now ≤ mostBytes) × (4 ≤ lanes) × (lanes ≤ 10) × (mostRows lanes (length «data».now) ≤ length work.old) }
-    ensures { WorkEntries (judgedBy all flags.now) (readBack lanes «data».now) work.new }
+    requires { (length «data».now ≤ most_bytes) × (4 ≤ lanes) × (lanes ≤ 10) × (most_rows_in lanes (length «data».now) ≤ length work.old) }
+    ensures { WorkEntries (judged_by all flags.now) (rows_read_back lanes «data».now) work.new }
 {
     slices::zero_past(&mut *work, 0, 0);
     let mut t = holds::no_tracker();
@@ -63,7 +63,7 @@ fn track_timing_rows(data: &[u8], lanes: usize, all: bool, flags: &[u8], work: &
 
 // Before the first row.
 fn no_timing() -> TimingStats
-    ensures { result ≡ noTiming }
+    ensures { result ≡ empty_timing }
 {
     let stats = row_tally::no_stats();
     TimingStats { stats, active: 0 }
@@ -71,9 +71,9 @@ fn no_timing() -> TimingStats
 
 // One row more, by its entry. A tail's hold is open through the tail's row; an unjudged row's sum has no head.
 fn process_timing_row(t: TimingStats, cells: &[u8], entry: u16) -> TimingStats
-    requires cells_len_bound { (length cells.now ≤ 10) × Below countBound t.stats × (t.active ≤ countBound) }
-    requires bound { endsOf entry ≤ t.active + newHolds entry cells.now }
-    ensures { result ≡ timingRow t entry cells.now }
+    requires cells_len_bound { (length cells.now ≤ 10) × Below count_bound t.stats × (t.active ≤ count_bound) }
+    requires bound { ends_of entry ≤ t.active + new_holds entry cells.now }
+    ensures { result ≡ timing_row t entry cells.now }
 {
     let judged = entry / 16384 == 1;
     let ends = (entry / 1024 % 16) as u32;
@@ -94,8 +94,8 @@ fn process_timing_taps(
     entry: u16,
     counts: &[u16; 256],
 ) -> TimingStats
-    requires { TapCounts wide counts.now × Below countBound t.stats × (t.active ≤ countBound) × Fits wide mask }
-    ensures { (row : Row) → tapLineMask row ≡ Mask mask → result ≡ timingTaps t entry row }
+    requires { TapCounts wide counts.now × Below count_bound t.stats × (t.active ≤ count_bound) × Fits wide mask }
+    ensures { (row : Row) → mask_of_line row ≡ Mask mask → result ≡ timing_taps t entry row }
 {
     let judged = entry / 16384 == 1;
     let old = t.stats;
@@ -108,9 +108,9 @@ fn process_timing_taps(
 
 // The rows again, each with its entry.
 fn tally_timing_rows(data: &[u8], lanes: usize, work: &[u16]) -> ArrowStats
-    requires data_len_bound { (length «data».now ≤ mostBytes) × (4 ≤ lanes) × (lanes ≤ 10) × (mostRows lanes (length «data».now) ≤ length work.now) }
-    requires some_work_entries { SomeWorkEntries (readBack lanes «data».now) work.now }
-    ensures { (J : ℕ → Bool) → WorkEntries J (readBack lanes «data».now) work.now → result ≡ judgedRows lanes J (readBack lanes «data».now) }
+    requires data_len_bound { (length «data».now ≤ most_bytes) × (4 ≤ lanes) × (lanes ≤ 10) × (most_rows_in lanes (length «data».now) ≤ length work.now) }
+    requires some_work_entries { SomeWorkEntries (rows_read_back lanes «data».now) work.now }
+    ensures { (J : ℕ → Bool) → WorkEntries J (rows_read_back lanes «data».now) work.now → result ≡ judged_rows lanes J (rows_read_back lanes «data».now) }
 {
     let counts = taps::tap_mask_counts(lanes);
     let mut t = no_timing();
@@ -130,8 +130,8 @@ fn tally_timing_rows(data: &[u8], lanes: usize, work: &[u16]) -> ArrowStats
 
 // The judged tally of an accepted text by the two loops, through the work slice, which is left 0 throughout.
 fn judge_rows(data: &[u8], lanes: usize, all: bool, flags: &[u8], work: &mut [u16]) -> ArrowStats
-    requires { (length «data».now ≤ mostBytes) × (4 ≤ lanes) × (lanes ≤ 10) × (mostRows lanes (length «data».now) ≤ length work.old) }
-    ensures value { result ≡ judgedRows lanes (judgedBy all flags.now) (readBack lanes «data».now) }
+    requires { (length «data».now ≤ most_bytes) × (4 ≤ lanes) × (lanes ≤ 10) × (most_rows_in lanes (length «data».now) ≤ length work.old) }
+    ensures value { result ≡ judged_rows lanes (judged_by all flags.now) (rows_read_back lanes «data».now) }
     ensures work_after { work.new ≡ padded 0 (length work.old) [] }
 {
     track_timing_rows(data, lanes, all, flags, &mut *work);
@@ -149,8 +149,8 @@ pub fn judge_accepted(
     flags: &[u8],
     work: &mut [u16],
 ) -> ArrowStats
-    requires { (length «data».now ≤ mostBytes) × (4 ≤ lanes) × (lanes ≤ 10) × (mostRows lanes (length «data».now) ≤ length work.old) }
-    ensures value { result ≡ judgedRows lanes (judgedBy all flags.now) (readBack lanes «data».now) }
+    requires { (length «data».now ≤ most_bytes) × (4 ≤ lanes) × (lanes ≤ 10) × (most_rows_in lanes (length «data».now) ≤ length work.old) }
+    ensures value { result ≡ judged_rows lanes (judged_by all flags.now) (rows_read_back lanes «data».now) }
     ensures work_after { work.new ≡ padded 0 (length work.old) [] }
 {
     if all {
@@ -166,7 +166,7 @@ pub fn judge_accepted(
 }
 
 // The judged tally of a text where all rows are judged, or else by the flags.
-#[tactic(auto, unfolding(definitions::specs::Entries::judgedChecked))]
+#[tactic(auto, unfolding(definitions::specs::Entries::judged_checked))]
 fn judge(
     data: &[u8],
     lanes: usize,
@@ -174,8 +174,8 @@ fn judge(
     flags: &[u8],
     work: &mut [u16],
 ) -> Result<ArrowStats, Refusal>
-    ensures value { result ≡ judgedChecked lanes «data».now work.old (judgedRows (lanes_of lanes) (judgedBy all flags.now) (readBack (lanes_of lanes) «data».now)) }
-    ensures work_after { work.new ≡ judgedWork lanes «data».now work.old }
+    ensures value { result ≡ judged_checked lanes «data».now work.old (judged_rows (lanes_of lanes) (judged_by all flags.now) (rows_read_back (lanes_of lanes) «data».now)) }
+    ensures work_after { work.new ≡ judged_work lanes «data».now work.old }
 {
     let len = data.len();
     refusals::text_fits(len)?;
@@ -185,28 +185,28 @@ fn judge(
 }
 
 // The tally with every row judged.
-#[tactic(auto, unfolding(definitions::specs::Judged::judgedTally))]
+#[tactic(auto, unfolding(definitions::specs::Judged::judged_tally))]
 pub fn process_rows_judgable(
     data: &[u8],
     lanes: usize,
     work: &mut [u16],
 ) -> Result<ArrowStats, Refusal>
-    ensures value { result ≡ judgedAnswer lanes «data».now work.old }
-    ensures work_after { work.new ≡ judgedWork lanes «data».now work.old }
+    ensures value { result ≡ judged_answer lanes «data».now work.old }
+    ensures work_after { work.new ≡ judged_work lanes «data».now work.old }
 {
     judge(data, lanes, true, b"", work)
 }
 
 // The tally with one flag byte a row: 0 unjudged, else judged.
-#[tactic(auto, unfolding(definitions::specs::Judged::flaggedTally))]
+#[tactic(auto, unfolding(definitions::specs::Judged::flagged_tally))]
 pub fn process_timing_rows(
     data: &[u8],
     lanes: usize,
     flags: &[u8],
     work: &mut [u16],
 ) -> Result<ArrowStats, Refusal>
-    ensures value { result ≡ flaggedAnswer lanes «data».now work.old flags.now }
-    ensures work_after { work.new ≡ judgedWork lanes «data».now work.old }
+    ensures value { result ≡ flagged_answer lanes «data».now work.old flags.now }
+    ensures work_after { work.new ≡ judged_work lanes «data».now work.old }
 {
     judge(data, lanes, false, flags, work)
 }

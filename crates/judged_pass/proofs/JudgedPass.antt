@@ -9,14 +9,14 @@ use native.Mathlib.Omega.{arith}
 use borrow.Author.Tests.{not-false, lt-ltb}
 use lib.Dec.{ltb}
 use lib.ListN.{length, get_or, length-append}
-use Rattle.definitions.specs.Sizes.{countBound, rowNumbersBound}
-use Rattle.definitions.specs.Lists.{someColumn, sumColumns}
+use Rattle.definitions.specs.Sizes.{count_bound, row_numbers_bound}
+use Rattle.definitions.specs.Lists.{some_column, sum_columns}
 use Rattle.definitions.specs.Lines.{Row}
 use Rattle.definitions.specs.Cells.{byte_at}
-use Rattle.definitions.specs.Tracker.{pairs, holdAt}
-use Rattle.definitions.specs.Tally.{noStats}
-use Rattle.definitions.specs.Correction.{phantomStep, phantomAfter}
-use Rattle.definitions.specs.Judged.{judgedSum, judgeRow, openBefore, judgeFrom, judgedRows}
+use Rattle.definitions.specs.Tracker.{pairs, hold_at}
+use Rattle.definitions.specs.Tally.{empty_stats}
+use Rattle.definitions.specs.Correction.{phantom_step, phantom_after}
+use Rattle.definitions.specs.Judged.{judged_sum, judge_row, open_before, judge_from, judged_rows}
 use Rattle.definitions.specs.declared.ArrowStats.{ArrowStats}
 use Rattle.definitions.proofs.Lists.{All, all_map}
 use Rattle.phantoms.proofs.Columns.{column-same, column-none, column-more}
@@ -25,7 +25,7 @@ use Rattle.holds.proofs.Ends.{sum_same}
 use Rattle.row_tally.specs.Bounds.{Below}
 use Rattle.row_tally.proofs.Bounds.{below_more, below_none, below-judged-line}
 use Rattle.row_tally.proofs.Rows.{judge-snoc}
-use Rattle.judged_pass.specs.Clean.{unpairs, unpairsFrom, isClean, every, cleanAnswer}
+use Rattle.judged_pass.specs.Clean.{unpairs, unpairs_from, is_clean, every, clean_answer}
 use Rattle.judged_pass.specs.JudgedPass.{Ready, RowPassed}
 use Rattle.judged_pass.specs.declared.CleanRows.{CleanRows}
 use Rattle.judged_pass.specs.declared.CleanTally.{CleanTally}
@@ -36,48 +36,48 @@ use Rattle.judged_pass.proofs.Rows.{none-unpairs}
 -- `all` are the rows of the text, and `rows` those that have come.
 pub record Passes (L : ℕ) (all rows : List Row) (t : CleanRows) : Type 0 where
   pub ready : Ready t
-  pub depths : (c : ℕ) → c < 10 → get_or t.depths c 0 ≡ phantomAfter c 0 rows
-  pub whole : (c : ℕ) → c < 10 → unpairsFrom c 0 rows ≡ false
-  pub stats : AllClean all → t.stats ≡ judgeFrom L every (pairs all) noStats 0 rows
+  pub depths : (c : ℕ) → c < 10 → get_or t.depths c 0 ≡ phantom_after c 0 rows
+  pub whole : (c : ℕ) → c < 10 → unpairs_from c 0 rows ≡ false
+  pub stats : AllClean all → t.stats ≡ judge_from L every (pairs all) empty_stats 0 rows
   pub below : Below (10 * length rows) t.stats
 
-pub passes-start : (L : ℕ) (all : List Row) (t : CleanRows) → Ready t → t.stats ≡ noStats → ((c : ℕ) → c < 10 → get_or t.depths c 0 ≡ 0) → Passes L all [] t
+pub passes-start : (L : ℕ) (all : List Row) (t : CleanRows) → Ready t → t.stats ≡ empty_stats → ((c : ℕ) → c < 10 → get_or t.depths c 0 ≡ 0) → Passes L all [] t
 passes-start L all t r s z = record { ready = r; depths = z; whole = λ c h. refl; stats = λ k. s; below = rw s below_none }
 
 -- ---- The answer
 -- clean rows, and others
-clean-rows : (rows : List Row) → AllClean rows → isClean rows ≡ true
-unfolding isClean
+clean-rows : (rows : List Row) → AllClean rows → is_clean rows ≡ true
+unfolding is_clean
 clean-rows rows k =
     ap not
-    (column-same 10 (λ c. unpairsFrom c 0 rows || ltb 0 (phantomAfter c 0 rows)) (λ c. false) (λ c h. rw ((k c h).whole, (k c h).closed)) ∙ column-none 10)
+    (column-same 10 (λ c. unpairs_from c 0 rows || ltb 0 (phantom_after c 0 rows)) (λ c. false) (λ c h. rw ((k c h).whole, (k c h).closed)) ∙ column-none 10)
 
-unclean-rows : (rows : List Row) → someColumn 10 (λ c. unpairsFrom c 0 rows || ltb 0 (phantomAfter c 0 rows)) ≡ true → isClean rows ≡ false
-unfolding isClean
+unclean-rows : (rows : List Row) → some_column 10 (λ c. unpairs_from c 0 rows || ltb 0 (phantom_after c 0 rows)) ≡ true → is_clean rows ≡ false
+unfolding is_clean
 unclean-rows rows e = ap not e
 
-answer-clean : (L : ℕ) (rows : List Row) → isClean rows ≡ true → Tally (judgedRows L every rows) ≡ cleanAnswer L rows
-unfolding cleanAnswer
+answer-clean : (L : ℕ) (rows : List Row) → is_clean rows ≡ true → Tally (judged_rows L every rows) ≡ clean_answer L rows
+unfolding clean_answer
 answer-clean L rows e = rw e
 
-answer-none : (L : ℕ) (rows : List Row) → isClean rows ≡ false → NotClean ≡ cleanAnswer L rows
-unfolding cleanAnswer
+answer-none : (L : ℕ) (rows : List Row) → is_clean rows ≡ false → NotClean ≡ clean_answer L rows
+unfolding clean_answer
 answer-none L rows e = rw e
 
 -- an answer that is a tally
-pub answer-told : (r : CleanTally) (L : ℕ) (rows : List Row) (s : ArrowStats) → r ≡ cleanAnswer L rows → r ≡ Tally s → s ≡ judgedRows L every rows
-unfolding cleanAnswer
-answer-told r L rows s e f = go (isClean rows) refl
+pub answer-told : (r : CleanTally) (L : ℕ) (rows : List Row) (s : ArrowStats) → r ≡ clean_answer L rows → r ≡ Tally s → s ≡ judged_rows L every rows
+unfolding clean_answer
+answer-told r L rows s e f = go (is_clean rows) refl
   where
-    go : (t : Bool) → isClean rows ≡ t → s ≡ judgedRows L every rows
-    go true q = let h : Tally s ≡ Tally (judgedRows L every rows) = sym f ∙ e ∙ rw q refl in cc
+    go : (t : Bool) → is_clean rows ≡ t → s ≡ judged_rows L every rows
+    go true q = let h : Tally s ≡ Tally (judged_rows L every rows) = sym f ∙ e ∙ rw q refl in cc
     go false q =
         let h : Tally s ≡ NotClean = sym f ∙ e ∙ rw q refl in
         let z : ◌≡◌ {A = ℕ} 0 1 = cc in
         absurd (omega arith)
 
 -- a sum of zeros
-sum-none : (n : ℕ) (f : ℕ → ℕ) → sumColumns n f ≡ 0 → (c : ℕ) → c < n → f c ≡ 0
+sum-none : (n : ℕ) (f : ℕ → ℕ) → sum_columns n f ≡ 0 → (c : ℕ) → c < n → f c ≡ 0
 sum-none zero f e c h = absurd (not-suc-le-zero h)
 sum-none (suc n) f e c h =
     elim (dec_lt c n) [
@@ -86,83 +86,83 @@ sum-none (suc n) f e c h =
     ]
 
 -- a sum that is not 0 has a number that is not
-sum-some : (n : ℕ) (f : ℕ → ℕ) → (sumColumns n f ≡ 0 → ⊥) → someColumn n (λ c. ltb 0 (f c)) ≡ true
+sum-some : (n : ℕ) (f : ℕ → ℕ) → (sum_columns n f ≡ 0 → ⊥) → some_column n (λ c. ltb 0 (f c)) ≡ true
 sum-some zero f h = absurd (h refl)
 sum-some (suc n) f h =
     elim (dec_lt 0 (f n)) [
-      | yes b ↦ rw (lt-ltb 0 (f n) b) (or-true (someColumn n (λ c. ltb 0 (f c))))
+      | yes b ↦ rw (lt-ltb 0 (f n) b) (or-true (some_column n (λ c. ltb 0 (f c))))
       | no b ↦ rw (sum-some n f (λ e. h (omega arith)))
     ]
 
 -- ---- One row more
-unpairs-append : (c d : ℕ) (rows more : List Row) → unpairsFrom c d (rows ++ more) ≡ (unpairsFrom c d rows || unpairsFrom c (phantomAfter c d rows) more)
+unpairs-append : (c d : ℕ) (rows more : List Row) → unpairs_from c d (rows ++ more) ≡ (unpairs_from c d rows || unpairs_from c (phantom_after c d rows) more)
 unpairs-append c d [] more = refl
 unpairs-append c d (q ∷ rows) more =
-    rw or_assoc (ap (λ t. unpairs (holdAt (byte_at c q)) d || t) (unpairs-append c (phantomStep (holdAt (byte_at c q)) d) rows more))
+    rw or_assoc (ap (λ t. unpairs (hold_at (byte_at c q)) d || t) (unpairs-append c (phantom_step (hold_at (byte_at c q)) d) rows more))
 
 -- in clean rows a row is counted with all its heads, and before it as many holds are open as there are open heads
 module _ (L : ℕ) (rows : List Row) (r : Row) (rest : List Row) (m : L ≤ 10) (w : length r ≤ 10) (held : ℕ) (s : ArrowStats) where
   abbrev Counted : List Row → Type 0
   Counted all =
-      All (λ (q : Row). length q ≤ L) all → AllClean all → held ≡ sumColumns 10 (λ c. phantomAfter c 0 rows)
-      → s ≡ judgeFrom L every (pairs all) noStats 0 rows
-      → judgeRow s true held (judgedSum true r) ≡ judgeFrom L every (pairs all) noStats 0 (rows ++ (r ∷ []))
+      All (λ (q : Row). length q ≤ L) all → AllClean all → held ≡ sum_columns 10 (λ c. phantom_after c 0 rows)
+      → s ≡ judge_from L every (pairs all) empty_stats 0 rows
+      → judge_row s true held (judged_sum true r) ≡ judge_from L every (pairs all) empty_stats 0 (rows ++ (r ∷ []))
 
   counted-here : Counted (rows ++ (r ∷ rest))
   counted-here short k a e =
       rw (a, ← clean-active L rows (r ∷ rest) m short k, e)
-      (ap (λ (q : Row). judgeRow (judgeFrom L every (pairs (rows ++ (r ∷ rest))) noStats 0 rows) true (openBefore L every (pairs (rows ++ (r ∷ rest))) (length rows)) (judgedSum true q)) (sym (clean-kept rows r rest w k))
-      ∙ sym (rw zero-add at (judge-snoc (pairs (rows ++ (r ∷ rest))) L every noStats 0 rows r)))
+      (ap (λ (q : Row). judge_row (judge_from L every (pairs (rows ++ (r ∷ rest))) empty_stats 0 rows) true (open_before L every (pairs (rows ++ (r ∷ rest))) (length rows)) (judged_sum true q)) (sym (clean-kept rows r rest w k))
+      ∙ sym (rw zero-add at (judge-snoc (pairs (rows ++ (r ∷ rest))) L every empty_stats 0 rows r)))
 
   counted : (all : List Row) → rows ++ (r ∷ rest) ≡ all → Counted all
   counted all e = subst (λ (q : List Row). Counted q) e counted-here
 
 module _ (L : ℕ) (all rows : List Row) (t : CleanRows) (x : Passes L all rows t) where
   -- the counts of the tally are low
-  pub passes-few : length rows ≤ rowNumbersBound → Below countBound t.stats
-  passes-few h = below_more (10 * length rows) countBound t.stats (omega arith) x.below
+  pub passes-few : length rows ≤ row_numbers_bound → Below count_bound t.stats
+  passes-few h = below_more (10 * length rows) count_bound t.stats (omega arith) x.below
 
   -- the open heads are those of the rows so far
-  held : t.active ≡ sumColumns 10 (λ c. phantomAfter c 0 rows)
-  held = x.ready.active ∙ sum_same 10 (λ c. get_or t.depths c 0) (λ c. phantomAfter c 0 rows) x.depths
+  held : t.active ≡ sum_columns 10 (λ c. phantom_after c 0 rows)
+  held = x.ready.active ∙ sum_same 10 (λ c. get_or t.depths c 0) (λ c. phantom_after c 0 rows) x.depths
 
   -- at the end
   module _ (e : all ≡ rows) where
     -- with no head open
     all-clean : t.active ≡ 0 → AllClean all
-    all-clean z = rw e (λ c k. record { whole = x.whole c k; closed = sum-none 10 (λ c. phantomAfter c 0 rows) (sym held ∙ z) c k })
+    all-clean z = rw e (λ c k. record { whole = x.whole c k; closed = sum-none 10 (λ c. phantom_after c 0 rows) (sym held ∙ z) c k })
 
-    pub passes-end : t.active ≡ 0 → Tally t.stats ≡ cleanAnswer L all
-    unfolding judgedRows
+    pub passes-end : t.active ≡ 0 → Tally t.stats ≡ clean_answer L all
+    unfolding judged_rows
     passes-end z =
         let k = all-clean z in
-        ap Tally (x.stats k ∙ ap (judgeFrom L every (pairs all) noStats 0) (sym e))
+        ap Tally (x.stats k ∙ ap (judge_from L every (pairs all) empty_stats 0) (sym e))
         ∙ answer-clean L all (clean-rows all k)
 
     -- with one
-    pub passes-open : (t.active ≡ 0 → ⊥) → NotClean ≡ cleanAnswer L all
+    pub passes-open : (t.active ≡ 0 → ⊥) → NotClean ≡ clean_answer L all
     passes-open z =
         answer-none L all
         (unclean-rows all
         (rw e
-        (column-more 10 (λ c. ltb 0 (phantomAfter c 0 rows)) (λ c. unpairsFrom c 0 rows || ltb 0 (phantomAfter c 0 rows))
-        (λ c k e. rw e (or-true (unpairsFrom c 0 rows)))
-        (sum-some 10 (λ c. phantomAfter c 0 rows) (λ e. z (held ∙ e))))))
+        (column-more 10 (λ c. ltb 0 (phantom_after c 0 rows)) (λ c. unpairs_from c 0 rows || ltb 0 (phantom_after c 0 rows))
+        (λ c k e. rw e (or-true (unpairs_from c 0 rows)))
+        (sum-some 10 (λ c. phantom_after c 0 rows) (λ e. z (held ∙ e))))))
 
   module _ (row : Row) (rest : List Row) (e : all ≡ rows ++ (row ∷ rest)) (t' : CleanRows) (p : RowPassed row t t') where
     -- the row leaves a head unpaired in this column
-    here : (c : ℕ) → c < 10 → unpairs (holdAt (byte_at c row)) (get_or t.depths c 0) ≡ true
-        → (unpairsFrom c 0 (rows ++ (row ∷ rest)) || ltb 0 (phantomAfter c 0 (rows ++ (row ∷ rest)))) ≡ true
+    here : (c : ℕ) → c < 10 → unpairs (hold_at (byte_at c row)) (get_or t.depths c 0) ≡ true
+        → (unpairs_from c 0 (rows ++ (row ∷ rest)) || ltb 0 (phantom_after c 0 (rows ++ (row ∷ rest)))) ≡ true
     here c n u =
-        let met : unpairs (holdAt (byte_at c row)) (phantomAfter c 0 rows) ≡ true = ap (unpairs (holdAt (byte_at c row))) (sym (x.depths c n)) ∙ u in
-        rw (unpairs-append c 0 rows (row ∷ rest), met, or-true (unpairsFrom c 0 rows))
+        let met : unpairs (hold_at (byte_at c row)) (phantom_after c 0 rows) ≡ true = ap (unpairs (hold_at (byte_at c row))) (sym (x.depths c n)) ∙ u in
+        rw (unpairs-append c 0 rows (row ∷ rest), met, or-true (unpairs_from c 0 rows))
 
-    pub passes-unclean : t'.clean ≡ false → NotClean ≡ cleanAnswer L all
+    pub passes-unclean : t'.clean ≡ false → NotClean ≡ clean_answer L all
     passes-unclean k =
         answer-none L all
         (unclean-rows all
         (rw e
-        (column-more 10 (λ c. unpairs (holdAt (byte_at c row)) (get_or t.depths c 0)) _ here (not-false _ (sym p.cells.clean ∙ k)))))
+        (column-more 10 (λ c. unpairs (hold_at (byte_at c row)) (get_or t.depths c 0)) _ here (not-false _ (sym p.cells.clean ∙ k)))))
 
     pub passes-row : L ≤ 10 → length row ≡ L → All (λ (r : Row). length r ≡ L) all → t'.clean ≡ true → Passes L all (rows ++ (row ∷ [])) t'
     passes-row m w wide k =
@@ -172,14 +172,14 @@ module _ (L : ℕ) (all rows : List Row) (t : CleanRows) (x : Passes L all rows 
           depths =
               λ c n.
               p.cells.depths c n
-              ∙ ap (phantomStep (holdAt (byte_at c row))) (x.depths c n)
+              ∙ ap (phantom_step (hold_at (byte_at c row))) (x.depths c n)
               ∙ sym (after-snoc c 0 rows row);
           whole =
               λ c n.
               unpairs-append c 0 rows (row ∷ [])
               ∙ ap₂ (λ (a b : Bool). a || b) (x.whole c n)
-              (or-false (unpairs (holdAt (byte_at c row)) (phantomAfter c 0 rows))
-              ∙ ap (unpairs (holdAt (byte_at c row))) (sym (x.depths c n))
+              (or-false (unpairs (hold_at (byte_at c row)) (phantom_after c 0 rows))
+              ∙ ap (unpairs (hold_at (byte_at c row))) (sym (x.depths c n))
               ∙ none-unpairs row t.depths t'.clean p.cells.clean k c n);
           stats =
               λ q.

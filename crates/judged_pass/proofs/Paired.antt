@@ -8,25 +8,25 @@ use native.Mathlib.Omega.{arith}
 use borrow.Author.Tests.{ltb-false, leb-false, lt-ltb, le-ltb, le-leb, lt-leb, eq-eqb}
 use lib.Dec.{ltb, leb}
 use lib.ListN.{length}
-use Rattle.definitions.specs.Lists.{count, sumColumns}
+use Rattle.definitions.specs.Lists.{count, sum_columns}
 use Rattle.definitions.specs.Lines.{Row}
 use Rattle.definitions.specs.Cells.{byte_at}
-use Rattle.definitions.specs.Tracker.{Pair, nextStack, paired, holdAt, pairsFrom, pairs, isHeadOf}
-use Rattle.definitions.specs.Correction.{phantomStep, phantomAfter, keepRow}
-use Rattle.definitions.specs.Judged.{openOf, openBefore}
+use Rattle.definitions.specs.Tracker.{Pair, next_stack, paired, hold_at, pairs_from, pairs, is_head_of}
+use Rattle.definitions.specs.Correction.{phantom_step, phantom_after, keep_row}
+use Rattle.definitions.specs.Judged.{open_of, open_before}
 use Rattle.definitions.specs.declared.DepthEffect.{DepthEffect}
 use Rattle.definitions.specs.declared.DepthEffect.TheVariants.{Nothing, Blocks, Opens, Closes}
 use Rattle.definitions.proofs.Lists.{All, none, one, all_map}
-use Rattle.holds.specs.Tracks.{stackFrom, stackAfter}
+use Rattle.holds.specs.Tracks.{stack_from, stack_after}
 use Rattle.holds.proofs.Pairs.{heads-append, count-append, stacked, pairs-narrow}
 use Rattle.holds.proofs.Ends.{sum_same, sum-beyond}
 use Rattle.row_tally.proofs.Kept.{keep-whole}
-use Rattle.judged_pass.specs.Clean.{unpairs, unpairsFrom, every}
+use Rattle.judged_pass.specs.Clean.{unpairs, unpairs_from, every}
 
 -- Column c of these rows is clean from the depth d on: no cell leaves a head unpaired, and no head is left open.
 pub record Clean (c d : ℕ) (rows : List Row) : Type 0 where
-  pub whole : unpairsFrom c d rows ≡ false
-  pub closed : phantomAfter c d rows ≡ 0
+  pub whole : unpairs_from c d rows ≡ false
+  pub closed : phantom_after c d rows ≡ 0
 
 -- every column is clean
 abbrev pub AllClean : List Row → Type 0
@@ -44,13 +44,13 @@ or-none false q e = (refl, e)
 
 -- a cell of a clean column, and the rows after it
 module _ (c d : ℕ) (r : Row) (rs : List Row) (k : Clean c d (r ∷ rs)) where
-  clean-cell : unpairs (holdAt (byte_at c r)) d ≡ false
-  clean-cell = (or-none (unpairs (holdAt (byte_at c r)) d) (unpairsFrom c (phantomStep (holdAt (byte_at c r)) d) rs) k.whole).0
+  clean-cell : unpairs (hold_at (byte_at c r)) d ≡ false
+  clean-cell = (or-none (unpairs (hold_at (byte_at c r)) d) (unpairs_from c (phantom_step (hold_at (byte_at c r)) d) rs) k.whole).0
 
-  clean-rest : Clean c (phantomStep (holdAt (byte_at c r)) d) rs
+  clean-rest : Clean c (phantom_step (hold_at (byte_at c r)) d) rs
   clean-rest =
       record {
-        whole = (or-none (unpairs (holdAt (byte_at c r)) d) (unpairsFrom c (phantomStep (holdAt (byte_at c r)) d) rs) k.whole).1;
+        whole = (or-none (unpairs (hold_at (byte_at c r)) d) (unpairs_from c (phantom_step (hold_at (byte_at c r)) d) rs) k.whole).1;
         closed = k.closed;
       }
 
@@ -58,10 +58,10 @@ module _ (c d : ℕ) (r : Row) (rs : List Row) (k : Clean c d (r ∷ rs)) where
 blocks-none : (st : List ℕ) → ltb 0 (length st) ≡ false → st ≡ []
 blocks-none st h = none_open st (let l = ltb-false 0 (length st) h in omega arith)
 
-opens-pushed : (i : ℕ) (st : List ℕ) → leb 8 (length st) ≡ false → nextStack Opens i st ≡ i ∷ st
+opens-pushed : (i : ℕ) (st : List ℕ) → leb 8 (length st) ≡ false → next_stack Opens i st ≡ i ∷ st
 opens-pushed i st h = rw (lt-ltb (length st) 8 (leb-false 8 (length st) h))
 
-depth-next : (e : DepthEffect) (i : ℕ) (st : List ℕ) → unpairs e (length st) ≡ false → length (nextStack e i st) ≡ phantomStep e (length st)
+depth-next : (e : DepthEffect) (i : ℕ) (st : List ℕ) → unpairs e (length st) ≡ false → length (next_stack e i st) ≡ phantom_step e (length st)
 depth-next Nothing i st h = refl
 depth-next Blocks i st h = let l = ltb-false 0 (length st) h in omega arith
 depth-next Opens i st h = ap length (opens-pushed i st h)
@@ -70,18 +70,18 @@ depth-next Closes i (x ∷ st) h = omega arith
 
 -- the rows after one, with the stack after it
 module _ (c i : ℕ) (st : List ℕ) (r : Row) (rs : List Row) (k : Clean c (length st) (r ∷ rs)) where
-  clean-next : Clean c (length (nextStack (holdAt (byte_at c r)) i st)) rs
-  clean-next = rw (depth-next (holdAt (byte_at c r)) i st (clean-cell c (length st) r rs k)) (clean-rest c (length st) r rs k)
+  clean-next : Clean c (length (next_stack (hold_at (byte_at c r)) i st)) rs
+  clean-next = rw (depth-next (hold_at (byte_at c r)) i st (clean-cell c (length st) r rs k)) (clean-rest c (length st) r rs k)
 
 -- ---- Every head is paired
 abbrev Headed : List Pair → ℕ → Type 0
-Headed ps h = isHeadOf h ps ≡ true
+Headed ps h = is_head_of h ps ≡ true
 
 headed-more : (h : ℕ) (ps qs : List Pair) → Headed qs h → Headed (ps ++ qs) h
-headed-more h ps qs e = heads-append h ps qs ∙ ap (λ b. isHeadOf h ps || b) e ∙ or-true (isHeadOf h ps)
+headed-more h ps qs e = heads-append h ps qs ∙ ap (λ b. is_head_of h ps || b) e ∙ or-true (is_head_of h ps)
 
 -- the open heads before a row, if those after it are heads of pairs
-headed-before : (e : DepthEffect) (i : ℕ) (st : List ℕ) (ps : List Pair) → unpairs e (length st) ≡ false → All (Headed ps) (nextStack e i st)
+headed-before : (e : DepthEffect) (i : ℕ) (st : List ℕ) (ps : List Pair) → unpairs e (length st) ≡ false → All (Headed ps) (next_stack e i st)
     → All (Headed (paired e i st ++ ps)) st
 headed-before Nothing i st ps h a = a
 headed-before Blocks i st ps h a = rw (blocks-none st h) none
@@ -94,12 +94,12 @@ headed-before Closes i (x ∷ st) ps h a =
     one {a = x} (rw (eq-eqb x x refl)) (all_map (λ y (q : Headed ps y). headed-more y (record { head = x; tail = i } ∷ []) ps q) a)
 
 -- every open head before some rows
-all-headed : (c i : ℕ) (st : List ℕ) (rs : List Row) → Clean c (length st) rs → All (Headed (pairsFrom c i st rs)) st
+all-headed : (c i : ℕ) (st : List ℕ) (rs : List Row) → Clean c (length st) rs → All (Headed (pairs_from c i st rs)) st
 all-headed c i st [] k = rw (none_open st k.closed) none
 all-headed c i st (r ∷ rs) k =
-    let e = holdAt (byte_at c r) in
-    headed-before e i st (pairsFrom c (suc i) (nextStack e i st) rs) (clean-cell c (length st) r rs k)
-    (all-headed c (suc i) (nextStack e i st) rs (clean-next c i st r rs k))
+    let e = hold_at (byte_at c r) in
+    headed-before e i st (pairs_from c (suc i) (next_stack e i st) rs) (clean-cell c (length st) r rs k)
+    (all-headed c (suc i) (next_stack e i st) rs (clean-next c i st r rs k))
 
 -- the newest of the open heads
 newest : {P : ℕ → Type 0} {x : ℕ} {st l : List ℕ} → l ≡ x ∷ st → All P l → P x
@@ -109,30 +109,30 @@ newest {P} {x} {st} e a = go (rw e at a)
     go (one h b) = h
 
 -- and every head among them
-later-headed : (c i : ℕ) (st : List ℕ) (rs : List Row) (r : Row) (rest : List Row) → Clean c (length st) (rs ++ (r ∷ rest)) → holdAt (byte_at c r) ≡ Opens
-    → Headed (pairsFrom c i st (rs ++ (r ∷ rest))) (i + length rs)
+later-headed : (c i : ℕ) (st : List ℕ) (rs : List Row) (r : Row) (rest : List Row) → Clean c (length st) (rs ++ (r ∷ rest)) → hold_at (byte_at c r) ≡ Opens
+    → Headed (pairs_from c i st (rs ++ (r ∷ rest))) (i + length rs)
 later-headed c i st [] r rest k o =
-    let e = holdAt (byte_at c r) in
-    let pushed = ap (λ x. nextStack x i st) o ∙ opens-pushed i st (rw o at (clean-cell c (length st) r rest k)) in
+    let e = hold_at (byte_at c r) in
+    let pushed = ap (λ x. next_stack x i st) o ∙ opens-pushed i st (rw o at (clean-cell c (length st) r rest k)) in
     let z : i + 0 ≡ i = omega arith in
     rw z
-    (headed-more i (paired e i st) (pairsFrom c (suc i) (nextStack e i st) rest)
-    (newest pushed (all-headed c (suc i) (nextStack e i st) rest (clean-next c i st r rest k))))
+    (headed-more i (paired e i st) (pairs_from c (suc i) (next_stack e i st) rest)
+    (newest pushed (all-headed c (suc i) (next_stack e i st) rest (clean-next c i st r rest k))))
 later-headed c i st (q ∷ rs) r rest k o =
-    let e = holdAt (byte_at c q) in
+    let e = hold_at (byte_at c q) in
     let z : i + suc (length rs) ≡ suc i + length rs = omega arith in
     rw z
-    (headed-more (suc i + length rs) (paired e i st) (pairsFrom c (suc i) (nextStack e i st) (rs ++ (r ∷ rest)))
-    (later-headed c (suc i) (nextStack e i st) rs r rest (clean-next c i st q (rs ++ (r ∷ rest)) k) o))
+    (headed-more (suc i + length rs) (paired e i st) (pairs_from c (suc i) (next_stack e i st) (rs ++ (r ∷ rest)))
+    (later-headed c (suc i) (next_stack e i st) rs r rest (clean-next c i st q (rs ++ (r ∷ rest)) k) o))
 
-pub clean-headed : (c : ℕ) (rows : List Row) (r : Row) (rest : List Row) → Clean c 0 (rows ++ (r ∷ rest)) → holdAt (byte_at c r) ≡ Opens
-    → isHeadOf (length rows) (pairs (rows ++ (r ∷ rest)) c) ≡ true
+pub clean-headed : (c : ℕ) (rows : List Row) (r : Row) (rest : List Row) → Clean c 0 (rows ++ (r ∷ rest)) → hold_at (byte_at c r) ≡ Opens
+    → is_head_of (length rows) (pairs (rows ++ (r ∷ rest)) c) ≡ true
 unfolding pairs
 clean-headed c rows r rest k o = rw zero-add at (later-headed c 0 [] rows r rest k o)
 
 -- so its row is counted as it is
 pub clean-kept : (rows : List Row) (r : Row) (rest : List Row) → length r ≤ 10 → AllClean (rows ++ (r ∷ rest))
-    → keepRow (pairs (rows ++ (r ∷ rest))) (length rows) 0 r ≡ r
+    → keep_row (pairs (rows ++ (r ∷ rest))) (length rows) 0 r ≡ r
 clean-kept rows r rest m k =
     keep-whole (pairs (rows ++ (r ∷ rest))) (length rows) 0 r
     (λ c l o. rw zero-add (clean-headed c rows r rest (k c (omega arith)) o))
@@ -143,7 +143,7 @@ abbrev before : ℕ → List ℕ → ℕ
 before k st = count (λ h. ltb h k) st
 
 open-cell : (e : DepthEffect) (i k : ℕ) (st : List ℕ) → k ≤ i → unpairs e (length st) ≡ false
-    → openOf every k (paired e i st) + before k (nextStack e i st) ≡ before k st
+    → open_of every k (paired e i st) + before k (next_stack e i st) ≡ before k st
 open-cell Nothing i k st h s = zero-add (before k st)
 open-cell Blocks i k st h s = rw (blocks-none st s)
 open-cell Opens i k st h s = rw (opens-pushed i st s, le-ltb i k h) (omega arith)
@@ -151,18 +151,18 @@ open-cell Closes i k [] h s = refl
 open-cell Closes i k (x ∷ st) h s = rw (le-leb k i h, and-true (ltb x k)) (omega arith)
 
 -- of the open heads before row i, those before row k stay open to the tail
-open-here : (c i k : ℕ) (st : List ℕ) (rs : List Row) → k ≤ i → Clean c (length st) rs → openOf every k (pairsFrom c i st rs) ≡ before k st
+open-here : (c i k : ℕ) (st : List ℕ) (rs : List Row) → k ≤ i → Clean c (length st) rs → open_of every k (pairs_from c i st rs) ≡ before k st
 open-here c i k st [] h q = rw (none_open st q.closed)
 open-here c i k st (r ∷ rs) h q =
-    let e = holdAt (byte_at c r) in
-    let next = nextStack e i st in
-    let a = count-append (λ (p : Pair). every p.head && (ltb p.head k && leb k p.tail)) (paired e i st) (pairsFrom c (suc i) next rs) in
+    let e = hold_at (byte_at c r) in
+    let next = next_stack e i st in
+    let a = count-append (λ (p : Pair). every p.head && (ltb p.head k && leb k p.tail)) (paired e i st) (pairs_from c (suc i) next rs) in
     let b = open-here c (suc i) k next rs (omega arith) (clean-next c i st r rs q) in
     let d = open-cell e i k st h (clean-cell c (length st) r rs q) in
     omega arith
 
 -- what is paired at row i is not open after it
-open-past : (e : DepthEffect) (i k : ℕ) (st : List ℕ) → i < k → openOf every k (paired e i st) ≡ 0
+open-past : (e : DepthEffect) (i k : ℕ) (st : List ℕ) → i < k → open_of every k (paired e i st) ≡ 0
 open-past Nothing i k st h = refl
 open-past Blocks i k st h = refl
 open-past Opens i k st h = refl
@@ -170,34 +170,34 @@ open-past Closes i k [] h = refl
 open-past Closes i k (x ∷ st) h = rw (lt-leb k i h, and-false (ltb x k))
 
 open-from : (c i : ℕ) (st : List ℕ) (rs rest : List Row) → Clean c (length st) (rs ++ rest)
-    → openOf every (i + length rs) (pairsFrom c i st (rs ++ rest)) ≡ before (i + length rs) (stackFrom c i st rs)
+    → open_of every (i + length rs) (pairs_from c i st (rs ++ rest)) ≡ before (i + length rs) (stack_from c i st rs)
 open-from c i st [] rest k = open-here c i (i + 0) st rest (omega arith) k
 open-from c i st (r ∷ rs) rest k =
-    let e = holdAt (byte_at c r) in
-    let next = nextStack e i st in
+    let e = hold_at (byte_at c r) in
+    let next = next_stack e i st in
     let z : i + suc (length rs) ≡ suc i + length rs = omega arith in
     rw z
     (let a =
     count-append (λ (p : Pair). every p.head && (ltb p.head (suc i + length rs) && leb (suc i + length rs) p.tail)) (paired e i st)
-    (pairsFrom c (suc i) next (rs ++ rest)) in
+    (pairs_from c (suc i) next (rs ++ rest)) in
     let b = open-past e i (suc i + length rs) st (omega arith) in
     let d = open-from c (suc i) next rs rest (clean-next c i st r (rs ++ rest) k) in
     omega arith)
 
 depth-from : (c i : ℕ) (st : List ℕ) (rs rest : List Row) → Clean c (length st) (rs ++ rest)
-    → length (stackFrom c i st rs) ≡ phantomAfter c (length st) rs
+    → length (stack_from c i st rs) ≡ phantom_after c (length st) rs
 depth-from c i st [] rest k = refl
 depth-from c i st (r ∷ rs) rest k =
-    depth-from c (suc i) (nextStack (holdAt (byte_at c r)) i st) rs rest (clean-next c i st r (rs ++ rest) k)
-    ∙ ap (λ d. phantomAfter c d rs) (depth-next (holdAt (byte_at c r)) i st (clean-cell c (length st) r (rs ++ rest) k))
+    depth-from c (suc i) (next_stack (hold_at (byte_at c r)) i st) rs rest (clean-next c i st r (rs ++ rest) k)
+    ∙ ap (λ d. phantom_after c d rs) (depth-next (hold_at (byte_at c r)) i st (clean-cell c (length st) r (rs ++ rest) k))
 
 all-before : {k : ℕ} {st : List ℕ} → All (λ h. h < k) st → before k st ≡ length st
 all-before none = refl
 all-before {k} (one {a = h} l a) = rw (lt-ltb h k l, all-before a) (omega arith)
 
 -- The holds of a clean column that are open before a row are its open heads there.
-pub clean-open : (c : ℕ) (rows rest : List Row) → Clean c 0 (rows ++ rest) → openOf every (length rows) (pairs (rows ++ rest) c) ≡ phantomAfter c 0 rows
-unfolding pairs stackAfter
+pub clean-open : (c : ℕ) (rows rest : List Row) → Clean c 0 (rows ++ rest) → open_of every (length rows) (pairs (rows ++ rest) c) ≡ phantom_after c 0 rows
+unfolding pairs stack_after
 clean-open c rows rest k =
     rw zero-add at (open-from c 0 [] rows rest k)
     ∙ all-before (stacked rows c).before
@@ -205,9 +205,9 @@ clean-open c rows rest k =
 
 -- and so of all columns
 pub clean-active : (L : ℕ) (rows rest : List Row) → L ≤ 10 → All (λ r. length r ≤ L) (rows ++ rest) → AllClean (rows ++ rest)
-    → openBefore L every (pairs (rows ++ rest)) (length rows) ≡ sumColumns 10 (λ c. phantomAfter c 0 rows)
-unfolding openBefore
+    → open_before L every (pairs (rows ++ rest)) (length rows) ≡ sum_columns 10 (λ c. phantom_after c 0 rows)
+unfolding open_before
 clean-active L rows rest m short k =
-    let holds : ℕ → ℕ = λ c. openOf every (length rows) (pairs (rows ++ rest) c) in
-    sym (sum-beyond L 10 holds m (λ c l. ap (openOf every (length rows)) (pairs-narrow L c (rows ++ rest) l short)))
-    ∙ sum_same 10 holds (λ c. phantomAfter c 0 rows) (λ c l. clean-open c rows rest (k c l))
+    let holds : ℕ → ℕ = λ c. open_of every (length rows) (pairs (rows ++ rest) c) in
+    sym (sum-beyond L 10 holds m (λ c l. ap (open_of every (length rows)) (pairs-narrow L c (rows ++ rest) l short)))
+    ∙ sum_same 10 holds (λ c. phantom_after c 0 rows) (λ c l. clean-open c rows rest (k c l))

@@ -7,21 +7,21 @@ use native.Mathlib.Nat.{suc-mul}
 use native.Mathlib.Omega.{arith}
 use borrow.Author.Tests.{not-true}
 use lib.ListN.{get_or}
-use Rattle.definitions.specs.Lists.{someColumn, sumColumns}
+use Rattle.definitions.specs.Lists.{some_column, sum_columns}
 use Rattle.definitions.specs.Lines.{Row}
 use Rattle.definitions.specs.Cells.{cell_of, byte_at}
-use Rattle.definitions.specs.Tracker.{holdAt}
-use Rattle.definitions.specs.Correction.{phantomStep}
+use Rattle.definitions.specs.Tracker.{hold_at}
+use Rattle.definitions.specs.Correction.{phantom_step}
 use Rattle.phantoms.proofs.Columns.{column-same, column-none, column-each}
 use Rattle.taps.specs.Taps.{bit, FreeTaps, FreeAre}
 use Rattle.taps.proofs.Free.{Free, zero-cell, tap-there, free-cell}
 use Rattle.judged_pass.specs.Clean.{unpairs}
-use Rattle.judged_pass.specs.JudgedPass.{CellsPassed, openHeads, Ready}
+use Rattle.judged_pass.specs.JudgedPass.{CellsPassed, open_head_count, Ready}
 use Rattle.judged_pass.specs.declared.CleanRows.{CleanRows}
 use Rattle.judged_pass.proofs.Columns.{depth_low}
 
 -- a sum of n numbers of at most k
-sum-most : (k n : ℕ) (f : ℕ → ℕ) → ((c : ℕ) → c < n → f c ≤ k) → sumColumns n f ≤ n * k
+sum-most : (k n : ℕ) (f : ℕ → ℕ) → ((c : ℕ) → c < n → f c ≤ k) → sum_columns n f ≤ n * k
 sum-most k zero f h = omega arith
 sum-most k (suc n) f h =
     let a = sum-most k n f (λ c l. h c (omega arith)) in
@@ -32,16 +32,16 @@ pub active-few : (t : CleanRows) → Ready t → t.active ≤ 80
 active-few t r = rw r.active (sum-most 8 10 (λ c. get_or t.depths c 0) r.low)
 
 -- where the cells left every column clean, each did
-pub none-unpairs : (row : Row) (ds : List ℕ) (kept : Bool) → kept ≡ not (someColumn 10 (λ c. unpairs (holdAt (byte_at c row)) (get_or ds c 0))) → kept ≡ true
-    → (c : ℕ) → c < 10 → unpairs (holdAt (byte_at c row)) (get_or ds c 0) ≡ false
-none-unpairs row ds kept e k c h = column-each 10 (λ c. unpairs (holdAt (byte_at c row)) (get_or ds c 0)) (not-true _ (sym e ∙ k)) c h
+pub none-unpairs : (row : Row) (ds : List ℕ) (kept : Bool) → kept ≡ not (some_column 10 (λ c. unpairs (hold_at (byte_at c row)) (get_or ds c 0))) → kept ≡ true
+    → (c : ℕ) → c < 10 → unpairs (hold_at (byte_at c row)) (get_or ds c 0) ≡ false
+none-unpairs row ds kept e k c h = column-each 10 (λ c. unpairs (hold_at (byte_at c row)) (get_or ds c 0)) (not-true _ (sym e ∙ k)) c h
 
-pub cells-ready : (row : Row) (t r : CleanRows) → Ready t → CellsPassed row t.depths r.depths r.clean → r.active ≡ openHeads r.depths
+pub cells-ready : (row : Row) (t r : CleanRows) → Ready t → CellsPassed row t.depths r.depths r.clean → r.active ≡ open_head_count r.depths
     → FreeAre r.busy 0 r.depths → r.clean ≡ true → Ready r
 cells-ready row t r x p a b e =
     record {
       clean = e;
-      low = λ c h. rw (p.depths c h) (depth_low (holdAt (byte_at c row)) (get_or t.depths c 0) (x.low c h) (none-unpairs row t.depths r.clean p.clean e c h));
+      low = λ c h. rw (p.depths c h) (depth_low (hold_at (byte_at c row)) (get_or t.depths c 0) (x.low c h) (none-unpairs row t.depths r.clean p.clean e c h));
       active = a;
       busy = b;
     }
@@ -49,13 +49,13 @@ cells-ready row t r x p a b e =
 -- ---- Free taps
 -- in a column of depth d, which is 0 where `busy` has no bit of it
 module _ (busy c d : ℕ) (z : bit c busy ≡ 0 → d ≡ 0) where
-  free-depth : {b : ℕ} → Free busy c b → d ≡ phantomStep (holdAt b) d
-  unfolding holdAt cell_of
+  free-depth : {b : ℕ} → Free busy c b → d ≡ phantom_step (hold_at b) d
+  unfolding hold_at cell_of
   free-depth (zero-cell e) = rw e
   free-depth (tap-there e f) = rw e
 
-  free-clean : {b : ℕ} → Free busy c b → unpairs (holdAt b) d ≡ false
-  unfolding holdAt cell_of
+  free-clean : {b : ℕ} → Free busy c b → unpairs (hold_at b) d ≡ false
+  unfolding hold_at cell_of
   free-clean (zero-cell e) = rw e
   free-clean (tap-there e f) = rw (e, z f)
 

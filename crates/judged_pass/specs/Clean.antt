@@ -1,12 +1,12 @@
 -- Clean columns: those in which every head is paired, so that the holds open before a row are the heads that are open there. Their phantom depth
 -- is the number of their open heads.
 use Rattle.std.specs.Prelude.{Bool, true, false, not, ◌||◌, cond, List, [], ◌∷◌, ℕ, ltb, leb}
-use Rattle.definitions.specs.Lists.{someColumn}
+use Rattle.definitions.specs.Lists.{some_column}
 use Rattle.definitions.specs.Lines.{Row}
 use Rattle.definitions.specs.Cells.{byte_at}
-use Rattle.definitions.specs.Tracker.{holdAt}
-use Rattle.definitions.specs.Correction.{phantomStep, phantomAfter}
-use Rattle.definitions.specs.Judged.{judgedRows}
+use Rattle.definitions.specs.Tracker.{hold_at}
+use Rattle.definitions.specs.Correction.{phantom_step, phantom_after}
+use Rattle.definitions.specs.Judged.{judged_rows}
 use Rattle.definitions.specs.declared.DepthEffect.{DepthEffect}
 use Rattle.definitions.specs.declared.DepthEffect.TheVariants.{Nothing, Blocks, Opens, Closes}
 use Rattle.judged_pass.specs.declared.CleanTally.{CleanTally}
@@ -20,18 +20,18 @@ unpairs Opens d = leb 8 d
 unpairs Closes d = false
 
 -- a row has such a cell in column c, from the depth d on
-abbrev pub unpairsFrom : ℕ → ℕ → List Row → Bool
-unpairsFrom c d [] = false
-unpairsFrom c d (r ∷ rs) = unpairs (holdAt (byte_at c r)) d || unpairsFrom c (phantomStep (holdAt (byte_at c r)) d) rs
+abbrev pub unpairs_from : ℕ → ℕ → List Row → Bool
+unpairs_from c d [] = false
+unpairs_from c d (r ∷ rs) = unpairs (hold_at (byte_at c r)) d || unpairs_from c (phantom_step (hold_at (byte_at c r)) d) rs
 
 -- Rows are clean where in no column a cell leaves a head unpaired, and none is left open at the end.
-unfoldable pub isClean : List Row → Bool
-isClean rows = not (someColumn 10 (λ c. unpairsFrom c 0 rows || ltb 0 (phantomAfter c 0 rows)))
+unfoldable pub is_clean : List Row → Bool
+is_clean rows = not (some_column 10 (λ c. unpairs_from c 0 rows || ltb 0 (phantom_after c 0 rows)))
 
 -- every row is judged
 abbrev pub every : ℕ → Bool
 every i = true
 
 -- The answer: the judged tally of clean rows, every row judged, and none of other rows.
-unfoldable pub cleanAnswer : ℕ → List Row → CleanTally
-cleanAnswer L rows = cond (isClean rows) (Tally (judgedRows L every rows)) NotClean
+unfoldable pub clean_answer : ℕ → List Row → CleanTally
+clean_answer L rows = cond (is_clean rows) (Tally (judged_rows L every rows)) NotClean

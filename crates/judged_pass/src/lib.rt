@@ -3,15 +3,15 @@
 #![tactic(auto)]
 
 ghost use Rattle.std.specs.Prelude.{◌≡◌, true, ℕ, ◌≤◌, ◌<◌, length, get_or};
-ghost use Rattle.definitions.specs.Sizes.{countBound, mostBytes};
-ghost use Rattle.definitions.specs.Tally.{noStats};
-ghost use Rattle.definitions.specs.ReadBack.{readBack};
-ghost use Rattle.definitions.specs.Judged.{judgedSum};
+ghost use Rattle.definitions.specs.Sizes.{count_bound, most_bytes};
+ghost use Rattle.definitions.specs.Tally.{empty_stats};
+ghost use Rattle.definitions.specs.ReadBack.{rows_read_back};
+ghost use Rattle.definitions.specs.Judged.{judged_sum};
 ghost use Rattle.definitions.specs.Lines.{Row};
-ghost use Rattle.taps.specs.Taps.{FreeTaps, wideRow, Fits, TapCounts};
+ghost use Rattle.taps.specs.Taps.{FreeTaps, wide_row, Fits, TapCounts};
 ghost use Rattle.row_tally.specs.Bounds.{Below};
-ghost use Rattle.judged_pass.specs.Clean.{cleanAnswer};
-ghost use Rattle.judged_pass.specs.JudgedPass.{CellPassed, CellsPassed, openHeads, Ready, RowPassed};
+ghost use Rattle.judged_pass.specs.Clean.{clean_answer};
+ghost use Rattle.judged_pass.specs.JudgedPass.{CellPassed, CellsPassed, open_head_count, Ready, RowPassed};
 
 use definitions::{ArrowStats, Cell, DepthEffect, RowSum};
 use taps::Taps;
@@ -50,7 +50,7 @@ struct CleanCells {
 
 // Before the first row.
 fn no_rows() -> CleanRows
-    ensures { Ready result × (result.stats ≡ noStats) × ((c : ℕ) → c < 10 → get_or result.depths c 0 ≡ 0) }
+    ensures { Ready result × (result.stats ≡ empty_stats) × ((c : ℕ) → c < 10 → get_or result.depths c 0 ≡ 0) }
 {
     let stats = row_tally::no_stats();
     CleanRows {
@@ -97,7 +97,7 @@ fn clean_cell(b: u8, depth: u32) -> CleanCell
 // empty, which change nothing.
 fn clean_cells(depths: &mut [u32; 10], row: &[u8]) -> CleanCells
     requires { (length row.now ≤ 10) × (length depths.old ≡ 10) × ((c : ℕ) → c < 10 → get_or depths.old c 0 ≤ 8) }
-    ensures { CellsPassed row.now depths.old depths.new result.clean × (result.sum ≡ judgedSum true row.now) }
+    ensures { CellsPassed row.now depths.old depths.new result.clean × (result.sum ≡ judged_sum true row.now) }
 {
     let mut sum = row_tally::no_sum();
     let mut clean = true;
@@ -121,7 +121,7 @@ fn clean_cells(depths: &mut [u32; 10], row: &[u8]) -> CleanCells
 // The open heads of ten columns.
 fn open_heads(depths: &[u32; 10]) -> u32
     requires { (c : ℕ) → c < 10 → get_or depths.now c 0 ≤ 9 }
-    ensures { result ≡ openHeads depths.now }
+    ensures { result ≡ open_head_count depths.now }
 {
     let mut sum: u32 = 0;
     let mut i = 0;
@@ -134,7 +134,7 @@ fn open_heads(depths: &[u32; 10]) -> u32
 
 // One row more, cell by cell.
 fn count_cells(t: CleanRows, row: &[u8]) -> CleanRows
-    requires { (length row.now ≤ 10) × Ready t × Below countBound t.stats }
+    requires { (length row.now ≤ 10) × Ready t × Below count_bound t.stats }
     ensures { RowPassed row.now t result }
 {
     let mut depths = t.depths;
@@ -155,7 +155,7 @@ fn count_cells(t: CleanRows, row: &[u8]) -> CleanRows
 
 // One row more of taps alone, none in a column with an open head: it leaves the depths as they are.
 fn count_taps(t: CleanRows, mask: u16, wide: bool, counts: &[u16; 256]) -> CleanRows
-    requires { TapCounts wide counts.now × Ready t × Below countBound t.stats × Fits wide mask }
+    requires { TapCounts wide counts.now × Ready t × Below count_bound t.stats × Fits wide mask }
     ensures { (row : Row) → FreeTaps t.busy mask row → RowPassed row t result }
 {
     let old = t.stats;
@@ -167,7 +167,7 @@ fn count_taps(t: CleanRows, mask: u16, wide: bool, counts: &[u16; 256]) -> Clean
 
 // One row more.
 fn count_row(t: CleanRows, row: &[u8], counts: &[u16; 256]) -> CleanRows
-    requires { (length row.now ≤ 10) × TapCounts (wideRow (length row.now)) counts.now × Ready t × Below countBound t.stats }
+    requires { (length row.now ≤ 10) × TapCounts (wide_row (length row.now)) counts.now × Ready t × Below count_bound t.stats }
     ensures { RowPassed row.now t result }
 {
     match taps::free_taps(row, t.busy) {
@@ -178,8 +178,8 @@ fn count_row(t: CleanRows, row: &[u8], counts: &[u16; 256]) -> CleanRows
 
 // The judged tally of a text's rows, every row judged: an answer is given exactly where they are clean.
 pub fn judge_clean(data: &[u8], lanes: usize) -> CleanTally
-    requires { (length «data».now ≤ mostBytes) × (4 ≤ lanes) × (lanes ≤ 10) }
-    ensures { result ≡ cleanAnswer lanes (readBack lanes «data».now) }
+    requires { (length «data».now ≤ most_bytes) × (4 ≤ lanes) × (lanes ≤ 10) }
+    ensures { result ≡ clean_answer lanes (rows_read_back lanes «data».now) }
 {
     let counts = taps::tap_mask_counts(lanes);
     let mut t = no_rows();

@@ -7,20 +7,20 @@ use lib.ListN.{take}
 use Rattle.definitions.specs.Lists.{joined}
 use Rattle.definitions.specs.Reduction.{minimised}
 use Rattle.definitions.specs.Correction.{corrected}
-use Rattle.definitions.specs.ReadBack.{keptTally}
-use Rattle.definitions.specs.Entries.{keptFigures}
+use Rattle.definitions.specs.ReadBack.{kept_tally}
+use Rattle.definitions.specs.Entries.{figures_of_kept}
 use Rattle.definitions.specs.declared.ArrowStats.{ArrowStats}
 use Rattle.kept_pass.specs.declared.KeptPass.{KeptPass}
 use Rattle.kept_pass.specs.KeptPass.{KeptAll}
 use Rattle.kept_pass.proofs.Answering.{own-part}
-use Rattle.reader.specs.BackReading.{rowsBack}
+use Rattle.reader.specs.BackReading.{rows_back}
 use Rattle.corrected_tally.proofs.OwnRows.{own-rows}
 use Rattle.definitions.specs.declared.KeptFigures.{KeptFigures}
 
-pub all-figures : (L : ℕ) (data-text : List ℕ) (p : KeptPass) (text densities : List ℕ) → KeptAll L data-text p text densities → (stats : ArrowStats) → 1 ≤ L → stats ≡ corrected L (joined (minimised L data-text)) (rowsBack false L (take (p.out - 0) text))
-    → record { bytes = p.out; measures = p.midx + 1; rows = p.counting.rows; stats = stats } ≡ keptFigures L data-text
-unfolding keptFigures keptTally
-all-figures L data-text p text densities x stats w e = made x.out x.midx x.rows (e ∙ ap (corrected L (joined (minimised L data-text))) (ap (rowsBack false L) (own-part L data-text p text densities x) ∙ own-rows L data-text w))
+pub all-figures : (L : ℕ) (data-text : List ℕ) (p : KeptPass) (text densities : List ℕ) → KeptAll L data-text p text densities → (stats : ArrowStats) → 1 ≤ L → stats ≡ corrected L (joined (minimised L data-text)) (rows_back false L (take (p.out - 0) text))
+    → record { bytes = p.out; measures = p.midx + 1; rows = p.counting.rows; stats = stats } ≡ figures_of_kept L data-text
+unfolding figures_of_kept kept_tally
+all-figures L data-text p text densities x stats w e = made x.out x.midx x.rows (e ∙ ap (corrected L (joined (minimised L data-text))) (ap (rows_back false L) (own-part L data-text p text densities x) ∙ own-rows L data-text w))
   where
     made : {a b c d f g : ℕ} {s t : ArrowStats} → a ≡ b → c ≡ d → f ≡ g → s ≡ t
         → ◌≡◌ {A = KeptFigures} (record { bytes = a; measures = c; rows = f; stats = s }) (record { bytes = b; measures = d; rows = g; stats = t })

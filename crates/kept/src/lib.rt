@@ -2,11 +2,11 @@
 #![tactic(auto)]
 
 ghost use Rattle.std.specs.Prelude.{◌≡◌, [], ◌+◌, ◌/◌, ◌≤◌, length};
-ghost use Rattle.definitions.specs.Sizes.{mostBytes};
+ghost use Rattle.definitions.specs.Sizes.{most_bytes};
 ghost use Rattle.definitions.specs.Lists.{padded};
-ghost use Rattle.definitions.specs.Lanes.{mostRows};
-ghost use Rattle.definitions.specs.Figures.{minimisedText, densities as densitiesOf};
-ghost use Rattle.definitions.specs.Entries.{keptFigures, keptAnswer, keptText, keptDensities, keptWork};
+ghost use Rattle.definitions.specs.Lanes.{most_rows_in};
+ghost use Rattle.definitions.specs.Figures.{minimised_text, densities as densities_of};
+ghost use Rattle.definitions.specs.Entries.{figures_of_kept, kept_answer, kept_text, kept_densities, kept_work};
 
 use definitions::{KeptFigures, Refusal};
 
@@ -18,11 +18,11 @@ pub fn keep_figures(
     densities: &mut [u32],
     work: &mut [u16],
 ) -> KeptFigures
-    requires le_lanes { (4 ≤ lanes) × (lanes ≤ 10) × (length «data».now ≤ mostBytes) }
-    requires data_in_bounds { (length «data».now + 1 ≤ length text.old) × ((length «data».now + 1) / 2 + 1 ≤ length densities.old) × (mostRows lanes (length «data».now) ≤ length work.old) }
-    ensures value { result ≡ keptFigures lanes «data».now }
-    ensures text_after { text.new ≡ padded 0 (length text.old) (minimisedText lanes «data».now) }
-    ensures densities_after { densities.new ≡ padded 0 (length densities.old) (densitiesOf lanes «data».now) }
+    requires le_lanes { (4 ≤ lanes) × (lanes ≤ 10) × (length «data».now ≤ most_bytes) }
+    requires data_in_bounds { (length «data».now + 1 ≤ length text.old) × ((length «data».now + 1) / 2 + 1 ≤ length densities.old) × (most_rows_in lanes (length «data».now) ≤ length work.old) }
+    ensures value { result ≡ figures_of_kept lanes «data».now }
+    ensures text_after { text.new ≡ padded 0 (length text.old) (minimised_text lanes «data».now) }
+    ensures densities_after { densities.new ≡ padded 0 (length densities.old) (densities_of lanes «data».now) }
     ensures work_after { work.new ≡ padded 0 (length work.old) [] }
 {
     let p = kept_pass::keep_chart(data, lanes, text, densities);
@@ -50,7 +50,7 @@ pub fn keep_figures(
 }
 
 // `process_chart_in_impl` with its rows kept: minimised text, densities and tally of a whole text.
-#[tactic(auto, unfolding(definitions::specs::Entries::keptAnswer))]
+#[tactic(auto, unfolding(definitions::specs::Entries::kept_answer))]
 pub fn process_chart_kept(
     data: &[u8],
     lanes: usize,
@@ -58,10 +58,10 @@ pub fn process_chart_kept(
     densities: &mut [u32],
     work: &mut [u16],
 ) -> Result<KeptFigures, Refusal>
-    ensures value { result ≡ keptAnswer lanes «data».now text.old densities.old work.old }
-    ensures text_after { text.new ≡ keptText lanes «data».now text.old densities.old work.old }
-    ensures densities_after { densities.new ≡ keptDensities lanes «data».now text.old densities.old work.old }
-    ensures work_after { work.new ≡ keptWork lanes «data».now text.old densities.old work.old }
+    ensures value { result ≡ kept_answer lanes «data».now text.old densities.old work.old }
+    ensures text_after { text.new ≡ kept_text lanes «data».now text.old densities.old work.old }
+    ensures densities_after { densities.new ≡ kept_densities lanes «data».now text.old densities.old work.old }
+    ensures work_after { work.new ≡ kept_work lanes «data».now text.old densities.old work.old }
 {
     let len = data.len();
     refusals::text_fits(len)?;

@@ -5,11 +5,11 @@ use mathlib.Core.List.{List}
 use Prim.Native.Nat.{ℕ, ◌+◌, ◌-◌, ◌≤◌}
 use native.Mathlib.Omega.{arith}
 use lib.ListN.{length, take, replicate, length-take, length-map}
-use Rattle.definitions.specs.Sizes.{mostBytes}
+use Rattle.definitions.specs.Sizes.{most_bytes}
 use Rattle.definitions.specs.Lists.{padded}
-use Rattle.definitions.specs.Lanes.{mostRows}
+use Rattle.definitions.specs.Lanes.{most_rows_in}
 use Rattle.definitions.specs.Reduction.{minimised}
-use Rattle.definitions.specs.Figures.{density, minimisedText, densities as densitiesOf}
+use Rattle.definitions.specs.Figures.{density, minimised_text, densities as densities_of}
 use Rattle.corrected_tally.specs.Heads.{Room}
 use Rattle.corrected_tally.proofs.OwnRows.{minimised-room}
 use Rattle.slices.specs.Zeroed.{zeroed}
@@ -20,22 +20,22 @@ use Rattle.kept_pass.specs.KeptPass.{KeptAll}
 module _ (L : ℕ) (data-text : List ℕ) (p : KeptPass) (text densities : List ℕ) (x : KeptAll L data-text p text densities) where
   -- the densities that were stored stand in the slice
   pub all_room : p.midx + 1 ≤ length densities
-  unfolding densitiesOf
+  unfolding densities_of
   all_room =
       let size = sym (length-take (p.midx + 1) densities) ∙ ap length x.densities-are ∙ length-map (minimised L data-text) density in
       omega (arith, size, x.midx)
 
-  pub all-text : (n : ℕ) → length text ≡ n → length data-text + 1 ≤ n → zeroed 0 p.out text ≡ padded 0 n (minimisedText L data-text)
-  all-text n size h = zeroed-answer 0 text p.out n (λ L. minimisedText L data-text) refl size (omega (arith, x.short)) x.text-is
+  pub all-text : (n : ℕ) → length text ≡ n → length data-text + 1 ≤ n → zeroed 0 p.out text ≡ padded 0 n (minimised_text L data-text)
+  all-text n size h = zeroed-answer 0 text p.out n (λ L. minimised_text L data-text) refl size (omega (arith, x.short)) x.text-is
 
-  pub all-densities : (n : ℕ) → length densities ≡ n → zeroed 0 (p.midx + 1) densities ≡ padded 0 n (densitiesOf L data-text)
-  all-densities n size = zeroed-answer 0 densities (p.midx + 1) n (λ L. densitiesOf L data-text) refl size all_room x.densities-are
+  pub all-densities : (n : ℕ) → length densities ≡ n → zeroed 0 (p.midx + 1) densities ≡ padded 0 n (densities_of L data-text)
+  all-densities n size = zeroed-answer 0 densities (p.midx + 1) n (λ L. densities_of L data-text) refl size all_room x.densities-are
 
   -- the part of the text slice that is read back
-  pub own-part : take (p.out - 0) text ≡ minimisedText L data-text
+  pub own-part : take (p.out - 0) text ≡ minimised_text L data-text
   own-part = let n : p.out - 0 ≡ p.out = omega arith in ap (λ k. take k text) n ∙ x.text-is
 
-  pub all-recount : (trim : Bool) (work : List ℕ) → 4 ≤ L → L ≤ 10 → length data-text ≤ mostBytes → mostRows L (length data-text) ≤ length work → Room trim L (take (p.out - 0) text) work
+  pub all-recount : (trim : Bool) (work : List ℕ) → 4 ≤ L → L ≤ 10 → length data-text ≤ most_bytes → most_rows_in L (length data-text) ≤ length work → Room trim L (take (p.out - 0) text) work
   all-recount trim work l m s w = subst (λ t. Room trim L t work) (sym own-part) (minimised-room trim L data-text work l m s w)
 
 -- a slice of zeros from its first entry on

@@ -6,11 +6,11 @@ use native.Mathlib.Omega.{arith}
 use lib.ListN.{length, take, length-append}
 use lib.Seq.{length-take-le}
 use Rattle.definitions.specs.Lists.{joined}
-use Rattle.definitions.specs.Lanes.{mostRows}
+use Rattle.definitions.specs.Lanes.{most_rows_in}
 use Rattle.definitions.specs.Lines.{Row}
 use Rattle.definitions.specs.Measures.{chart}
 use Rattle.definitions.specs.Reduction.{reduce, minimised}
-use Rattle.definitions.specs.Figures.{text_of, density, densities, minimisedText}
+use Rattle.definitions.specs.Figures.{text_of, density, densities, minimised_text}
 use Rattle.definitions.specs.Tally.{tally}
 use Rattle.definitions.proofs.Lists.{joined_snoc}
 use Rattle.definitions.proofs.Shorter.{reduce-short}
@@ -22,7 +22,7 @@ use Rattle.kept_pass.specs.KeptPass.{Kept, MeasureEnded, KeptAll}
 
 -- the pass counts rows and measures, which are few
 pub record Small (L : ℕ) (p : KeptPass) (len : ℕ) : Type 0 where
-  pub most : p.counting.rows + p.rows ≤ mostRows L len
+  pub most : p.counting.rows + p.rows ≤ most_rows_in L len
   pub rows : 5 * (p.counting.rows + p.rows) ≤ len + 1
   pub midx : 2 * p.midx ≤ len + 1
 
@@ -38,7 +38,7 @@ kept-few L p text densities len done cur f x =
 pub kept-all : (L : ℕ) (e : KeptPass) (data-text text densities₁ : List ℕ) (done : List (List Row)) (cur : List Row) → chart L data-text ≡ done ++ (cur ∷ [])
     → Few L (length data-text) (map reduce done) cur → MeasureEnded L e text densities₁ (map reduce done) (reduce cur) → e.out ≤ length text → e.out ≤ length data-text + 1
     → KeptAll L data-text e text densities₁
-unfolding minimisedText densities minimised
+unfolding minimised_text densities minimised
 kept-all L e data-text text densities₁ done cur read few x fits short =
     let k = x.closed in
     let all : map reduce (chart L data-text) ≡ map reduce done ++ (reduce cur ∷ []) = ap (map reduce) read ∙ map-append reduce done (cur ∷ []) in

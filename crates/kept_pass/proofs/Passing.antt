@@ -9,7 +9,7 @@ use lib.ListN.{length, take, drop, set, length-append}
 use lib.Seq.{take-suc-set}
 use Rattle.definitions.specs.Lines.{Row}
 use Rattle.definitions.specs.Reduction.{reduce}
-use Rattle.definitions.specs.Figures.{rowText, density}
+use Rattle.definitions.specs.Figures.{row_text, density}
 use Rattle.measure_tally.specs.declared.Counting.{Counting}
 use Rattle.measure_tally.specs.Counted.{Counted}
 use Rattle.reduction.specs.Rows.{rows_at, placed, RowsStand, Reduced}
@@ -34,8 +34,8 @@ module _ (p : KeptPass) (text : List ℕ) (row : Row) (room : p.out + length row
       let fits : p.out + (length row + 1) ≤ length text = omega arith in
       let out : p.out + (length row + 1) ≡ p.out + length row + 1 = omega arith in
       record {
-        wrote = subst (λ t. Wrote rowText sep (length row + 1) (length row) t p.start (p.out + length row + 1) done (cur ++ (row ∷ []))) (sym e)
-            (subst (λ n. Wrote rowText sep (length row + 1) (length row) (placed p.out (row ++ (10 ∷ [])) text) p.start n done (cur ++ (row ∷ []))) out
+        wrote = subst (λ t. Wrote row_text sep (length row + 1) (length row) t p.start (p.out + length row + 1) done (cur ++ (row ∷ []))) (sym e)
+            (subst (λ n. Wrote row_text sep (length row + 1) (length row) (placed p.out (row ++ (10 ∷ [])) text) p.start n done (cur ++ (row ∷ []))) out
             (wrote-row (in-text (length row)) sep text p.start p.out done cur x.wrote row refl fits));
         counted = x.counted;
         rows = rw length-append (omega (arith, x.rows));
@@ -47,19 +47,19 @@ pub open-size : (L : ℕ) (p : KeptPass) (text : List ℕ) → SomeOpen L p text
 open-size L p text s = sym (s.open_is.wrote.size ∙ ap (λ n. p.start + n * (L + 1)) (sym s.open_is.rows))
 
 module _ (L : ℕ) (p : KeptPass) (text after : List ℕ) (kept : ℕ) (fits : p.out ≤ length text)
-    (red : (rs : List Row) → RowsStand rowText L p.rows p.start rs text → Reduced rowText p.start rs text kept after) where
+    (red : (rs : List Row) → RowsStand row_text L p.rows p.start rs text → Reduced row_text p.start rs text kept after) where
   module _ (done : List (List Row)) (cur : List Row) (x : Open L p text done cur) where
-    reduced : Reduced rowText p.start cur text kept after
-    reduced = red cur (subst (λ n. RowsStand rowText L n p.start cur text) (sym x.rows) (wrote-holds (in-text L) sep text p.start p.out done cur x.wrote))
+    reduced : Reduced row_text p.start cur text kept after
+    reduced = red cur (subst (λ n. RowsStand row_text L n p.start cur text) (sym x.rows) (wrote-holds (in-text L) sep text p.start p.out done cur x.wrote))
 
-    wrote : Wrote rowText sep (L + 1) L after p.start (p.start + kept * (L + 1)) done (reduce cur)
+    wrote : Wrote row_text sep (L + 1) L after p.start (p.start + kept * (L + 1)) done (reduce cur)
     wrote = wrote-reduced (in-text L) sep text p.start p.out done cur x.wrote kept after (omega (arith, x.wrote.size)) reduced
 
     -- the minimised rows stand where the measure begins
     rows-there : rows_at (L + 1) L kept (drop p.start after) ≡ reduce cur
     rows-there =
         form-rows (in-text L)
-        (subst (λ n. RowsStand rowText L n p.start (reduce cur) after) (sym reduced.count) (wrote-holds (in-text L) sep after p.start (p.start + kept * (L + 1)) done (reduce cur) wrote))
+        (subst (λ n. RowsStand row_text L n p.start (reduce cur) after) (sym reduced.count) (wrote-holds (in-text L) sep after p.start (p.start + kept * (L + 1)) done (reduce cur) wrote))
 
     kept-few : kept ≤ p.rows
     kept-few = omega (arith, reduced.count, reduce-short cur, x.rows)
@@ -94,7 +94,7 @@ next-measure L e text densities done cur x fits c after f ea =
     record {
       open_is =
           record {
-            wrote = subst (λ t. Wrote rowText sep (L + 1) L t (e.out + 2) (e.out + 2) (done ++ (cur ∷ [])) []) (sym ea)
+            wrote = subst (λ t. Wrote row_text sep (L + 1) L t (e.out + 2) (e.out + 2) (done ++ (cur ∷ [])) []) (sym ea)
                 (wrote-sep (in-text L) sep text e.start e.out done cur x.closed.wrote fits);
             counted = f L done cur x.closed.counted;
             rows = refl;

@@ -1,12 +1,12 @@
 -- What the pass holds and has written: `done` are the minimised measures, `cur` the rows of the open one.
 use Rattle.std.specs.Prelude.{◌≡◌, List, [], ◌∷◌, ◌++◌, map, ℕ, ◌+◌, ◌*◌, ◌≤◌, length, take}
 use Rattle.definitions.specs.Lists.{joined}
-use Rattle.definitions.specs.Lanes.{mostRows}
+use Rattle.definitions.specs.Lanes.{most_rows_in}
 use Rattle.definitions.specs.Lines.{Row}
 use Rattle.definitions.specs.Reduction.{minimised}
-use Rattle.definitions.specs.Figures.{rowText, density, minimisedText, densities as densitiesOf}
+use Rattle.definitions.specs.Figures.{row_text, density, minimised_text, densities as densities_of}
 use Rattle.definitions.specs.Tally.{tally}
-use Rattle.definitions.specs.Entries.{measureCount}
+use Rattle.definitions.specs.Entries.{measure_count}
 use Rattle.phantoms.specs.Phantoms.{Counts}
 use Rattle.measure_tally.specs.Counted.{Counted}
 use Rattle.output.specs.Wrote.{Wrote}
@@ -14,14 +14,14 @@ use Rattle.kept_pass.specs.declared.KeptPass.{KeptPass}
 
 -- the open measure has these rows, as they were read
 pub record Open (L : ℕ) (p : KeptPass) (text : List ℕ) (done : List (List Row)) (cur : List Row) : Type 0 where
-  pub wrote : Wrote rowText (44 ∷ 10 ∷ []) (L + 1) L text p.start p.out done cur
+  pub wrote : Wrote row_text (44 ∷ 10 ∷ []) (L + 1) L text p.start p.out done cur
   pub counted : Counted L p.counting done []
   pub rows : p.rows ≡ length cur
   pub midx : p.midx ≡ length done
 
 -- the open measure has these rows, minimised and counted
 pub record Closed (L : ℕ) (p : KeptPass) (text : List ℕ) (done : List (List Row)) (cur : List Row) : Type 0 where
-  pub wrote : Wrote rowText (44 ∷ 10 ∷ []) (L + 1) L text p.start p.out done cur
+  pub wrote : Wrote row_text (44 ∷ 10 ∷ []) (L + 1) L text p.start p.out done cur
   pub counted : Counted L p.counting done cur
   pub rows : p.rows ≡ length cur
   pub midx : p.midx ≡ length done
@@ -43,13 +43,13 @@ pub record MeasureEnded (L : ℕ) (p : KeptPass) (text densities : List ℕ) (do
 
 -- A whole text was read: the text, the densities and what is counted are those of its minimised measures.
 pub record KeptAll (L : ℕ) (chart-text : List ℕ) (p : KeptPass) (text densities : List ℕ) : Type 0 where
-  pub text-is : take p.out text ≡ minimisedText L chart-text
-  pub out : p.out ≡ length (minimisedText L chart-text)
+  pub text-is : take p.out text ≡ minimised_text L chart-text
+  pub out : p.out ≡ length (minimised_text L chart-text)
   pub short : p.out ≤ length chart-text + 1
-  pub densities-are : take (p.midx + 1) densities ≡ densitiesOf L chart-text
-  pub midx : p.midx + 1 ≡ measureCount L chart-text
+  pub densities-are : take (p.midx + 1) densities ≡ densities_of L chart-text
+  pub midx : p.midx + 1 ≡ measure_count L chart-text
   pub measures-few : 2 * p.midx ≤ length chart-text + 1
   pub stats : p.counting.stats ≡ tally (joined (minimised L chart-text))
   pub phantoms : Counts L (joined (minimised L chart-text)) p.counting.phantoms
   pub rows : p.counting.rows ≡ length (joined (minimised L chart-text))
-  pub rows_few : p.counting.rows ≤ mostRows L (length chart-text)
+  pub rows_few : p.counting.rows ≤ most_rows_in L (length chart-text)

@@ -3,10 +3,10 @@
 #![tactic(auto)]
 
 ghost use Rattle.std.specs.Prelude.{◌≡◌, List, [], ◌∷◌, ◌++◌, ℕ, ◌+◌, ◌*◌, ◌/◌, ◌≤◌, ◌<◌, length};
-ghost use Rattle.definitions.specs.Sizes.{measuresBound, mostBytes, rowsBound};
+ghost use Rattle.definitions.specs.Sizes.{measures_bound, most_bytes, row_count_bound};
 ghost use Rattle.definitions.specs.Lines.{Row};
 ghost use Rattle.definitions.specs.Reduction.{reduce};
-ghost use Rattle.taps.specs.Taps.{wideRow, TapCounts};
+ghost use Rattle.taps.specs.Taps.{wide_row, TapCounts};
 ghost use Rattle.kept_pass.specs.KeptPass.{Open, Closed, SomeOpen, Kept, MeasureEnded, KeptAll};
 
 use measure_tally::Counting;
@@ -37,7 +37,7 @@ pub fn no_pass() -> KeptPass
 
 // One row more of the open measure.
 pub fn pass_row(p: KeptPass, text: &mut [u8], row: &[u8]) -> KeptPass
-    requires { (p.out + length row.now + 1 ≤ length text.old) × (p.rows < rowsBound) }
+    requires { (p.out + length row.now + 1 ≤ length text.old) × (p.rows < row_count_bound) }
     ensures fact { (done : List (List Row)) (cur : List Row) → Open (length row.now) p text.old done cur → Open (length row.now) result text.new done (cur ++ (row.now ∷ [])) }
     ensures out_value { (result.out ≡ p.out + length row.now + 1) × (result.counting.rows ≡ p.counting.rows) × (result.rows ≡ p.rows + 1) × (result.midx ≡ p.midx) }
 {
@@ -55,7 +55,7 @@ pub fn pass_row(p: KeptPass, text: &mut [u8], row: &[u8]) -> KeptPass
 
 // The open measure's rows minimised in place and counted.
 fn end_rows(p: KeptPass, text: &mut [u8], lanes: usize, counts: &[u16; 256]) -> KeptPass
-    requires { (0 < lanes) × (lanes ≤ 10) × (p.out ≤ length text.old) × (p.counting.rows + p.rows < rowsBound) × SomeOpen lanes p text.old × TapCounts (wideRow lanes) counts.now }
+    requires { (0 < lanes) × (lanes ≤ 10) × (p.out ≤ length text.old) × (p.counting.rows + p.rows < row_count_bound) × SomeOpen lanes p text.old × TapCounts (wide_row lanes) counts.now }
     ensures closed { (done : List (List Row)) (cur : List Row) → Open lanes p text.old done cur → Closed lanes result text.new done (reduce cur) }
     ensures out_le_out { (result.out ≤ p.out) × (result.midx ≡ p.midx) }
 {
@@ -81,7 +81,7 @@ pub fn end_measure(
     lanes: usize,
     counts: &[u16; 256],
 ) -> KeptPass
-    requires lanes_nonzero { (0 < lanes) × (lanes ≤ 10) × (p.out ≤ length text.old) × (p.counting.rows + p.rows < rowsBound) × SomeOpen lanes p text.old × TapCounts (wideRow lanes) counts.now }
+    requires lanes_nonzero { (0 < lanes) × (lanes ≤ 10) × (p.out ≤ length text.old) × (p.counting.rows + p.rows < row_count_bound) × SomeOpen lanes p text.old × TapCounts (wide_row lanes) counts.now }
     requires midx_in_bounds { p.midx < length densities.old }
     ensures measure_ended { (done : List (List Row)) (cur : List Row) → Kept lanes p text.old densities.old done cur → MeasureEnded lanes result text.new densities.new done (reduce cur) }
     ensures out_le_out { (result.out ≤ p.out) × (result.midx ≡ p.midx) }
@@ -94,7 +94,7 @@ pub fn end_measure(
 
 // The `,` line after a measure that has ended is written, and the next measure begins.
 pub fn begin_measure(e: KeptPass, text: &mut [u8]) -> KeptPass
-    requires { (e.out + 2 ≤ length text.old) × (e.midx ≤ measuresBound) }
+    requires { (e.out + 2 ≤ length text.old) × (e.midx ≤ measures_bound) }
     ensures by_index { (L : ℕ) (densities : List ℕ) (done : List (List Row)) (cur : List Row) → MeasureEnded L e text.old densities done cur → Kept L result text.new densities (done ++ (cur ∷ [])) [] }
     ensures out_value { (result.out ≡ e.out + 2) × (result.midx ≡ e.midx + 1) }
 {
@@ -119,8 +119,8 @@ fn pass_comma(
     lanes: usize,
     counts: &[u16; 256],
 ) -> KeptPass
-    requires lanes_nonzero { (0 < lanes) × (lanes ≤ 10) × (p.out + 2 ≤ length text.old) × (p.counting.rows + p.rows < rowsBound) × SomeOpen lanes p text.old × TapCounts (wideRow lanes) counts.now }
-    requires midx_in_bounds { (p.midx < length densities.old) × (p.midx ≤ measuresBound) }
+    requires lanes_nonzero { (0 < lanes) × (lanes ≤ 10) × (p.out + 2 ≤ length text.old) × (p.counting.rows + p.rows < row_count_bound) × SomeOpen lanes p text.old × TapCounts (wide_row lanes) counts.now }
+    requires midx_in_bounds { (p.midx < length densities.old) × (p.midx ≤ measures_bound) }
     ensures kept { (done : List (List Row)) (cur : List Row) → Kept lanes p text.old densities.old done cur → Kept lanes result text.new densities.new (done ++ (reduce cur ∷ [])) [] }
     ensures out_bound { (result.out ≤ p.out + 2) × (result.midx ≡ p.midx + 1) }
 {
@@ -136,8 +136,8 @@ fn keep_lines(
     densities: &mut [u32],
     counts: &[u16; 256],
 ) -> KeptPass
-    requires le_lanes { (4 ≤ lanes) × (lanes ≤ 10) × (length «data».now ≤ mostBytes) }
-    requires data_in_bounds { (length «data».now + 1 ≤ length text.old) × ((length «data».now + 1) / 2 + 1 ≤ length densities.old) × TapCounts (wideRow lanes) counts.now }
+    requires le_lanes { (4 ≤ lanes) × (lanes ≤ 10) × (length «data».now ≤ most_bytes) }
+    requires data_in_bounds { (length «data».now + 1 ≤ length text.old) × ((length «data».now + 1) / 2 + 1 ≤ length densities.old) × TapCounts (wide_row lanes) counts.now }
     ensures { KeptAll lanes «data».now result text.new densities.new }
 {
     let mut p = no_pass();
@@ -156,7 +156,7 @@ fn keep_lines(
 
 // The whole text: what is counted in the end, and how much is written; the last measure's density is stored too.
 pub fn keep_chart(data: &[u8], lanes: usize, text: &mut [u8], densities: &mut [u32]) -> KeptPass
-    requires le_lanes { (4 ≤ lanes) × (lanes ≤ 10) × (length «data».now ≤ mostBytes) }
+    requires le_lanes { (4 ≤ lanes) × (lanes ≤ 10) × (length «data».now ≤ most_bytes) }
     requires data_in_bounds { (length «data».now + 1 ≤ length text.old) × ((length «data».now + 1) / 2 + 1 ≤ length densities.old) }
     ensures { KeptAll lanes «data».now result text.new densities.new }
 {

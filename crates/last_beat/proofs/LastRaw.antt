@@ -10,13 +10,13 @@ use native.Mathlib.Omega.{arith}
 use borrow.Author.Tests.{eqb-true, eqb-false}
 use lib.Pow.{pow_pos}
 use lib.ListN.{length}
-use Rattle.definitions.specs.Sizes.{rowsBound}
+use Rattle.definitions.specs.Sizes.{row_count_bound}
 use Rattle.definitions.specs.Lists.{only_if}
 use Rattle.definitions.specs.Lines.{Row}
 use Rattle.definitions.specs.Measures.{chart}
-use Rattle.definitions.specs.Reduction.{allZero, multiple, offZero, atMultiples, stride, reduce, minimised}
-use Rattle.definitions.specs.Objects.{Depths, afterRow, afterRows, objectRow, Place, objectsIn, objectsFrom, last_of, lastObject, place48, last48}
-use Rattle.definitions.specs.Beats.{lastRow}
+use Rattle.definitions.specs.Reduction.{all_zero, multiple, off_zero, at_multiples, stride, reduce, minimised}
+use Rattle.definitions.specs.Objects.{Depths, after_row, after_rows, object_row, Place, objects_in, objects_from, last_of, last_object, place48, last48}
+use Rattle.definitions.specs.Beats.{last_row}
 use Rattle.definitions.specs.Damage.{Each, end, next}
 use Rattle.definitions.proofs.Bools.{and_left, and_right}
 use Rattle.definitions.proofs.Reduction.{stride-is}
@@ -26,10 +26,10 @@ use Rattle.objects.proofs.Zeros.{zero-after, zero-object}
 use Rattle.reduction.proofs.Strides.{stride-divides}
 use Rattle.scans.proofs.Strides.{reduce-length}
 
-thin-depths : (D : Depths) {s t : List Row} → Thinned s t → afterRows D s ≡ afterRows D t
+thin-depths : (D : Depths) {s t : List Row} → Thinned s t → after_rows D s ≡ after_rows D t
 thin-depths D thin-none = refl
-thin-depths D (keep {r = r} p) = thin-depths (afterRow D r) p
-thin-depths D (leave {r = r} {s = s} z p) = ap (λ E. afterRows E s) (zero-after D r z) ∙ thin-depths D p
+thin-depths D (keep {r = r} p) = thin-depths (after_row D r) p
+thin-depths D (leave {r = r} {s = s} z p) = ap (λ E. after_rows E s) (zero-after D r z) ∙ thin-depths D p
 
 -- k times a place
 abbrev pub times : ℕ → Place → Place
@@ -60,29 +60,29 @@ to-multiple k i j p b e =
     let apart : i ≡ k * j → ⊥ = λ q. eqb-false (i % k) 0 e (ap (λ x. x % k) q ∙ mul-mod_right k j) in
     record { high = omega (arith, b.high, apart); low = omega (arith, b.low) }
 
-raw-in : (D : Depths) (m k i j n : ℕ) (rs : List Row) → 0 < k → Between k i j → offZero k i rs ≡ true
-    → objectsIn D m i (k * n) rs ≡ map (times k) (objectsIn D m j n (atMultiples k i rs))
+raw-in : (D : Depths) (m k i j n : ℕ) (rs : List Row) → 0 < k → Between k i j → off_zero k i rs ≡ true
+    → objects_in D m i (k * n) rs ≡ map (times k) (objects_in D m j n (at_multiples k i rs))
 raw-in D m k i j n [] p b h = refl
 raw-in D m k i j n (r ∷ rs) p b h =
-    go (multiple k i) refl (and_left (multiple k i || allZero r) (offZero k (suc i) rs) h)
-    (λ E f b'. raw-in E m k (suc i) f n rs p b' (and_right (multiple k i || allZero r) (offZero k (suc i) rs) h))
+    go (multiple k i) refl (and_left (multiple k i || all_zero r) (off_zero k (suc i) rs) h)
+    (λ E f b'. raw-in E m k (suc i) f n rs p b' (and_right (multiple k i || all_zero r) (off_zero k (suc i) rs) h))
   where
     here : (t : Bool) (q : List Place) → i ≡ k * j → only_if t (record { m = m; r = i; n = k * n } ∷ []) ++ map (times k) q ≡ map (times k) (only_if t (record { m = m; r = j; n = n } ∷ []) ++ q)
     here true q e = rw e
     here false q e = refl
 
-    go : (t : Bool) → multiple k i ≡ t → (t || allZero r) ≡ true
-        → ((E : Depths) (f : ℕ) → Between k (suc i) f → objectsIn E m (suc i) (k * n) rs ≡ map (times k) (objectsIn E m f n (atMultiples k (suc i) rs)))
-        → only_if (objectRow D r) (record { m = m; r = i; n = k * n } ∷ []) ++ objectsIn (afterRow D r) m (suc i) (k * n) rs
-        ≡ map (times k) (objectsIn D m j n (only_if t (r ∷ []) ++ atMultiples k (suc i) rs))
+    go : (t : Bool) → multiple k i ≡ t → (t || all_zero r) ≡ true
+        → ((E : Depths) (f : ℕ) → Between k (suc i) f → objects_in E m (suc i) (k * n) rs ≡ map (times k) (objects_in E m f n (at_multiples k (suc i) rs)))
+        → only_if (object_row D r) (record { m = m; r = i; n = k * n } ∷ []) ++ objects_in (after_row D r) m (suc i) (k * n) rs
+        ≡ map (times k) (objects_in D m j n (only_if t (r ∷ []) ++ at_multiples k (suc i) rs))
     go true e z ih =
         let at : i ≡ k * j = at-multiple k i j p b e in
-        ap (λ l. only_if (objectRow D r) (record { m = m; r = i; n = k * n } ∷ []) ++ l) (ih (afterRow D r) (suc j) (past-multiple k i j p at))
-        ∙ here (objectRow D r) (objectsIn (afterRow D r) m (suc j) n (atMultiples k (suc i) rs)) at
+        ap (λ l. only_if (object_row D r) (record { m = m; r = i; n = k * n } ∷ []) ++ l) (ih (after_row D r) (suc j) (past-multiple k i j p at))
+        ∙ here (object_row D r) (objects_in (after_row D r) m (suc j) n (at_multiples k (suc i) rs)) at
     go false e z ih = rw (zero-object D r z, zero-after D r z) (ih D j (to-multiple k i j p b e))
 
 -- A measure: its raw object rows are the minimised ones, times the stride.
-raw-measure : (D : Depths) (m : ℕ) (rs : List Row) → (k : ℕ) × (0 < k) × (length rs ≡ k * length (reduce rs)) × (objectsIn D m 0 (length rs) rs ≡ map (times k) (objectsIn D m 0 (length (reduce rs)) (reduce rs)))
+raw-measure : (D : Depths) (m : ℕ) (rs : List Row) → (k : ℕ) × (0 < k) × (length rs ≡ k * length (reduce rs)) × (objects_in D m 0 (length rs) rs ≡ map (times k) (objects_in D m 0 (length (reduce rs)) (reduce rs)))
 unfolding reduce
 raw-measure D m [] = (1, omega arith, refl, refl)
 raw-measure D m (r ∷ rs) =
@@ -94,8 +94,8 @@ raw-measure D m (r ∷ rs) =
       k,
       p,
       count,
-      ap (λ x. objectsIn D m 0 x (r ∷ rs)) count
-          ∙ raw-in D m k 0 0 n (r ∷ rs) p (between_start k p) (and_right (multiple k (length (r ∷ rs))) (offZero k 0 (r ∷ rs)) (stride-is r rs).allowed),
+      ap (λ x. objects_in D m 0 x (r ∷ rs)) count
+          ∙ raw-in D m k 0 0 n (r ∷ rs) p (between_start k p) (and_right (multiple k (length (r ∷ rs))) (off_zero k 0 (r ∷ rs)) (stride-is r rs).allowed),
     )
 
 -- The places of raw and of minimised rows, one by one.
@@ -112,13 +112,13 @@ each_append : {s t u v : List Place} → Each Scaled s t → Each Scaled u v →
 each_append end h = h
 each_append (next x g) h = next x (each_append g h)
 
-scaled-all : (D : Depths) (m : ℕ) (ms : List (List Row)) → Each Scaled (objectsFrom D m ms) (objectsFrom D m (map reduce ms))
+scaled-all : (D : Depths) (m : ℕ) (ms : List (List Row)) → Each Scaled (objects_from D m ms) (objects_from D m (map reduce ms))
 scaled-all D m [] = end
 scaled-all D m (x ∷ ms) =
     let w = raw-measure D m x in
     each_append
-    (subst (λ l. Each Scaled l (objectsIn D m 0 (length (reduce x)) (reduce x))) (sym w.3) (scaled-each w.0 w.1 (objectsIn D m 0 (length (reduce x)) (reduce x))))
-    (subst (λ E. Each Scaled (objectsFrom (afterRows D x) (suc m) ms) (objectsFrom E (suc m) (map reduce ms))) (thin-depths D (reduce-thin x)) (scaled-all (afterRows D x) (suc m) ms))
+    (subst (λ l. Each Scaled l (objects_in D m 0 (length (reduce x)) (reduce x))) (sym w.3) (scaled-each w.0 w.1 (objects_in D m 0 (length (reduce x)) (reduce x))))
+    (subst (λ E. Each Scaled (objects_from (after_rows D x) (suc m) ms) (objects_from E (suc m) (map reduce ms))) (thin-depths D (reduce-thin x)) (scaled-all (after_rows D x) (suc m) ms))
 
 data LastScaled : Option Place → Option Place → Type 0 where
   neither : LastScaled none none
@@ -130,14 +130,14 @@ last-each (next x end) = both x
 last-each (next x (next y h)) = last-each (next y h)
 
 -- The last beat in 48ths from the last raw object row, which lies in its measure.
-pub last-raw : (L : ℕ) (text : List ℕ) (o : Option Place) → o ≡ last_of (objectsFrom (λ c. 0) 0 (chart L text))
-    → ((p : Place) → o ≡ some p → (p.r < p.n) × (p.n ≤ rowsBound)) → place48 o ≡ last48 L text
-unfolding last48 lastObject minimised
-last-raw L text o e h = go o h (subst (λ x. LastScaled x (last_of (objectsFrom (λ c. 0) 0 (map reduce (chart L text))))) (sym e) (last-each (scaled-all (λ c. 0) 0 (chart L text))))
+pub last-raw : (L : ℕ) (text : List ℕ) (o : Option Place) → o ≡ last_of (objects_from (λ c. 0) 0 (chart L text))
+    → ((p : Place) → o ≡ some p → (p.r < p.n) × (p.n ≤ row_count_bound)) → place48 o ≡ last48 L text
+unfolding last48 last_object minimised
+last-raw L text o e h = go o h (subst (λ x. LastScaled x (last_of (objects_from (λ c. 0) 0 (map reduce (chart L text))))) (sym e) (last-each (scaled-all (λ c. 0) 0 (chart L text))))
   where
-    go : (o : Option Place) → ((p : Place) → o ≡ some p → (p.r < p.n) × (p.n ≤ rowsBound)) → {u : Option Place} → LastScaled o u → place48 o ≡ place48 u
+    go : (o : Option Place) → ((p : Place) → o ≡ some p → (p.r < p.n) × (p.n ≤ row_count_bound)) → {u : Option Place} → LastScaled o u → place48 o ≡ place48 u
     go none f neither = refl
     go (some p) f (both {q = q} x) =
         let w = f p refl in
         let inside : q.r < q.n = lt_of_mul-lt-mul_left x.by (subst (λ y. y.r < y.n) x.is w.0) in
-        ap (λ y. lastRow y.m y.r y.n) x.is ∙ last-scaled q.m x.by q.r q.n x.some inside (subst (λ y. y.n ≤ rowsBound) x.is w.1)
+        ap (λ y. last_row y.m y.r y.n) x.is ∙ last-scaled q.m x.by q.r q.n x.some inside (subst (λ y. y.n ≤ row_count_bound) x.is w.1)

@@ -4,10 +4,10 @@ use mathlib.Core.List.{List, [], ◌∷◌, ◌++◌}
 use mathlib.Core.Option.{some}
 use Prim.Native.Nat.{ℕ, ◌≤◌, ◌<◌}
 use native.Mathlib.Omega.{arith}
-use Rattle.definitions.specs.Sizes.{rowsBound}
+use Rattle.definitions.specs.Sizes.{row_count_bound}
 use Rattle.definitions.specs.Lines.{Row}
 use Rattle.definitions.specs.Measures.{chart}
-use Rattle.definitions.specs.Objects.{Place, objectsFrom, last_of, place48, last48}
+use Rattle.definitions.specs.Objects.{Place, objects_from, last_of, place48, last48}
 use Rattle.beats.specs.declared.LastObject.{LastObject}
 use Rattle.beats.specs.declared.LastObject.TheVariants as last
 use Rattle.beats.specs.Places.{place_of, Placed}
@@ -18,16 +18,16 @@ use Rattle.last_beat.proofs.LastRaw.{last-raw}
 
 -- with the last measure ended, the last object row of the chart is found
 pub looked-last : (s t : LastScan) (L : ℕ) (text : List ℕ) → ((done : List (List Row)) (cur : List Row) → LastKept s done cur → LastKept t (done ++ (cur ∷ [])) []) → Over L text (LastKept s)
-    → (Placed t.found) × (place_of t.found ≡ last_of (objectsFrom (λ c. 0) 0 (chart L text)))
+    → (Placed t.found) × (place_of t.found ≡ last_of (objects_from (λ c. 0) 0 (chart L text)))
 looked-last s t L text f x =
     let k = f x.done x.cur x.held in
-    (k.placed, k.found ∙ ap (λ ms. last_of (objectsFrom (λ c. 0) 0 ms)) (sym x.chart-is))
+    (k.placed, k.found ∙ ap (λ ms. last_of (objects_from (λ c. 0) 0 ms)) (sym x.chart-is))
 
 -- its beat in 48ths is that of the definitions
-pub looked-48 : (L : ℕ) (text : List ℕ) (o : LastObject) → Placed o → place_of o ≡ last_of (objectsFrom (λ c. 0) 0 (chart L text)) → place48 (place_of o) ≡ last48 L text
+pub looked-48 : (L : ℕ) (text : List ℕ) (o : LastObject) → Placed o → place_of o ≡ last_of (objects_from (λ c. 0) 0 (chart L text)) → place48 (place_of o) ≡ last48 L text
 looked-48 L text o p e = last-raw L text (place_of o) e (bounds o p)
   where
-    bounds : (o : LastObject) → Placed o → (q : Place) → place_of o ≡ some q → (q.r < q.n) × (q.n ≤ rowsBound)
+    bounds : (o : LastObject) → Placed o → (q : Place) → place_of o ≡ some q → (q.r < q.n) × (q.n ≤ row_count_bound)
     bounds last.Nothing p q e = let z : ◌≡◌ {A = ℕ} 0 1 = cc in absurd (omega arith)
     bounds (last.At m r n) p q e =
         let i = p.inside m r n refl in

@@ -2,14 +2,14 @@
 #![tactic(auto)]
 
 ghost use Rattle.std.specs.Prelude.{◌≡◌, List, [], ◌∷◌, ◌++◌, ◌≤◌, ◌<◌, length};
-ghost use Rattle.definitions.specs.Sizes.{mostBytes, rowNumbersBound};
+ghost use Rattle.definitions.specs.Sizes.{most_bytes, row_numbers_bound};
 ghost use Rattle.definitions.specs.Lines.{Row};
 ghost use Rattle.definitions.specs.Measures.{chart};
-ghost use Rattle.definitions.specs.Objects.{objectsFrom, last_of};
+ghost use Rattle.definitions.specs.Objects.{objects_from, last_of};
 ghost use Rattle.beats.specs.Places.{place_of, Placed};
 ghost use Rattle.objects.specs.Rows.{DepthsLow};
 ghost use Rattle.objects.specs.LastKept.{LastKept};
-ghost use Rattle.definitions.specs.Entries.{lastFigures, lastAnswer};
+ghost use Rattle.definitions.specs.Entries.{figures_of_last, last_answer};
 
 use beats::LastObject;
 use definitions::{LastBeat, Refusal};
@@ -19,7 +19,7 @@ use taps::Taps;
 
 // One row more, by its cells.
 fn last_cells(s: LastScan, cells: &[u8]) -> LastScan
-    requires { (length cells.now ≤ 10) × (s.rows < rowNumbersBound) × DepthsLow 4294967294 s.depths }
+    requires { (length cells.now ≤ 10) × (s.rows < row_numbers_bound) × DepthsLow 4294967294 s.depths }
     ensures { (done : List (List Row)) (cur : List Row) → LastKept s done cur → LastKept result done (cur ++ (cells.now ∷ [])) }
 {
     if reduction::is_all_zero(cells) {
@@ -32,7 +32,7 @@ fn last_cells(s: LastScan, cells: &[u8]) -> LastScan
 
 // One row more.
 fn last_row(s: LastScan, cells: &[u8]) -> LastScan
-    requires { (length cells.now ≤ 10) × (s.rows < rowNumbersBound) × DepthsLow 4294967294 s.depths }
+    requires { (length cells.now ≤ 10) × (s.rows < row_numbers_bound) × DepthsLow 4294967294 s.depths }
     ensures { (done : List (List Row)) (cur : List Row) → LastKept s done cur → LastKept result done (cur ++ (cells.now ∷ [])) }
 {
     match taps::free_taps(cells, s.busy) {
@@ -43,8 +43,8 @@ fn last_row(s: LastScan, cells: &[u8]) -> LastScan
 
 // The last object row of an accepted text, among its raw rows.
 fn scan_last(data: &[u8], lanes: usize) -> LastObject
-    requires { (length «data».now ≤ mostBytes) × (4 ≤ lanes) × (lanes ≤ 10) }
-    ensures { (Placed result) × (place_of result ≡ last_of (objectsFrom (λ c. 0) 0 (chart lanes «data».now))) }
+    requires { (length «data».now ≤ most_bytes) × (4 ≤ lanes) × (lanes ≤ 10) }
+    ensures { (Placed result) × (place_of result ≡ last_of (objects_from (λ c. 0) 0 (chart lanes «data».now))) }
 {
     let mut s = objects::no_last();
     for line in reader::charts::chart_lines(data, lanes) {
@@ -63,8 +63,8 @@ fn scan_last(data: &[u8], lanes: usize) -> LastObject
 
 // The beat of the last object row of an accepted text, 0 where there is none.
 fn last_figures(data: &[u8], lanes: usize) -> LastBeat
-    requires { (length «data».now ≤ mostBytes) × (4 ≤ lanes) × (lanes ≤ 10) }
-    ensures { result ≡ lastFigures lanes «data».now }
+    requires { (length «data».now ≤ most_bytes) × (4 ≤ lanes) × (lanes ≤ 10) }
+    ensures { result ≡ figures_of_last lanes «data».now }
 {
     let last = scan_last(data, lanes);
     LastBeat {
@@ -75,9 +75,9 @@ fn last_figures(data: &[u8], lanes: usize) -> LastBeat
 }
 
 // The last beat of a text.
-#[tactic(auto, unfolding(definitions::specs::Entries::lastAnswer))]
+#[tactic(auto, unfolding(definitions::specs::Entries::last_answer))]
 pub fn chart_last_beat_impl(data: &[u8], lanes: usize) -> Result<LastBeat, Refusal>
-    ensures { result ≡ lastAnswer lanes «data».now }
+    ensures { result ≡ last_answer lanes «data».now }
 {
     refusals::text_fits(data.len())?;
     Ok(last_figures(data, reader::lanes_of(lanes)))

@@ -9,14 +9,14 @@ use native.Mathlib.Omega.{arith}
 use native.Mathlib.Decide.{dec_lt}
 use lib.Dec.{eqb, leb, ltb}
 use borrow.Author.Tests.{ltb-true, leb-true, leb-false, eqb-true, le-leb, lt-leb, eq-eqb, ne_eqb}
-use Rattle.definitions.specs.Sizes.{measuresBound, rowsBound}
+use Rattle.definitions.specs.Sizes.{measures_bound, row_count_bound}
 use Rattle.definitions.proofs.Bools.{and_left, and_right}
 use Rattle.definitions.specs.Reduction.{stride}
 use Rattle.beats.specs.Places.{Inside}
 use Rattle.reduction.specs.Rows.{rows_at}
 use Rattle.reduction.proofs.Powers.{power_pos}
 use Rattle.reduction.proofs.Compaction.{power-fits}
-use Rattle.leaves.specs.Answers.{rowsStand, blocksStand, measureTaken, rowTaken, beatsTaken, lastPlace, lastTaken}
+use Rattle.leaves.specs.Answers.{rows_in_bounds, blocks_in_bounds, measure_fits, row_fits, beats_fit, last_place, last_fits}
 
 -- an answer by a test that passed, and by one that failed
 pub passed : {A : Type 0} {t : Bool} {x a : A} (b : A) → t ≡ true → x ≡ a → x ≡ cond t a b
@@ -29,8 +29,8 @@ failed {t = true} a e h = absurd (true≢false e)
 
 -- ---- Measures
 
-pub rows-stand : (len start n w L : ℕ) → rowsStand len start n w L ≡ true → ((0 < L) × (L ≤ w)) × (start + n * w ≤ len)
-unfolding rowsStand
+pub rows-stand : (len start n w L : ℕ) → rows_in_bounds len start n w L ≡ true → ((0 < L) × (L ≤ w)) × (start + n * w ≤ len)
+unfolding rows_in_bounds
 rows-stand len start n w L e =
     let rest = and_right (ltb 0 L) (leb L w && leb (start + n * w) len) e in (
       (ltb-true 0 L (and_left (ltb 0 L) (leb L w && leb (start + n * w) len) e), leb-true L w (and_left (leb L w) (leb (start + n * w) len) rest)),
@@ -59,12 +59,12 @@ stride-fits zero w L n t f e d = omega arith
 stride-fits (suc shift) w L zero t f e d = let two = power_pos shift in absurd (omega arith)
 stride-fits (suc shift) w L (suc n) t f e d = power-fits (suc shift) (suc n) (omega arith) f d
 
-pub blocks-stand : (len start n shift w : ℕ) → blocksStand len start n shift w ≡ true → ((0 < n) × (n % 2 ^ shift ≡ 0)) × (start + n * w ≤ len)
-unfolding blocksStand
+pub blocks-stand : (len start n shift w : ℕ) → blocks_in_bounds len start n shift w ≡ true → ((0 < n) × (n % 2 ^ shift ≡ 0)) × (start + n * w ≤ len)
+unfolding blocks_in_bounds
 blocks-stand len start n shift w e =
-    let rest = and_right (ltb 0 n) (eqb (n % 2 ^ shift) 0 && rowsStand len start n w w) e in (
-      (ltb-true 0 n (and_left (ltb 0 n) (eqb (n % 2 ^ shift) 0 && rowsStand len start n w w) e), eqb-true (n % 2 ^ shift) 0 (and_left (eqb (n % 2 ^ shift) 0) (rowsStand len start n w w) rest)),
-      (rows-stand len start n w w (and_right (eqb (n % 2 ^ shift) 0) (rowsStand len start n w w) rest)).1,
+    let rest = and_right (ltb 0 n) (eqb (n % 2 ^ shift) 0 && rows_in_bounds len start n w w) e in (
+      (ltb-true 0 n (and_left (ltb 0 n) (eqb (n % 2 ^ shift) 0 && rows_in_bounds len start n w w) e), eqb-true (n % 2 ^ shift) 0 (and_left (eqb (n % 2 ^ shift) 0) (rows_in_bounds len start n w w) rest)),
+      (rows-stand len start n w w (and_right (eqb (n % 2 ^ shift) 0) (rows_in_bounds len start n w w) rest)).1,
     )
 
 -- no number of 64 bits but 0 is a multiple of a higher power
@@ -73,28 +73,28 @@ power-over shift n p f h = ne_eqb (n % 2 ^ shift) 0 (λ d. omega (arith, power-f
 
 -- ---- Beats
 
-pub measure-limits : (m n : ℕ) → measureTaken m n ≡ true → (m ≤ measuresBound) × (n < rowsBound)
-unfolding measureTaken
-measure-limits m n e = (leb-true m measuresBound (and_left (leb m measuresBound) (ltb n rowsBound) e), ltb-true n rowsBound (and_right (leb m measuresBound) (ltb n rowsBound) e))
+pub measure-limits : (m n : ℕ) → measure_fits m n ≡ true → (m ≤ measures_bound) × (n < row_count_bound)
+unfolding measure_fits
+measure-limits m n e = (leb-true m measures_bound (and_left (leb m measures_bound) (ltb n row_count_bound) e), ltb-true n row_count_bound (and_right (leb m measures_bound) (ltb n row_count_bound) e))
 
-pub row_inside : (m r n : ℕ) → rowTaken m r n ≡ true → Inside m r n
-unfolding rowTaken
+pub row_inside : (m r n : ℕ) → row_fits m r n ≡ true → Inside m r n
+unfolding row_fits
 row_inside m r n e =
-    let limits = measure-limits m n (and_right (ltb r n) (measureTaken m n) e) in
-    record { row = ltb-true r n (and_left (ltb r n) (measureTaken m n) e); rows = limits.1; measure = limits.0 }
+    let limits = measure-limits m n (and_right (ltb r n) (measure_fits m n) e) in
+    record { row = ltb-true r n (and_left (ltb r n) (measure_fits m n) e); rows = limits.1; measure = limits.0 }
 
-pub beats-room : (len at m n : ℕ) → beatsTaken len at m n ≡ true → (at + n ≤ len) × (n < rowsBound) × (m ≤ measuresBound)
-unfolding beatsTaken
+pub beats-room : (len at m n : ℕ) → beats_fit len at m n ≡ true → (at + n ≤ len) × (n < row_count_bound) × (m ≤ measures_bound)
+unfolding beats_fit
 beats-room len at m n e =
-    let limits = measure-limits m n (and_right (leb (at + n) len) (measureTaken m n) e) in
-    (leb-true (at + n) len (and_left (leb (at + n) len) (measureTaken m n) e), limits.1, limits.0)
+    let limits = measure-limits m n (and_right (leb (at + n) len) (measure_fits m n) e) in
+    (leb-true (at + n) len (and_left (leb (at + n) len) (measure_fits m n) e), limits.1, limits.0)
 
 -- no object row where n is 0
-pub last_none : (m r n : ℕ) → n ≡ 0 → (lastTaken m r n ≡ true) × (lastPlace m r n ≡ none)
-unfolding lastTaken lastPlace
+pub last_none : (m r n : ℕ) → n ≡ 0 → (last_fits m r n ≡ true) × (last_place m r n ≡ none)
+unfolding last_fits last_place
 last_none m r n e = (rw (eq-eqb n 0 e), rw (eq-eqb n 0 e))
 
 -- else the row given, and the call is taken where that row is
-pub last_some : (m r n : ℕ) → (n ≡ 0 → ⊥) → (lastTaken m r n ≡ rowTaken m r n) × (lastPlace m r n ≡ some (record { m = m; r = r; n = n }))
-unfolding lastTaken lastPlace
+pub last_some : (m r n : ℕ) → (n ≡ 0 → ⊥) → (last_fits m r n ≡ row_fits m r n) × (last_place m r n ≡ some (record { m = m; r = r; n = n }))
+unfolding last_fits last_place
 last_some m r n e = (rw (ne_eqb n 0 e), rw (ne_eqb n 0 e))

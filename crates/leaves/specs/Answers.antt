@@ -4,10 +4,10 @@ use Rattle.std.specs.Prelude.{Bool, cond, ◌&&◌, ◌||◌, List, [], ◌∷�
 use Rattle.std.proofs.Math.Option.{Option, none, some}
 use Rattle.std.specs.Float.{binary64}
 use Rattle.std.specs.Float.Ieee.{to_bits}
-use Rattle.definitions.specs.Sizes.{measuresBound, rowsBound}
+use Rattle.definitions.specs.Sizes.{measures_bound, row_count_bound}
 use Rattle.definitions.specs.Lines.{Row}
 use Rattle.definitions.specs.Reduction.{stride}
-use Rattle.definitions.specs.Beats.{rowBeat, rowBeats, rowToBeat}
+use Rattle.definitions.specs.Beats.{beat_of_row, row_beats, row_to_beat}
 use Rattle.definitions.specs.Objects.{Place, place48}
 use Rattle.definitions.specs.declared.Cell.{Cell}
 use Rattle.definitions.specs.declared.Cell.TheVariants.{Empty, Tap, Hold, Tail, Roll, Mine, Lift, Fake, KeySound, LowerMine, LowerLift, LowerFake}
@@ -16,55 +16,55 @@ use Rattle.definitions.specs.declared.DepthEffect.TheVariants as effect
 use Rattle.definitions.specs.declared.RowSum.{RowSum}
 use Rattle.lines.specs.declared.Found.{Found}
 use Rattle.lines.specs.declared.Found.TheVariants as found
-use Rattle.taps.specs.Taps.{tapMask}
+use Rattle.taps.specs.Taps.{tap_mask}
 use Rattle.taps.specs.declared.Taps.{Taps}
 use Rattle.taps.specs.declared.Taps.TheVariants.{Mask, Other}
 use Rattle.reduction.specs.Rows.{rows_at, compacted}
 
 -- the largest number of 64 bits: no place, stride or count of rows
-abbrev pub noAnswer : ℕ
-noAnswer = 18446744073709551615
+abbrev pub no_answer : ℕ
+no_answer = 18446744073709551615
 
 -- ---- Lines
 
-abbrev pub foundNumber : Found → ℕ
-foundNumber (found.At k) = k
-foundNumber found.Nothing = noAnswer
+abbrev pub number_of_found : Found → ℕ
+number_of_found (found.At k) = k
+number_of_found found.Nothing = no_answer
 
 -- ---- Cells and masks
 
-abbrev pub cellNumber : Cell → ℕ
-cellNumber Empty = 0
-cellNumber Tap = 1
-cellNumber Hold = 2
-cellNumber Tail = 3
-cellNumber Roll = 4
-cellNumber Mine = 5
-cellNumber Lift = 6
-cellNumber Fake = 7
-cellNumber KeySound = 8
-cellNumber LowerMine = 9
-cellNumber LowerLift = 10
-cellNumber LowerFake = 11
+abbrev pub number_of_cell : Cell → ℕ
+number_of_cell Empty = 0
+number_of_cell Tap = 1
+number_of_cell Hold = 2
+number_of_cell Tail = 3
+number_of_cell Roll = 4
+number_of_cell Mine = 5
+number_of_cell Lift = 6
+number_of_cell Fake = 7
+number_of_cell KeySound = 8
+number_of_cell LowerMine = 9
+number_of_cell LowerLift = 10
+number_of_cell LowerFake = 11
 
-abbrev pub effectNumber : DepthEffect → ℕ
-effectNumber effect.Nothing = 0
-effectNumber effect.Blocks = 1
-effectNumber effect.Opens = 2
-effectNumber effect.Closes = 3
+abbrev pub number_of_effect : DepthEffect → ℕ
+number_of_effect effect.Nothing = 0
+number_of_effect effect.Blocks = 1
+number_of_effect effect.Opens = 2
+number_of_effect effect.Closes = 3
 
 -- a mask is below 256
-abbrev pub tapsNumber : Taps → ℕ
-tapsNumber (Mask m) = m
-tapsNumber Other = 256
+abbrev pub number_of_taps : Taps → ℕ
+number_of_taps (Mask m) = m
+number_of_taps Other = 256
 
 -- the mask of a row's first n cells; 257 where it has fewer
-unfoldable pub maskNumber : ℕ → Row → ℕ
-maskNumber n row = cond (ltb (length row) n) 257 (tapsNumber (tapMask (take n row)))
+unfoldable pub mask_number : ℕ → Row → ℕ
+mask_number n row = cond (ltb (length row) n) 257 (number_of_taps (tap_mask (take n row)))
 
 -- a row's sum in the order of its fields
-abbrev pub sumNumbers : RowSum → List ℕ
-sumNumbers s =
+abbrev pub sum_numbers : RowSum → List ℕ
+sum_numbers s =
     s.arrows
     ∷ s.left
     ∷ s.down
@@ -81,64 +81,64 @@ sumNumbers s =
 -- ---- Measures
 
 -- n rows of L bytes, L not 0, stand w bytes apart in `len` bytes from `start` on
-unfoldable pub rowsStand : ℕ → ℕ → ℕ → ℕ → ℕ → Bool
-rowsStand len start n w L = ltb 0 L && (leb L w && leb (start + n * w) len)
+unfoldable pub rows_in_bounds : ℕ → ℕ → ℕ → ℕ → ℕ → Bool
+rows_in_bounds len start n w L = ltb 0 L && (leb L w && leb (start + n * w) len)
 
-unfoldable pub strideNumber : List ℕ → ℕ → ℕ → ℕ → ℕ → ℕ
-strideNumber text start n w L = cond (rowsStand (length text) start n w L) (stride (rows_at w L n (drop start text))) noAnswer
+unfoldable pub stride_number : List ℕ → ℕ → ℕ → ℕ → ℕ → ℕ
+stride_number text start n w L = cond (rows_in_bounds (length text) start n w L) (stride (rows_at w L n (drop start text))) no_answer
 
 -- n blocks of w bytes stand there, n not 0 and a multiple of 2 ^ shift
-unfoldable pub blocksStand : ℕ → ℕ → ℕ → ℕ → ℕ → Bool
-blocksStand len start n shift w = ltb 0 n && (eqb (n % 2 ^ shift) 0 && rowsStand len start n w w)
+unfoldable pub blocks_in_bounds : ℕ → ℕ → ℕ → ℕ → ℕ → Bool
+blocks_in_bounds len start n shift w = ltb 0 n && (eqb (n % 2 ^ shift) 0 && rows_in_bounds len start n w w)
 
 -- how many blocks stay
-unfoldable pub compactedNumber : List ℕ → ℕ → ℕ → ℕ → ℕ → ℕ
-compactedNumber text start n shift w = cond (blocksStand (length text) start n shift w) (n / 2 ^ shift) noAnswer
+unfoldable pub compacted_number : List ℕ → ℕ → ℕ → ℕ → ℕ → ℕ
+compacted_number text start n shift w = cond (blocks_in_bounds (length text) start n shift w) (n / 2 ^ shift) no_answer
 
 -- the text with them moved together
-unfoldable pub compactedText : List ℕ → ℕ → ℕ → ℕ → ℕ → List ℕ
-compactedText text start n shift w = cond (blocksStand (length text) start n shift w) (compacted w n (2 ^ shift) start text) text
+unfoldable pub compacted_text : List ℕ → ℕ → ℕ → ℕ → ℕ → List ℕ
+compacted_text text start n shift w = cond (blocks_in_bounds (length text) start n shift w) (compacted w n (2 ^ shift) start text) text
 
 -- ---- Beats
 
 -- measure m and a number n of rows, within the limits of an accepted text
-unfoldable pub measureTaken : ℕ → ℕ → Bool
-measureTaken m n = leb m measuresBound && ltb n rowsBound
+unfoldable pub measure_fits : ℕ → ℕ → Bool
+measure_fits m n = leb m measures_bound && ltb n row_count_bound
 
 -- row r of the n rows of measure m
-unfoldable pub rowTaken : ℕ → ℕ → ℕ → Bool
-rowTaken m r n = ltb r n && measureTaken m n
+unfoldable pub row_fits : ℕ → ℕ → ℕ → Bool
+row_fits m r n = ltb r n && measure_fits m n
 
 -- 0 for a call that is taken, else 1
-unfoldable pub beatNumber : ℕ → ℕ → ℕ → ℕ
-beatNumber m r n = cond (rowTaken m r n) 0 1
+unfoldable pub beat_number : ℕ → ℕ → ℕ → ℕ
+beat_number m r n = cond (row_fits m r n) 0 1
 
-unfoldable pub beatLeft : ℕ → ℕ → ℕ → List Float → List Float
-beatLeft m r n old = cond (rowTaken m r n) (rowBeat m r n ∷ []) old
+unfoldable pub beat_left : ℕ → ℕ → ℕ → List Float → List Float
+beat_left m r n old = cond (row_fits m r n) (beat_of_row m r n ∷ []) old
 
 -- a measure's beats have room in `len` places from `at` on
-unfoldable pub beatsTaken : ℕ → ℕ → ℕ → ℕ → Bool
-beatsTaken len at m n = leb (at + n) len && measureTaken m n
+unfoldable pub beats_fit : ℕ → ℕ → ℕ → ℕ → Bool
+beats_fit len at m n = leb (at + n) len && measure_fits m n
 
-unfoldable pub beatsNumber : List Float → ℕ → ℕ → ℕ → ℕ
-beatsNumber old at m n = cond (beatsTaken (length old) at m n) 0 1
+unfoldable pub beats_number : List Float → ℕ → ℕ → ℕ → ℕ
+beats_number old at m n = cond (beats_fit (length old) at m n) 0 1
 
-unfoldable pub beatsLeft : List Float → ℕ → ℕ → ℕ → List Float
-beatsLeft old at m n = cond (beatsTaken (length old) at m n) ((take at old ++ rowBeats m n 0 n) ++ drop (at + n) old) old
+unfoldable pub beats_left : List Float → ℕ → ℕ → ℕ → List Float
+beats_left old at m n = cond (beats_fit (length old) at m n) ((take at old ++ row_beats m n 0 n) ++ drop (at + n) old) old
 
 -- the last object row, none where n is 0
-unfoldable pub lastPlace : ℕ → ℕ → ℕ → Option Place
-lastPlace m r n = cond (eqb n 0) none (some (record { m = m; r = r; n = n }))
+unfoldable pub last_place : ℕ → ℕ → ℕ → Option Place
+last_place m r n = cond (eqb n 0) none (some (record { m = m; r = r; n = n }))
 
-unfoldable pub lastTaken : ℕ → ℕ → ℕ → Bool
-lastTaken m r n = eqb n 0 || rowTaken m r n
+unfoldable pub last_fits : ℕ → ℕ → ℕ → Bool
+last_fits m r n = eqb n 0 || row_fits m r n
 
-unfoldable pub lastNumber : ℕ → ℕ → ℕ → ℕ
-lastNumber m r n = cond (lastTaken m r n) 0 1
+unfoldable pub last_number : ℕ → ℕ → ℕ → ℕ
+last_number m r n = cond (last_fits m r n) 0 1
 
 -- the last beat's bits, and the last beat in 48ths
-abbrev pub lastNumbers : Option Place → List ℕ
-lastNumbers p = to_bits binary64 (rowToBeat (place48 p)) ∷ place48 p ∷ []
+abbrev pub numbers_of_last : Option Place → List ℕ
+numbers_of_last p = to_bits binary64 (row_to_beat (place48 p)) ∷ place48 p ∷ []
 
-unfoldable pub lastLeft : ℕ → ℕ → ℕ → List ℕ → List ℕ
-lastLeft m r n old = cond (lastTaken m r n) (lastNumbers (lastPlace m r n)) old
+unfoldable pub last_left : ℕ → ℕ → ℕ → List ℕ → List ℕ
+last_left m r n old = cond (last_fits m r n) (numbers_of_last (last_place m r n)) old

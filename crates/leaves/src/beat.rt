@@ -1,13 +1,13 @@
 // Row beats and the last beat, of rows within the limits of an accepted text. A call returns 0, or 1 where it is not taken.
 ghost use Rattle.std.specs.Prelude.{◌≡◌};
 ghost use Rattle.beats.specs.Places.{place_of, Placed};
-ghost use Rattle.leaves.specs.Answers.{measureTaken, rowTaken, beatNumber, beatLeft, beatsTaken, beatsNumber, beatsLeft, lastNumber, lastNumbers, lastLeft};
+ghost use Rattle.leaves.specs.Answers.{measure_fits, row_fits, beat_number, beat_left, beats_fit, beats_number, beats_left, last_number, numbers_of_last, last_left};
 
 use beats::LastObject;
 
-#[tactic(auto, unfolding(crate::specs::Answers::measureTaken))]
+#[tactic(auto, unfolding(crate::specs::Answers::measure_fits))]
 fn measure_taken(m: u32, n: u32) -> bool
-    ensures { result ≡ measureTaken m n }
+    ensures { result ≡ measure_fits m n }
 {
     if definitions::MEASURES_BOUND < m {
         return false;
@@ -15,9 +15,9 @@ fn measure_taken(m: u32, n: u32) -> bool
     n < definitions::ROWS_BOUND
 }
 
-#[tactic(auto, unfolding(crate::specs::Answers::rowTaken))]
+#[tactic(auto, unfolding(crate::specs::Answers::row_fits))]
 fn row_taken(m: u32, r: u32, n: u32) -> bool
-    ensures { result ≡ rowTaken m r n }
+    ensures { result ≡ row_fits m r n }
 {
     if n <= r {
         return false;
@@ -27,8 +27,8 @@ fn row_taken(m: u32, r: u32, n: u32) -> bool
 
 #[unsafe(no_mangle)]
 pub extern "C" fn leaves_row_beat(m: u32, r: u32, n: u32, beat: &mut [f32; 1]) -> u32
-    ensures value { result ≡ beatNumber m r n }
-    ensures beat_after { beat.new ≡ beatLeft m r n beat.old }
+    ensures value { result ≡ beat_number m r n }
+    ensures beat_after { beat.new ≡ beat_left m r n beat.old }
 {
     if row_taken(m, r, n) {
         *beat = [beats::row_beat(m, r, n)];
@@ -38,9 +38,9 @@ pub extern "C" fn leaves_row_beat(m: u32, r: u32, n: u32, beat: &mut [f32; 1]) -
 }
 
 // Whether the beats of a measure have room in `len` places from `at` on.
-#[tactic(auto, unfolding(crate::specs::Answers::beatsTaken))]
+#[tactic(auto, unfolding(crate::specs::Answers::beats_fit))]
 fn beats_taken(len: usize, at: usize, m: u32, n: u32) -> bool
-    ensures { result ≡ beatsTaken len at m n }
+    ensures { result ≡ beats_fit len at m n }
 {
     if len < at {
         return false;
@@ -53,8 +53,8 @@ fn beats_taken(len: usize, at: usize, m: u32, n: u32) -> bool
 
 #[unsafe(no_mangle)]
 pub extern "C" fn leaves_append_row_beats(beats: &mut [f32], at: usize, midx: u32, rows: u32) -> u32
-    ensures value { result ≡ beatsNumber beats.old at midx rows }
-    ensures beats_after { beats.new ≡ beatsLeft beats.old at midx rows }
+    ensures value { result ≡ beats_number beats.old at midx rows }
+    ensures beats_after { beats.new ≡ beats_left beats.old at midx rows }
 {
     if beats_taken(beats.len(), at, midx, rows) {
         beats::append_row_beats(beats, at, midx, rows);
@@ -66,7 +66,7 @@ pub extern "C" fn leaves_append_row_beats(beats: &mut [f32], at: usize, midx: u3
 // The last beat's bits, and the last beat in 48ths.
 fn last_numbers(last: LastObject) -> [u64; 2]
     requires { Placed last }
-    ensures { result ≡ lastNumbers (place_of last) }
+    ensures { result ≡ numbers_of_last (place_of last) }
 {
     [beats::last_beat_bits(last), beats::last_note_row(last)]
 }
@@ -74,8 +74,8 @@ fn last_numbers(last: LastObject) -> [u64; 2]
 // Of no object row where `n` is 0.
 #[unsafe(no_mangle)]
 pub extern "C" fn leaves_calc_last_beat(m: u32, r: u32, n: u32, last: &mut [u64; 2]) -> u32
-    ensures value { result ≡ lastNumber m r n }
-    ensures last_after { last.new ≡ lastLeft m r n last.old }
+    ensures value { result ≡ last_number m r n }
+    ensures last_after { last.new ≡ last_left m r n last.old }
 {
     if n == 0 {
         *last = last_numbers(LastObject::Nothing);

@@ -1,18 +1,18 @@
 // Cells and tap masks.
 ghost use Rattle.std.specs.Prelude.{◌≡◌};
 ghost use Rattle.definitions.specs.Cells.{cell_of};
-ghost use Rattle.definitions.specs.Figures.{isStep};
-ghost use Rattle.definitions.specs.Objects.{objectAt};
-ghost use Rattle.definitions.specs.Tracker.{holdAt};
-ghost use Rattle.taps.specs.Taps.{maskCounts, unpack};
-ghost use Rattle.leaves.specs.Answers.{cellNumber, effectNumber, tapsNumber, maskNumber, sumNumbers};
+ghost use Rattle.definitions.specs.Figures.{is_step};
+ghost use Rattle.definitions.specs.Objects.{object_at};
+ghost use Rattle.definitions.specs.Tracker.{hold_at};
+ghost use Rattle.taps.specs.Taps.{mask_counts, unpack};
+ghost use Rattle.leaves.specs.Answers.{number_of_cell, number_of_effect, number_of_taps, mask_number, sum_numbers};
 
 use definitions::{Cell, DepthEffect};
 use taps::Taps;
 
 // The number of the variant.
 fn cell_number(cell: Cell) -> u32
-    ensures { result ≡ cellNumber cell }
+    ensures { result ≡ number_of_cell cell }
 {
     match cell {
         Cell::Empty => 0,
@@ -32,13 +32,13 @@ fn cell_number(cell: Cell) -> u32
 
 #[unsafe(no_mangle)]
 pub extern "C" fn leaves_cell_of(b: u8) -> u32
-    ensures { result ≡ cellNumber (cell_of b) }
+    ensures { result ≡ number_of_cell (cell_of b) }
 {
     cell_number(cells::cell_of(b))
 }
 
 fn effect_number(e: DepthEffect) -> u32
-    ensures { result ≡ effectNumber e }
+    ensures { result ≡ number_of_effect e }
 {
     match e {
         DepthEffect::Nothing => 0,
@@ -50,28 +50,28 @@ fn effect_number(e: DepthEffect) -> u32
 
 #[unsafe(no_mangle)]
 pub extern "C" fn leaves_hold_effect(b: u8) -> u32
-    ensures { result ≡ effectNumber (holdAt b) }
+    ensures { result ≡ number_of_effect (hold_at b) }
 {
     effect_number(cells::hold_effect(b))
 }
 
 #[unsafe(no_mangle)]
 pub extern "C" fn leaves_object_effect(b: u8) -> u32
-    ensures { result ≡ effectNumber (objectAt b) }
+    ensures { result ≡ number_of_effect (object_at b) }
 {
     effect_number(cells::object_effect(b))
 }
 
 #[unsafe(no_mangle)]
 pub extern "C" fn leaves_row_has_note(row: &[u8]) -> bool
-    ensures { result ≡ isStep row.now }
+    ensures { result ≡ is_step row.now }
 {
     cells::row_has_note(row)
 }
 
 // The mask, 256 for another row.
 fn taps_number(taps: Taps) -> u32
-    ensures { result ≡ tapsNumber taps }
+    ensures { result ≡ number_of_taps taps }
 {
     match taps {
         Taps::Mask(mask) => mask as u32,
@@ -80,10 +80,10 @@ fn taps_number(taps: Taps) -> u32
 }
 
 // 257 for a row of fewer cells.
-#[tactic(auto, unfolding(crate::specs::Answers::maskNumber))]
+#[tactic(auto, unfolding(crate::specs::Answers::mask_number))]
 #[unsafe(no_mangle)]
 pub extern "C" fn leaves_tap_mask4(row: &[u8]) -> u32
-    ensures { result ≡ maskNumber 4 row.now }
+    ensures { result ≡ mask_number 4 row.now }
 {
     if row.len() < 4 {
         return 257;
@@ -91,10 +91,10 @@ pub extern "C" fn leaves_tap_mask4(row: &[u8]) -> u32
     taps_number(taps::tap_mask4(row))
 }
 
-#[tactic(auto, unfolding(crate::specs::Answers::maskNumber))]
+#[tactic(auto, unfolding(crate::specs::Answers::mask_number))]
 #[unsafe(no_mangle)]
 pub extern "C" fn leaves_tap_mask8(row: &[u8]) -> u32
-    ensures { result ≡ maskNumber 8 row.now }
+    ensures { result ≡ mask_number 8 row.now }
 {
     if row.len() < 8 {
         return 257;
@@ -105,7 +105,7 @@ pub extern "C" fn leaves_tap_mask8(row: &[u8]) -> u32
 // The sum's fields in their order.
 #[unsafe(no_mangle)]
 pub extern "C" fn leaves_tap_sum(mask: u8, sum: &mut [u32; 11])
-    ensures { sum.new ≡ sumNumbers (unpack (maskCounts mask)) }
+    ensures { sum.new ≡ sum_numbers (unpack (mask_counts mask)) }
 {
     let counts = taps::tap_mask_counts(8);
     let s = taps::tap_sum(mask as u16, false, &counts);

@@ -1,10 +1,10 @@
 // The line reader. A line is a part of the text, and its length says which.
 ghost use Rattle.std.specs.Prelude.{◌≡◌, length, drop};
 ghost use Rattle.definitions.specs.Lines.{trim};
-ghost use Rattle.definitions.specs.ReadBack.{trimCr};
-ghost use Rattle.lines.specs.Search.{findFrom, count_of};
-ghost use Rattle.lines.specs.Lines.{firstLine};
-ghost use Rattle.leaves.specs.Answers.{foundNumber};
+ghost use Rattle.definitions.specs.ReadBack.{without_cr};
+ghost use Rattle.lines.specs.Search.{find_from, count_of};
+ghost use Rattle.lines.specs.Lines.{first_line};
+ghost use Rattle.leaves.specs.Answers.{number_of_found};
 
 use lines::Found;
 
@@ -18,7 +18,7 @@ pub extern "C" fn leaves_skip_ws(line: &[u8]) -> usize
 
 #[unsafe(no_mangle)]
 pub extern "C" fn leaves_trim_cr(line: &[u8]) -> usize
-    ensures { result ≡ length (trimCr line.now) }
+    ensures { result ≡ length (without_cr line.now) }
 {
     let part = lines::trim_cr(line);
     part.len()
@@ -26,7 +26,7 @@ pub extern "C" fn leaves_trim_cr(line: &[u8]) -> usize
 
 // The place, or the largest number.
 fn found_number(found: Found) -> usize
-    ensures { result ≡ foundNumber found }
+    ensures { result ≡ number_of_found found }
 {
     match found {
         Found::At(at) => at,
@@ -36,7 +36,7 @@ fn found_number(found: Found) -> usize
 
 #[unsafe(no_mangle)]
 pub extern "C" fn leaves_find_byte(slice: &[u8], needle: u8) -> usize
-    ensures { result ≡ foundNumber (findFrom needle 0 slice.now) }
+    ensures { result ≡ number_of_found (find_from needle 0 slice.now) }
 {
     found_number(lines::find_byte(slice, needle))
 }
@@ -50,7 +50,7 @@ pub extern "C" fn leaves_count_byte(slice: &[u8], needle: u8) -> usize
 
 #[unsafe(no_mangle)]
 pub extern "C" fn leaves_next_line(data: &[u8], start: usize) -> usize
-    ensures { result ≡ length (firstLine (drop start «data».now)) }
+    ensures { result ≡ length (first_line (drop start «data».now)) }
 {
     let line = lines::next_line(data, start);
     line.len()

@@ -1,12 +1,12 @@
 // Minimising of a measure's rows in place. The largest number is returned where the rows do not stand in the text.
 ghost use Rattle.std.specs.Prelude.{◌≡◌};
 ghost use Rattle.definitions.specs.Lanes.{lanes_of};
-ghost use Rattle.definitions.specs.Reduction.{allZero};
-ghost use Rattle.leaves.specs.Answers.{rowsStand, strideNumber, blocksStand, compactedNumber, compactedText};
+ghost use Rattle.definitions.specs.Reduction.{all_zero};
+ghost use Rattle.leaves.specs.Answers.{rows_in_bounds, stride_number, blocks_in_bounds, compacted_number, compacted_text};
 
 #[unsafe(no_mangle)]
 pub extern "C" fn leaves_is_all_zero(row: &[u8]) -> bool
-    ensures { result ≡ allZero row.now }
+    ensures { result ≡ all_zero row.now }
 {
     reduction::is_all_zero(row)
 }
@@ -20,7 +20,7 @@ pub extern "C" fn leaves_lanes_of(lanes: usize) -> usize
 
 // Whether so many rows of `lanes` bytes stand `width` bytes apart in `len` bytes from `start` on.
 fn rows_stand(len: usize, start: usize, rows: usize, width: usize, lanes: usize) -> bool
-    ensures { result ≡ rowsStand len start rows width lanes }
+    ensures { result ≡ rows_in_bounds len start rows width lanes }
 {
     if lanes == 0 {
         return false;
@@ -43,7 +43,7 @@ pub extern "C" fn leaves_stride(
     width: usize,
     lanes: usize,
 ) -> usize
-    ensures { result ≡ strideNumber text.now start rows width lanes }
+    ensures { result ≡ stride_number text.now start rows width lanes }
 {
     if rows_stand(text.len(), start, rows, width, lanes) {
         return 1 << reduction::measure_reduce_shift(text, start, rows, width, lanes);
@@ -53,7 +53,7 @@ pub extern "C" fn leaves_stride(
 
 // Whether so many blocks of `width` bytes stand there, and 2 to the power `shift` divides their number, which is not 0.
 fn blocks_stand(len: usize, start: usize, rows: usize, shift: usize, width: usize) -> bool
-    ensures { result ≡ blocksStand len start rows shift width }
+    ensures { result ≡ blocks_in_bounds len start rows shift width }
 {
     if rows == 0 {
         return false;
@@ -76,8 +76,8 @@ pub extern "C" fn leaves_compact_output_rows(
     shift: usize,
     width: usize,
 ) -> usize
-    ensures value { result ≡ compactedNumber text.old start rows shift width }
-    ensures text_after { text.new ≡ compactedText text.old start rows shift width }
+    ensures value { result ≡ compacted_number text.old start rows shift width }
+    ensures text_after { text.new ≡ compacted_text text.old start rows shift width }
 {
     if blocks_stand(text.len(), start, rows, shift, width) {
         return reduction::compact_output_rows(text, start, rows, shift, width);

@@ -3,7 +3,7 @@ use Rattle.std.proofs.Common.{◌≡◌, ℕ, zero, suc, ◌+◌, ◌*◌, ◌<�
 use lib.Bits.{bit_and, bit_xor, xor_block, and_comm, and_shifted, and_le_l, and_le_r, xor_self, xor_lt, xor_zero_l, xor_add_and}
 use borrow.Author.Tests.{eqb-false}
 use Rattle.lines.specs.Search.{count_of}
-use Rattle.lines.specs.Words.{word_of, Bytes, firstIn}
+use Rattle.lines.specs.Words.{word_of, Bytes, first_in}
 
 -- at n bytes: the numbers below it, a one in each byte, the seven low bits of each byte, the high bit of each byte
 abbrev pub cap : ℕ → ℕ
@@ -31,19 +31,19 @@ word_lt (x ∷ xs) h = let ih = word_lt xs h.1 in omega arith
 pub small : (z : ℕ) → z < 128 → bit_and z 128 ≡ 0
 small z h = and_comm z 128 ∙ and_shifted 1 7 z h
 
-abbrev pub xorAll : ℕ → List ℕ → List ℕ
-xorAll b [] = []
-xorAll b (x ∷ xs) = bit_xor x b ∷ xorAll b xs
+abbrev pub xor_all : ℕ → List ℕ → List ℕ
+xor_all b [] = []
+xor_all b (x ∷ xs) = bit_xor x b ∷ xor_all b xs
 
-xor-length : (b : ℕ) (xs : List ℕ) → length (xorAll b xs) ≡ length xs
+xor-length : (b : ℕ) (xs : List ℕ) → length (xor_all b xs) ≡ length xs
 xor-length b [] = refl
 xor-length b (x ∷ xs) = ap suc (xor-length b xs)
 
-pub xor_bytes : (b : ℕ) (xs : List ℕ) → b < 256 → Bytes xs → Bytes (xorAll b xs)
+pub xor_bytes : (b : ℕ) (xs : List ℕ) → b < 256 → Bytes xs → Bytes (xor_all b xs)
 xor_bytes b [] hb h = tt
 xor_bytes b (x ∷ xs) hb h = (xor_lt 8 x b h.0 hb, xor_bytes b xs hb h.1)
 
-xor-word : (b : ℕ) (xs : List ℕ) → b < 256 → Bytes xs → bit_xor (word_of xs) (b * lo (length xs)) ≡ word_of (xorAll b xs)
+xor-word : (b : ℕ) (xs : List ℕ) → b < 256 → Bytes xs → bit_xor (word_of xs) (b * lo (length xs)) ≡ word_of (xor_all b xs)
 unfolding word_of
 xor-word b [] hb h = xor_zero_l (b * 0) ∙ mul-zero b
 xor-word b (x ∷ xs) hb h =
@@ -61,20 +61,20 @@ xor-eqb x b = go (eqb x b) refl
     go false e = rw e (ne_eqb (bit_xor x b) 0 (λ z. eqb-false x b e (xor_same x b z)))
 
 -- the first 0 is where b was first, and there are as many
-pub xor_first : (b : ℕ) (xs : List ℕ) → firstIn 0 (xorAll b xs) ≡ firstIn b xs
-unfolding firstIn
+pub xor_first : (b : ℕ) (xs : List ℕ) → first_in 0 (xor_all b xs) ≡ first_in b xs
+unfolding first_in
 xor_first b [] = refl
 xor_first b (x ∷ xs) = rw (xor-eqb, xor_first b xs)
 
-pub xor_count : (b : ℕ) (xs : List ℕ) → count_of 0 (xorAll b xs) ≡ count_of b xs
+pub xor_count : (b : ℕ) (xs : List ℕ) → count_of 0 (xor_all b xs) ≡ count_of b xs
 unfolding count_of
 xor_count b [] = refl
 xor_count b (x ∷ xs) = rw (xor-eqb, xor_count b xs)
 
 -- a word of eight
 module _ (xs : List ℕ) (w b : ℕ) (eight : length xs ≡ 8) (hx : Bytes xs) (hw : word_of xs ≡ w) (hb : b < 256) where
-  pub xor_is : bit_xor w (b * 72340172838076673) ≡ word_of (xorAll b xs)
+  pub xor_is : bit_xor w (b * 72340172838076673) ≡ word_of (xor_all b xs)
   xor_is = rw (← hw) (rw eight at (xor-word b xs hb hx))
 
-  pub xor-eight : length (xorAll b xs) ≡ 8
+  pub xor-eight : length (xor_all b xs) ≡ 8
   xor-eight = xor-length b xs ∙ eight

@@ -3,8 +3,8 @@ use Rattle.std.proofs.Common.{◌≡◌, ℕ, zero, suc, ◌+◌, ◌-◌, ◌*�
 use native.Mathlib.Decide.{dec_lt}
 use lib.Bits.{bit_and, bit_xor, and_block, and_le_l, and_le_r, shifted_half, shifted_even}
 use lib.Count.{count_trailing_zeros, under}
-use Rattle.lines.specs.Words.{word_of, Bytes, firstIn}
-use Rattle.lines.proofs.Bytes.{cap, lo, hi, word_lt, small, xorAll, xor_bytes, xor_first, xor_is, xor-eight}
+use Rattle.lines.specs.Words.{word_of, Bytes, first_in}
+use Rattle.lines.proofs.Bytes.{cap, lo, hi, word_lt, small, xor_all, xor_bytes, xor_first, xor_is, xor-eight}
 
 -- ---- trailing zeros
 
@@ -70,7 +70,7 @@ abbrev Less : ℕ → ℕ → ℕ → ℕ → Type 0
 Less m o x y = (y + o ≡ x) ⊎ (y + o ≡ x + m)
 
 abbrev Place : ℕ → List ℕ → ℕ → Type 0
-Place n xs y = count_trailing_zeros (bits n) (bit_and (bit_and y (cap n - 1 - word_of xs)) (hi n)) / 8 ≡ firstIn 0 xs
+Place n xs y = count_trailing_zeros (bits n) (bit_and (bit_and y (cap n - 1 - word_of xs)) (hi n)) / 8 ≡ first_in 0 xs
 
 zero-low : (n w Y s : ℕ) → s < 256 → Less (cap n * 256) (lo n * 256 + 1) (w * 256 + 0) (Y * 256 + s) → s ≡ 255
 zero-low n w Y s hs (inl e) = omega arith
@@ -86,7 +86,7 @@ more-high n w Y s r q (inr e) = inr (omega arith)
 
 step : (r : ℕ) (xs : List ℕ) (Y s : ℕ) → s < 256 → r < 256 → Bytes xs → (Less (cap (length xs)) (lo (length xs)) (word_of xs) Y → Place (length xs) xs Y)
     → Less (cap (length xs) * 256) (lo (length xs) * 256 + 1) (word_of xs * 256 + r) (Y * 256 + s) → Place (suc (length xs)) (r ∷ xs) (Y * 256 + s)
-unfolding word_of firstIn
+unfolding word_of first_in
 step zero xs Y s hs hr hb ih l =
     let n = length xs in
     let f : s ≡ 255 = zero-low n (word_of xs) Y s hs l in
@@ -102,7 +102,7 @@ step (suc r) xs Y s hs hr hb ih l =
     (tz-miss _ _ ∙ ap suc (ih (more-high n (word_of xs) Y s r f l)))
 
 place : (xs : List ℕ) (y : ℕ) → Bytes xs → Less (cap (length xs)) (lo (length xs)) (word_of xs) y → Place (length xs) xs y
-unfolding count_trailing_zeros firstIn word_of
+unfolding count_trailing_zeros first_in word_of
 place [] y hb l = refl
 place (r ∷ xs) y hb l =
     rw (← div-add-mod' y 256)
@@ -114,13 +114,13 @@ wrapped x y hx hy e = elim (dec_lt (y + 72340172838076673) (2 ^ 64)) [ yes h ↦
 -- a word of eight bytes w, and y that is less by a one in each byte, where the bytes have been put together with b by exclusive or
 pub hits-place : (xs : List ℕ) (w b y : ℕ) → length xs ≡ 8 → Bytes xs → word_of xs ≡ w → b < 256 → y < 2 ^ 64
     → (y + 72340172838076673) % 2 ^ 64 ≡ bit_xor w (b * 72340172838076673)
-    → count_trailing_zeros 64 (bit_and (bit_and y (18446744073709551615 - bit_xor w (b * 72340172838076673))) 9259542123273814144) / 8 ≡ firstIn b xs
+    → count_trailing_zeros 64 (bit_and (bit_and y (18446744073709551615 - bit_xor w (b * 72340172838076673))) 9259542123273814144) / 8 ≡ first_in b xs
 hits-place xs w b y eight hx hw hb hy e =
     let hz = xor_bytes b xs hb hx in
     let len = xor-eight xs w b eight hx hw hb in
     let x-is = xor_is xs w b eight hx hw hb in
-    let lt : word_of (xorAll b xs) < 2 ^ 64 = rw len at (word_lt (xorAll b xs) hz) in
-    let l : Less (2 ^ 64) 72340172838076673 (word_of (xorAll b xs)) y = wrapped _ y lt hy (e ∙ x-is) in
-    let p : Less (cap (length (xorAll b xs))) (lo (length (xorAll b xs))) (word_of (xorAll b xs)) y = rw len l in
-    let q : Place 8 (xorAll b xs) y = rw len at (place (xorAll b xs) y hz p) in
+    let lt : word_of (xor_all b xs) < 2 ^ 64 = rw len at (word_lt (xor_all b xs) hz) in
+    let l : Less (2 ^ 64) 72340172838076673 (word_of (xor_all b xs)) y = wrapped _ y lt hy (e ∙ x-is) in
+    let p : Less (cap (length (xor_all b xs))) (lo (length (xor_all b xs))) (word_of (xor_all b xs)) y = rw len l in
+    let q : Place 8 (xor_all b xs) y = rw len at (place (xor_all b xs) y hz p) in
     rw x-is (q ∙ xor_first b xs)

@@ -1,17 +1,17 @@
--- Laws of `firstLine` and `lines_from`. A loop over the lines of a text starts by `lines_start`, takes a line by `lines_next` and stops by
+-- Laws of `first_line` and `lines_from`. A loop over the lines of a text starts by `lines_start`, takes a line by `lines_next` and stops by
 -- `lines_end`; `line-within` says that the line taken lies in the text.
 use Rattle.std.proofs.Common.{◌≡◌, ℕ, suc, ◌+◌, ◌<◌, ◌≤◌, Bool, true, false, cond, eqb, List, [], ◌∷◌, length, drop, refl, ap, ◌∙◌, add-one, arith, length-drop, drop_of_length-le, drop-cons, drop-drop, le-leb}
 use native.Mathlib.Decide.{dec_lt}
 use borrow.Author.Tests.{lt-leb}
 use Rattle.definitions.specs.Lists.{up_to}
 use Rattle.definitions.specs.Lines.{cut, cut_at}
-use Rattle.definitions.proofs.Lists.{upTo-short}
-use Rattle.lines.specs.Lines.{firstLine, lines_from}
+use Rattle.definitions.proofs.Lists.{up_to-short}
+use Rattle.lines.specs.Lines.{first_line, lines_from}
 
 -- the line at `off` ends within the text
-pub line-within : (text : List ℕ) (off : ℕ) → off ≤ length text → length (firstLine (drop off text)) + off ≤ length text
-unfolding firstLine
-line-within text off h = omega (arith, upTo-short 10 (drop off text), length-drop off text)
+pub line-within : (text : List ℕ) (off : ℕ) → off ≤ length text → length (first_line (drop off text)) + off ≤ length text
+unfolding first_line
+line-within text off h = omega (arith, up_to-short 10 (drop off text), length-drop off text)
 
 -- what follows the first line: no line where the text is used up, else the lines past the newline
 more : List ℕ → List (List ℕ)
@@ -45,11 +45,11 @@ unfolding lines_from
 lines_start text = simp (le-leb 0 (length text) (omega arith))
 
 -- the line at `off`, and the lines from past its newline on
-pub lines_next : (text : List ℕ) (off : ℕ) → off ≤ length text → lines_from text off ≡ firstLine (drop off text) ∷ lines_from text (off + length (firstLine (drop off text)) + 1)
-unfolding lines_from firstLine
+pub lines_next : (text : List ℕ) (off : ℕ) → off ≤ length text → lines_from text off ≡ first_line (drop off text) ∷ lines_from text (off + length (first_line (drop off text)) + 1)
+unfolding lines_from first_line
 lines_next text off h =
     simp (le-leb off (length text) h)
-    (cut-first (drop off text) ∙ ap {B = List (List ℕ)} (λ ls. firstLine (drop off text) ∷ ls) (rw drop-drop (more-at text _)))
+    (cut-first (drop off text) ∙ ap {B = List (List ℕ)} (λ ls. first_line (drop off text) ∷ ls) (rw drop-drop (more-at text _)))
 
 -- past the text's end there are none
 pub lines_end : (text : List ℕ) (off : ℕ) → length text < off → lines_from text off ≡ []

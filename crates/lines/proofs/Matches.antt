@@ -2,10 +2,10 @@
 use Rattle.std.proofs.Common.{◌≡◌, ℕ, zero, suc, ◌+◌, ◌-◌, ◌*◌, ◌<◌, ◌≤◌, eqb, List, [], ◌∷◌, length, refl, ap, ◌∙◌, arith, lit<, ne_eqb}
 use lib.Bits.{bit_and, bit_or, bit_xor, and_block, or_block, and_le_l, and_le_r, and_mask, or_lt, or_add_and}
 use lib.Count.{ones, ones_cat}
-use Rattle.definitions.specs.Lists.{oneIf}
+use Rattle.definitions.specs.Lists.{number_of_bool}
 use Rattle.lines.specs.Search.{count_of}
 use Rattle.lines.specs.Words.{word_of, Bytes}
-use Rattle.lines.proofs.Bytes.{cap, low, hi, small, xorAll, xor_bytes, xor_count, xor_is, xor-eight}
+use Rattle.lines.proofs.Bytes.{cap, low, hi, small, xor_all, xor_bytes, xor_count, xor_is, xor-eight}
 
 or-le-l : (a b : ℕ) → a ≤ bit_or a b
 or-le-l a b = omega (arith, or_add_and a b, and_le_r a b)
@@ -36,7 +36,7 @@ fill-high r h z =
       or-le-l (bit_or (bit_and r 127 + 127) r) 127,
     )
 
-one_byte : (r : ℕ) → r < 256 → ones (bit_and (255 - fill r) 128) ≡ oneIf (eqb r 0)
+one_byte : (r : ℕ) → r < 256 → ones (bit_and (255 - fill r) 128) ≡ number_of_bool (eqb r 0)
 unfolding fill ones
 one_byte zero h = refl
 one_byte (suc r) h =
@@ -81,5 +81,5 @@ pub matches : (xs : List ℕ) (w b x : ℕ) → length xs ≡ 8 → Bytes xs →
 unfolding filled
 matches xs w b x eight hx hw hb e =
     let len = xor-eight xs w b eight hx hw hb in
-    let q = rw len at (zeros (xorAll b xs) (xor_bytes b xs hb hx)) in
+    let q = rw len at (zeros (xor_all b xs) (xor_bytes b xs hb hx)) in
     rw (e, xor_is xs w b eight hx hw hb) (q ∙ xor_count b xs)

@@ -3,10 +3,10 @@ use Rattle.std.proofs.Common.{◌≡◌, ℕ, suc, ◌+◌, ◌-◌, ◌*◌, �
 use native.Mathlib.Decide.{dec_lt}
 use Rattle.definitions.specs.Lists.{among}
 use Rattle.definitions.specs.Lines.{Row}
-use Rattle.lines.specs.Words.{halfAt, word_at, word_of, Bytes}
+use Rattle.lines.specs.Words.{half_word_at, word_at, word_of, Bytes}
 
 -- four bytes that are read as a half, and eight that are read as a word
-pub four : (r : Row) → length r ≡ 4 → word_of r ≡ halfAt r 0
+pub four : (r : Row) → length r ≡ 4 → word_of r ≡ half_word_at r 0
 unfolding word_of
 four [] e = absurd (omega arith)
 four (a ∷ []) e = absurd (omega arith)
@@ -48,7 +48,7 @@ AllBelow n [] = Unit {0}
 AllBelow n (p ∷ ps) = (p < n) × AllBelow n ps
 
 -- the word of four bytes and four others
-pub picks-word : (r : Row) (i j : ℕ) → word_of (picks r (places i (places j []))) ≡ halfAt r i + halfAt r j * 4294967296
+pub picks-word : (r : Row) (i j : ℕ) → word_of (picks r (places i (places j []))) ≡ half_word_at r i + half_word_at r j * 4294967296
 unfolding word_of
 picks-word r i j = omega arith
 

@@ -3,9 +3,9 @@ use Rattle.std.proofs.Common.{◌≡◌, ℕ, zero, suc, ◌+◌, ◌*◌, ◌/�
 use lib.Count.{count_trailing_zeros, trailing_of_zero}
 use borrow.Author.Tests.{eqb-false}
 use Rattle.definitions.specs.Lists.{among}
-use Rattle.lines.specs.Search.{findFrom, count_of}
+use Rattle.lines.specs.Search.{find_from, count_of}
 use Rattle.lines.specs.declared.Found.TheVariants.{At}
-use Rattle.lines.specs.Words.{halfAt, word_at, word_of, Bytes, firstIn}
+use Rattle.lines.specs.Words.{half_word_at, word_at, word_of, Bytes, first_in}
 use Rattle.lines.proofs.Search.{count-append}
 use Rattle.lines.proofs.Hits.{trailing_lt}
 
@@ -23,25 +23,25 @@ bytes_take (suc n) [] h = tt
 bytes_take (suc n) (x ∷ s) h = (h 0, bytes_take n s (λ k. h (suc k)))
 
 -- a search that ends in the first of two lists
-find-in-step : (b k x : ℕ) (xs rest : List ℕ) (t : Bool) → (firstIn b xs < length xs → findFrom b (suc k) (xs ++ rest) ≡ At (suc k + firstIn b xs))
-    → cond t 0 (suc (firstIn b xs)) < suc (length xs) → cond t (At k) (findFrom b (suc k) (xs ++ rest)) ≡ At (k + cond t 0 (suc (firstIn b xs)))
+find-in-step : (b k x : ℕ) (xs rest : List ℕ) (t : Bool) → (first_in b xs < length xs → find_from b (suc k) (xs ++ rest) ≡ At (suc k + first_in b xs))
+    → cond t 0 (suc (first_in b xs)) < suc (length xs) → cond t (At k) (find_from b (suc k) (xs ++ rest)) ≡ At (k + cond t 0 (suc (first_in b xs)))
 find-in-step b k x xs rest true ih h = ap At (omega arith)
 find-in-step b k x xs rest false ih h = ih (omega arith) ∙ ap At (omega arith)
 
-find-in : (b k : ℕ) (xs rest : List ℕ) → firstIn b xs < length xs → findFrom b k (xs ++ rest) ≡ At (k + firstIn b xs)
-unfolding findFrom firstIn
+find-in : (b k : ℕ) (xs rest : List ℕ) → first_in b xs < length xs → find_from b k (xs ++ rest) ≡ At (k + first_in b xs)
+unfolding find_from first_in
 find-in b k [] rest h = absurd (omega arith)
 find-in b k (x ∷ xs) rest h = find-in-step b k x xs rest (eqb x b) (find-in b (suc k) xs rest) h
 
 -- and one that goes on to the second
-find-out-step : (b k x : ℕ) (xs rest : List ℕ) (t : Bool) → (length xs ≤ firstIn b xs → findFrom b (suc k) (xs ++ rest) ≡ findFrom b (suc k + length xs) rest)
-    → suc (length xs) ≤ cond t 0 (suc (firstIn b xs)) → cond t (At k) (findFrom b (suc k) (xs ++ rest)) ≡ findFrom b (k + suc (length xs)) rest
+find-out-step : (b k x : ℕ) (xs rest : List ℕ) (t : Bool) → (length xs ≤ first_in b xs → find_from b (suc k) (xs ++ rest) ≡ find_from b (suc k + length xs) rest)
+    → suc (length xs) ≤ cond t 0 (suc (first_in b xs)) → cond t (At k) (find_from b (suc k) (xs ++ rest)) ≡ find_from b (k + suc (length xs)) rest
 find-out-step b k x xs rest true ih h = absurd (omega arith)
-find-out-step b k x xs rest false ih h = ih (omega arith) ∙ ap (λ (n : ℕ). findFrom b n rest) (omega arith)
+find-out-step b k x xs rest false ih h = ih (omega arith) ∙ ap (λ (n : ℕ). find_from b n rest) (omega arith)
 
-find-out : (b k : ℕ) (xs rest : List ℕ) → length xs ≤ firstIn b xs → findFrom b k (xs ++ rest) ≡ findFrom b (k + length xs) rest
-unfolding findFrom firstIn
-find-out b k [] rest h = ap (λ (n : ℕ). findFrom b n rest) (omega arith)
+find-out : (b k : ℕ) (xs rest : List ℕ) → length xs ≤ first_in b xs → find_from b k (xs ++ rest) ≡ find_from b (k + length xs) rest
+unfolding find_from first_in
+find-out b k [] rest h = ap (λ (n : ℕ). find_from b n rest) (omega arith)
 find-out b k (x ∷ xs) rest h = find-out-step b k x xs rest (eqb x b) (find-out b (suc k) xs rest) h
 
 module _ (b : ℕ) (s : List ℕ) (i : ℕ) (h : i + 8 ≤ length s) where
@@ -60,17 +60,17 @@ module _ (b : ℕ) (s : List ℕ) (i : ℕ) (h : i + 8 ≤ length s) where
   parts : drop i s ≡ take 8 (drop i s) ++ drop (i + 8) s
   parts = sym (take-append-drop 8 (drop i s)) ∙ rw drop-drop
 
-  pub word_in : firstIn b (take 8 (drop i s)) < 8 → findFrom b i (drop i s) ≡ At (i + firstIn b (take 8 (drop i s)))
-  word_in lt = ap (findFrom b i) parts ∙ find-in b i (take 8 (drop i s)) _ (rw eight-long lt)
+  pub word_in : first_in b (take 8 (drop i s)) < 8 → find_from b i (drop i s) ≡ At (i + first_in b (take 8 (drop i s)))
+  word_in lt = ap (find_from b i) parts ∙ find-in b i (take 8 (drop i s)) _ (rw eight-long lt)
 
-  pub word_out : 8 ≤ firstIn b (take 8 (drop i s)) → findFrom b i (drop i s) ≡ findFrom b (i + 8) (drop (i + 8) s)
-  word_out le = ap (findFrom b i) parts ∙ find-out b i (take 8 (drop i s)) _ (rw eight-long le) ∙ ap (λ (n : ℕ). findFrom b (i + n) (drop (i + 8) s)) eight-long
+  pub word_out : 8 ≤ first_in b (take 8 (drop i s)) → find_from b i (drop i s) ≡ find_from b (i + 8) (drop (i + 8) s)
+  word_out le = ap (find_from b i) parts ∙ find-out b i (take 8 (drop i s)) _ (rw eight-long le) ∙ ap (λ (n : ℕ). find_from b (i + n) (drop (i + 8) s)) eight-long
 
   pub word_count : count_of b (drop i s) ≡ count_of b (take 8 (drop i s)) + count_of b (drop (i + 8) s)
   word_count = ap (count_of b) parts ∙ count-append b (take 8 (drop i s)) (drop (i + 8) s)
 
 -- a word by its halves
-pub halves : (s : List ℕ) (i : ℕ) → halfAt s i + halfAt s (i + 4) * 4294967296 ≡ word_at s i
+pub halves : (s : List ℕ) (i : ℕ) → half_word_at s i + half_word_at s (i + 4) * 4294967296 ≡ word_at s i
 halves s i =
     let a : i + 4 + 1 ≡ i + 5 = omega arith in
     let b : i + 4 + 2 ≡ i + 6 = omega arith in
@@ -80,26 +80,26 @@ halves s i =
 -- ---- a byte among those of a word
 
 -- it is among them where its first place is one of theirs
-in_place : (b : ℕ) (xs : List ℕ) → firstIn b xs < length xs → among b xs ≡ true
-unfolding firstIn
+in_place : (b : ℕ) (xs : List ℕ) → first_in b xs < length xs → among b xs ≡ true
+unfolding first_in
 in_place b [] h = absurd (omega arith)
 in_place b (x ∷ xs) h = go (eqb x b) refl h (in_place b xs)
   where
-    go : (t : Bool) → eqb x b ≡ t → cond t 0 (suc (firstIn b xs)) < suc (length xs) → (firstIn b xs < length xs → among b xs ≡ true) → (eqb b x || among b xs) ≡ true
+    go : (t : Bool) → eqb x b ≡ t → cond t 0 (suc (first_in b xs)) < suc (length xs) → (first_in b xs < length xs → among b xs ≡ true) → (eqb b x || among b xs) ≡ true
     go true e h ih = rw (eq-eqb b x (sym (eqb-true x b e)))
     go false e h ih = rw (ne_eqb b x (λ q. eqb-false x b e (sym q))) (ih (omega arith))
 
-no_place : (b : ℕ) (xs : List ℕ) → length xs ≤ firstIn b xs → among b xs ≡ false
-unfolding firstIn
+no_place : (b : ℕ) (xs : List ℕ) → length xs ≤ first_in b xs → among b xs ≡ false
+unfolding first_in
 no_place b [] h = refl
 no_place b (x ∷ xs) h = go (eqb x b) refl h (no_place b xs)
   where
-    go : (t : Bool) → eqb x b ≡ t → suc (length xs) ≤ cond t 0 (suc (firstIn b xs)) → (length xs ≤ firstIn b xs → among b xs ≡ false) → (eqb b x || among b xs) ≡ false
+    go : (t : Bool) → eqb x b ≡ t → suc (length xs) ≤ cond t 0 (suc (first_in b xs)) → (length xs ≤ first_in b xs → among b xs ≡ false) → (eqb b x || among b xs) ≡ false
     go true e h ih = absurd (omega arith)
     go false e h ih = rw (ne_eqb b x (λ q. eqb-false x b e (sym q))) (ih (omega arith))
 
 -- and so where `byte_hits` has a bit
-pub hits-among : (b r : ℕ) (xs : List ℕ) → length xs ≡ 8 → r < 2 ^ 64 → count_trailing_zeros 64 r / 8 ≡ firstIn b xs → not (eqb r 0) ≡ among b xs
+pub hits-among : (b r : ℕ) (xs : List ℕ) → length xs ≡ 8 → r < 2 ^ 64 → count_trailing_zeros 64 r / 8 ≡ first_in b xs → not (eqb r 0) ≡ among b xs
 hits-among b r xs eight h e = go (eqb r 0) refl
   where
     go : (t : Bool) → eqb r 0 ≡ t → not (eqb r 0) ≡ among b xs

@@ -4,8 +4,8 @@ use Rattle.definitions.specs.Lists.{up_to}
 use Rattle.definitions.specs.Lines.{cut}
 
 -- the first line of a text
-unfoldable pub firstLine : List ℕ → List ℕ
-firstLine s = up_to 10 s
+unfoldable pub first_line : List ℕ → List ℕ
+first_line s = up_to 10 s
 
 -- the lines of a text that start at `off` and after it: none past the text's end
 unfoldable pub lines_from : List ℕ → ℕ → List (List ℕ)

@@ -5,9 +5,9 @@ use Rattle.lines.specs.declared.Found.{Found}
 use Rattle.lines.specs.declared.Found.TheVariants.{At, Nothing}
 
 -- where b stands first in a list whose first element has the place k
-unfoldable pub findFrom : ℕ → ℕ → List ℕ → Found
-findFrom b k [] = Nothing
-findFrom b k (x ∷ xs) = cond (x == b) (At k) (findFrom b (suc k) xs)
+unfoldable pub find_from : ℕ → ℕ → List ℕ → Found
+find_from b k [] = Nothing
+find_from b k (x ∷ xs) = cond (x == b) (At k) (find_from b (suc k) xs)
 
 -- how often b stands in a list
 unfoldable pub count_of : ℕ → List ℕ → ℕ

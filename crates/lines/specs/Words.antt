@@ -2,8 +2,8 @@
 use Rattle.std.specs.Prelude.{ℕ, suc, ◌+◌, ◌*◌, ◌<◌, cond, List, [], ◌∷◌, ◌==◌, slice_index}
 
 -- the word of the four bytes from i on
-abbrev pub halfAt : List ℕ → ℕ → ℕ
-halfAt s i = slice_index s i + slice_index s (i + 1) * 256 + slice_index s (i + 2) * 65536 + slice_index s (i + 3) * 16777216
+abbrev pub half_word_at : List ℕ → ℕ → ℕ
+half_word_at s i = slice_index s i + slice_index s (i + 1) * 256 + slice_index s (i + 2) * 65536 + slice_index s (i + 3) * 16777216
 
 -- the word of the eight bytes from i on
 abbrev pub word_at : List ℕ → ℕ → ℕ
@@ -28,6 +28,6 @@ Bytes [] = Unit {0}
 Bytes (x ∷ xs) = (x < 256) × Bytes xs
 
 -- the place of the first b, or the length
-unfoldable pub firstIn : ℕ → List ℕ → ℕ
-firstIn b [] = 0
-firstIn b (x ∷ xs) = cond (x == b) 0 (suc (firstIn b xs))
+unfoldable pub first_in : ℕ → List ℕ → ℕ
+first_in b [] = 0
+first_in b (x ∷ xs) = cond (x == b) 0 (suc (first_in b xs))

@@ -5,16 +5,16 @@ pub mod words;
 
 ghost use Rattle.std.specs.Prelude.{◌≡◌, ◌+◌, ◌≤◌, length, take, drop};
 ghost use Rattle.definitions.specs.Lists.{after};
-ghost use Rattle.definitions.specs.Lines.{isBlank, trim};
-ghost use Rattle.definitions.specs.ReadBack.{trimCr};
-ghost use Rattle.lines.specs.Search.{findFrom, count_of};
-ghost use Rattle.lines.specs.Words.{firstIn};
-ghost use Rattle.lines.specs.Lines.{firstLine};
+ghost use Rattle.definitions.specs.Lines.{is_blank_byte, trim};
+ghost use Rattle.definitions.specs.ReadBack.{without_cr};
+ghost use Rattle.lines.specs.Search.{find_from, count_of};
+ghost use Rattle.lines.specs.Words.{first_in};
+ghost use Rattle.lines.specs.Lines.{first_line};
 
 // The line without one carriage return at its end.
 #[tactic(auto, using(crate::proofs::Trims::trims))]
 pub fn trim_cr(line: &[u8]) -> &[u8]
-    ensures { result.now ≡ trimCr line.now }
+    ensures { result.now ≡ without_cr line.now }
 {
     if line.len() == 0 {
         return line;
@@ -28,9 +28,9 @@ pub fn trim_cr(line: &[u8]) -> &[u8]
 }
 
 // Whether a byte is one of the blanks that are taken off a line's start.
-#[tactic(auto, unfolding(definitions::specs::Lines::isBlank))]
+#[tactic(auto, unfolding(definitions::specs::Lines::is_blank_byte))]
 pub fn is_blank(b: u8) -> bool
-    ensures { result ≡ isBlank b }
+    ensures { result ≡ is_blank_byte b }
 {
     match b {
         9 => true,
@@ -85,7 +85,7 @@ pub enum Found {
 
 // The place of the first byte of `slice` that is `needle`: by words of eight, then the rest one by one.
 pub fn find_byte(slice: &[u8], needle: u8) -> Found
-    ensures { result ≡ findFrom needle 0 slice.now }
+    ensures { result ≡ find_from needle 0 slice.now }
 {
     let mut i = 0;
     while i + 8 <= slice.len() {
@@ -108,14 +108,14 @@ pub fn find_byte(slice: &[u8], needle: u8) -> Found
 // How many of the eight bytes from `start` on stand before the first newline among them: 8 where there is none.
 pub fn near_newline(data: &[u8], start: usize) -> usize
     requires { start + 8 ≤ length «data».now }
-    ensures { result ≡ firstIn 10 (take 8 (drop start «data».now)) }
+    ensures { result ≡ first_in 10 (take 8 (drop start «data».now)) }
 {
     (u64::trailing_zeros(words::byte_hits(words::halves_at(data, start), 10)) / 8) as usize
 }
 
 // The line that starts at `start`, without its newline; past the text's end an empty one. The next line starts one byte past its end.
 pub fn next_line(data: &[u8], start: usize) -> &[u8]
-    ensures { result.now ≡ firstLine (drop start «data».now) }
+    ensures { result.now ≡ first_line (drop start «data».now) }
 {
     if start <= data.len() {
         match find_byte(&data[start..], 10) {
@@ -129,7 +129,7 @@ pub fn next_line(data: &[u8], start: usize) -> &[u8]
 
 // A text's first line, without its newline, and what follows that newline: nothing where there is none.
 pub fn split_line(text: &[u8]) -> (&[u8], &[u8])
-    ensures line { result.0.now ≡ firstLine text.now }
+    ensures line { result.0.now ≡ first_line text.now }
     ensures rest { result.1.now ≡ after 10 text.now }
 {
     let line = next_line(text, 0);

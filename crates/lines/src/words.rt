@@ -3,7 +3,7 @@ ghost use Rattle.std.specs.Prelude.{◌≡◌, ℕ, ◌+◌, ◌/◌, ◌<◌, �
 ghost use Rattle.std.specs.Int.Count.{count_trailing_zeros};
 ghost use Rattle.lines.specs.Search.{count_of};
 ghost use Rattle.definitions.specs.Lists.{among};
-ghost use Rattle.lines.specs.Words.{halfAt, word_at, word_of, Bytes, firstIn};
+ghost use Rattle.lines.specs.Words.{half_word_at, word_at, word_of, Bytes, first_in};
 
 // In each byte: a one, the seven low bits, the high bit.
 const LO: u64 = 0x0101_0101_0101_0101;
@@ -37,7 +37,7 @@ pub fn word_at(s: &[u8], i: usize) -> u64
 // The four bytes from i on.
 pub fn half_at(s: &[u8], i: usize) -> u64
     requires { i + 4 ≤ length s.now }
-    ensures { (result ≡ halfAt s.now i) × (result < 4294967296) }
+    ensures { (result ≡ half_word_at s.now i) × (result < 4294967296) }
 {
     wide(s[i]) + wide(s[i + 1]) * 0x100 + wide(s[i + 2]) * 0x1_0000 + wide(s[i + 3]) * 0x100_0000
 }
@@ -60,7 +60,7 @@ pub fn second_half(n: usize) -> usize
 
 // Bits for bytes of the word that equal `byte`: the lowest set bit stands in the first of them, higher ones mean nothing.
 pub fn byte_hits(word: u64, byte: u8) -> u64
-    ensures { (xs : List ℕ) → length xs ≡ 8 → Bytes xs → word_of xs ≡ word → count_trailing_zeros 64 result / 8 ≡ firstIn byte xs }
+    ensures { (xs : List ℕ) → length xs ≡ 8 → Bytes xs → word_of xs ≡ word → count_trailing_zeros 64 result / 8 ≡ first_in byte xs }
 {
     let x = word ^ (wide(byte) * LO);
     std::num::wrapping_sub_u64(x, LO) & !x & HI

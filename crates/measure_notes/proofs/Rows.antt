@@ -8,13 +8,13 @@ use native.Mathlib.Omega.{arith}
 use borrow.Author.Tests.{eqb-true, eqb-false}
 use lib.Dec.{eqb}
 use lib.ListN.{length, get_or, length-append}
-use Rattle.definitions.specs.Sizes.{rowsBound}
+use Rattle.definitions.specs.Sizes.{row_count_bound}
 use Rattle.definitions.specs.Lists.{joined}
 use Rattle.definitions.specs.Lines.{Row}
 use Rattle.definitions.proofs.Lists.{All, none, one, all_append, joined_snoc}
 use Rattle.taps.specs.Taps.{FreeAre}
 use Rattle.row_notes.specs.declared.ChartNotesScratch.{ChartNotesScratch}
-use Rattle.row_notes.specs.Writer.{noHead}
+use Rattle.row_notes.specs.Writer.{no_head}
 use Rattle.row_notes.specs.Written.{Written}
 use Rattle.row_notes.proofs.Rows.{cells-within}
 use Rattle.objects.specs.declared.LastScan.{LastScan}
@@ -29,16 +29,16 @@ noted-start L l s o w kept = record {
   written = w;
   wide = none;
   last = kept;
-  free = λ c h e. closed c h (eqb (get_or s.hold_heads c 0) noHead) refl;
+  free = λ c h e. closed c h (eqb (get_or s.hold_heads c 0) no_head) refl;
 }
   where
-    closed : (c : ℕ) → c < 10 → (t : Bool) → eqb (get_or s.hold_heads c 0) noHead ≡ t → get_or s.hold_heads c 0 ≡ noHead
-    closed c h true e = eqb-true (get_or s.hold_heads c 0) noHead e
-    closed c h false e = absurd (omega (arith, (w.holds.heads c h (eqb-false (get_or s.hold_heads c 0) noHead e)).0, w.holds.count))
+    closed : (c : ℕ) → c < 10 → (t : Bool) → eqb (get_or s.hold_heads c 0) no_head ≡ t → get_or s.hold_heads c 0 ≡ no_head
+    closed c h true e = eqb-true (get_or s.hold_heads c 0) no_head e
+    closed c h false e = absurd (omega (arith, (w.holds.heads c h (eqb-false (get_or s.hold_heads c 0) no_head e)).0, w.holds.count))
 
 pub noted-row : (L : ℕ) (n : Noting) (l after : List ℕ) (row : Row) (done : List (List Row)) (cur : List Row) → length row ≤ L → NotedRows L n l done cur
     → (s : ChartNotesScratch) (o : LastScan) (busy : ℕ) → ((rows : List Row) → Written rows n.scratch l → Written (rows ++ (row ∷ [])) s after)
-    → LastKept o done (cur ++ (row ∷ [])) → FreeAre busy noHead s.hold_heads → NotedRows L (record { scratch = s; last = o; busy = busy }) after done (cur ++ (row ∷ []))
+    → LastKept o done (cur ++ (row ∷ [])) → FreeAre busy no_head s.hold_heads → NotedRows L (record { scratch = s; last = o; busy = busy }) after done (cur ++ (row ∷ []))
 noted-row L n l after row done cur w x s o busy f kept free =
     let all : (joined done ++ cur) ++ (row ∷ []) ≡ joined done ++ (cur ++ (row ∷ [])) = append_assoc (joined done) cur (row ∷ []) in
     record {
@@ -65,7 +65,7 @@ module _ (L : ℕ) (n : Noting) (l : List ℕ) (done : List (List Row)) (cur : L
   row_number = x.written.row ∙ length-append (joined done) cur
 
   -- there is room for the notes of one row more
-  pub row-ready : (row : Row) → length row ≡ L → L ≤ 10 → n.scratch.row_index < rowsBound
+  pub row-ready : (row : Row) → length row ≡ L → L ≤ 10 → n.scratch.row_index < row_count_bound
       → (n.scratch.row_index + 1) * L * 10 ≤ length l → RowReady n row l
   row-ready row w narrow few room =
       record {

@@ -2,7 +2,7 @@
 #![tactic(auto)]
 
 ghost use Rattle.std.specs.Prelude.{List, [], ◌∷◌, ◌++◌, ℕ, ◌≤◌, ◌<◌};
-ghost use Rattle.definitions.specs.Sizes.{measuresBound, rowsBound};
+ghost use Rattle.definitions.specs.Sizes.{measures_bound, row_count_bound};
 ghost use Rattle.definitions.specs.Lines.{Row};
 ghost use Rattle.measure_notes.specs.Noted.{Noted, NotedRows};
 
@@ -32,7 +32,7 @@ pub fn no_noting() -> Noting
 
 // The open measure ends.
 pub fn note_measure(n: Noting) -> Noting
-    requires { (n.last.rows < rowsBound) × (n.last.midx ≤ measuresBound) }
+    requires { (n.last.rows < row_count_bound) × (n.last.midx ≤ measures_bound) }
     ensures { (L : ℕ) (l : List ℕ) (done : List (List Row)) (cur : List Row) → NotedRows L n l done cur → Noted L result l (done ++ (cur ∷ [])) }
 {
     let scratch = n.scratch;

@@ -1,13 +1,13 @@
 -- What a walk holds of a measure of which some rows are walked, as the structs of the layers beneath.
 use Rattle.std.specs.Prelude.{cond, List, ℕ, ◌+◌, ◌-◌, ltb}
 use Rattle.std.specs.Int.Bits.{bit_or}
-use Rattle.definitions.specs.Tally.{addRow}
+use Rattle.definitions.specs.Tally.{tally_with_row}
 use Rattle.beats.specs.declared.LastObject.{LastObject}
 use Rattle.objects.specs.declared.LastRow.{LastRow}
 use Rattle.objects.specs.declared.LastRow.TheVariants.{Nothing, At}
 use Rattle.row_walk.specs.declared.Marks.{Marks}
 use Rattle.row_walk.specs.declared.Seen.{Seen}
-use Rattle.row_walk.specs.Rows.{phantomsOf, notesOf}
+use Rattle.row_walk.specs.Rows.{phantoms_of, notes_of}
 use Rattle.measure_tally.specs.declared.Counting.{Counting}
 use Rattle.measure_notes.specs.declared.Noting.{Noting}
 use Rattle.measure_run.specs.declared.Run.{Run}
@@ -25,26 +25,26 @@ pub record Rest : Type 0 where
 abbrev pub rest_of : Counting → Noting → List ℕ → List ℕ → List ℕ → Rest
 rest_of c n ds low hs = record { before = c.before; depths = ds; low = low; heads = hs; found = n.last.found; midx = n.last.midx }
 
-abbrev pub countingOf : Rest → Marks → Run → Counting
-countingOf q m r = record { stats = r.stats; phantoms = phantomsOf q.depths m; rows = r.row; before = q.before; busy = m.busy }
+abbrev pub counting_of : Rest → Marks → Run → Counting
+counting_of q m r = record { stats = r.stats; phantoms = phantoms_of q.depths m; rows = r.row; before = q.before; busy = m.busy }
 
 -- the measure's last object row, where `first` rows stand before the measure
 abbrev pub row_at : ℕ → ℕ → LastRow
 row_at first last = cond (ltb first last) (At (last - 1 - first)) Nothing
 
-abbrev pub notingOf : ℕ → Rest → Marks → Run → Noting
-notingOf first q m r = record {
-  scratch = notesOf q.heads r.count r.row m;
+abbrev pub noting_of : ℕ → Rest → Marks → Run → Noting
+noting_of first q m r = record {
+  scratch = notes_of q.heads r.count r.row m;
   last = record { depths = record { depths = q.low }; busy = m.busy; found = q.found; row = row_at first r.last; rows = r.row - first; midx = q.midx };
   busy = m.busy;
 }
 
 -- before the measure
-abbrev pub firstRun : Counting → Noting → Run
-firstRun c n = record { stats = c.stats; count = n.scratch.count; row = c.rows; last = 0 }
+abbrev pub run_before : Counting → Noting → Run
+run_before c n = record { stats = c.stats; count = n.scratch.count; row = c.rows; last = 0 }
 
-abbrev pub firstMarks : Counting → Noting → Marks
-firstMarks c n = record {
+abbrev pub marks_before : Counting → Noting → Marks
+marks_before c n = record {
   heads = c.phantoms.heads;
   tails = c.phantoms.tails;
   met = c.phantoms.met;
@@ -53,5 +53,5 @@ firstMarks c n = record {
 }
 
 -- after a row whose cells have come to this
-abbrev pub afterCells : Run → Seen → Run
-afterCells r s = record { stats = addRow r.stats s.sum; count = s.count; row = r.row + 1; last = cond s.object (r.row + 1) r.last }
+abbrev pub after_cells : Run → Seen → Run
+after_cells r s = record { stats = tally_with_row r.stats s.sum; count = s.count; row = r.row + 1; last = cond s.object (r.row + 1) r.last }

@@ -2,11 +2,11 @@
 #![tactic(auto)]
 
 ghost use Rattle.std.specs.Prelude.{◌≡◌, List, [], ◌∷◌, ◌++◌, ℕ, ◌-◌, ◌≤◌, ◌<◌, length};
-ghost use Rattle.definitions.specs.Sizes.{countBound, measuresBound, rowsBound};
+ghost use Rattle.definitions.specs.Sizes.{count_bound, measures_bound, row_count_bound};
 ghost use Rattle.definitions.specs.Lines.{Row};
 ghost use Rattle.row_tally.specs.Bounds.{Below, Under};
 ghost use Rattle.measure_notes.specs.Noted.{Noted, NotedRows};
-ghost use Rattle.measure_run.specs.Held.{rest_of, countingOf, row_at, notingOf, firstRun, firstMarks, afterCells};
+ghost use Rattle.measure_run.specs.Held.{rest_of, counting_of, row_at, noting_of, run_before, marks_before, after_cells};
 
 use definitions::ArrowStats;
 use measure_notes::Noting;
@@ -49,7 +49,7 @@ pub fn open_heads(s: ChartNotesScratch) -> [u32; 10]
 
 // Before the measure.
 pub fn first_run(counting: Counting, noting: Noting) -> Run
-    ensures { result ≡ firstRun counting noting }
+    ensures { result ≡ run_before counting noting }
 {
     let stats = counting.stats;
     Run {
@@ -62,7 +62,7 @@ pub fn first_run(counting: Counting, noting: Noting) -> Run
 
 // The same; one mask for the phantom depths, the open heads and the object depths.
 pub fn first_marks(counting: Counting, noting: Noting) -> Marks
-    ensures { result ≡ firstMarks counting noting }
+    ensures { result ≡ marks_before counting noting }
 {
     Marks {
         heads: counting.phantoms.heads,
@@ -75,8 +75,8 @@ pub fn first_marks(counting: Counting, noting: Noting) -> Marks
 
 // One row more, whose cells have come to this.
 pub fn add_cells(r: Run, s: Seen) -> Run
-    requires { Below countBound r.stats × Under 10 s.sum × (r.row < rowsBound) }
-    ensures { result ≡ afterCells r s }
+    requires { Below count_bound r.stats × Under 10 s.sum × (r.row < row_count_bound) }
+    ensures { result ≡ after_cells r s }
 {
     let stats = row_tally::add_row_lent(r.stats, s.sum);
     let row = r.row + 1;
@@ -110,9 +110,9 @@ pub fn end_walk(
     low: [u32; 10],
     hold_heads: [u32; 10],
 ) -> Walk
-    requires { (counting.rows ≤ r.row) × (r.row - counting.rows < rowsBound) × (noting.last.midx ≤ measuresBound) }
-    ensures counting_value { result.counting ≡ countingOf (rest_of counting noting depths low hold_heads) m r }
-    ensures by_index { (L : ℕ) (l : List ℕ) (done : List (List Row)) (cur : List Row) → NotedRows L (notingOf counting.rows (rest_of counting noting depths low hold_heads) m r) l done cur → Noted L result.noting l (done ++ (cur ∷ [])) }
+    requires { (counting.rows ≤ r.row) × (r.row - counting.rows < row_count_bound) × (noting.last.midx ≤ measures_bound) }
+    ensures counting_value { result.counting ≡ counting_of (rest_of counting noting depths low hold_heads) m r }
+    ensures by_index { (L : ℕ) (l : List ℕ) (done : List (List Row)) (cur : List Row) → NotedRows L (noting_of counting.rows (rest_of counting noting depths low hold_heads) m r) l done cur → Noted L result.noting l (done ++ (cur ∷ [])) }
 {
     let stats = r.stats;
     let busy = m.busy;

@@ -7,14 +7,14 @@ use native.Mathlib.Nat.{add-zero}
 use native.Mathlib.Omega.{arith}
 use lib.ListN.{length, take, length-append}
 use lib.Seq.{length-take-le}
-use Rattle.definitions.specs.Lists.{oneIf, joined}
+use Rattle.definitions.specs.Lists.{number_of_bool, joined}
 use Rattle.definitions.specs.Lines.{Row}
 use Rattle.definitions.specs.Cells.{cell_of}
-use Rattle.definitions.specs.Reduction.{allZero}
-use Rattle.definitions.specs.Tracker.{holdAt}
-use Rattle.definitions.specs.Correction.{isOpening, isClosing}
-use Rattle.definitions.specs.Figures.{isStep}
-use Rattle.definitions.specs.Tally.{rowSum, noStats, addRow, tally}
+use Rattle.definitions.specs.Reduction.{all_zero}
+use Rattle.definitions.specs.Tracker.{hold_at}
+use Rattle.definitions.specs.Correction.{is_opening, is_closing}
+use Rattle.definitions.specs.Figures.{is_step}
+use Rattle.definitions.specs.Tally.{row_sum, empty_stats, tally_with_row, tally}
 use Rattle.definitions.specs.declared.ArrowStats.{ArrowStats}
 use Rattle.definitions.proofs.Lists.{joined_snoc}
 use Rattle.definitions.proofs.Figures.{density-snoc}
@@ -32,7 +32,7 @@ use Rattle.row_tally.proofs.Bounds.{below_none, below-line}
 use Rattle.measure_tally.specs.declared.Counting.{Counting}
 use Rattle.measure_tally.specs.Counted.{Counted}
 
-pub counted_start : (L : ℕ) (t : ArrowStats) (p : Phantoms) (busy : ℕ) → t ≡ noStats → Counts L [] p → FreeAre busy 0 p.depths → Counted L (record { stats = t; phantoms = p; rows = 0; before = 0; busy = busy }) [] []
+pub counted_start : (L : ℕ) (t : ArrowStats) (p : Phantoms) (busy : ℕ) → t ≡ empty_stats → Counts L [] p → FreeAre busy 0 p.depths → Counted L (record { stats = t; phantoms = p; rows = 0; before = 0; busy = busy }) [] []
 counted_start L t p busy e x free =
     record {
       stats = e ∙ sym tally-none;
@@ -44,14 +44,14 @@ counted_start L t p busy e x free =
     }
 
 -- the steps with one row more
-steps-row : (t : ArrowStats) (row : Row) → (addRow t (rowSum row)).total_steps ≡ t.total_steps + oneIf (isStep row)
-unfolding addRow
-steps-row t row = ap (λ b. t.total_steps + oneIf b) (step-arrows row)
+steps-row : (t : ArrowStats) (row : Row) → (tally_with_row t (row_sum row)).total_steps ≡ t.total_steps + number_of_bool (is_step row)
+unfolding tally_with_row
+steps-row t row = ap (λ b. t.total_steps + number_of_bool b) (step-arrows row)
 
 module _ (L : ℕ) (c : Counting) (done : List (List Row)) (cur : List Row) (x : Counted L c done cur) where
   -- one row more
   pub counted-row : (row : Row) → length row ≤ L → L ≤ 10 → (t : ArrowStats) (p : Phantoms) (busy : ℕ)
-      → t ≡ addRow c.stats (rowSum row) → RowCounted row c.phantoms p → FreeAre busy 0 p.depths
+      → t ≡ tally_with_row c.stats (row_sum row) → RowCounted row c.phantoms p → FreeAre busy 0 p.depths
       → Counted L (record { stats = t; phantoms = p; rows = c.rows + 1; before = c.before; busy = busy }) done (cur ++ (row ∷ []))
   counted-row row w v t p busy et xp free =
       let all : joined done ++ (cur ++ (row ∷ [])) ≡ (joined done ++ cur) ++ (row ∷ []) = sym (append_assoc (joined done) cur (row ∷ [])) in
@@ -59,15 +59,15 @@ module _ (L : ℕ) (c : Counting) (done : List (List Row)) (cur : List Row) (x :
       let narrow : length row ≤ 10 = omega arith in
       let size : length ((joined done ++ cur) ++ (row ∷ [])) ≡ c.rows + 1 = rw length-append (omega (arith, x.rows)) in
       let ten : 10 * c.rows + 10 ≡ 10 * (c.rows + 1) = omega arith in
-      let stepped : t.total_steps ≡ c.stats.total_steps + oneIf (isStep row) = ap (λ (s : ArrowStats). s.total_steps) et ∙ steps-row c.stats row in
+      let stepped : t.total_steps ≡ c.stats.total_steps + number_of_bool (is_step row) = ap (λ (s : ArrowStats). s.total_steps) et ∙ steps-row c.stats row in
       record {
-        stats = et ∙ ap (λ s. addRow s (rowSum row)) x.stats ∙ sym (tally-snoc (joined done ++ cur) row) ∙ ap tally (sym all);
+        stats = et ∙ ap (λ s. tally_with_row s (row_sum row)) x.stats ∙ sym (tally-snoc (joined done ++ cur) row) ∙ ap tally (sym all);
         phantoms = subst (λ rs. Counts L rs p) (sym all) counts;
         rows = sym (ap length all ∙ size);
         steps = omega (arith, stepped, x.steps, density-snoc cur row);
         few =
             record {
-              stats = rw et (subst (λ k. Below k (addRow c.stats (rowSum row))) ten (below-line (10 * c.rows) c.stats row narrow x.few.stats));
+              stats = rw et (subst (λ k. Below k (tally_with_row c.stats (row_sum row))) ten (below-line (10 * c.rows) c.stats row narrow x.few.stats));
               phantoms = subst (λ k. Low (10 * k) p) size counts.low;
             };
         free = free;
@@ -87,13 +87,13 @@ module _ (L : ℕ) (c : Counting) (done : List (List Row)) (cur : List Row) (x :
       }
 
 -- A row that is all zero leaves what is counted of the rows' cells.
-pub zero-counted : (row : Row) (p : Phantoms) → allZero row ≡ true → RowCounted row p p
-unfolding holdAt cell_of
+pub zero-counted : (row : Row) (p : Phantoms) → all_zero row ≡ true → RowCounted row p p
+unfolding hold_at cell_of
 zero-counted row p z L rows w v x =
     record {
       depths = λ c k. x.depths c k ∙ sym (after-snoc c 0 rows row ∙ rw (zero-hold c row z));
-      heads = x.heads ∙ sym (heads-snoc rows row ∙ rw (zero-count (λ b. isOpening (holdAt b)) refl row z, add-zero));
-      tails = x.tails ∙ sym (tails-snoc rows row ∙ rw (zero-count (λ b. isClosing (holdAt b)) refl row z, add-zero));
+      heads = x.heads ∙ sym (heads-snoc rows row ∙ rw (zero-count (λ b. is_opening (hold_at b)) refl row z, add-zero));
+      tails = x.tails ∙ sym (tails-snoc rows row ∙ rw (zero-count (λ b. is_closing (hold_at b)) refl row z, add-zero));
       met = x.met ∙ column-same L _ _ (λ c k. sym (met-snoc c 0 rows row ∙ rw (zero-hold c row z, or-false)));
       low = low-more (10 * length rows) (10 * length (rows ++ (row ∷ []))) p (omega (arith, length-append rows (row ∷ []))) x.low;
     }

@@ -2,10 +2,10 @@
 #![tactic(auto)]
 
 ghost use Rattle.std.specs.Prelude.{◌≡◌, List, [], ◌∷◌, ◌++◌, ℕ, ◌+◌, ◌-◌, ◌*◌, ◌≤◌, ◌<◌, length, take, drop};
-ghost use Rattle.definitions.specs.Sizes.{rowsBound};
+ghost use Rattle.definitions.specs.Sizes.{row_count_bound};
 ghost use Rattle.definitions.specs.Lines.{Row};
-ghost use Rattle.definitions.specs.Figures.{density as densityOf};
-ghost use Rattle.taps.specs.Taps.{FreeTaps, wideRow, Fits, TapCounts};
+ghost use Rattle.definitions.specs.Figures.{density as density_of};
+ghost use Rattle.taps.specs.Taps.{FreeTaps, wide_row, Fits, TapCounts};
 ghost use Rattle.reduction.specs.Rows.{rows_at};
 ghost use Rattle.measure_tally.specs.Counted.{Few, Counted, SomeCounted};
 
@@ -40,7 +40,7 @@ pub fn no_counting() -> Counting
 
 // One row of taps more, all in columns of the phantom depth 0: it leaves the depths, and no turn of a loop branches on its cells.
 pub fn count_taps(c: Counting, mask: u16, wide: bool, counts: &[u16; 256]) -> Counting
-    requires { (c.rows < rowsBound) × Few c × TapCounts wide counts.now × Fits wide mask }
+    requires { (c.rows < row_count_bound) × Few c × TapCounts wide counts.now × Fits wide mask }
     ensures { (row : Row) → FreeTaps c.busy mask row → (L : ℕ) (done : List (List Row)) (cur : List Row) → length row ≤ L → L ≤ 10 → Counted L c done cur → Counted L result done (cur ++ (row ∷ [])) }
 {
     let stats = row_tally::count_taps(c.stats, mask, wide, counts);
@@ -56,7 +56,7 @@ pub fn count_taps(c: Counting, mask: u16, wide: bool, counts: &[u16; 256]) -> Co
 
 // One row more, cell by cell: its sum, the phantom depths, heads and tails. Most cells are empty, which change none of them.
 fn count_line(c: Counting, row: &[u8]) -> Counting
-    requires { (length row.now ≤ 10) × (c.rows < rowsBound) × Few c }
+    requires { (length row.now ≤ 10) × (c.rows < row_count_bound) × Few c }
     ensures { (L : ℕ) (done : List (List Row)) (cur : List Row) → length row.now ≤ L → L ≤ 10 → Counted L c done cur → Counted L result done (cur ++ (row.now ∷ [])) }
 {
     let mut depths = phantoms::phantom_depths(c.phantoms);
@@ -99,7 +99,7 @@ fn count_line(c: Counting, row: &[u8]) -> Counting
 
 // One row more that is not ordinary. A row that is all zero is counted as a row, and changes nothing else.
 fn count_cells(c: Counting, row: &[u8]) -> Counting
-    requires { (length row.now ≤ 10) × (c.rows < rowsBound) × Few c }
+    requires { (length row.now ≤ 10) × (c.rows < row_count_bound) × Few c }
     ensures { (L : ℕ) (done : List (List Row)) (cur : List Row) → length row.now ≤ L → L ≤ 10 → Counted L c done cur → Counted L result done (cur ++ (row.now ∷ [])) }
 {
     if reduction::is_all_zero(row) {
@@ -134,7 +134,7 @@ pub fn count_measure(c: Counting) -> Counting
 // The density of the open measure.
 pub fn density(c: Counting) -> u32
     requires { c.before ≤ c.stats.total_steps }
-    ensures { (L : ℕ) (done : List (List Row)) (cur : List Row) → Counted L c done cur → result ≡ densityOf cur }
+    ensures { (L : ℕ) (done : List (List Row)) (cur : List Row) → Counted L c done cur → result ≡ density_of cur }
 {
     c.stats.total_steps - c.before
 }
@@ -157,8 +157,8 @@ fn count_ordinary(
     lanes: usize,
     counts: &[u16; 256],
 ) -> CountedTo
-    requires lanes_bound { (lanes ≤ 10) × (start + rows * (lanes + 1) ≤ length text.now) × (first ≤ rows) × TapCounts (wideRow lanes) counts.now }
-    requires first_bound { (old.rows + (rows - first) < rowsBound) × SomeCounted lanes old (take first (rows_at (lanes + 1) lanes rows (drop start text.now))) }
+    requires lanes_bound { (lanes ≤ 10) × (start + rows * (lanes + 1) ≤ length text.now) × (first ≤ rows) × TapCounts (wide_row lanes) counts.now }
+    requires first_bound { (old.rows + (rows - first) < row_count_bound) × SomeCounted lanes old (take first (rows_at (lanes + 1) lanes rows (drop start text.now))) }
     ensures first_le_row { (first ≤ result.row) × (result.row ≤ rows) }
     ensures counted { (done : List (List Row)) → Counted lanes old done (take first (rows_at (lanes + 1) lanes rows (drop start text.now))) → Counted lanes result.counting done (take result.row (rows_at (lanes + 1) lanes rows (drop start text.now))) }
 {
@@ -194,8 +194,8 @@ pub fn count_rows(
     lanes: usize,
     counts: &[u16; 256],
 ) -> Counting
-    requires lanes_nonzero { (0 < lanes) × (lanes ≤ 10) × (start + rows * (lanes + 1) ≤ length text.now) × TapCounts (wideRow lanes) counts.now }
-    requires rows_bound { (old.rows + rows < rowsBound) × SomeCounted lanes old [] }
+    requires lanes_nonzero { (0 < lanes) × (lanes ≤ 10) × (start + rows * (lanes + 1) ≤ length text.now) × TapCounts (wide_row lanes) counts.now }
+    requires rows_bound { (old.rows + rows < row_count_bound) × SomeCounted lanes old [] }
     ensures { (done : List (List Row)) → Counted lanes old done [] → Counted lanes result done (rows_at (lanes + 1) lanes rows (drop start text.now)) }
 {
     let mut c = old;

@@ -4,7 +4,7 @@
 ghost use Rattle.std.specs.Prelude.{List, [], ◌∷◌, ◌++◌, ◌+◌, ◌*◌, ◌≤◌, ◌<◌, length, drop};
 ghost use Rattle.definitions.specs.Lines.{Row};
 ghost use Rattle.reduction.specs.Rows.{rows_at};
-ghost use Rattle.taps.specs.Taps.{wideRow, TapCounts};
+ghost use Rattle.taps.specs.Taps.{wide_row, TapCounts};
 ghost use Rattle.measure_tally.specs.Counted.{Counted};
 ghost use Rattle.measure_notes.specs.Noted.{Noted};
 ghost use Rattle.tap_walk.specs.Walked.{Walking};
@@ -24,7 +24,7 @@ pub fn walk_rows(
     slots: &mut [u8],
     counts: &[u16; 256],
 ) -> Walk
-    requires lanes_nonzero { (0 < lanes) × (lanes ≤ 10) × (start + rows * (lanes + 1) ≤ length text.now) × TapCounts (wideRow lanes) counts.now }
+    requires lanes_nonzero { (0 < lanes) × (lanes ≤ 10) × (start + rows * (lanes + 1) ≤ length text.now) × TapCounts (wide_row lanes) counts.now }
     requires walking { Walking lanes counting noting slots.old (rows_at (lanes + 1) lanes rows (drop start text.now)) 0 }
     ensures counted { (done : List (List Row)) → Counted lanes counting done [] → Counted lanes result.counting done (rows_at (lanes + 1) lanes rows (drop start text.now)) }
     ensures noted { (done : List (List Row)) → Noted lanes noting slots.old done → Noted lanes result.noting slots.new (done ++ (rows_at (lanes + 1) lanes rows (drop start text.now) ∷ [])) }

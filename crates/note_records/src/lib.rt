@@ -3,7 +3,7 @@
 
 ghost use Rattle.std.specs.Prelude.{◌≡◌, ◌+◌, ◌*◌, ◌≤◌, ◌<◌, length};
 ghost use Rattle.std.proofs.lemmas.List.Edits.{sets};
-ghost use Rattle.definitions.specs.Records.{word, bytes4, fields, kindNumber, plain_of, held_of, note_of, readNote};
+ghost use Rattle.definitions.specs.Records.{word, bytes4, fields, number_of_kind, plain_of, held_of, note_of, note_of_record};
 ghost use Rattle.note_records.specs.Fields.{fields_at};
 
 use definitions::{Kind, Note, Refusal, Tail};
@@ -85,9 +85,9 @@ fn note_of(row: u32, tail: u32, column: u32, kind: u8) -> Result<Note, Refusal>
 }
 
 // The note of a record.
-#[tactic(auto, unfolding(definitions::specs::Records::readNote))]
+#[tactic(auto, unfolding(definitions::specs::Records::note_of_record))]
 pub fn read_note(records: &[u8], index: usize) -> Result<Note, Refusal>
-    ensures { result ≡ readNote records.now index }
+    ensures { result ≡ note_of_record records.now index }
 {
     if records.len() % 10 != 0 {
         return Err(Refusal::NoRecord);
@@ -115,7 +115,7 @@ pub fn put_word(s: &mut [u8], at: usize, v: u32)
 }
 
 pub fn kind_number(kind: Kind) -> u8
-    ensures { result ≡ kindNumber kind }
+    ensures { result ≡ number_of_kind kind }
 {
     match kind {
         Kind::Tap => 0,

@@ -7,11 +7,11 @@ use Prim.Native.Nat.{ℕ, suc, ◌+◌, ◌≤◌, ◌<◌}
 use native.Mathlib.Nat.{add-zero, zero-add, add-suc, suc-add}
 use native.Mathlib.Omega.{arith}
 use lib.ListN.{length, length-append}
-use Rattle.definitions.specs.Sizes.{measuresBound, rowsBound}
+use Rattle.definitions.specs.Sizes.{measures_bound, row_count_bound}
 use Rattle.definitions.specs.Lists.{joined, only_if}
 use Rattle.definitions.specs.Lines.{Row}
-use Rattle.definitions.specs.Reduction.{allZero}
-use Rattle.definitions.specs.Objects.{Depths, afterRow, afterRows, objectRow, Place, objectsIn, objectsFrom, last_of}
+use Rattle.definitions.specs.Reduction.{all_zero}
+use Rattle.definitions.specs.Objects.{Depths, after_row, after_rows, object_row, Place, objects_in, objects_from, last_of}
 use Rattle.definitions.proofs.Lists.{joined_snoc}
 use Rattle.taps.specs.Taps.{FreeAre}
 use Rattle.beats.specs.declared.LastObject.TheVariants as last
@@ -22,22 +22,22 @@ use Rattle.objects.specs.Rows.{DepthsHeld, DepthsLow, NoDepths, RowDone}
 use Rattle.objects.proofs.Scan.{low-more}
 use Rattle.objects.specs.declared.LastRow.TheVariants.{Nothing, At}
 use Rattle.objects.specs.declared.LastScan.{LastScan}
-use Rattle.objects.specs.LastKept.{row_of, rowLast, depthsAfter, LastKept}
+use Rattle.objects.specs.LastKept.{row_of, row_last, depths_after, LastKept}
 use Rattle.objects.proofs.Zeros.{zero-after, zero-object}
 
 -- one row more
-rows_snoc : (D : Depths) (xs : List Row) (x : Row) → afterRows D (xs ++ (x ∷ [])) ≡ afterRow (afterRows D xs) x
+rows_snoc : (D : Depths) (xs : List Row) (x : Row) → after_rows D (xs ++ (x ∷ [])) ≡ after_row (after_rows D xs) x
 rows_snoc D [] x = refl
-rows_snoc D (y ∷ xs) x = rows_snoc (afterRow D y) xs x
+rows_snoc D (y ∷ xs) x = rows_snoc (after_row D y) xs x
 
 row_snoc : (D : Depths) (r : ℕ) (o : Option ℕ) (xs : List Row) (x : Row)
-    → rowLast D r o (xs ++ (x ∷ [])) ≡ cond (objectRow (afterRows D xs) x) (some (r + length xs)) (rowLast D r o xs)
+    → row_last D r o (xs ++ (x ∷ [])) ≡ cond (object_row (after_rows D xs) x) (some (r + length xs)) (row_last D r o xs)
 row_snoc D r o [] x = rw add-zero
-row_snoc D r o (y ∷ xs) x = row_snoc (afterRow D y) (suc r) (cond (objectRow D y) (some r) o) xs x ∙ rw (suc-add, ← add-suc)
+row_snoc D r o (y ∷ xs) x = row_snoc (after_row D y) (suc r) (cond (object_row D y) (some r) o) xs x ∙ rw (suc-add, ← add-suc)
 
-rows_append : (D : Depths) (xs ys : List Row) → afterRows D (xs ++ ys) ≡ afterRows (afterRows D xs) ys
+rows_append : (D : Depths) (xs ys : List Row) → after_rows D (xs ++ ys) ≡ after_rows (after_rows D xs) ys
 rows_append D [] ys = refl
-rows_append D (x ∷ xs) ys = rows_append (afterRow D x) xs ys
+rows_append D (x ∷ xs) ys = rows_append (after_row D x) xs ys
 
 -- the last of two lists run together
 abbrev or_else : Option Place → Option Place → Option Place
@@ -60,22 +60,22 @@ last-append (p ∷ q ∷ s) t = last-append (q ∷ s) t
 
 -- the object rows with one measure more
 objects-snoc : (D : Depths) (m : ℕ) (ms : List (List Row)) (x : List Row)
-    → objectsFrom D m (ms ++ (x ∷ [])) ≡ objectsFrom D m ms ++ objectsIn (afterRows D (joined ms)) (m + length ms) 0 (length x) x
+    → objects_from D m (ms ++ (x ∷ [])) ≡ objects_from D m ms ++ objects_in (after_rows D (joined ms)) (m + length ms) 0 (length x) x
 objects-snoc D m [] x = rw (add-zero, append-nil)
 objects-snoc D m (y ∷ ms) x =
-    ap (λ l. objectsIn D m 0 (length y) y ++ l)
-    (objects-snoc (afterRows D y) (suc m) ms x
-    ∙ ap₂ (λ E k. objectsFrom (afterRows D y) (suc m) ms ++ objectsIn E k 0 (length x) x) (sym (rows_append D y (joined ms))) (suc-add m (length ms) ∙ sym (add-suc m (length ms))))
-    ∙ sym (append_assoc (objectsIn D m 0 (length y) y) (objectsFrom (afterRows D y) (suc m) ms) _)
+    ap (λ l. objects_in D m 0 (length y) y ++ l)
+    (objects-snoc (after_rows D y) (suc m) ms x
+    ∙ ap₂ (λ E k. objects_from (after_rows D y) (suc m) ms ++ objects_in E k 0 (length x) x) (sym (rows_append D y (joined ms))) (suc-add m (length ms) ∙ sym (add-suc m (length ms))))
+    ∙ sym (append_assoc (objects_in D m 0 (length y) y) (objects_from (after_rows D y) (suc m) ms) _)
 
 -- a measure's last object row as a place
-abbrev toPlace : ℕ → ℕ → Option ℕ → Option Place
-toPlace m n none = none
-toPlace m n (some r) = some (record { m = m; r = r; n = n })
+abbrev to_place : ℕ → ℕ → Option ℕ → Option Place
+to_place m n none = none
+to_place m n (some r) = some (record { m = m; r = r; n = n })
 
-in-last : (D : Depths) (m r n : ℕ) (o : Option ℕ) (xs : List Row) → or_else (last_of (objectsIn D m r n xs)) (toPlace m n o) ≡ toPlace m n (rowLast D r o xs)
+in-last : (D : Depths) (m r n : ℕ) (o : Option ℕ) (xs : List Row) → or_else (last_of (objects_in D m r n xs)) (to_place m n o) ≡ to_place m n (row_last D r o xs)
 in-last D m r n o [] = refl
-in-last D m r n o (x ∷ xs) = go (objectRow D x) (λ p. in-last (afterRow D x) m (suc r) n p xs)
+in-last D m r n o (x ∷ xs) = go (object_row D x) (λ p. in-last (after_row D x) m (suc r) n p xs)
   where
     put : (l : List Place) (p : Place) → last_of (p ∷ l) ≡ or_else (last_of l) (some p)
     put [] p = refl
@@ -85,24 +85,24 @@ in-last D m r n o (x ∷ xs) = go (objectRow D x) (λ p. in-last (afterRow D x) 
     twice none p b = refl
     twice (some q) p b = refl
 
-    go : (t : Bool) → ((o : Option ℕ) → or_else (last_of (objectsIn (afterRow D x) m (suc r) n xs)) (toPlace m n o) ≡ toPlace m n (rowLast (afterRow D x) (suc r) o xs))
-        → or_else (last_of (only_if t (record { m = m; r = r; n = n } ∷ []) ++ objectsIn (afterRow D x) m (suc r) n xs)) (toPlace m n o) ≡ toPlace m n (rowLast (afterRow D x) (suc r) (cond t (some r) o) xs)
+    go : (t : Bool) → ((o : Option ℕ) → or_else (last_of (objects_in (after_row D x) m (suc r) n xs)) (to_place m n o) ≡ to_place m n (row_last (after_row D x) (suc r) o xs))
+        → or_else (last_of (only_if t (record { m = m; r = r; n = n } ∷ []) ++ objects_in (after_row D x) m (suc r) n xs)) (to_place m n o) ≡ to_place m n (row_last (after_row D x) (suc r) (cond t (some r) o) xs)
     go true ih =
-        let l = objectsIn (afterRow D x) m (suc r) n xs in
+        let l = objects_in (after_row D x) m (suc r) n xs in
         let p : Place = record { m = m; r = r; n = n } in
-        ap (λ z. or_else z (toPlace m n o)) (put l p) ∙ twice (last_of l) p (toPlace m n o) ∙ ih (some r)
+        ap (λ z. or_else z (to_place m n o)) (put l p) ∙ twice (last_of l) p (to_place m n o) ∙ ih (some r)
     go false ih = ih o
 
 -- A measure ends: the last object row of all, by that of the measure.
 measure-last : (done : List (List Row)) (cur : List Row)
-    → last_of (objectsFrom (λ c. 0) 0 (done ++ (cur ∷ []))) ≡ or_else (toPlace (length done) (length cur) (rowLast (depthsAfter done) 0 none cur)) (last_of (objectsFrom (λ c. 0) 0 done))
+    → last_of (objects_from (λ c. 0) 0 (done ++ (cur ∷ []))) ≡ or_else (to_place (length done) (length cur) (row_last (depths_after done) 0 none cur)) (last_of (objects_from (λ c. 0) 0 done))
 measure-last done cur =
     ap last_of (objects-snoc (λ c. 0) 0 done cur)
-    ∙ last-append (objectsFrom (λ c. 0) 0 done) (objectsIn (depthsAfter done) (0 + length done) 0 (length cur) cur)
-    ∙ ap (λ z. or_else z (last_of (objectsFrom (λ c. 0) 0 done)))
-    (ap (λ m. last_of (objectsIn (depthsAfter done) m 0 (length cur) cur)) (zero-add (length done))
-    ∙ none-else (last_of (objectsIn (depthsAfter done) (length done) 0 (length cur) cur))
-    ∙ in-last (depthsAfter done) (length done) 0 (length cur) none cur)
+    ∙ last-append (objects_from (λ c. 0) 0 done) (objects_in (depths_after done) (0 + length done) 0 (length cur) cur)
+    ∙ ap (λ z. or_else z (last_of (objects_from (λ c. 0) 0 done)))
+    (ap (λ m. last_of (objects_in (depths_after done) m 0 (length cur) cur)) (zero-add (length done))
+    ∙ none-else (last_of (objects_in (depths_after done) (length done) 0 (length cur) cur))
+    ∙ in-last (depths_after done) (length done) 0 (length cur) none cur)
 
 pub kept-start : (d : Held) → NoDepths d → LastKept (record { depths = d; busy = 0; found = last.Nothing; row = Nothing; rows = 0; midx = 0 }) [] []
 kept-start d n =
@@ -120,14 +120,14 @@ kept-start d n =
 
 module _ (s : LastScan) (done : List (List Row)) (cur : List Row) (x : LastKept s done cur) where
   -- a row that is all zero
-  pub kept-zero : (row : Row) → allZero row ≡ true → LastKept (record { depths = s.depths; busy = s.busy; found = s.found; row = s.row; rows = s.rows + 1; midx = s.midx }) done (cur ++ (row ∷ []))
+  pub kept-zero : (row : Row) → all_zero row ≡ true → LastKept (record { depths = s.depths; busy = s.busy; found = s.found; row = s.row; rows = s.rows + 1; midx = s.midx }) done (cur ++ (row ∷ []))
   kept-zero row z =
       record {
-        depths = subst (λ E. DepthsHeld E s.depths) (sym (rows_snoc (depthsAfter done) cur row ∙ zero-after (afterRows (depthsAfter done) cur) row z)) x.depths;
+        depths = subst (λ E. DepthsHeld E s.depths) (sym (rows_snoc (depths_after done) cur row ∙ zero-after (after_rows (depths_after done) cur) row z)) x.depths;
         low = low-more _ _ s.depths (rw length-append (omega arith)) x.low;
         found = x.found;
         placed = x.placed;
-        row = x.row ∙ sym (row_snoc (depthsAfter done) 0 none cur row ∙ rw (zero-object (afterRows (depthsAfter done) cur) row z));
+        row = x.row ∙ sym (row_snoc (depths_after done) 0 none cur row ∙ rw (zero-object (after_rows (depths_after done) cur) row z));
         inside = λ r e. rw length-append (omega (arith, x.inside r e));
         rows = rw length-append (omega (arith, x.rows));
         midx = x.midx;
@@ -136,14 +136,14 @@ module _ (s : LastScan) (done : List (List Row)) (cur : List Row) (x : LastKept 
 
   -- any row, by what the object row's test says
   module _ (row : Row) (o : Objects) (w : RowDone row s.depths o) (busy : ℕ) (free : FreeAre busy 0 o.depths.depths) where
-    depths-after : DepthsHeld (afterRows (depthsAfter done) (cur ++ (row ∷ []))) o.depths
-    depths-after = subst (λ E. DepthsHeld E o.depths) (sym (rows_snoc (depthsAfter done) cur row)) (w.depths (afterRows (depthsAfter done) cur) x.depths)
+    depths-after : DepthsHeld (after_rows (depths_after done) (cur ++ (row ∷ []))) o.depths
+    depths-after = subst (λ E. DepthsHeld E o.depths) (sym (rows_snoc (depths_after done) cur row)) (w.depths (after_rows (depths_after done) cur) x.depths)
 
     low-after : DepthsLow (length (joined done) + length (cur ++ (row ∷ []))) o.depths
     low-after = low-more _ _ o.depths (rw length-append (omega arith)) (w.low _ x.low)
 
-    is-object : (t : Bool) → o.object ≡ t → objectRow (afterRows (depthsAfter done) cur) row ≡ t
-    is-object t e = sym (w.object (afterRows (depthsAfter done) cur) x.depths) ∙ e
+    is-object : (t : Bool) → o.object ≡ t → object_row (after_rows (depths_after done) cur) row ≡ t
+    is-object t e = sym (w.object (after_rows (depths_after done) cur) x.depths) ∙ e
 
     pub kept-object : o.object ≡ true → LastKept (record { depths = o.depths; busy = busy; found = s.found; row = At s.rows; rows = s.rows + 1; midx = s.midx }) done (cur ++ (row ∷ []))
     kept-object e =
@@ -152,7 +152,7 @@ module _ (s : LastScan) (done : List (List Row)) (cur : List Row) (x : LastKept 
           low = low-after;
           found = x.found;
           placed = x.placed;
-          row = ap some (x.rows ∙ sym (zero-add (length cur))) ∙ sym (row_snoc (depthsAfter done) 0 none cur row ∙ rw (is-object true e));
+          row = ap some (x.rows ∙ sym (zero-add (length cur))) ∙ sym (row_snoc (depths_after done) 0 none cur row ∙ rw (is-object true e));
           inside = λ r q. let z : s.rows ≡ r = cc in rw length-append (omega (arith, x.rows));
           rows = rw length-append (omega (arith, x.rows));
           midx = x.midx;
@@ -166,7 +166,7 @@ module _ (s : LastScan) (done : List (List Row)) (cur : List Row) (x : LastKept 
           low = low-after;
           found = x.found;
           placed = x.placed;
-          row = x.row ∙ sym (row_snoc (depthsAfter done) 0 none cur row ∙ rw (is-object false e));
+          row = x.row ∙ sym (row_snoc (depths_after done) 0 none cur row ∙ rw (is-object false e));
           inside = λ r q. rw length-append (omega (arith, x.inside r q));
           rows = rw length-append (omega (arith, x.rows));
           midx = x.midx;
@@ -174,8 +174,8 @@ module _ (s : LastScan) (done : List (List Row)) (cur : List Row) (x : LastKept 
         }
 
   -- the measure ends, with an object row or without one
-  depths-kept : DepthsHeld (afterRows (depthsAfter (done ++ (cur ∷ []))) []) s.depths
-  depths-kept = subst (λ E. DepthsHeld E s.depths) (sym (ap (afterRows (λ c. 0)) (joined_snoc done cur) ∙ rows_append (λ c. 0) (joined done) cur)) x.depths
+  depths-kept : DepthsHeld (after_rows (depths_after (done ++ (cur ∷ []))) []) s.depths
+  depths-kept = subst (λ E. DepthsHeld E s.depths) (sym (ap (after_rows (λ c. 0)) (joined_snoc done cur) ∙ rows_append (λ c. 0) (joined done) cur)) x.depths
 
   low-kept : DepthsLow (length (joined (done ++ (cur ∷ []))) + 0) s.depths
   low-kept = subst (λ n. DepthsLow n s.depths) (sym (add-zero (length (joined (done ++ (cur ∷ [])))) ∙ ap length (joined_snoc done cur) ∙ length-append (joined done) cur)) x.low
@@ -200,7 +200,7 @@ module _ (s : LastScan) (done : List (List Row)) (cur : List Row) (x : LastKept 
         free = x.free;
       }
 
-  pub kept_at : (r : ℕ) → s.row ≡ At r → s.rows < rowsBound → s.midx ≤ measuresBound
+  pub kept_at : (r : ℕ) → s.row ≡ At r → s.rows < row_count_bound → s.midx ≤ measures_bound
       → LastKept (record { depths = s.depths; busy = s.busy; found = last.At s.midx r s.rows; row = Nothing; rows = 0; midx = s.midx + 1 }) (done ++ (cur ∷ [])) []
   kept_at r e f g =
       let inside : r < length cur = x.inside r (ap row_of e) in

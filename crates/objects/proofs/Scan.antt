@@ -11,23 +11,23 @@ use lib.ListN.{length, get_or, set, drop, length-set, drop_of_length-le, get_or-
 use lib.Seq.{drop-cons, get_or-set_same, get_or-set_other}
 use Rattle.definitions.specs.Lines.{Row}
 use Rattle.definitions.specs.Cells.{cell_of, byte_at}
-use Rattle.definitions.specs.Objects.{objectAt, isObject, deeper, objectRow, objectFrom}
+use Rattle.definitions.specs.Objects.{object_at, is_object, deeper, object_row, object_from}
 use Rattle.definitions.specs.Objects as objects
 use Rattle.definitions.proofs.Lists.{any-default}
-use Rattle.objects.specs.Rows.{depthAt, DepthsHeld, DepthsLow, RowDone}
+use Rattle.objects.specs.Rows.{depth_at, DepthsHeld, DepthsLow, RowDone}
 use Rattle.objects.specs.declared.Depths.{Depths}
 use Rattle.definitions.specs.declared.DepthEffect.{DepthEffect}
 use Rattle.definitions.specs.declared.DepthEffect.TheVariants.{Nothing, Blocks, Opens, Closes}
 
 -- the depth after a row's cell in a column, from the depths l on
 abbrev pub after : Row → List ℕ → ℕ → ℕ
-after row l c = deeper (objectAt (byte_at c row)) (get_or l c 0)
+after row l c = deeper (object_at (byte_at c row)) (get_or l c 0)
 
 -- With the depths l₀ before the row: what l and `object` hold when the loop is at column i.
 pub record Scanned (row : Row) (l₀ l : List ℕ) (object : Bool) (i : ℕ) : Type 0 where
   pub within : i ≤ length row
   pub size : length l ≡ 10
-  pub found : (D : objects.Depths) → DepthsHeld D (record { depths = l₀ }) → objectRow D row ≡ (object || objectFrom D i (drop i row))
+  pub found : (D : objects.Depths) → DepthsHeld D (record { depths = l₀ }) → object_row D row ≡ (object || object_from D i (drop i row))
   pub done : (c : ℕ) → c < i → get_or l c 0 ≡ after row l₀ c
   pub left : (c : ℕ) → i ≤ c → get_or l c 0 ≡ get_or l₀ c 0
 
@@ -46,15 +46,15 @@ module _ (row : Row) (l₀ l : List ℕ) (object : Bool) (i : ℕ) (s : Scanned 
   pub scan-depth : get_or l i 0 ≡ get_or l₀ i 0
   scan-depth = s.left i (omega arith)
 
-  next-object : (o : Bool) → i < length row → i < 10 → o ≡ isObject (objectAt (get_or row i 0)) (get_or l i 0)
-      → (D : objects.Depths) → DepthsHeld D (record { depths = l₀ }) → objectRow D row ≡ ((object || o) || objectFrom D (i + 1) (drop (i + 1) row))
+  next-object : (o : Bool) → i < length row → i < 10 → o ≡ is_object (object_at (get_or row i 0)) (get_or l i 0)
+      → (D : objects.Depths) → DepthsHeld D (record { depths = l₀ }) → object_row D row ≡ ((object || o) || object_from D (i + 1) (drop (i + 1) row))
   next-object o h k e D held =
       let d : get_or l i 0 ≡ D i = scan-depth ∙ held i k in
       s.found D held
       ∙ rw (or_assoc, e, d, add-one, drop-cons row i 0)
 
   module _ (o : Bool) (n : ℕ) (h : i < length row) (k : i < 10) where
-    next-done : n ≡ deeper (objectAt (get_or row i 0)) (get_or l i 0) → (c : ℕ) → c < i + 1 → get_or (set l i n) c 0 ≡ after row l₀ c
+    next-done : n ≡ deeper (object_at (get_or row i 0)) (get_or l i 0) → (c : ℕ) → c < i + 1 → get_or (set l i n) c 0 ≡ after row l₀ c
     next-done e c m =
         elim (dec_lt c i) [
           | yes b ↦ get_or-set_other l i c n 0 (λ q. omega arith) ∙ s.done c b
@@ -63,7 +63,7 @@ module _ (row : Row) (l₀ l : List ℕ) (object : Bool) (i : ℕ) (s : Scanned 
               rw q (get_or-set_same l i n 0 (omega (arith, s.size)) ∙ e ∙ rw (scan-depth, any-default row i 0 48 h))
         ]
 
-    pub scan-next : o ≡ isObject (objectAt (get_or row i 0)) (get_or l i 0) → n ≡ deeper (objectAt (get_or row i 0)) (get_or l i 0)
+    pub scan-next : o ≡ is_object (object_at (get_or row i 0)) (get_or l i 0) → n ≡ deeper (object_at (get_or row i 0)) (get_or l i 0)
         → Scanned row l₀ (set l i n) (object || o) (i + 1)
     scan-next e f =
         record {
@@ -76,7 +76,7 @@ module _ (row : Row) (l₀ l : List ℕ) (object : Bool) (i : ℕ) (s : Scanned 
 
 -- past the row's end a byte is a `0`, which leaves the depth
 past_end : (row : Row) (l : List ℕ) (c : ℕ) → length row ≤ c → get_or l c 0 ≡ after row l c
-unfolding objectAt cell_of
+unfolding object_at cell_of
 past_end row l c h = rw (get_or-eq_default row 48 h)
 
 deeper-le : (e : DepthEffect) (d : ℕ) → deeper e d ≤ d + 1
@@ -97,11 +97,11 @@ scan-end row old l object i s h =
     let d = all_done row old.depths l object i s h in
     record {
       object = λ D held. sym (s.found D held ∙ rw (drop_of_length-le row h, or-false object));
-      depths = λ D held c k. d c ∙ ap (deeper (objectAt (byte_at c row))) (held c k);
+      depths = λ D held c k. d c ∙ ap (deeper (object_at (byte_at c row))) (held c k);
       low =
           λ k low c m.
           let e = d c in
-          omega (arith, deeper-le (objectAt (byte_at c row)) (depthAt old c), low c m);
+          omega (arith, deeper-le (object_at (byte_at c row)) (depth_at old c), low c m);
     }
 
 -- ---- For callers

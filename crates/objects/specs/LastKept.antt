@@ -3,7 +3,7 @@ use Rattle.std.specs.Prelude.{◌≡◌, cond, List, [], ◌∷◌, ℕ, suc, �
 use Rattle.std.proofs.Math.Option.{Option, none, some}
 use Rattle.definitions.specs.Lists.{joined}
 use Rattle.definitions.specs.Lines.{Row}
-use Rattle.definitions.specs.Objects.{Depths, afterRow, afterRows, objectRow, objectsFrom, last_of}
+use Rattle.definitions.specs.Objects.{Depths, after_row, after_rows, object_row, objects_from, last_of}
 use Rattle.taps.specs.Taps.{FreeAre}
 use Rattle.beats.specs.Places.{place_of, Placed}
 use Rattle.objects.specs.Rows.{DepthsHeld, DepthsLow}
@@ -16,20 +16,20 @@ row_of Nothing = none
 row_of (At r) = some r
 
 -- the last object row among rows numbered from r, or else o
-abbrev pub rowLast : Depths → ℕ → Option ℕ → List Row → Option ℕ
-rowLast D r o [] = o
-rowLast D r o (x ∷ xs) = rowLast (afterRow D x) (suc r) (cond (objectRow D x) (some r) o) xs
+abbrev pub row_last : Depths → ℕ → Option ℕ → List Row → Option ℕ
+row_last D r o [] = o
+row_last D r o (x ∷ xs) = row_last (after_row D x) (suc r) (cond (object_row D x) (some r) o) xs
 
 -- the depths before the open measure
-abbrev pub depthsAfter : List (List Row) → Depths
-depthsAfter done = afterRows (λ c. 0) (joined done)
+abbrev pub depths_after : List (List Row) → Depths
+depths_after done = after_rows (λ c. 0) (joined done)
 
 pub record LastKept (s : LastScan) (done : List (List Row)) (cur : List Row) : Type 0 where
-  pub depths : DepthsHeld (afterRows (depthsAfter done) cur) s.depths
+  pub depths : DepthsHeld (after_rows (depths_after done) cur) s.depths
   pub low : DepthsLow (length (joined done) + length cur) s.depths
-  pub found : place_of s.found ≡ last_of (objectsFrom (λ c. 0) 0 done)
+  pub found : place_of s.found ≡ last_of (objects_from (λ c. 0) 0 done)
   pub placed : Placed s.found
-  pub row : row_of s.row ≡ rowLast (depthsAfter done) 0 none cur
+  pub row : row_of s.row ≡ row_last (depths_after done) 0 none cur
   pub inside : (r : ℕ) → row_of s.row ≡ some r → r < length cur
   pub rows : s.rows ≡ length cur
   pub midx : s.midx ≡ length done

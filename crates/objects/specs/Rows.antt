@@ -1,23 +1,23 @@
 -- The depths of the last beat in a struct of ten numbers, and what the object row's test leaves there.
 use Rattle.std.specs.Prelude.{◌≡◌, ℕ, ◌+◌, ◌<◌, ◌≤◌, get_or}
 use Rattle.definitions.specs.Lines.{Row}
-use Rattle.definitions.specs.Objects.{objectAt, isObject, deeper, afterRow, objectRow}
+use Rattle.definitions.specs.Objects.{object_at, is_object, deeper, after_row, object_row}
 use Rattle.definitions.specs.Objects as objects
 use Rattle.objects.specs.declared.Depths.{Depths}
 use Rattle.objects.specs.declared.Objects.{Objects}
 use Rattle.objects.specs.declared.ObjectCell.{ObjectCell}
 
 -- the depth of a column
-abbrev pub depthAt : Depths → ℕ → ℕ
-depthAt s c = get_or s.depths c 0
+abbrev pub depth_at : Depths → ℕ → ℕ
+depth_at s c = get_or s.depths c 0
 
 -- the struct holds these depths
 abbrev pub DepthsHeld : objects.Depths → Depths → Type 0
-DepthsHeld D s = (c : ℕ) → c < 10 → depthAt s c ≡ D c
+DepthsHeld D s = (c : ℕ) → c < 10 → depth_at s c ≡ D c
 
 -- no depth is over k
 abbrev pub DepthsLow : ℕ → Depths → Type 0
-DepthsLow k s = (c : ℕ) → c < 10 → depthAt s c ≤ k
+DepthsLow k s = (c : ℕ) → c < 10 → depth_at s c ≤ k
 
 -- Before the first row every depth is 0.
 pub record NoDepths (r : Depths) : Type 0 where
@@ -26,12 +26,12 @@ pub record NoDepths (r : Depths) : Type 0 where
 
 -- One cell: whether it makes its row an object row, and the depth after it.
 pub record CellDone (b d : ℕ) (r : ObjectCell) : Type 0 where
-  pub object : r.object ≡ isObject (objectAt b) d
-  pub depth : r.depth ≡ deeper (objectAt b) d
+  pub object : r.object ≡ is_object (object_at b) d
+  pub depth : r.depth ≡ deeper (object_at b) d
 
 -- A row: whatever depths the struct held, the answer is of those, and the struct then holds the depths after the row. Each depth grows by
 -- at most 1.
 pub record RowDone (row : Row) (s : Depths) (r : Objects) : Type 0 where
-  pub object : (D : objects.Depths) → DepthsHeld D s → r.object ≡ objectRow D row
-  pub depths : (D : objects.Depths) → DepthsHeld D s → DepthsHeld (afterRow D row) r.depths
+  pub object : (D : objects.Depths) → DepthsHeld D s → r.object ≡ object_row D row
+  pub depths : (D : objects.Depths) → DepthsHeld D s → DepthsHeld (after_row D row) r.depths
   pub low : (k : ℕ) → DepthsLow k s → DepthsLow (k + 1) r.depths

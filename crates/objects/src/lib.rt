@@ -2,9 +2,9 @@
 #![tactic(auto)]
 
 ghost use Rattle.std.specs.Prelude.{◌≡◌, true, List, [], ◌∷◌, ◌++◌, ◌≤◌, ◌<◌, length};
-ghost use Rattle.definitions.specs.Sizes.{measuresBound, rowNumbersBound, rowsBound};
+ghost use Rattle.definitions.specs.Sizes.{measures_bound, row_numbers_bound, row_count_bound};
 ghost use Rattle.definitions.specs.Lines.{Row};
-ghost use Rattle.definitions.specs.Reduction.{allZero};
+ghost use Rattle.definitions.specs.Reduction.{all_zero};
 ghost use Rattle.taps.specs.Taps.{FreeTaps, FreeAre};
 ghost use Rattle.objects.specs.Rows.{DepthsLow, NoDepths, CellDone, RowDone};
 ghost use Rattle.objects.specs.LastKept.{LastKept};
@@ -130,7 +130,7 @@ pub fn no_last() -> LastScan
 
 // One row of taps more, all in columns of the depth 0: it is an object row where it has one, and leaves the depths.
 pub fn last_taps(s: LastScan, mask: u16) -> LastScan
-    requires { s.rows < rowNumbersBound }
+    requires { s.rows < row_numbers_bound }
     ensures { (row : Row) → FreeTaps s.busy mask row → (done : List (List Row)) (cur : List Row) → LastKept s done cur → LastKept result done (cur ++ (row ∷ [])) }
 {
     let depths = s.depths;
@@ -158,8 +158,8 @@ pub fn last_taps(s: LastScan, mask: u16) -> LastScan
 
 // One row more that is all zero: it is no object row and changes no depth.
 pub fn last_zero(s: LastScan) -> LastScan
-    requires { s.rows < rowNumbersBound }
-    ensures { (row : Row) → allZero row ≡ true → (done : List (List Row)) (cur : List Row) → LastKept s done cur → LastKept result done (cur ++ (row ∷ [])) }
+    requires { s.rows < row_numbers_bound }
+    ensures { (row : Row) → all_zero row ≡ true → (done : List (List Row)) (cur : List Row) → LastKept s done cur → LastKept result done (cur ++ (row ∷ [])) }
 {
     let mut t = s;
     t.rows = s.rows + 1;
@@ -168,7 +168,7 @@ pub fn last_zero(s: LastScan) -> LastScan
 
 // One row more, of which the object row's test says this; a column without its bit in `busy` has the depth 0 after it.
 pub fn last_seen(s: LastScan, o: Objects, busy: u32) -> LastScan
-    requires { s.rows < rowNumbersBound }
+    requires { s.rows < row_numbers_bound }
     ensures { (row : Row) → RowDone row s.depths o → FreeAre busy 0 o.depths.depths → (done : List (List Row)) (cur : List Row) → LastKept s done cur → LastKept result done (cur ++ (row ∷ [])) }
 {
     let found = s.found;
@@ -196,7 +196,7 @@ pub fn last_seen(s: LastScan, o: Objects, busy: u32) -> LastScan
 
 // The open measure ends.
 pub fn last_measure(s: LastScan) -> LastScan
-    requires { (s.rows < rowsBound) × (s.midx ≤ measuresBound) }
+    requires { (s.rows < row_count_bound) × (s.midx ≤ measures_bound) }
     ensures { (done : List (List Row)) (cur : List Row) → LastKept s done cur → LastKept result (done ++ (cur ∷ [])) [] }
 {
     let depths = s.depths;

@@ -9,7 +9,7 @@ use lib.ListN.{length, take, drop, get_or, set, length-append}
 use lib.Seq.{paste, set_split, take-length, length-take-le, drop-cons, set_at}
 use Rattle.definitions.specs.Lists.{joined}
 use Rattle.definitions.specs.Lines.{Row}
-use Rattle.definitions.specs.Figures.{rowText, text_of}
+use Rattle.definitions.specs.Figures.{row_text, text_of}
 use Rattle.definitions.specs.Reduction.{reduce}
 use Rattle.definitions.proofs.Lists.{none, one, all_append}
 use Rattle.reduction.specs.Rows.{placed, RowsStand, Reduced}
@@ -17,7 +17,7 @@ use Rattle.reduction.proofs.Placed.{placed-front}
 use Rattle.reduction.proofs.Blocks.{joined-append}
 use Rattle.reduction.proofs.Multiples.{reduce-all}
 use Rattle.reduction.proofs.Forms.{Form, form-length, form-holds, form-after}
-use Rattle.output.specs.Wrote.{doneText, Wrote}
+use Rattle.output.specs.Wrote.{done_text, Wrote}
 
 -- a whole source pasted is placed
 pub paste-placed : (d : List ℕ) (at : ℕ) (s : List ℕ) → paste d at s (length s) ≡ placed at s d
@@ -39,27 +39,27 @@ pub first_byte : (d : List ℕ) (at b : ℕ) → at < length d → set d at b �
 first_byte d at b h = set_split d at b h ∙ ap (λ n. take at d ++ (b ∷ drop n d)) (sym (add-one at))
 
 -- measures run together, one more
-done-snoc : (form : List Row → List ℕ) (sep : List ℕ) (done : List (List Row)) (m : List Row) → doneText form sep (done ++ (m ∷ [])) ≡ doneText form sep done ++ (form m ++ sep)
+done-snoc : (form : List Row → List ℕ) (sep : List ℕ) (done : List (List Row)) (m : List Row) → done_text form sep (done ++ (m ∷ [])) ≡ done_text form sep done ++ (form m ++ sep)
 done-snoc form sep [] m = append-nil (form m ++ sep)
 done-snoc form sep (x ∷ done) m =
-    ap (λ l. (form x ++ sep) ++ l) (done-snoc form sep done m) ∙ sym (append_assoc (form x ++ sep) (doneText form sep done) (form m ++ sep))
+    ap (λ l. (form x ++ sep) ++ l) (done-snoc form sep done m) ∙ sym (append_assoc (form x ++ sep) (done_text form sep done) (form m ++ sep))
 
 -- the minimised text of all measures: the `,` line stands between them
-pub text-done : (done : List (List Row)) (m : List Row) → text_of (done ++ (m ∷ [])) ≡ doneText rowText (44 ∷ 10 ∷ []) done ++ rowText m
+pub text-done : (done : List (List Row)) (m : List Row) → text_of (done ++ (m ∷ [])) ≡ done_text row_text (44 ∷ 10 ∷ []) done ++ row_text m
 text-done [] m = refl
 text-done (x ∷ []) m =
-    sym (ap (λ l. l ++ rowText m) (append-nil (rowText x ++ (44 ∷ 10 ∷ []))) ∙ append_assoc (rowText x) (44 ∷ 10 ∷ []) (rowText m))
+    sym (ap (λ l. l ++ row_text m) (append-nil (row_text x ++ (44 ∷ 10 ∷ []))) ∙ append_assoc (row_text x) (44 ∷ 10 ∷ []) (row_text m))
 text-done (x ∷ y ∷ done) m =
-    ap (λ l. rowText x ++ (44 ∷ 10 ∷ l)) (text-done (y ∷ done) m)
-    ∙ sym (append_assoc (rowText x ++ (44 ∷ 10 ∷ [])) (doneText rowText (44 ∷ 10 ∷ []) (y ∷ done)) (rowText m) ∙ append_assoc (rowText x) (44 ∷ 10 ∷ []) _)
+    ap (λ l. row_text x ++ (44 ∷ 10 ∷ l)) (text-done (y ∷ done) m)
+    ∙ sym (append_assoc (row_text x ++ (44 ∷ 10 ∷ [])) (done_text row_text (44 ∷ 10 ∷ []) (y ∷ done)) (row_text m) ∙ append_assoc (row_text x) (44 ∷ 10 ∷ []) _)
 
-pub rows-done : (done : List (List Row)) (m : List Row) → joined (joined (done ++ (m ∷ []))) ≡ doneText joined [] done ++ joined m
+pub rows-done : (done : List (List Row)) (m : List Row) → joined (joined (done ++ (m ∷ []))) ≡ done_text joined [] done ++ joined m
 rows-done [] m = rw append-nil
 rows-done (x ∷ done) m =
     joined-append x (joined (done ++ (m ∷ [])))
     ∙ ap (λ l. joined x ++ l) (rows-done done m)
-    ∙ sym (append_assoc (joined x) (doneText joined [] done) (joined m))
-    ∙ ap (λ l. (l ++ doneText joined [] done) ++ joined m) (sym (append-nil (joined x)))
+    ∙ sym (append_assoc (joined x) (done_text joined [] done) (joined m))
+    ∙ ap (λ l. (l ++ done_text joined [] done) ++ joined m) (sym (append-nil (joined x)))
 
 module _ {form : List Row → List ℕ} {w L : ℕ} (fm : Form form w L) (sep : List ℕ) where
   pub wrote-start : (text : List ℕ) → Wrote form sep w L text 0 0 [] []
@@ -84,21 +84,21 @@ module _ {form : List Row → List ℕ} {w L : ℕ} (fm : Form form w L) (sep : 
               ap (λ n. take (out + n) (placed out (fm.block row) text)) (sym long)
               ∙ placed-front out (fm.block row) text fits
               ∙ ap (λ l. l ++ fm.block row) x.bytes
-              ∙ append_assoc (doneText form sep done) (form cur) (fm.block row)
-              ∙ ap (λ l. doneText form sep done ++ l) (sym (form-snoc cur row));
+              ∙ append_assoc (done_text form sep done) (form cur) (fm.block row)
+              ∙ ap (λ l. done_text form sep done ++ l) (sym (form-snoc cur row));
           size = rw (length-append, add-mul, one-mul) (omega (arith, x.size));
           wide = all_append x.wide (one e none);
         }
 
     -- the rows stand there to be minimised, and then are
     pub wrote-holds : RowsStand form L (length cur) start cur text
-    wrote-holds = form-holds fm (doneText form sep done) cur text x.front refl x.wide (ap (λ n. take n text) (sym x.size) ∙ x.bytes)
+    wrote-holds = form-holds fm (done_text form sep done) cur text x.front refl x.wide (ap (λ n. take n text) (sym x.size) ∙ x.bytes)
 
     pub wrote-reduced : (r : ℕ) (after : List ℕ) → start ≤ length text → Reduced form start cur text r after → Wrote form sep w L after start (start + r * w) done (reduce cur)
     wrote-reduced r after h d =
         record {
           front = x.front;
-          bytes = form-after fm (doneText form sep done) cur text x.front refl x.wide (ap (λ n. take n text) (sym x.size) ∙ x.bytes) h d;
+          bytes = form-after fm (done_text form sep done) cur text x.front refl x.wide (ap (λ n. take n text) (sym x.size) ∙ x.bytes) h d;
           size = ap (λ n. start + n * w) d.count;
           wide = reduce-all x.wide;
         }
@@ -112,10 +112,10 @@ module _ {form : List Row → List ℕ} {w L : ℕ} (fm : Form form w L) (sep : 
           bytes =
               placed-front out sep text fits
               ∙ ap (λ l. l ++ sep) x.bytes
-              ∙ append_assoc (doneText form sep done) (form cur) sep
-              ∙ sym (append-nil (doneText form sep done ++ (form cur ++ sep)))
+              ∙ append_assoc (done_text form sep done) (form cur) sep
+              ∙ sym (append-nil (done_text form sep done ++ (form cur ++ sep)))
               ∙ ap (λ l. l ++ []) (sym (done-snoc form sep done cur))
-              ∙ ap (λ l. doneText form sep (done ++ (cur ∷ [])) ++ l) (sym (fm.is []));
+              ∙ ap (λ l. done_text form sep (done ++ (cur ∷ [])) ++ l) (sym (fm.is []));
           size = sym (rw zero-mul (add-zero (out + length sep)));
           wide = none;
         }

@@ -2,11 +2,11 @@
 #![tactic(auto)]
 
 ghost use Rattle.std.specs.Prelude.{◌≡◌};
-ghost use Rattle.definitions.specs.Refusals.{numberTold, replaces};
-ghost use Rattle.definitions.specs.Entries.{measuresAnswer, densitiesLeft, spacingsLeft, measuresPlaces, lastAnswer, lastPlaces, mainAnswer, mainText, mainDensities, mainBeats, mainWork, mainNotes, chartPlaces, judgedAnswer, judgedWork, judgedPlaces, flaggedAnswer, keptAnswer, keptText, keptDensities, keptWork, keptPlaces, timingAnswer, timingText, timingBeats, timingPlaces, noteFigures};
-ghost use Rattle.definitions.specs.Records.{readNote};
-ghost use Rattle.definitions.specs.SmFile.{smNumber, smPlaces};
-ghost use Rattle.chart_sheet.specs.Entry.{sheetAnswer, sheetText, sheetDensities, sheetSpacings, sheetBeats, sheetWork, sheetNotes, sheetLeft};
+ghost use Rattle.definitions.specs.Refusals.{number_told, replaces};
+ghost use Rattle.definitions.specs.Entries.{measures_answer, densities_left, spacings_left, places_of_measures, last_answer, places_of_last, main_answer, main_text, main_densities, main_beats, main_work, main_notes, places_of_chart, judged_answer, judged_work, places_of_judged, flagged_answer, kept_answer, kept_text, kept_densities, kept_work, places_of_kept, timing_answer, timing_text, timing_beats, places_of_timing, figures_of_note};
+ghost use Rattle.definitions.specs.Records.{note_of_record};
+ghost use Rattle.definitions.specs.SmFile.{sm_number, places_of_sm};
+ghost use Rattle.chart_sheet.specs.Entry.{sheet_answer, sheet_text, sheet_densities, sheet_spacings, sheet_beats, sheet_work, sheet_notes, sheet_left};
 
 use figures::{
     chart_figures, chart_places, judged_places, kept_places, last_places, measures_places,
@@ -25,13 +25,13 @@ pub extern "C" fn padcheck_minimize_chart_count_rows_notes(
     notes: &mut [u8],
     figures: &mut [u64; 32],
 ) -> u32
-    ensures value { result ≡ numberTold (mainAnswer lanes «data».now text.old densities.old beats.old work.old notes.old) }
-    ensures text_after { text.new ≡ mainText lanes «data».now text.old densities.old beats.old work.old notes.old }
-    ensures densities_after { densities.new ≡ mainDensities lanes «data».now text.old densities.old beats.old work.old notes.old }
-    ensures beats_after { beats.new ≡ mainBeats lanes «data».now text.old densities.old beats.old work.old notes.old }
-    ensures work_after { work.new ≡ mainWork lanes «data».now text.old densities.old beats.old work.old notes.old }
-    ensures notes_after { notes.new ≡ mainNotes lanes «data».now text.old densities.old beats.old work.old notes.old }
-    ensures figures_after { figures.new ≡ replaces (mainAnswer lanes «data».now text.old densities.old beats.old work.old notes.old) chartPlaces figures.old }
+    ensures value { result ≡ number_told (main_answer lanes «data».now text.old densities.old beats.old work.old notes.old) }
+    ensures text_after { text.new ≡ main_text lanes «data».now text.old densities.old beats.old work.old notes.old }
+    ensures densities_after { densities.new ≡ main_densities lanes «data».now text.old densities.old beats.old work.old notes.old }
+    ensures beats_after { beats.new ≡ main_beats lanes «data».now text.old densities.old beats.old work.old notes.old }
+    ensures work_after { work.new ≡ main_work lanes «data».now text.old densities.old beats.old work.old notes.old }
+    ensures notes_after { notes.new ≡ main_notes lanes «data».now text.old densities.old beats.old work.old notes.old }
+    ensures figures_after { figures.new ≡ replaces (main_answer lanes «data».now text.old densities.old beats.old work.old notes.old) places_of_chart figures.old }
 {
     match chart::minimize_chart_count_rows_notes(data, lanes, text, densities, beats, work, notes) {
         Err(refusal) => refusal.number(),
@@ -51,11 +51,11 @@ pub extern "C" fn padcheck_process_chart_kept(
     work: &mut [u16],
     figures: &mut [u64; 32],
 ) -> u32
-    ensures value { result ≡ numberTold (keptAnswer lanes «data».now text.old densities.old work.old) }
-    ensures text_after { text.new ≡ keptText lanes «data».now text.old densities.old work.old }
-    ensures densities_after { densities.new ≡ keptDensities lanes «data».now text.old densities.old work.old }
-    ensures work_after { work.new ≡ keptWork lanes «data».now text.old densities.old work.old }
-    ensures figures_after { figures.new ≡ replaces (keptAnswer lanes «data».now text.old densities.old work.old) keptPlaces figures.old }
+    ensures value { result ≡ number_told (kept_answer lanes «data».now text.old densities.old work.old) }
+    ensures text_after { text.new ≡ kept_text lanes «data».now text.old densities.old work.old }
+    ensures densities_after { densities.new ≡ kept_densities lanes «data».now text.old densities.old work.old }
+    ensures work_after { work.new ≡ kept_work lanes «data».now text.old densities.old work.old }
+    ensures figures_after { figures.new ≡ replaces (kept_answer lanes «data».now text.old densities.old work.old) places_of_kept figures.old }
 {
     match kept::process_chart_kept(data, lanes, text, densities, work) {
         Err(refusal) => refusal.number(),
@@ -74,10 +74,10 @@ pub extern "C" fn padcheck_minimize_timing_rows(
     beats: &mut [f32],
     figures: &mut [u64; 32],
 ) -> u32
-    ensures value { result ≡ numberTold (timingAnswer lanes «data».now text.old beats.old) }
-    ensures text_after { text.new ≡ timingText lanes «data».now text.old beats.old }
-    ensures beats_after { beats.new ≡ timingBeats lanes «data».now text.old beats.old }
-    ensures figures_after { figures.new ≡ replaces (timingAnswer lanes «data».now text.old beats.old) timingPlaces figures.old }
+    ensures value { result ≡ number_told (timing_answer lanes «data».now text.old beats.old) }
+    ensures text_after { text.new ≡ timing_text lanes «data».now text.old beats.old }
+    ensures beats_after { beats.new ≡ timing_beats lanes «data».now text.old beats.old }
+    ensures figures_after { figures.new ≡ replaces (timing_answer lanes «data».now text.old beats.old) places_of_timing figures.old }
 {
     match timing::minimize_timing_rows(data, lanes, text, beats) {
         Err(refusal) => refusal.number(),
@@ -95,9 +95,9 @@ pub extern "C" fn padcheck_measure_densities(
     densities: &mut [u32],
     figures: &mut [u64; 32],
 ) -> u32
-    ensures value { result ≡ numberTold (measuresAnswer lanes «data».now densities.old) }
-    ensures densities_after { densities.new ≡ densitiesLeft lanes «data».now densities.old }
-    ensures figures_after { figures.new ≡ replaces (measuresAnswer lanes «data».now densities.old) measuresPlaces figures.old }
+    ensures value { result ≡ number_told (measures_answer lanes «data».now densities.old) }
+    ensures densities_after { densities.new ≡ densities_left lanes «data».now densities.old }
+    ensures figures_after { figures.new ≡ replaces (measures_answer lanes «data».now densities.old) places_of_measures figures.old }
 {
     match scans::densities::measure_densities(data, lanes, densities) {
         Err(refusal) => refusal.number(),
@@ -115,9 +115,9 @@ pub extern "C" fn padcheck_equally_spaced(
     spacing: &mut [u8],
     figures: &mut [u64; 32],
 ) -> u32
-    ensures value { result ≡ numberTold (measuresAnswer lanes «data».now spacing.old) }
-    ensures spacing_after { spacing.new ≡ spacingsLeft lanes «data».now spacing.old }
-    ensures figures_after { figures.new ≡ replaces (measuresAnswer lanes «data».now spacing.old) measuresPlaces figures.old }
+    ensures value { result ≡ number_told (measures_answer lanes «data».now spacing.old) }
+    ensures spacing_after { spacing.new ≡ spacings_left lanes «data».now spacing.old }
+    ensures figures_after { figures.new ≡ replaces (measures_answer lanes «data».now spacing.old) places_of_measures figures.old }
 {
     match spacing::equally_spaced_impl(data, lanes, spacing) {
         Err(refusal) => refusal.number(),
@@ -134,8 +134,8 @@ pub extern "C" fn padcheck_chart_last_beat(
     lanes: usize,
     figures: &mut [u64; 32],
 ) -> u32
-    ensures value { result ≡ numberTold (lastAnswer lanes «data».now) }
-    ensures figures_after { figures.new ≡ replaces (lastAnswer lanes «data».now) lastPlaces figures.old }
+    ensures value { result ≡ number_told (last_answer lanes «data».now) }
+    ensures figures_after { figures.new ≡ replaces (last_answer lanes «data».now) places_of_last figures.old }
 {
     match last_beat::chart_last_beat_impl(data, lanes) {
         Err(refusal) => refusal.number(),
@@ -153,9 +153,9 @@ pub extern "C" fn padcheck_process_rows_judgable(
     work: &mut [u16],
     figures: &mut [u64; 32],
 ) -> u32
-    ensures value { result ≡ numberTold (judgedAnswer lanes «data».now work.old) }
-    ensures work_after { work.new ≡ judgedWork lanes «data».now work.old }
-    ensures figures_after { figures.new ≡ replaces (judgedAnswer lanes «data».now work.old) judgedPlaces figures.old }
+    ensures value { result ≡ number_told (judged_answer lanes «data».now work.old) }
+    ensures work_after { work.new ≡ judged_work lanes «data».now work.old }
+    ensures figures_after { figures.new ≡ replaces (judged_answer lanes «data».now work.old) places_of_judged figures.old }
 {
     match judged::process_rows_judgable(data, lanes, work) {
         Err(refusal) => refusal.number(),
@@ -174,9 +174,9 @@ pub extern "C" fn padcheck_process_timing_rows(
     work: &mut [u16],
     figures: &mut [u64; 32],
 ) -> u32
-    ensures value { result ≡ numberTold (flaggedAnswer lanes «data».now work.old flags.now) }
-    ensures work_after { work.new ≡ judgedWork lanes «data».now work.old }
-    ensures figures_after { figures.new ≡ replaces (flaggedAnswer lanes «data».now work.old flags.now) judgedPlaces figures.old }
+    ensures value { result ≡ number_told (flagged_answer lanes «data».now work.old flags.now) }
+    ensures work_after { work.new ≡ judged_work lanes «data».now work.old }
+    ensures figures_after { figures.new ≡ replaces (flagged_answer lanes «data».now work.old flags.now) places_of_judged figures.old }
 {
     match judged::process_timing_rows(data, lanes, flags, work) {
         Err(refusal) => refusal.number(),
@@ -189,8 +189,8 @@ pub extern "C" fn padcheck_process_timing_rows(
 
 #[unsafe(no_mangle)]
 pub extern "C" fn padcheck_read_note(records: &[u8], index: usize, note: &mut [u64; 4]) -> u32
-    ensures value { result ≡ numberTold (readNote records.now index) }
-    ensures note_after { note.new ≡ replaces (readNote records.now index) noteFigures note.old }
+    ensures value { result ≡ number_told (note_of_record records.now index) }
+    ensures note_after { note.new ≡ replaces (note_of_record records.now index) figures_of_note note.old }
 {
     match read_note(records, index) {
         Err(refusal) => refusal.number(),
@@ -203,8 +203,8 @@ pub extern "C" fn padcheck_read_note(records: &[u8], index: usize, note: &mut [u
 
 #[unsafe(no_mangle)]
 pub extern "C" fn padcheck_sm_chart(file: &[u8], k: usize, chart: &mut [u64; 3]) -> u32
-    ensures value { result ≡ smNumber file.now k }
-    ensures chart_after { chart.new ≡ smPlaces file.now k chart.old }
+    ensures value { result ≡ sm_number file.now k }
+    ensures chart_after { chart.new ≡ places_of_sm file.now k chart.old }
 {
     match files::sm::sm_chart(file, k) {
         Err(refusal) => refusal.number(),
@@ -230,15 +230,15 @@ pub extern "C" fn padcheck_chart_sheet(
     sheet: &mut [u8],
     figures: &mut [u64; 32],
 ) -> u32
-    ensures value { result ≡ numberTold (sheetAnswer lanes form «data».now text.old densities.old spacing.old beats.old work.old notes.old sheet.old) }
-    ensures text_after { text.new ≡ sheetText lanes form «data».now text.old densities.old spacing.old beats.old work.old notes.old sheet.old }
-    ensures densities_after { densities.new ≡ sheetDensities lanes form «data».now text.old densities.old spacing.old beats.old work.old notes.old sheet.old }
-    ensures spacing_after { spacing.new ≡ sheetSpacings lanes form «data».now text.old densities.old spacing.old beats.old work.old notes.old sheet.old }
-    ensures beats_after { beats.new ≡ sheetBeats lanes form «data».now text.old densities.old spacing.old beats.old work.old notes.old sheet.old }
-    ensures work_after { work.new ≡ sheetWork lanes form «data».now text.old densities.old spacing.old beats.old work.old notes.old sheet.old }
-    ensures notes_after { notes.new ≡ sheetNotes lanes form «data».now text.old densities.old spacing.old beats.old work.old notes.old sheet.old }
-    ensures sheet_after { sheet.new ≡ sheetLeft lanes form «data».now text.old densities.old spacing.old beats.old work.old notes.old sheet.old }
-    ensures figures_after { figures.new ≡ replaces (sheetAnswer lanes form «data».now text.old densities.old spacing.old beats.old work.old notes.old sheet.old) (λ f. f) figures.old }
+    ensures value { result ≡ number_told (sheet_answer lanes form «data».now text.old densities.old spacing.old beats.old work.old notes.old sheet.old) }
+    ensures text_after { text.new ≡ sheet_text lanes form «data».now text.old densities.old spacing.old beats.old work.old notes.old sheet.old }
+    ensures densities_after { densities.new ≡ sheet_densities lanes form «data».now text.old densities.old spacing.old beats.old work.old notes.old sheet.old }
+    ensures spacing_after { spacing.new ≡ sheet_spacings lanes form «data».now text.old densities.old spacing.old beats.old work.old notes.old sheet.old }
+    ensures beats_after { beats.new ≡ sheet_beats lanes form «data».now text.old densities.old spacing.old beats.old work.old notes.old sheet.old }
+    ensures work_after { work.new ≡ sheet_work lanes form «data».now text.old densities.old spacing.old beats.old work.old notes.old sheet.old }
+    ensures notes_after { notes.new ≡ sheet_notes lanes form «data».now text.old densities.old spacing.old beats.old work.old notes.old sheet.old }
+    ensures sheet_after { sheet.new ≡ sheet_left lanes form «data».now text.old densities.old spacing.old beats.old work.old notes.old sheet.old }
+    ensures figures_after { figures.new ≡ replaces (sheet_answer lanes form «data».now text.old densities.old spacing.old beats.old work.old notes.old sheet.old) (λ f. f) figures.old }
 {
     match chart_sheet::chart_sheet(
         data, lanes, form, text, densities, spacing, beats, work, notes, sheet,

@@ -8,8 +8,8 @@ use native.Mathlib.Omega.{arith}
 use lib.ListN.{length, length-append}
 use Rattle.definitions.specs.Lines.{Row}
 use Rattle.definitions.specs.Cells.{cell_of, byte_at}
-use Rattle.definitions.specs.Tracker.{holdAt}
-use Rattle.definitions.specs.Correction.{phantomStep, phantomAfter, meetsPhantom, phantomMet, isOpening, isClosing}
+use Rattle.definitions.specs.Tracker.{hold_at}
+use Rattle.definitions.specs.Correction.{phantom_step, phantom_after, meets_phantom, phantom_met, is_opening, is_closing}
 use Rattle.taps.specs.Taps.{FreeTaps, FreeAre}
 use Rattle.taps.proofs.Masks.{line-taps}
 use Rattle.taps.proofs.Free.{Free, zero-cell, tap-there, free-cell, taps-count}
@@ -22,27 +22,27 @@ use Rattle.phantoms.proofs.Rows.{after-snoc, met-snoc, heads-snoc, tails-snoc}
 module _ (busy m : ℕ) (row : Row) (p : Phantoms) (x : FreeTaps busy m row) (free : FreeAre busy 0 p.depths) where
   module _ (L : ℕ) (rows : List Row) (narrow : L ≤ 10) (counts : Counts L rows p) where
     module _ (c : ℕ) (k : c < L) where
-      step : (b : ℕ) → Free busy c b → (phantomStep (holdAt b) (phantomAfter c 0 rows) ≡ phantomAfter c 0 rows) × (meetsPhantom (holdAt b) (phantomAfter c 0 rows) ≡ false)
-      unfolding holdAt cell_of
+      step : (b : ℕ) → Free busy c b → (phantom_step (hold_at b) (phantom_after c 0 rows) ≡ phantom_after c 0 rows) × (meets_phantom (hold_at b) (phantom_after c 0 rows) ≡ false)
+      unfolding hold_at cell_of
       step b (zero-cell e) = rw e (refl, refl)
       step b (tap-there e none) =
-          let depth : phantomAfter c 0 rows ≡ 0 = sym (counts.depths c k) ∙ free c (omega arith) none in
+          let depth : phantom_after c 0 rows ≡ 0 = sym (counts.depths c k) ∙ free c (omega arith) none in
           rw (e, depth) (refl, refl)
 
-      here : (phantomStep (holdAt (byte_at c row)) (phantomAfter c 0 rows) ≡ phantomAfter c 0 rows) × (meetsPhantom (holdAt (byte_at c row)) (phantomAfter c 0 rows) ≡ false)
+      here : (phantom_step (hold_at (byte_at c row)) (phantom_after c 0 rows) ≡ phantom_after c 0 rows) × (meets_phantom (hold_at (byte_at c row)) (phantom_after c 0 rows) ≡ false)
       here = step (byte_at c row) (free-cell busy m row x c)
 
-      met-kept : phantomMet c 0 rows ≡ phantomMet c 0 (rows ++ (row ∷ []))
-      met-kept = sym (met-snoc c 0 rows row ∙ rw here.1 (or-false (phantomMet c 0 rows)))
+      met-kept : phantom_met c 0 rows ≡ phantom_met c 0 (rows ++ (row ∷ []))
+      met-kept = sym (met-snoc c 0 rows row ∙ rw here.1 (or-false (phantom_met c 0 rows)))
 
     kept : Counts L (rows ++ (row ∷ [])) p
-    unfolding holdAt cell_of
+    unfolding hold_at cell_of
     kept =
         let taps = line-taps row m x.mask in
         record {
           depths = λ c k. counts.depths c k ∙ sym (after-snoc c 0 rows row ∙ (here c k).0);
-          heads = counts.heads ∙ sym (heads-snoc rows row ∙ rw (taps-count (λ b. isOpening (holdAt b)) refl refl row m taps) (add-zero _));
-          tails = counts.tails ∙ sym (tails-snoc rows row ∙ rw (taps-count (λ b. isClosing (holdAt b)) refl refl row m taps) (add-zero _));
+          heads = counts.heads ∙ sym (heads-snoc rows row ∙ rw (taps-count (λ b. is_opening (hold_at b)) refl refl row m taps) (add-zero _));
+          tails = counts.tails ∙ sym (tails-snoc rows row ∙ rw (taps-count (λ b. is_closing (hold_at b)) refl refl row m taps) (add-zero _));
           met = counts.met ∙ column-same L _ _ met-kept;
           low =
               let n = length-append rows (row ∷ []) in

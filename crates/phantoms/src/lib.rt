@@ -2,10 +2,10 @@
 #![tactic(auto)]
 
 ghost use Rattle.std.specs.Prelude.{◌≡◌, true, List, [], ℕ, ◌-◌, ◌≤◌, ◌<◌, length, ltb};
-ghost use Rattle.definitions.specs.Lists.{someColumn};
+ghost use Rattle.definitions.specs.Lists.{some_column};
 ghost use Rattle.definitions.specs.Lines.{Row};
 ghost use Rattle.definitions.specs.Correction.{corrects};
-ghost use Rattle.phantoms.specs.Phantoms.{phantomAt, Counts, CellCounted};
+ghost use Rattle.phantoms.specs.Phantoms.{phantom_at, Counts, CellCounted};
 
 use definitions::DepthEffect;
 
@@ -89,7 +89,7 @@ pub fn phantom_depths(p: Phantoms) -> [u32; 10]
 // Whether a phantom depth of the first columns is left over.
 fn is_left_over(p: Phantoms, lanes: usize) -> bool
     requires { lanes ≤ 10 }
-    ensures { result ≡ someColumn lanes (λ c. ltb 0 (phantomAt p c)) }
+    ensures { result ≡ some_column lanes (λ c. ltb 0 (phantom_at p c)) }
 {
     let mut left = false;
     let mut i = 0;

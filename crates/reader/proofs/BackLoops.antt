@@ -14,68 +14,68 @@ use Rattle.std.specs.Prelude.{Option}
 use Rattle.std.specs.Borrow.{Bor}
 use Rattle.std.specs.Iterator.{Yields, YieldsFirstRef}
 use Rattle.definitions.specs.Lists.{only_if, after}
-use Rattle.definitions.specs.Lanes.{mostRows}
-use Rattle.definitions.specs.Lines.{Row, cut, isRow}
-use Rattle.definitions.specs.ReadBack.{beginsMark, backRow, readBack}
+use Rattle.definitions.specs.Lanes.{most_rows_in}
+use Rattle.definitions.specs.Lines.{Row, cut, is_row_line}
+use Rattle.definitions.specs.ReadBack.{begins_mark, back_row, rows_read_back}
 use Rattle.definitions.proofs.Bools.{and_left}
 use Rattle.definitions.proofs.Lists.{All, none, one, all_append, all_map}
-use Rattle.lines.specs.Lines.{firstLine}
-use Rattle.reader.specs.BackReading.{trimmedBy, backRowsBy, rowsBack}
-use Rattle.reader.proofs.Cuts.{cut-below, lines-bytes, cut-bytes}
+use Rattle.lines.specs.Lines.{first_line}
+use Rattle.reader.specs.BackReading.{trimmed_by, back_rows_by, rows_back}
+use Rattle.reader.proofs.Cuts.{cut-below, lines_bytes, cut-bytes}
 use Rattle.reader.proofs.BackReading.{by_less, back-trimmed}
 
 -- ---- the first line of a text, and what follows it
 
 -- an empty line is no row
-none-row : (trim : Bool) (L : ℕ) → 0 < L → backRow L (trimmedBy trim []) ≡ []
-unfolding isRow
+none-row : (trim : Bool) (L : ℕ) → 0 < L → back_row L (trimmed_by trim []) ≡ []
+unfolding is_row_line
 none-row true L h = rw (lt-leb L 0 h)
 none-row false L h = rw (lt-leb L 0 h)
 
-pub rows-none : (trim : Bool) (L : ℕ) → 0 < L → rowsBack trim L [] ≡ []
-unfolding rowsBack
+pub rows-none : (trim : Bool) (L : ℕ) → 0 < L → rows_back trim L [] ≡ []
+unfolding rows_back
 rows-none trim L h = rw (none-row trim L h)
 
-pub rows-first : (trim : Bool) (L : ℕ) (s : List ℕ) → 0 < L → rowsBack trim L s ≡ backRow L (trimmedBy trim (firstLine s)) ++ rowsBack trim L (after 10 s)
-unfolding rowsBack
+pub rows-first : (trim : Bool) (L : ℕ) (s : List ℕ) → 0 < L → rows_back trim L s ≡ back_row L (trimmed_by trim (first_line s)) ++ rows_back trim L (after 10 s)
+unfolding rows_back
 rows-first trim L s h =
     let b = cut-below s in
-    let below : backRowsBy trim L b.below ≡ backRowsBy trim L (cut (after 10 s)) =
-    ⊎_elim (λ e. ap (backRowsBy trim L) e) (λ e. rw (e.0, e.1, none-row trim L h)) b.same in
+    let below : back_rows_by trim L b.below ≡ back_rows_by trim L (cut (after 10 s)) =
+    ⊎_elim (λ e. ap (back_rows_by trim L) e) (λ e. rw (e.0, e.1, none-row trim L h)) b.same in
     rw (b.is-cut, below)
 
 -- ---- rows have L bytes, and are few for a text of so many
 
-pub row-long : (L : ℕ) (l : List ℕ) → (isRow L l && not (beginsMark l)) ≡ true → L ≤ length l
-unfolding isRow
-row-long L l e = leb-true L (length l) (and_left (isRow L l) (not (beginsMark l)) e)
+pub row-long : (L : ℕ) (l : List ℕ) → (is_row_line L l && not (begins_mark l)) ≡ true → L ≤ length l
+unfolding is_row_line
+row-long L l e = leb-true L (length l) (and_left (is_row_line L l) (not (begins_mark l)) e)
 
-back-wide : (trim : Bool) (L : ℕ) (ls : List (List ℕ)) → All (λ (r : Row). length r ≡ L) (backRowsBy trim L ls)
+back-wide : (trim : Bool) (L : ℕ) (ls : List (List ℕ)) → All (λ (r : Row). length r ≡ L) (back_rows_by trim L ls)
 back-wide trim L [] = none
-back-wide trim L (l ∷ ls) = all_append (go (isRow L bare && not (beginsMark bare)) refl) (back-wide trim L ls)
+back-wide trim L (l ∷ ls) = all_append (go (is_row_line L bare && not (begins_mark bare)) refl) (back-wide trim L ls)
   where
     bare : List ℕ
-    bare = trimmedBy trim l
+    bare = trimmed_by trim l
 
-    go : (t : Bool) → (isRow L bare && not (beginsMark bare)) ≡ t → All (λ (r : Row). length r ≡ L) (only_if t (take L bare ∷ []))
+    go : (t : Bool) → (is_row_line L bare && not (begins_mark bare)) ≡ t → All (λ (r : Row). length r ≡ L) (only_if t (take L bare ∷ []))
     go true e = one {a = take L bare} (length-take-le L bare (row-long L bare e)) none
     go false e = none
 
-back-bytes : (trim : Bool) (L : ℕ) (ls : List (List ℕ)) → (L + 1) * length (backRowsBy trim L ls) ≤ lines-bytes ls
+back-bytes : (trim : Bool) (L : ℕ) (ls : List (List ℕ)) → (L + 1) * length (back_rows_by trim L ls) ≤ lines_bytes ls
 back-bytes trim L [] = omega arith
-back-bytes trim L (l ∷ ls) = go (isRow L (trimmedBy trim l) && not (beginsMark (trimmedBy trim l))) refl (back-bytes trim L ls)
+back-bytes trim L (l ∷ ls) = go (is_row_line L (trimmed_by trim l) && not (begins_mark (trimmed_by trim l))) refl (back-bytes trim L ls)
   where
-    go : (t : Bool) → (isRow L (trimmedBy trim l) && not (beginsMark (trimmedBy trim l))) ≡ t → (L + 1) * length (backRowsBy trim L ls) ≤ lines-bytes ls
-        → (L + 1) * length (only_if t (take L (trimmedBy trim l) ∷ []) ++ backRowsBy trim L ls) ≤ lines-bytes (l ∷ ls)
-    go true e h = omega (arith, row-long L (trimmedBy trim l) e, by_less trim l)
+    go : (t : Bool) → (is_row_line L (trimmed_by trim l) && not (begins_mark (trimmed_by trim l))) ≡ t → (L + 1) * length (back_rows_by trim L ls) ≤ lines_bytes ls
+        → (L + 1) * length (only_if t (take L (trimmed_by trim l) ∷ []) ++ back_rows_by trim L ls) ≤ lines_bytes (l ∷ ls)
+    go true e h = omega (arith, row-long L (trimmed_by trim l) e, by_less trim l)
     go false e h = omega arith
 
-pub rows-wide : (trim : Bool) (L : ℕ) (text : List ℕ) → All (λ (r : Row). length r ≡ L) (rowsBack trim L text)
-unfolding rowsBack
+pub rows-wide : (trim : Bool) (L : ℕ) (text : List ℕ) → All (λ (r : Row). length r ≡ L) (rows_back trim L text)
+unfolding rows_back
 rows-wide trim L text = back-wide trim L (cut text)
 
-rows-bytes : (trim : Bool) (L : ℕ) (text : List ℕ) → (L + 1) * length (rowsBack trim L text) ≤ length text + 1
-unfolding rowsBack
+rows-bytes : (trim : Bool) (L : ℕ) (text : List ℕ) → (L + 1) * length (rows_back trim L text) ≤ length text + 1
+unfolding rows_back
 rows-bytes trim L text = le_trans (back-bytes trim L (cut text)) (le_of_eq (cut-bytes text))
 
 -- ---- the loop
@@ -94,37 +94,37 @@ split : (s : List Row) (ls : List (Bor Row)) (t : List Row) → Yields Steps s l
 split s [] t y = y
 split s (x ∷ ls) t y = y.1 ∙ ap (λ l. x.now ∷ l) (split y.0 ls t y.2)
 
--- Rows of a text have come, with `rest` left to come. Few have, and an entry for each row of the text has room in a slice of `mostRows`.
+-- Rows of a text have come, with `rest` left to come. Few have, and an entry for each row of the text has room in a slice of `most_rows_in`.
 pub record BackCome (trim : Bool) (L : ℕ) (text : List ℕ) (rows rest : List Row) : Type 0 where
-  pub rows_are : rowsBack trim L text ≡ rows ++ rest
+  pub rows_are : rows_back trim L text ≡ rows ++ rest
   pub few : 5 * length rows ≤ length text + 1
-  pub most : length (rowsBack trim L text) ≤ mostRows L (length text)
+  pub most : length (rows_back trim L text) ≤ most_rows_in L (length text)
 
-all-most : (L n len : ℕ) → (L + 1) * n ≤ len + 1 → n ≤ mostRows L len
-unfolding mostRows
+all-most : (L n len : ℕ) → (L + 1) * n ≤ len + 1 → n ≤ most_rows_in L len
+unfolding most_rows_in
 all-most L n len h = (le-div_iff_mul-le {k = L + 1} (omega arith)).1 (le_trans (le_of_eq (mul_comm n (L + 1))) h)
 
-pub back-come : (trim : Bool) (L : ℕ) (text : List ℕ) (s : List Row) → s ≡ rowsBack trim L text → (ls : List (Bor Row)) (t : List Row) → Yields Steps s ls t → 4 ≤ L → BackCome trim L text (came ls) t
+pub back-come : (trim : Bool) (L : ℕ) (text : List ℕ) (s : List Row) → s ≡ rows_back trim L text → (ls : List (Bor Row)) (t : List Row) → Yields Steps s ls t → 4 ≤ L → BackCome trim L text (came ls) t
 back-come trim L text s e ls t y w =
     let parts = sym e ∙ split s ls t y in
     let five : 5 ≤ L + 1 = omega arith in
-    let all = le_trans (mul-le-mul_right (length (rowsBack trim L text)) five) (rows-bytes trim L text) in
+    let all = le_trans (mul-le-mul_right (length (rows_back trim L text)) five) (rows-bytes trim L text) in
     record {
       rows_are = parts;
       few = omega (arith, all, ap length parts, length-append (came ls) t);
-      most = all-most L (length (rowsBack trim L text)) (length text) (rows-bytes trim L text);
+      most = all-most L (length (rows_back trim L text)) (length text) (rows-bytes trim L text);
     }
 
 module _ (trim : Bool) (L : ℕ) (text : List ℕ) (rows rest : List Row) (x : BackCome trim L text rows rest) where
   -- the next row
   module _ (row : Row) (below : List Row) (e : rest ≡ row ∷ below) where
-    pub next-all : rowsBack trim L text ≡ rows ++ (row ∷ below)
+    pub next-all : rows_back trim L text ≡ rows ++ (row ∷ below)
     next-all = x.rows_are ∙ ap (λ l. rows ++ l) e
 
-    pub next-inside : length rows < length (rowsBack trim L text)
+    pub next-inside : length rows < length (rows_back trim L text)
     next-inside = rw next-all (simp length-append (omega arith))
 
-    pub next-here : get_or (rowsBack trim L text) (length rows) [] ≡ row
+    pub next-here : get_or (rows_back trim L text) (length rows) [] ≡ row
     next-here = rw next-all (get_or-append_seam rows row below [])
 
     pub next-wide : length row ≡ L
@@ -134,9 +134,9 @@ module _ (trim : Bool) (L : ℕ) (text : List ℕ) (rows rest : List Row) (x : B
         go [] (one h p) = h
         go (r ∷ rs) (one h p) = go rs p
 
-  pub all-came : rest ≡ [] → rowsBack trim L text ≡ rows
+  pub all-came : rest ≡ [] → rows_back trim L text ≡ rows
   all-came e = x.rows_are ∙ rw (e, append-nil)
 
 -- the same of the definitions' rows
-pub short-back : (L : ℕ) (text : List ℕ) → All (λ (r : Row). length r ≤ L) (readBack L text)
+pub short-back : (L : ℕ) (text : List ℕ) → All (λ (r : Row). length r ≤ L) (rows_read_back L text)
 short-back L text = all_map (λ r h. le_of_eq h) (subst (All (λ (r : Row). length r ≡ L)) (back-trimmed L text) (rows-wide true L text))

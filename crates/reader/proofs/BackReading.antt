@@ -8,20 +8,20 @@ use lib.Dec.{eqb}
 use lib.ListN.{length, get_or, take}
 use Rattle.definitions.specs.Lists.{among}
 use Rattle.definitions.specs.Lines.{cut}
-use Rattle.definitions.specs.ReadBack.{trimCr, beginsMark, backRow, backRows, readBack}
-use Rattle.reader.specs.BackReading.{trimmedBy, backRowsBy, rowsBack}
+use Rattle.definitions.specs.ReadBack.{without_cr, begins_mark, back_row, back_rows, rows_read_back}
+use Rattle.reader.specs.BackReading.{trimmed_by, back_rows_by, rows_back}
 
 -- trimmed, the rows are those of the definitions
-pub back-trimmed : (L : ℕ) (text : List ℕ) → rowsBack true L text ≡ readBack L text
-unfolding rowsBack readBack
+pub back-trimmed : (L : ℕ) (text : List ℕ) → rows_back true L text ≡ rows_read_back L text
+unfolding rows_back rows_read_back
 back-trimmed L text = go (cut text)
   where
-    go : (ls : List (List ℕ)) → backRowsBy true L ls ≡ backRows L ls
+    go : (ls : List (List ℕ)) → back_rows_by true L ls ≡ back_rows L ls
     go [] = refl
-    go (l ∷ ls) = ap (λ r. backRow L (trimCr l) ++ r) (go ls)
+    go (l ∷ ls) = ap (λ r. back_row L (without_cr l) ++ r) (go ls)
 
 -- a line without its byte 13 is a front of it
-trim-front : (l : List ℕ) → trimCr l ≡ take (length (trimCr l)) l
+trim-front : (l : List ℕ) → without_cr l ≡ take (length (without_cr l)) l
 trim-front [] = refl
 trim-front (b ∷ []) = go (eqb b 13)
   where
@@ -30,7 +30,7 @@ trim-front (b ∷ []) = go (eqb b 13)
     go false = refl
 trim-front (b ∷ b' ∷ s) = ap (λ l. b ∷ l) (trim-front (b' ∷ s))
 
-trim-less : (l : List ℕ) → length (trimCr l) ≤ length l
+trim-less : (l : List ℕ) → length (without_cr l) ≤ length l
 trim-less [] = omega arith
 trim-less (b ∷ []) = go (eqb b 13)
   where
@@ -39,7 +39,7 @@ trim-less (b ∷ []) = go (eqb b 13)
     go false = omega arith
 trim-less (b ∷ b' ∷ s) = omega (arith, trim-less (b' ∷ s))
 
-pub by_front : (trim : Bool) (l : List ℕ) → trimmedBy trim l ≡ take (length (trimmedBy trim l)) l
+pub by_front : (trim : Bool) (l : List ℕ) → trimmed_by trim l ≡ take (length (trimmed_by trim l)) l
 by_front true l = trim-front l
 by_front false l = sym (take-all-is l)
   where
@@ -48,7 +48,7 @@ by_front false l = sym (take-all-is l)
     take-all-is (x ∷ l) = ap (λ r. x ∷ r) (take-all-is l)
 
 -- and at most one byte is off
-trim-most : (l : List ℕ) → length l ≤ length (trimCr l) + 1
+trim-most : (l : List ℕ) → length l ≤ length (without_cr l) + 1
 trim-most [] = omega arith
 trim-most (b ∷ []) = go (eqb b 13)
   where
@@ -57,21 +57,21 @@ trim-most (b ∷ []) = go (eqb b 13)
     go false = omega arith
 trim-most (b ∷ b' ∷ s) = omega (arith, trim-most (b' ∷ s))
 
-pub by_most : (trim : Bool) (l : List ℕ) → length l ≤ length (trimmedBy trim l) + 1
+pub by_most : (trim : Bool) (l : List ℕ) → length l ≤ length (trimmed_by trim l) + 1
 by_most true l = trim-most l
 by_most false l = omega arith
 
-pub by_less : (trim : Bool) (l : List ℕ) → length (trimmedBy trim l) ≤ length l
+pub by_less : (trim : Bool) (l : List ℕ) → length (trimmed_by trim l) ≤ length l
 by_less true l = trim-less l
 by_less false l = omega arith
 
 -- the row test by a line's first byte
-pub mark-none : (x : Bool) (l : List ℕ) → length l ≡ 0 → x ≡ (x && not (beginsMark l))
+pub mark-none : (x : Bool) (l : List ℕ) → length l ≡ 0 → x ≡ (x && not (begins_mark l))
 mark-none true [] h = refl
 mark-none false [] h = refl
 mark-none x (b ∷ l) h = absurd (omega arith)
 
-pub mark-first : (x : Bool) (l : List ℕ) → (length l ≡ 0 → ⊥) → (x && not (beginsMark l)) ≡ (x && not (among (get_or l 0 0) (44 ∷ 59 ∷ [])))
+pub mark-first : (x : Bool) (l : List ℕ) → (length l ≡ 0 → ⊥) → (x && not (begins_mark l)) ≡ (x && not (among (get_or l 0 0) (44 ∷ 59 ∷ [])))
 mark-first x [] h = absurd (h refl)
 mark-first x (b ∷ l) h = refl
 

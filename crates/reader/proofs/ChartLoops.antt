@@ -13,8 +13,8 @@ use Rattle.std.proofs.iter.Next.{Yields-more}
 use Rattle.std.proofs.lemmas.List.Sums.{fold_push, sum_by-cons, sum_by-take-le}
 use Rattle.std.proofs.lemmas.Iterator.Consumers.{YieldsList-from_first, YieldsList-so_far, YieldsList-turn, YieldsList-end}
 use Rattle.definitions.specs.Lists.{joined}
-use Rattle.definitions.specs.Lanes.{mostRows}
-use Rattle.definitions.specs.Lines.{Row, cut, trim, lineKind, lineRow}
+use Rattle.definitions.specs.Lanes.{most_rows_in}
+use Rattle.definitions.specs.Lines.{Row, cut, trim, line_kind, line_row}
 use Rattle.definitions.specs.Measures.{chart}
 use Rattle.definitions.proofs.Lists.{joined_snoc}
 use Rattle.definitions.proofs.ChartRows.{trim-short, row-length}
@@ -22,9 +22,9 @@ use Rattle.definitions.specs.declared.LineKind.{LineKind}
 use Rattle.definitions.specs.declared.LineKind.TheVariants as line
 use Rattle.reader.specs.declared.charts.ChartLine.{ChartLine}
 use Rattle.reader.specs.declared.charts.ChartLine.TheVariants as chart-line
-use Rattle.reader.specs.Marks.{addMark, marks, chart_marks, Held, heldWith, held}
+use Rattle.reader.specs.Marks.{add_mark, marks, chart_marks, Held, held_with, held}
 use Rattle.reader.specs.ChartLines.{mark_of, held_of}
-use Rattle.reader.proofs.Cuts.{lines-bytes, cut-bytes}
+use Rattle.reader.proofs.Cuts.{lines_bytes, cut-bytes}
 use Rattle.reader.proofs.LineKinds.{comma-some}
 use Rattle.reader.proofs.Marks.{chart-held}
 
@@ -34,32 +34,32 @@ abbrev pub bytes_of : ℕ → Option Row → ℕ
 bytes_of L None = 2
 bytes_of L (Some r) = L + 1
 
-marks-bytes : (L : ℕ) (ls : List (List ℕ)) → sum_by (bytes_of L) (marks L ls) ≤ lines-bytes ls
-unfolding lineKind
+marks-bytes : (L : ℕ) (ls : List (List ℕ)) → sum_by (bytes_of L) (marks L ls) ≤ lines_bytes ls
+unfolding line_kind
 marks-bytes L [] = omega arith
-marks-bytes L (l ∷ ls) = go (lineKind L l) refl (marks-bytes L ls)
+marks-bytes L (l ∷ ls) = go (line_kind L l) refl (marks-bytes L ls)
   where
-    go : (k : LineKind) → lineKind L l ≡ k → sum_by (bytes_of L) (marks L ls) ≤ lines-bytes ls
-        → sum_by (bytes_of L) (addMark k (lineRow L l) (marks L ls)) ≤ lines-bytes (l ∷ ls)
+    go : (k : LineKind) → line_kind L l ≡ k → sum_by (bytes_of L) (marks L ls) ≤ lines_bytes ls
+        → sum_by (bytes_of L) (add_mark k (line_row L l) (marks L ls)) ≤ lines_bytes (l ∷ ls)
     go line.Passed e h = omega arith
     go line.Comma e h = omega (arith, sum_by-cons (bytes_of L) None (marks L ls), comma-some L l e)
     go line.Semi e h = omega arith
-    go line.Row e h = omega (arith, sum_by-cons (bytes_of L) (Some (lineRow L l)) (marks L ls), row-length L (trim l) e, trim-short l)
+    go line.Row e h = omega (arith, sum_by-cons (bytes_of L) (Some (line_row L l)) (marks L ls), row-length L (trim l) e, trim-short l)
 
 -- ---- what is held takes as many as its marks
 
-abbrev pub held-bytes : ℕ → Held → ℕ
-held-bytes L h = 2 * length h.done + (L + 1) * (length (joined h.done) + length h.cur)
+abbrev pub bytes_of_held : ℕ → Held → ℕ
+bytes_of_held L h = 2 * length h.done + (L + 1) * (length (joined h.done) + length h.cur)
 
-one-more : (L : ℕ) (h : Held) (m : Option Row) → held-bytes L (heldWith h m) ≡ held-bytes L h + bytes_of L m
+one-more : (L : ℕ) (h : Held) (m : Option Row) → bytes_of_held L (held_with h m) ≡ bytes_of_held L h + bytes_of L m
 one-more L h None = rw (length-append, joined_snoc h.done h.cur, length-append) (omega arith)
 one-more L h (Some r) = rw length-append (omega arith)
 
-all-bytes : (L : ℕ) (h : Held) (ms : List (Option Row)) → held-bytes L (fold heldWith h ms) ≡ fold (λ a m. a + bytes_of L m) (held-bytes L h) ms
+all-bytes : (L : ℕ) (h : Held) (ms : List (Option Row)) → bytes_of_held L (fold held_with h ms) ≡ fold (λ a m. a + bytes_of L m) (bytes_of_held L h) ms
 all-bytes L h [] = refl
-all-bytes L h (m ∷ ms) = all-bytes L (heldWith h m) ms ∙ ap (λ a. fold (λ a m. a + bytes_of L m) a ms) (one-more L h m)
+all-bytes L h (m ∷ ms) = all-bytes L (held_with h m) ms ∙ ap (λ a. fold (λ a m. a + bytes_of L m) a ms) (one-more L h m)
 
-held_bytes : (L : ℕ) (ms : List (Option Row)) → held-bytes L (held ms) ≡ sum_by (bytes_of L) ms
+held_bytes : (L : ℕ) (ms : List (Option Row)) → bytes_of_held L (held ms) ≡ sum_by (bytes_of L) ms
 unfolding held
 held_bytes L ms =
     let none : 2 * 0 + (L + 1) * (0 + 0) ≡ 0 = omega arith in
@@ -68,12 +68,12 @@ held_bytes L ms =
 -- ---- rows and measures are few for a text of so many bytes
 
 pub record Few (L : ℕ) (len : ℕ) (done : List (List Row)) (cur : List Row) : Type 0 where
-  pub rows : length (joined done) + length cur ≤ mostRows L len
+  pub rows : length (joined done) + length cur ≤ most_rows_in L len
   pub fifth : 5 * (length (joined done) + length cur) ≤ len + 1
   pub measures : 2 * length done ≤ len + 1
 
-few-of : (L len : ℕ) (h : Held) → 4 ≤ L → held-bytes L h ≤ len + 1 → Few L len h.done h.cur
-unfolding mostRows
+few-of : (L len : ℕ) (h : Held) → 4 ≤ L → bytes_of_held L h ≤ len + 1 → Few L len h.done h.cur
+unfolding most_rows_in
 few-of L len h w b =
     let rows = length (joined h.done) + length h.cur in
     let five : 5 ≤ L + 1 = omega arith in
@@ -87,18 +87,18 @@ few-of L len h w b =
 -- ---- a row has L bytes
 
 marks-wide : (L : ℕ) (ls : List (List ℕ)) (k : ℕ) (m : Option Row) (r : Row) → k < length (marks L ls) → get_or (marks L ls) k m ≡ Some r → length r ≡ L
-unfolding lineKind
+unfolding line_kind
 marks-wide L [] k m r h e = absurd (omega arith)
-marks-wide L (l ∷ ls) k m r h e = go (lineKind L l) refl (marks-wide L ls) k h e
+marks-wide L (l ∷ ls) k m r h e = go (line_kind L l) refl (marks-wide L ls) k h e
   where
-    go : (n : LineKind) → lineKind L l ≡ n
+    go : (n : LineKind) → line_kind L l ≡ n
         → ((k : ℕ) (m : Option Row) (r : Row) → k < length (marks L ls) → get_or (marks L ls) k m ≡ Some r → length r ≡ L)
-        → (k : ℕ) → k < length (addMark n (lineRow L l) (marks L ls)) → get_or (addMark n (lineRow L l) (marks L ls)) k m ≡ Some r → length r ≡ L
+        → (k : ℕ) → k < length (add_mark n (line_row L l) (marks L ls)) → get_or (add_mark n (line_row L l) (marks L ls)) k m ≡ Some r → length r ≡ L
     go line.Passed q f k h e = f k m r h e
     go line.Comma q f zero h e = cc
     go line.Comma q f (suc k) h e = f k m r (omega arith) e
     go line.Semi q f k h e = absurd (omega arith)
-    go line.Row q f zero h e = let same : lineRow L l ≡ r = cc in sym (ap length same) ∙ length-take-le L (trim l) (row-length L (trim l) q)
+    go line.Row q f zero h e = let same : line_row L l ≡ r = cc in sym (ap length same) ∙ length-take-le L (trim l) (row-length L (trim l) q)
     go line.Row q f (suc k) h e = f k m r (omega arith) e
 
 -- ---- the loop
@@ -106,9 +106,9 @@ marks-wide L (l ∷ ls) k m r h e = go (lineKind L l) refl (marks-wide L ls) k h
 abbrev pub Steps : List (Option Row) → Option ChartLine → List (Option Row) → Type 0
 Steps = YieldsFirstBy mark_of (λ rest. rest)
 
-held-more : (ls : List ChartLine) (l : ChartLine) → held_of (ls ++ (l ∷ [])) ≡ heldWith (held_of ls) (mark_of l)
+held-more : (ls : List ChartLine) (l : ChartLine) → held_of (ls ++ (l ∷ [])) ≡ held_with (held_of ls) (mark_of l)
 unfolding held
-held-more ls l = ap (fold heldWith _) (map-append mark_of ls (l ∷ [])) ∙ fold_push heldWith _ (map mark_of ls) (mark_of l)
+held-more ls l = ap (fold held_with _) (map-append mark_of ls (l ∷ [])) ∙ fold_push held_with _ (map mark_of ls) (mark_of l)
 
 -- Lines of a text have come, with t left to come.
 pub record Come (L : ℕ) (text : List ℕ) (ls : List ChartLine) (t : List (Option Row)) : Type 0 where
@@ -131,18 +131,18 @@ pub record Over (L : ℕ) (text : List ℕ) (K : List (List Row) → List Row �
   pub held : K done cur
 
 -- how many bytes at least the lines that have come take in the text
-abbrev pub come-bytes : ℕ → List ChartLine → ℕ
-come-bytes L ls = held-bytes L (held_of ls)
+abbrev pub come_bytes : ℕ → List ChartLine → ℕ
+come_bytes L ls = bytes_of_held L (held_of ls)
 
-pub bytes-none : (L : ℕ) → come-bytes L [] ≡ 0
+pub bytes-none : (L : ℕ) → come_bytes L [] ≡ 0
 unfolding held
 bytes-none L = omega arith
 
-pub bytes-more : (L : ℕ) (ls : List ChartLine) (l : ChartLine) → come-bytes L (ls ++ (l ∷ [])) ≡ come-bytes L ls + bytes_of L (mark_of l)
-bytes-more L ls l = ap (held-bytes L) (held-more ls l) ∙ one-more L (held_of ls) (mark_of l)
+pub bytes-more : (L : ℕ) (ls : List ChartLine) (l : ChartLine) → come_bytes L (ls ++ (l ∷ [])) ≡ come_bytes L ls + bytes_of L (mark_of l)
+bytes-more L ls l = ap (bytes_of_held L) (held-more ls l) ∙ one-more L (held_of ls) (mark_of l)
 
 -- no more than the text has, with a newline after it
-pub come-within : (L : ℕ) (text : List ℕ) (ls : List ChartLine) (t : List (Option Row)) → Come L text ls t → come-bytes L ls ≤ length text + 1
+pub come-within : (L : ℕ) (text : List ℕ) (ls : List ChartLine) (t : List (Option Row)) → Come L text ls t → come_bytes L ls ≤ length text + 1
 unfolding chart_marks
 come-within L text ls t x =
     let part = YieldsList-so_far (YieldsList-from_first mark_of (λ rest. rest) (chart_marks L text) x.from) ls t x.by in

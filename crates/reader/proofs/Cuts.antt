@@ -9,24 +9,24 @@ use native.Mathlib.Omega.{arith}
 use lib.Dec.{eqb}
 use lib.ListN.{length, take, drop, length-drop}
 use lib.Seq.{length-take-le}
-use Rattle.definitions.specs.Lists.{toFirst, up_to, after}
+use Rattle.definitions.specs.Lists.{to_first, up_to, after}
 use Rattle.definitions.specs.Lines.{cut, cut_at}
-use Rattle.definitions.proofs.Lists.{upTo-front, after-cons}
-use Rattle.lines.specs.Lines.{firstLine}
+use Rattle.definitions.proofs.Lists.{up_to-front, after-cons}
+use Rattle.lines.specs.Lines.{first_line}
 
 -- the first line is the text's front
-pub line-front : (s : List ℕ) → firstLine s ≡ take (length (firstLine s)) s
-unfolding firstLine
-line-front s = upTo-front 10 s
+pub line-front : (s : List ℕ) → first_line s ≡ take (length (first_line s)) s
+unfolding first_line
+line-front s = up_to-front 10 s
 
 -- The lines below the first are those of the text after its newline; where it has none, there are none.
 pub record Below (s : List ℕ) : Type 0 where
   pub below : List (List ℕ)
-  pub is-cut : cut s ≡ firstLine s ∷ below
+  pub is-cut : cut s ≡ first_line s ∷ below
   pub same : (below ≡ cut (after 10 s)) ⊎ ((below ≡ []) × (after 10 s ≡ []))
 
 pub cut-below : (s : List ℕ) → Below s
-unfolding firstLine up_to after
+unfolding first_line up_to after
 cut-below [] = record { below = []; is-cut = refl; same = inr (refl, refl) }
 cut-below (x ∷ s) = go (eqb x 10) refl (cut-below s)
   where
@@ -35,8 +35,8 @@ cut-below (x ∷ s) = go (eqb x 10) refl (cut-below s)
     go false e b = record { below = b.below; is-cut = rw (e, b.is-cut); same = rw (after-cons, e) b.same }
 
 -- what follows a line of m bytes
-pub after-line : (m : ℕ) (s : List ℕ) → m ≤ length s → firstLine s ≡ take m s → after 10 s ≡ drop (m + 1) s
-unfolding after firstLine
+pub after-line : (m : ℕ) (s : List ℕ) → m ≤ length s → first_line s ≡ take m s → after 10 s ≡ drop (m + 1) s
+unfolding after first_line
 after-line m s h e = rw add-one (ap (λ k. drop (suc k) s) (ap length e ∙ length-take-le m s h))
 
 -- it is less than all of a text
@@ -45,18 +45,18 @@ unfolding after
 after-less rest below h e = rw (e, length-drop) (omega arith)
 
 -- the lines' bytes, with a newline after each
-abbrev pub lines-bytes : List (List ℕ) → ℕ
-lines-bytes [] = 0
-lines-bytes (l ∷ ls) = length l + 1 + lines-bytes ls
+abbrev pub lines_bytes : List (List ℕ) → ℕ
+lines_bytes [] = 0
+lines_bytes (l ∷ ls) = length l + 1 + lines_bytes ls
 
-pub cut-bytes : (text : List ℕ) → lines-bytes (cut text) ≡ length text + 1
+pub cut-bytes : (text : List ℕ) → lines_bytes (cut text) ≡ length text + 1
 cut-bytes [] = omega arith
 cut-bytes (b ∷ s) = go (eqb b 10) (cut-bytes s)
   where
-    first : (ls : List (List ℕ)) (n : ℕ) → lines-bytes ls ≡ n + 1 → lines-bytes (toFirst b ls) ≡ suc n + 1
+    first : (ls : List (List ℕ)) (n : ℕ) → lines_bytes ls ≡ n + 1 → lines_bytes (to_first b ls) ≡ suc n + 1
     first [] n h = absurd (omega arith)
     first (l ∷ ls) n h = omega arith
 
-    go : (t : Bool) → lines-bytes (cut s) ≡ length s + 1 → lines-bytes (cut_at t b (cut s)) ≡ suc (length s) + 1
+    go : (t : Bool) → lines_bytes (cut s) ≡ length s + 1 → lines_bytes (cut_at t b (cut s)) ≡ suc (length s) + 1
     go true h = omega arith
     go false h = first (cut s) (length s) h

@@ -6,15 +6,15 @@ use Prim.Native.Nat.{ℕ, ◌≤◌}
 use native.Mathlib.Omega.{arith}
 use lib.Dec.{eqb}
 use lib.ListN.{length, get_or}
-use Rattle.definitions.specs.Lines.{trim, isRow, kind_of}
+use Rattle.definitions.specs.Lines.{trim, is_row_line, kind_of}
 use Rattle.definitions.specs.declared.LineKind.{LineKind}
 use Rattle.definitions.specs.declared.LineKind.TheVariants as kind
 pub use Rattle.definitions.proofs.ChartRows.{row-length}
 
-abbrev pub kindBy : ℕ → Bool → LineKind
-kindBy b row = cond (eqb b 47) kind.Passed (cond (eqb b 44) kind.Comma (cond (eqb b 59) kind.Semi (cond row kind.Row kind.Passed)))
+abbrev pub kind_by : ℕ → Bool → LineKind
+kind_by b row = cond (eqb b 47) kind.Passed (cond (eqb b 44) kind.Comma (cond (eqb b 59) kind.Semi (cond row kind.Row kind.Passed)))
 
-pub kind-first : (L : ℕ) (l : List ℕ) → (length l ≡ 0 → ⊥) → kind_of L l ≡ kindBy (get_or l 0 0) (isRow L l)
+pub kind-first : (L : ℕ) (l : List ℕ) → (length l ≡ 0 → ⊥) → kind_of L l ≡ kind_by (get_or l 0 0) (is_row_line L l)
 unfolding kind_of
 kind-first L [] h = absurd (h refl)
 kind-first L (b ∷ s) h = refl

@@ -8,33 +8,33 @@ use native.Mathlib.Omega.{arith}
 use lib.ListN.{length, take, drop, get_or}
 use lib.Seq.{get_or-take, length-take-le, take-take}
 use Rattle.std.specs.Prelude.{Option, Some, fold}
-use Rattle.definitions.specs.Lists.{toFirst, after}
-use Rattle.definitions.specs.Lines.{Row, cut, trim, kind_of, lineKind, lineRow}
-use Rattle.definitions.specs.Measures.{addLine, measures, chart}
+use Rattle.definitions.specs.Lists.{to_first, after}
+use Rattle.definitions.specs.Lines.{Row, cut, trim, kind_of, line_kind, line_row}
+use Rattle.definitions.specs.Measures.{add_line, measures, chart}
 use Rattle.definitions.specs.declared.LineKind.{LineKind}
 use Rattle.definitions.specs.declared.LineKind.TheVariants as line
-use Rattle.lines.specs.Lines.{firstLine}
-use Rattle.reader.specs.Reading.{nearRow}
+use Rattle.lines.specs.Lines.{first_line}
+use Rattle.reader.specs.Reading.{near_row}
 use Rattle.reader.proofs.Cuts.{cut-below, after-line}
 use Rattle.reader.proofs.Plain.{near-just, bare, bare-row}
-use Rattle.reader.specs.Marks.{addMark, marks, chart_marks, Held, heldWith, held}
+use Rattle.reader.specs.Marks.{add_mark, marks, chart_marks, Held, held_with, held}
 
 -- ---- the first line of a text, and what follows it
 
-pub marks-first : (L : ℕ) (s : List ℕ) → chart_marks L s ≡ addMark (lineKind L (firstLine s)) (lineRow L (firstLine s)) (chart_marks L (after 10 s))
-unfolding chart_marks lineKind kind_of
+pub marks-first : (L : ℕ) (s : List ℕ) → chart_marks L s ≡ add_mark (line_kind L (first_line s)) (line_row L (first_line s)) (chart_marks L (after 10 s))
+unfolding chart_marks line_kind kind_of
 marks-first L s =
     let b = cut-below s in
     let below : marks L b.below ≡ marks L (cut (after 10 s)) = ⊎_elim (λ e. ap (marks L) e) (λ e. rw (e.0, e.1)) b.same in
     rw (b.is-cut, below)
 
 pub marks-none : (L : ℕ) → chart_marks L [] ≡ []
-unfolding chart_marks lineKind kind_of
+unfolding chart_marks line_kind kind_of
 marks-none L = refl
 
 -- a row that one look tells
-pub marks-near : (L m : ℕ) (s : List ℕ) → L ≤ m → 4 ≤ L → m ≤ 11 → nearRow m s ≡ true → chart_marks L s ≡ Some (take L s) ∷ chart_marks L (drop (m + 1) s)
-unfolding lineKind
+pub marks-near : (L m : ℕ) (s : List ℕ) → L ≤ m → 4 ≤ L → m ≤ 11 → near_row m s ≡ true → chart_marks L s ≡ Some (take L s) ∷ chart_marks L (drop (m + 1) s)
+unfolding line_kind
 marks-near L m s w low high e =
     let told = near-just m s e in
     let raw = take m s in
@@ -50,41 +50,41 @@ marks-near L m s w low high e =
 -- ---- what marks come to
 
 -- rows put before the first of some measures
-abbrev addFirst : List Row → List (List Row) → List (List Row)
-addFirst rs [] = rs ∷ []
-addFirst rs (m ∷ ms) = (rs ++ m) ∷ ms
+abbrev add_first : List Row → List (List Row) → List (List Row)
+add_first rs [] = rs ∷ []
+add_first rs (m ∷ ms) = (rs ++ m) ∷ ms
 
-at_row : (cur : List Row) (r : Row) (ms : List (List Row)) → addFirst cur (toFirst r ms) ≡ addFirst (cur ++ (r ∷ [])) ms
+at_row : (cur : List Row) (r : Row) (ms : List (List Row)) → add_first cur (to_first r ms) ≡ add_first (cur ++ (r ∷ [])) ms
 at_row cur r [] = refl
 at_row cur r (m ∷ ms) = ap (λ l. l ∷ ms) (sym (append_assoc cur (r ∷ []) m))
 
 -- no row before the first measure
-add_none : (L : ℕ) (ls : List (List ℕ)) → addFirst [] (measures L ls) ≡ measures L ls
+add_none : (L : ℕ) (ls : List (List ℕ)) → add_first [] (measures L ls) ≡ measures L ls
 add_none L [] = refl
-add_none L (l ∷ ls) = go (lineKind L l) (add_none L ls)
+add_none L (l ∷ ls) = go (line_kind L l) (add_none L ls)
   where
-    first : (r : Row) (ms : List (List Row)) → addFirst [] (toFirst r ms) ≡ toFirst r ms
+    first : (r : Row) (ms : List (List Row)) → add_first [] (to_first r ms) ≡ to_first r ms
     first r [] = refl
     first r (m ∷ ms) = refl
 
-    go : (k : LineKind) → addFirst [] (measures L ls) ≡ measures L ls → addFirst [] (addLine k (lineRow L l) (measures L ls)) ≡ addLine k (lineRow L l) (measures L ls)
+    go : (k : LineKind) → add_first [] (measures L ls) ≡ measures L ls → add_first [] (add_line k (line_row L l) (measures L ls)) ≡ add_line k (line_row L l) (measures L ls)
     go line.Passed h = h
     go line.Comma h = refl
     go line.Semi h = refl
-    go line.Row h = first (lineRow L l) (measures L ls)
+    go line.Row h = first (line_row L l) (measures L ls)
 
 abbrev all : Held → List (List Row)
 all h = h.done ++ (h.cur ∷ [])
 
 abbrev from : List (List Row) → List Row → List (Option Row) → Held
-from done cur ms = fold heldWith (record { done = done; cur = cur }) ms
+from done cur ms = fold held_with (record { done = done; cur = cur }) ms
 
-all-measures : (L : ℕ) (ls : List (List ℕ)) (done : List (List Row)) (cur : List Row) → done ++ addFirst cur (measures L ls) ≡ all (from done cur (marks L ls))
+all-measures : (L : ℕ) (ls : List (List ℕ)) (done : List (List Row)) (cur : List Row) → done ++ add_first cur (measures L ls) ≡ all (from done cur (marks L ls))
 all-measures L [] done cur = rw append-nil
-all-measures L (l ∷ ls) done cur = go (lineKind L l) (all-measures L ls)
+all-measures L (l ∷ ls) done cur = go (line_kind L l) (all-measures L ls)
   where
-    go : (k : LineKind) → ((done : List (List Row)) (cur : List Row) → done ++ addFirst cur (measures L ls) ≡ all (from done cur (marks L ls)))
-        → done ++ addFirst cur (addLine k (lineRow L l) (measures L ls)) ≡ all (from done cur (addMark k (lineRow L l) (marks L ls)))
+    go : (k : LineKind) → ((done : List (List Row)) (cur : List Row) → done ++ add_first cur (measures L ls) ≡ all (from done cur (marks L ls)))
+        → done ++ add_first cur (add_line k (line_row L l) (measures L ls)) ≡ all (from done cur (add_mark k (line_row L l) (marks L ls)))
     go line.Passed h = h done cur
     go line.Comma h =
         rw append-nil
@@ -92,7 +92,7 @@ all-measures L (l ∷ ls) done cur = go (lineKind L l) (all-measures L ls)
         ∙ sym (ap (λ ms. (done ++ (cur ∷ [])) ++ ms) (add_none L ls))
         ∙ h (done ++ (cur ∷ [])) [])
     go line.Semi h = rw append-nil
-    go line.Row h = ap (λ ms. done ++ ms) (at_row cur (lineRow L l) (measures L ls)) ∙ h done (cur ++ (lineRow L l ∷ []))
+    go line.Row h = ap (λ ms. done ++ ms) (at_row cur (line_row L l) (measures L ls)) ∙ h done (cur ++ (line_row L l ∷ []))
 
 -- A text's measures: those that have ended when all of its marks have come, and the open one.
 pub chart-held : (L : ℕ) (text : List ℕ) → chart L text ≡ (held (chart_marks L text)).done ++ ((held (chart_marks L text)).cur ∷ [])

@@ -11,7 +11,7 @@ use Rattle.definitions.proofs.Shorter.{rows_short}
 use Rattle.reader.specs.declared.charts.ChartLine.{ChartLine}
 use Rattle.reader.specs.declared.charts.ChartLine.TheVariants as line
 use Rattle.reader.specs.ChartLines.{mark_of, held_of}
-use Rattle.reader.proofs.ChartLoops.{Steps, Come, Holds, Over, Few, come-bytes, bytes_of, bytes-none, bytes-more, come-within, come-more, row-wide, holds-start, holds-row, holds-comma}
+use Rattle.reader.proofs.ChartLoops.{Steps, Come, Holds, Over, Few, come_bytes, bytes_of, bytes-none, bytes-more, come-within, come-more, row-wide, holds-start, holds-row, holds-comma}
 
 -- K of the minimised measures
 abbrev pub Reduced : (List (List Row) → List Row → Type 0) → List (List Row) → List Row → Type 0
@@ -21,7 +21,7 @@ Reduced K done cur = K (map reduce done) cur
 pub record Minimising (L : ℕ) (text : List ℕ) (out : ℕ) (K : List (List Row) → List Row → Type 0) (ls : List ChartLine) : Type 0 where
   pub pass : Holds L text (Reduced K) ls
   pub few : Few L (length text) (map reduce (held_of ls).done) (held_of ls).cur
-  pub written : out ≤ come-bytes L ls
+  pub written : out ≤ come_bytes L ls
   pub room : out ≤ length text + 1
 
 few-reduced : (L len : ℕ) (done : List (List Row)) (cur : List Row) → Few L len done cur → Few L len (map reduce done) cur

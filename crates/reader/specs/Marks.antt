@@ -1,20 +1,20 @@
 -- A text as its reader meets it: the rows and the ends of measures, one after the other, and what has been read when some of them have come.
 use Rattle.std.specs.Prelude.{Option, Some, None, List, [], ◌∷◌, ◌++◌, ℕ, fold}
-use Rattle.definitions.specs.Lines.{Row, cut, lineKind, lineRow}
+use Rattle.definitions.specs.Lines.{Row, cut, line_kind, line_row}
 use Rattle.definitions.specs.declared.LineKind.{LineKind}
 use Rattle.definitions.specs.declared.LineKind.TheVariants as kind
 
 -- What a line puts before the marks of the lines after it: its row, or `None` where it ends a measure. Nothing is read past a `;`.
-abbrev pub addMark : LineKind → Row → List (Option Row) → List (Option Row)
-addMark kind.Passed r ms = ms
-addMark kind.Comma r ms = None ∷ ms
-addMark kind.Semi r ms = []
-addMark kind.Row r ms = Some r ∷ ms
+abbrev pub add_mark : LineKind → Row → List (Option Row) → List (Option Row)
+add_mark kind.Passed r ms = ms
+add_mark kind.Comma r ms = None ∷ ms
+add_mark kind.Semi r ms = []
+add_mark kind.Row r ms = Some r ∷ ms
 
 -- the marks of some lines
 abbrev pub marks : ℕ → List (List ℕ) → List (Option Row)
 marks L [] = []
-marks L (l ∷ ls) = addMark (lineKind L l) (lineRow L l) (marks L ls)
+marks L (l ∷ ls) = add_mark (line_kind L l) (line_row L l) (marks L ls)
 
 -- the marks of a text
 unfoldable pub chart_marks : ℕ → List ℕ → List (Option Row)
@@ -26,10 +26,10 @@ pub record Held : Type 0 where
   pub cur : List Row
 
 -- one mark more
-abbrev pub heldWith : Held → Option Row → Held
-heldWith h None = record { done = h.done ++ (h.cur ∷ []); cur = [] }
-heldWith h (Some r) = record { done = h.done; cur = h.cur ++ (r ∷ []) }
+abbrev pub held_with : Held → Option Row → Held
+held_with h None = record { done = h.done ++ (h.cur ∷ []); cur = [] }
+held_with h (Some r) = record { done = h.done; cur = h.cur ++ (r ∷ []) }
 
 -- what some marks come to
 unfoldable pub held : List (Option Row) → Held
-held ms = fold heldWith (record { done = []; cur = [] }) ms
+held ms = fold held_with (record { done = []; cur = [] }) ms

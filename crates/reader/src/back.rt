@@ -1,16 +1,16 @@
 // Reading minimised text back, as `parse_minimized_rows` does: by lines, with no blanks stripped, no comment known and no end at `;`.
 ghost use Rattle.std.specs.Prelude.{◌≡◌, ◌&&◌, not, ◌+◌, ◌≤◌, ◌<◌, length};
-ghost use Rattle.definitions.specs.Lines.{isRow};
-ghost use Rattle.definitions.specs.ReadBack.{beginsMark};
+ghost use Rattle.definitions.specs.Lines.{is_row_line};
+ghost use Rattle.definitions.specs.ReadBack.{begins_mark};
 ghost use Rattle.reader.specs.Reading.{LineWidth};
 ghost use Rattle.std.specs.Iterator.{YieldsFirstRef};
-ghost use Rattle.reader.specs.BackReading.{trimmedBy, rowsBack, plainRowBack};
+ghost use Rattle.reader.specs.BackReading.{trimmed_by, rows_back, plain_row_back};
 
 use std::marker::Model;
 
 // Whether a line is long enough and begins with no `,` or `;`.
 fn is_back_row(line: &[u8], lanes: usize) -> bool
-    ensures { result ≡ (isRow lanes line.now && not (beginsMark line.now)) }
+    ensures { result ≡ (is_row_line lanes line.now && not (begins_mark line.now)) }
 {
     if line.len() == 0 {
         return crate::is_row(line, lanes);
@@ -25,7 +25,7 @@ fn is_back_row(line: &[u8], lanes: usize) -> bool
 // Whether a text that goes on as `part` does begins with a row of `width` bytes, as `is_near_row` tells it, whose last cell is no byte 13.
 fn is_plain_row(part: &[u8], lanes: usize, width: usize) -> bool
     requires { (4 ≤ lanes) × (lanes ≤ 10) × LineWidth lanes width }
-    ensures { result ≡ plainRowBack lanes width part.now }
+    ensures { result ≡ plain_row_back lanes width part.now }
 {
     if part.len() < 12 {
         return false;
@@ -46,11 +46,11 @@ impl<'a> Model for BackRows<'a> {
     ghost use Rattle.std.specs.Prelude.{List, ◌≤◌};
     ghost use Rattle.definitions.specs.Lines.{Row};
     ghost use Rattle.reader.specs.Reading.{LineWidth};
-    ghost use Rattle.reader.specs.BackReading.{rowsBack};
+    ghost use Rattle.reader.specs.BackReading.{rows_back};
 
     ghost Value = { List Row };
 
-    ghost view = { λ it. rowsBack it.trim it.lanes it.rest.now };
+    ghost view = { λ it. rows_back it.trim it.lanes it.rest.now };
 
     ghost invariant = { λ it. (4 ≤ it.lanes) × (it.lanes ≤ 10) × LineWidth it.lanes it.width };
 }
@@ -64,7 +64,7 @@ struct RowAhead<'a> {
 
 // A line as it counts: with `trim` one byte 13 at its end does not, as in `parse_minimized_rows`.
 fn bare_line(line: &[u8], trim: bool) -> &[u8]
-    ensures { result.now ≡ trimmedBy trim line.now }
+    ensures { result.now ≡ trimmed_by trim line.now }
 {
     if trim { lines::trim_cr(line) } else { line }
 }
@@ -73,7 +73,7 @@ fn bare_line(line: &[u8], trim: bool) -> &[u8]
 #[inline(always)]
 fn look_ahead(text: &[u8], lanes: usize, trim: bool) -> RowAhead<'_>
     requires { 0 < lanes }
-    ensures { YieldsFirstRef (λ s. s) (rowsBack trim lanes text.now) result.row (rowsBack trim lanes result.rest.now) }
+    ensures { YieldsFirstRef (λ s. s) (rows_back trim lanes text.now) result.row (rows_back trim lanes result.rest.now) }
 {
     let mut rest = text;
     while !rest.is_empty() {
@@ -116,7 +116,7 @@ impl<'a> Iterator for BackRows<'a> {
 // The rows of minimised text.
 pub fn back_rows(text: &[u8], lanes: usize, trim: bool) -> BackRows<'_>
     requires { (4 ≤ lanes) × (lanes ≤ 10) }
-    ensures { result ≡ rowsBack trim lanes text.now }
+    ensures { result ≡ rows_back trim lanes text.now }
 {
     BackRows {
         rest: text,

@@ -7,15 +7,15 @@ pub mod charts;
 
 ghost use Rattle.std.specs.Prelude.{◌≡◌, ◌+◌, ◌-◌, ◌≤◌, length};
 ghost use Rattle.definitions.specs.Lanes.{lanes_of};
-ghost use Rattle.definitions.specs.Lines.{isRow, kind_of};
-ghost use Rattle.definitions.specs.Lists.{oneIf};
-ghost use Rattle.reader.specs.Reading.{LineWidth, justRow, nearRow};
+ghost use Rattle.definitions.specs.Lines.{is_row_line, kind_of};
+ghost use Rattle.definitions.specs.Lists.{number_of_bool};
+ghost use Rattle.reader.specs.Reading.{LineWidth, just_row, near_row};
 
 use definitions::LineKind;
 
 // 1 where the test holds, else 0.
 fn one_if(test: bool) -> usize
-    ensures { (result ≡ oneIf test) × (result ≤ 1) }
+    ensures { (result ≡ number_of_bool test) × (result ≤ 1) }
 {
     if test { 1 } else { 0 }
 }
@@ -36,7 +36,7 @@ pub fn lanes_of(lanes: usize) -> usize
 
 // Whether a line that is nothing else is a row.
 pub fn is_row(line: &[u8], lanes: usize) -> bool
-    ensures { result ≡ isRow lanes line.now }
+    ensures { result ≡ is_row_line lanes line.now }
 {
     lanes <= line.len()
 }
@@ -74,7 +74,7 @@ fn look_from(width: usize) -> usize
 // and before them are at most four bytes, none of which is one. The tests are joined without a branch.
 fn is_just_row(part: &[u8], width: usize) -> bool
     requires { (12 ≤ length part.now) × (4 ≤ width) × (width ≤ 11) }
-    ensures { result ≡ justRow width part.now }
+    ensures { result ≡ just_row width part.now }
 {
     let from = look_from(width);
     let first = part[0];
@@ -89,7 +89,7 @@ fn is_just_row(part: &[u8], width: usize) -> bool
 // The same, and no near the text's end.
 fn is_near_row(part: &[u8], width: usize) -> bool
     requires { (4 ≤ width) × (width ≤ 11) }
-    ensures { result ≡ nearRow width part.now }
+    ensures { result ≡ near_row width part.now }
 {
     if part.len() < 12 {
         return false;

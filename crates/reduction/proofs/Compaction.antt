@@ -12,7 +12,7 @@ use lib.ListN.{length, take, drop, length-drop}
 use lib.Seq.{paste, drop-drop}
 use Rattle.definitions.specs.Lists.{joined}
 use Rattle.definitions.specs.Lines.{Row}
-use Rattle.definitions.specs.Reduction.{atMultiples}
+use Rattle.definitions.specs.Reduction.{at_multiples}
 use Rattle.reduction.specs.Rows.{rows_at, placed, compacted}
 use Rattle.reduction.proofs.Powers.{row-end}
 use Rattle.reduction.proofs.Placed.{placed_same, placed-more, placed-length}
@@ -117,7 +117,7 @@ moved-end {text₀} {start} {rows} {step} {kept} {w} {text} {row} m h =
     m.contents
     ∙ ap (λ (k : ℕ). placed start (joined (rows_at (step * w) w k (drop start text₀))) text₀) all
     ∙ ap (λ (l : List Row). placed start (joined l) text₀) (sym (multiples-apart w w step kept (drop start text₀) m.unit))
-    ∙ ap (λ (n : ℕ). placed start (joined (atMultiples step 0 (rows_at w w n (drop start text₀)))) text₀) (sym m.count)
+    ∙ ap (λ (n : ℕ). placed start (joined (at_multiples step 0 (rows_at w w n (drop start text₀)))) text₀) (sym m.count)
   where
     all : row ≡ kept
     all = omega (arith, m.most)
@@ -130,9 +130,9 @@ one-stays w rows start text h =
     ∙ ap (λ (b : List ℕ). placed start b text) (sym (blocks-joined w rows (drop start text)))
     ∙ ap (λ (l : List Row). placed start (joined l) text) (sym every)
   where
-    every : atMultiples 1 0 (rows_at w w rows (drop start text)) ≡ rows_at w w rows (drop start text)
+    every : at_multiples 1 0 (rows_at w w rows (drop start text)) ≡ rows_at w w rows (drop start text)
     every =
-        ap (λ (n : ℕ). atMultiples 1 0 (rows_at w w n (drop start text))) (sym (mul-one rows))
+        ap (λ (n : ℕ). at_multiples 1 0 (rows_at w w n (drop start text))) (sym (mul-one rows))
         ∙ multiples-apart w w 1 rows (drop start text) (omega arith)
         ∙ ap (λ (d : ℕ). rows_at d w rows (drop start text)) (one-mul w)
 

@@ -8,8 +8,8 @@ use lib.ListN.{length, take, drop, length-append, take-append-drop}
 use lib.Seq.{take_all, take-take, take-add, take_at, drop_at}
 use Rattle.definitions.specs.Lists.{joined}
 use Rattle.definitions.specs.Lines.{Row}
-use Rattle.definitions.specs.Reduction.{atMultiples, stride, reduce}
-use Rattle.definitions.specs.Figures.{rowText}
+use Rattle.definitions.specs.Reduction.{at_multiples, stride, reduce}
+use Rattle.definitions.specs.Figures.{row_text}
 use Rattle.definitions.proofs.Lists.{All, none, one, all_map}
 use Rattle.reduction.specs.Rows.{rows_at, placed, compacted, RowsStand, Reduced}
 use Rattle.reduction.proofs.Powers.{power_pos}
@@ -36,7 +36,7 @@ unfolding reduce
 reduced-by w L n start e r text after s d q c = (
   q
       ∙ sym (multiples-length w L n (2 ^ e) (drop start text) (power_pos e) d)
-      ∙ ap (λ (m : ℕ). length (atMultiples m 0 (rows_at w L n (drop start text)))) s,
+      ∙ ap (λ (m : ℕ). length (at_multiples m 0 (rows_at w L n (drop start text)))) s,
   c ∙ ap (λ (m : ℕ). compacted w n m start text) s,
 )
 
@@ -63,7 +63,7 @@ abbrev line : Row → Row
 line r = r ++ (10 ∷ [])
 
 -- in the text each row has byte 10 after it
-unfoldable pub in-text : (L : ℕ) → Form rowText (L + 1) L
+unfoldable pub in-text : (L : ℕ) → Form row_text (L + 1) L
 in-text L =
     record {
       block = line;
@@ -73,7 +73,7 @@ in-text L =
       row = λ r h. take_at r (10 ∷ []) L h;
     }
   where
-    lines : (rs : List Row) → rowText rs ≡ joined (map line rs)
+    lines : (rs : List Row) → row_text rs ≡ joined (map line rs)
     lines [] = refl
     lines (r ∷ rs) = rw (append_assoc, lines rs)
 
@@ -137,8 +137,8 @@ module _ {form : List Row → List ℕ} {w L : ℕ} (fm : Form form w L) where
         count = c.0 ∙ ap (λ (l : List Row). length (reduce l)) (form-rows h);
         bytes =
             c.1
-            ∙ ap (λ (l : List Row). placed start (joined (atMultiples (stride l) 0 (rows_at w w n (drop start text)))) text) (form-rows h)
-            ∙ ap (λ (l : List Row). placed start (joined (atMultiples (stride rs) 0 l)) text) (form-blocks h)
+            ∙ ap (λ (l : List Row). placed start (joined (at_multiples (stride l) 0 (rows_at w w n (drop start text)))) text) (form-rows h)
+            ∙ ap (λ (l : List Row). placed start (joined (at_multiples (stride rs) 0 l)) text) (form-blocks h)
             ∙ ap (λ (l : List Row). placed start (joined l) text) (multiples-map fm.block (stride rs) 0 rs)
             ∙ ap (λ (b : List ℕ). placed start b text) (sym (fm.is (reduce rs)));
       }

@@ -27,49 +27,49 @@ use borrow.Author.Tests.{eqb-true, eqb-false, eq-eqb, leb-true, leb-false}
 use lib.Dec.{eqb, leb}
 use lib.ListN.{length, get_or}
 use Rattle.definitions.specs.Lines.{Row}
-use Rattle.definitions.specs.Reduction.{allZero, multiple, offZero, allows, stride}
+use Rattle.definitions.specs.Reduction.{all_zero, multiple, off_zero, allows, stride}
 use Rattle.definitions.proofs.Bools.{and_left, and_right}
 use Rattle.definitions.proofs.Reduction.{IsStride, stride-is}
 use Rattle.reduction.proofs.Powers.{odd-multiple, power_pos}
 
 -- every row off the multiples of s is all zero, row by row
 abbrev pub Off : ℕ → List Row → Type 0
-Off s rs = (k : ℕ) → k < length rs → multiple s k ≡ false → allZero (get_or rs k []) ≡ true
+Off s rs = (k : ℕ) → k < length rs → multiple s k ≡ false → all_zero (get_or rs k []) ≡ true
 
 -- the rows after the first, numbered from one more
 tail-places : (s i : ℕ) (r : Row) (rs : List Row)
-    → ((k : ℕ) → k < length (r ∷ rs) → multiple s (i + k) ≡ false → allZero (get_or (r ∷ rs) k []) ≡ true)
-    → (k : ℕ) → k < length rs → multiple s (suc i + k) ≡ false → allZero (get_or rs k []) ≡ true
+    → ((k : ℕ) → k < length (r ∷ rs) → multiple s (i + k) ≡ false → all_zero (get_or (r ∷ rs) k []) ≡ true)
+    → (k : ℕ) → k < length rs → multiple s (suc i + k) ≡ false → all_zero (get_or rs k []) ≡ true
 tail-places s i r rs h k l m = h (suc k) (omega arith) (ap (multiple s) place ∙ m)
   where
     place : i + suc k ≡ suc i + k
     place = omega arith
 
-off_at : (s i : ℕ) (rs : List Row) → offZero s i rs ≡ true
-    → (k : ℕ) → k < length rs → multiple s (i + k) ≡ false → allZero (get_or rs k []) ≡ true
+off_at : (s i : ℕ) (rs : List Row) → off_zero s i rs ≡ true
+    → (k : ℕ) → k < length rs → multiple s (i + k) ≡ false → all_zero (get_or rs k []) ≡ true
 off_at s i [] h k l m = absurd (omega arith)
-off_at s i (r ∷ rs) h zero l m = here (multiple s i) (ap (multiple s) place ∙ m) (and_left (multiple s i || allZero r) (offZero s (suc i) rs) h)
+off_at s i (r ∷ rs) h zero l m = here (multiple s i) (ap (multiple s) place ∙ m) (and_left (multiple s i || all_zero r) (off_zero s (suc i) rs) h)
   where
     place : i ≡ i + 0
     place = omega arith
 
-    here : (t : Bool) → t ≡ false → (t || allZero r) ≡ true → allZero r ≡ true
+    here : (t : Bool) → t ≡ false → (t || all_zero r) ≡ true → all_zero r ≡ true
     here true e z = absurd (true≢false e)
     here false e z = z
-off_at s i (r ∷ rs) h (suc k) l m = off_at s (suc i) rs (and_right (multiple s i || allZero r) _ h) k (omega arith) (ap (multiple s) place ∙ m)
+off_at s i (r ∷ rs) h (suc k) l m = off_at s (suc i) rs (and_right (multiple s i || all_zero r) _ h) k (omega arith) (ap (multiple s) place ∙ m)
   where
     place : suc i + k ≡ i + suc k
     place = omega arith
 
-off-from : (s i : ℕ) (rs : List Row) → ((k : ℕ) → k < length rs → multiple s (i + k) ≡ false → allZero (get_or rs k []) ≡ true)
-    → offZero s i rs ≡ true
+off-from : (s i : ℕ) (rs : List Row) → ((k : ℕ) → k < length rs → multiple s (i + k) ≡ false → all_zero (get_or rs k []) ≡ true)
+    → off_zero s i rs ≡ true
 off-from s i [] h = refl
 off-from s i (r ∷ rs) h = both (multiple s i) (λ m. h 0 (omega arith) (ap (multiple s) place ∙ m)) (off-from s (suc i) rs (tail-places s i r rs h))
   where
     place : i + 0 ≡ i
     place = omega arith
 
-    both : (t : Bool) → (t ≡ false → allZero r ≡ true) → offZero s (suc i) rs ≡ true → ((t || allZero r) && offZero s (suc i) rs) ≡ true
+    both : (t : Bool) → (t ≡ false → all_zero r ≡ true) → off_zero s (suc i) rs ≡ true → ((t || all_zero r) && off_zero s (suc i) rs) ≡ true
     both true z q = q
     both false z q = rw (z refl) q
 
@@ -103,7 +103,7 @@ pub record Found (rs : List Row) (n shift step left : ℕ) : Type 0 where
 pub record Looked (rs : List Row) (step row : ℕ) : Type 0 where
   pub turn : ℕ
   pub place : row ≡ step * (2 * turn + 1)
-  pub zeros : (j : ℕ) → j < turn → allZero (get_or rs (step * (2 * j + 1)) []) ≡ true
+  pub zeros : (j : ℕ) → j < turn → all_zero (get_or rs (step * (2 * j + 1)) []) ≡ true
 
 pub found-start : (rs : List Row) (n : ℕ) → length rs ≡ n → 0 < n → Found rs n 0 1 n
 found-start rs n e p =
@@ -118,7 +118,7 @@ found-start rs n e p =
 pub looked-start : (rs : List Row) (step : ℕ) → Looked rs step step
 looked-start rs step = record { turn = 0; place = sym (mul-one step); zeros = λ j l. absurd (omega arith) }
 
-pub looked-step : {rs : List Row} {step row : ℕ} → Looked rs step row → allZero (get_or rs row []) ≡ true → Looked rs step (row + 2 * step)
+pub looked-step : {rs : List Row} {step row : ℕ} → Looked rs step row → all_zero (get_or rs row []) ≡ true → Looked rs step (row + 2 * step)
 looked-step {rs} {step} {row} h z =
     record {
       turn = suc h.turn;
@@ -131,10 +131,10 @@ looked-step {rs} {step} {row} h z =
         let more : 2 * suc h.turn + 1 ≡ 2 * h.turn + 1 + 2 = omega arith in
         omega (arith, h.place, ap (λ (m : ℕ). step * m) more ∙ mul-add step (2 * h.turn + 1) 2)
 
-    go : (j : ℕ) (t : Bool) → leb h.turn j ≡ t → j < suc h.turn → allZero (get_or rs (step * (2 * j + 1)) []) ≡ true
+    go : (j : ℕ) (t : Bool) → leb h.turn j ≡ t → j < suc h.turn → all_zero (get_or rs (step * (2 * j + 1)) []) ≡ true
     go j true q l =
         let same : j ≡ h.turn = omega (arith, leb-true h.turn j q) in
-        ap (λ (m : ℕ). allZero (get_or rs (step * (2 * m + 1)) [])) same ∙ ap (λ (m : ℕ). allZero (get_or rs m [])) (sym h.place) ∙ z
+        ap (λ (m : ℕ). all_zero (get_or rs (step * (2 * m + 1)) [])) same ∙ ap (λ (m : ℕ). all_zero (get_or rs m [])) (sym h.place) ∙ z
     go j false q l = h.zeros j (leb-false h.turn j q)
 
 -- All odd multiples looked at: the next stride is found.
@@ -152,7 +152,7 @@ found-step {rs} {n} {shift} {step} {left} {row} f even h past =
     doubled : (a b : ℕ) → a ≡ 2 * b → step * a ≡ 2 * step * b
     doubled a b e = ap (λ (m : ℕ). step * m) e ∙ sym (mul_assoc step 2 b) ∙ ap (λ (m : ℕ). m * b) (mul_comm step 2)
 
-    by-half : (k q : ℕ) → k < length rs → multiple (2 * step) k ≡ false → k ≡ step * q → (t : Bool) → eqb (q % 2) 0 ≡ t → allZero (get_or rs k []) ≡ true
+    by-half : (k q : ℕ) → k < length rs → multiple (2 * step) k ≡ false → k ≡ step * q → (t : Bool) → eqb (q % 2) 0 ≡ t → all_zero (get_or rs k []) ≡ true
     by-half k q l m e true p =
         let two : q ≡ 2 * (q / 2) = omega (arith, eqb-true (q % 2) 0 p) in
         let place : k ≡ 2 * step * (q / 2) = e ∙ doubled q (q / 2) two in
@@ -161,9 +161,9 @@ found-step {rs} {n} {shift} {step} {left} {row} f even h past =
         let two : q ≡ 2 * (q / 2) + 1 = omega (arith, eqb-false (q % 2) 0 p) in
         let place : k ≡ step * (2 * (q / 2) + 1) = e ∙ ap (λ (m : ℕ). step * m) two in
         let before : step * (2 * (q / 2) + 1) < step * (2 * h.turn + 1) = omega (arith, f.size, h.place) in
-        ap (λ (m : ℕ). allZero (get_or rs m [])) place ∙ h.zeros (q / 2) (omega (arith, lt_of_mul-lt-mul_left step before))
+        ap (λ (m : ℕ). all_zero (get_or rs m [])) place ∙ h.zeros (q / 2) (omega (arith, lt_of_mul-lt-mul_left step before))
 
-    by-step : (k : ℕ) → k < length rs → multiple (2 * step) k ≡ false → (t : Bool) → multiple step k ≡ t → allZero (get_or rs k []) ≡ true
+    by-step : (k : ℕ) → k < length rs → multiple (2 * step) k ≡ false → (t : Bool) → multiple step k ≡ t → all_zero (get_or rs k []) ≡ true
     by-step k l m true p =
         by-half k (k / step) l m (sym (mul-div_cancel' step (dvd_of_mod-eq-zero step (eqb-true (k % step) 0 p)))) (eqb (k / step % 2) 0) refl
     by-step k l m false p = f.off k l p
@@ -176,7 +176,7 @@ allowed {rs} {n} {shift} {step} {left} f = rw (divides, off-from (2 ^ shift) 0 r
         eq-eqb (length rs % 2 ^ shift) 0
         (rw (f.size, f.count, f.power) (mod-eq-zero_of_dvd (2 ^ shift) (dvd-mul_right (2 ^ shift) left)))
 
-    places : (k : ℕ) → k < length rs → multiple (2 ^ shift) (0 + k) ≡ false → allZero (get_or rs k []) ≡ true
+    places : (k : ℕ) → k < length rs → multiple (2 ^ shift) (0 + k) ≡ false → all_zero (get_or rs k []) ≡ true
     places k l m = f.off k l (ap (λ (s : ℕ). multiple s k) f.power ∙ ap (multiple (2 ^ shift)) (sym (zero-add k)) ∙ m)
 
 -- An odd number of multiples: no greater power of two divides the row count.
@@ -195,7 +195,7 @@ found-odd {rs} {n} {shift} {step} {left} f odd = greatest-is rs shift (omega (ar
 
 -- A row that is not all zero among those looked at: no greater power of two has every row off its multiples all zero.
 pub found-stop : {rs : List Row} {n shift step left row : ℕ} → Found rs n shift step left → Looked rs step row → row < n
-    → allZero (get_or rs row []) ≡ false → 2 ^ shift ≡ stride rs
+    → all_zero (get_or rs row []) ≡ false → 2 ^ shift ≡ stride rs
 found-stop {rs} {n} {shift} {step} {left} {row} f h l z = greatest-is rs shift (omega (arith, f.size)) (allowed f) none
   where
     none : (e : ℕ) → allows rs (2 ^ (shift + suc e)) ≡ true → ⊥

@@ -6,7 +6,7 @@ use native.Mathlib.Omega.{arith}
 use borrow.Author.Tests.{eqb-true}
 use lib.ListN.{length}
 use Rattle.definitions.specs.Lines.{Row}
-use Rattle.definitions.specs.Reduction.{multiple, offZero, stride}
+use Rattle.definitions.specs.Reduction.{multiple, off_zero, stride}
 use Rattle.definitions.proofs.Bools.{and_left}
 use Rattle.definitions.proofs.Reduction.{stride-is}
 
@@ -14,7 +14,7 @@ pub stride-divides : (rs : List Row) → length rs % stride rs ≡ 0
 unfolding stride
 stride-divides [] = refl
 stride-divides (r ∷ rs) =
-    eqb-true (length (r ∷ rs) % stride (r ∷ rs)) 0 (and_left (multiple (stride (r ∷ rs)) (length (r ∷ rs))) (offZero (stride (r ∷ rs)) 0 (r ∷ rs)) (stride-is r rs).allowed)
+    eqb-true (length (r ∷ rs) % stride (r ∷ rs)) 0 (and_left (multiple (stride (r ∷ rs)) (length (r ∷ rs))) (off_zero (stride (r ∷ rs)) 0 (r ∷ rs)) (stride-is r rs).allowed)
 
 pub stride-small : (rs : List Row) → length rs < 2 → 2 ^ 0 ≡ stride rs
 unfolding stride

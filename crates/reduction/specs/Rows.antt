@@ -2,7 +2,7 @@
 use Rattle.std.specs.Prelude.{◌≡◌, List, [], ◌∷◌, ◌++◌, ℕ, zero, suc, ◌+◌, length, take, drop}
 use Rattle.definitions.specs.Lists.{joined}
 use Rattle.definitions.specs.Lines.{Row}
-use Rattle.definitions.specs.Reduction.{atMultiples, reduce}
+use Rattle.definitions.specs.Reduction.{at_multiples, reduce}
 use Rattle.definitions.proofs.Lists.{All}
 
 -- the first L bytes at each of n places, w bytes apart: with w = L + 1 the rows of a text, each with byte 10 after it, with w = L rows back
@@ -17,7 +17,7 @@ placed start bytes text = take start text ++ (bytes ++ drop (start + length byte
 
 -- of n blocks of w bytes from start on, those at the multiples of s moved together; what stands past them stays
 unfoldable pub compacted : ℕ → ℕ → ℕ → ℕ → List ℕ → List ℕ
-compacted w n s start text = placed start (joined (atMultiples s 0 (rows_at w w n (drop start text)))) text
+compacted w n s start text = placed start (joined (at_multiples s 0 (rows_at w w n (drop start text)))) text
 
 -- n rows of L bytes, written out by `form`, stand in the text from start on
 pub record RowsStand (form : List Row → List ℕ) (L n start : ℕ) (rs : List Row) (text : List ℕ) : Type 0 where

@@ -5,15 +5,15 @@ ghost use Rattle.std.specs.Prelude.{◌≡◌, List, ◌+◌, ◌*◌, ◌^◌, 
 ghost use Rattle.std.proofs.Math.Seq.{paste};
 ghost use Rattle.definitions.specs.Lines.{Row};
 ghost use Rattle.definitions.specs.Lists.{joined};
-ghost use Rattle.definitions.specs.Figures.{rowText};
-ghost use Rattle.definitions.specs.Reduction.{allZero, stride, reduce};
+ghost use Rattle.definitions.specs.Figures.{row_text};
+ghost use Rattle.definitions.specs.Reduction.{all_zero, stride, reduce};
 ghost use Rattle.reduction.specs.Rows.{rows_at, compacted, RowsStand, Reduced};
 
 use lines::words;
 
 // Whether every byte of a row is `0`, byte by byte.
 fn are_all_zero(row: &[u8]) -> bool
-    ensures { result ≡ allZero row.now }
+    ensures { result ≡ all_zero row.now }
 {
     let mut i = 0;
     while i < row.len() {
@@ -31,7 +31,7 @@ fn are_all_zero(row: &[u8]) -> bool
 // Whether every byte of a row is `0`: by one word where it has four or eight, and by its first four bytes, its last four and four between where
 // it has up to twelve.
 pub fn is_all_zero(row: &[u8]) -> bool
-    ensures { result ≡ allZero row.now }
+    ensures { result ≡ all_zero row.now }
 {
     if row.len() == 4 {
         return words::half_at(row, 0) == 0x3030_3030;
@@ -177,7 +177,7 @@ fn reduce_measure(text: &mut [u8], start: usize, rows: usize, width: usize, lane
 pub fn reduce_output_measure(text: &mut [u8], start: usize, rows: usize, lanes: usize) -> usize
     requires lanes_nonzero { (0 < lanes) × (lanes ≤ 10) }
     requires lanes_in_bounds { start + rows * (lanes + 1) ≤ length text.old }
-    ensures { (rs : List Row) → RowsStand rowText lanes rows start rs text.old → Reduced rowText start rs text.old result text.new }
+    ensures { (rs : List Row) → RowsStand row_text lanes rows start rs text.old → Reduced row_text start rs text.old result text.new }
 {
     reduce_measure(text, start, rows, lanes + 1, lanes)
 }

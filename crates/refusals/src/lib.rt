@@ -2,17 +2,17 @@
 #![tactic(auto)]
 
 ghost use Rattle.std.specs.Prelude.{◌≡◌, ◌+◌, ◌*◌, ◌/◌, ◌≤◌, OnOk};
-ghost use Rattle.definitions.specs.Sizes.{mostBytes};
-ghost use Rattle.definitions.specs.Lanes.{mostRows};
-ghost use Rattle.definitions.specs.Refusals.{longText, shortText, shortMeasures, shortBeats, shortWork, shortNotes};
+ghost use Rattle.definitions.specs.Sizes.{most_bytes};
+ghost use Rattle.definitions.specs.Lanes.{most_rows_in};
+ghost use Rattle.definitions.specs.Refusals.{long_text, short_text, short_measures, short_beats, short_work, short_notes};
 
 use definitions::Refusal;
 
 // The text is not too long.
-#[tactic(auto, unfolding(definitions::specs::Refusals::longText))]
+#[tactic(auto, unfolding(definitions::specs::Refusals::long_text))]
 pub fn text_fits(len: usize) -> Result<(), Refusal>
-    ensures value { result ≡ longText len }
-    ensures ok { OnOk result (len ≤ mostBytes) }
+    ensures value { result ≡ long_text len }
+    ensures ok { OnOk result (len ≤ most_bytes) }
 {
     if definitions::MOST_BYTES < len {
         return Err(Refusal::LongText);
@@ -21,10 +21,10 @@ pub fn text_fits(len: usize) -> Result<(), Refusal>
 }
 
 // The text slice has room for a text of that length.
-#[tactic(auto, unfolding(definitions::specs::Refusals::shortText))]
+#[tactic(auto, unfolding(definitions::specs::Refusals::short_text))]
 pub fn room_for_text(len: usize, room: usize) -> Result<(), Refusal>
-    requires { len ≤ mostBytes }
-    ensures value { result ≡ shortText len room }
+    requires { len ≤ most_bytes }
+    ensures value { result ≡ short_text len room }
     ensures ok { OnOk result (len + 1 ≤ room) }
 {
     if room < len + 1 {
@@ -34,10 +34,10 @@ pub fn room_for_text(len: usize, room: usize) -> Result<(), Refusal>
 }
 
 // The measure slice has room for the measures of such a text.
-#[tactic(auto, unfolding(definitions::specs::Refusals::shortMeasures))]
+#[tactic(auto, unfolding(definitions::specs::Refusals::short_measures))]
 pub fn room_for_measures(len: usize, room: usize) -> Result<(), Refusal>
-    requires { len ≤ mostBytes }
-    ensures value { result ≡ shortMeasures len room }
+    requires { len ≤ most_bytes }
+    ensures value { result ≡ short_measures len room }
     ensures ok { OnOk result ((len + 1) / 2 + 1 ≤ room) }
 {
     if room < (len + 1) / 2 + 1 {
@@ -47,21 +47,21 @@ pub fn room_for_measures(len: usize, room: usize) -> Result<(), Refusal>
 }
 
 // The most rows of such a text at so many lanes.
-#[tactic(auto, unfolding(definitions::specs::Lanes::mostRows))]
+#[tactic(auto, unfolding(definitions::specs::Lanes::most_rows_in))]
 pub fn most_rows(lanes: usize, len: usize) -> usize
-    requires { (lanes ≤ 10) × (len ≤ mostBytes) }
-    ensures value { result ≡ mostRows lanes len }
+    requires { (lanes ≤ 10) × (len ≤ most_bytes) }
+    ensures value { result ≡ most_rows_in lanes len }
     ensures few { result ≤ len + 1 }
 {
     (len + 1) / (lanes + 1)
 }
 
 // The beat slice has room for the beats of such a text's rows.
-#[tactic(auto, unfolding(definitions::specs::Refusals::shortBeats))]
+#[tactic(auto, unfolding(definitions::specs::Refusals::short_beats))]
 pub fn room_for_beats(lanes: usize, len: usize, room: usize) -> Result<(), Refusal>
-    requires { (lanes ≤ 10) × (len ≤ mostBytes) }
-    ensures value { result ≡ shortBeats lanes len room }
-    ensures ok { OnOk result (mostRows lanes len ≤ room) }
+    requires { (lanes ≤ 10) × (len ≤ most_bytes) }
+    ensures value { result ≡ short_beats lanes len room }
+    ensures ok { OnOk result (most_rows_in lanes len ≤ room) }
 {
     if room < most_rows(lanes, len) {
         return Err(Refusal::ShortBeats);
@@ -70,11 +70,11 @@ pub fn room_for_beats(lanes: usize, len: usize, room: usize) -> Result<(), Refus
 }
 
 // The work slice has room for its rows.
-#[tactic(auto, unfolding(definitions::specs::Refusals::shortWork))]
+#[tactic(auto, unfolding(definitions::specs::Refusals::short_work))]
 pub fn room_for_work(lanes: usize, len: usize, room: usize) -> Result<(), Refusal>
-    requires { (lanes ≤ 10) × (len ≤ mostBytes) }
-    ensures value { result ≡ shortWork lanes len room }
-    ensures ok { OnOk result (mostRows lanes len ≤ room) }
+    requires { (lanes ≤ 10) × (len ≤ most_bytes) }
+    ensures value { result ≡ short_work lanes len room }
+    ensures ok { OnOk result (most_rows_in lanes len ≤ room) }
 {
     if room < most_rows(lanes, len) {
         return Err(Refusal::ShortWork);
@@ -83,11 +83,11 @@ pub fn room_for_work(lanes: usize, len: usize, room: usize) -> Result<(), Refusa
 }
 
 // The note slice has room for a note in each cell of its rows.
-#[tactic(auto, unfolding(definitions::specs::Refusals::shortNotes))]
+#[tactic(auto, unfolding(definitions::specs::Refusals::short_notes))]
 pub fn room_for_notes(lanes: usize, len: usize, room: usize) -> Result<(), Refusal>
-    requires { (lanes ≤ 10) × (len ≤ mostBytes) }
-    ensures value { result ≡ shortNotes lanes len room }
-    ensures ok { OnOk result (10 * lanes * mostRows lanes len ≤ room) }
+    requires { (lanes ≤ 10) × (len ≤ most_bytes) }
+    ensures value { result ≡ short_notes lanes len room }
+    ensures ok { OnOk result (10 * lanes * most_rows_in lanes len ≤ room) }
 {
     if room < 10 * lanes * most_rows(lanes, len) {
         return Err(Refusal::ShortNotes);

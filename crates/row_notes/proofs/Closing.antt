@@ -10,8 +10,8 @@ use lib.Dec.{eqb}
 use lib.ListN.{length, get_or, set, length-append}
 use lib.Seq.{get_or-set_same, get_or-set_other}
 use Rattle.definitions.specs.Lists.{joined}
-use Rattle.row_notes.specs.Drafts.{State, plain, waiting, ended, Draft, settleState, settled, settle, noteBy, keep, kept}
-use Rattle.row_notes.specs.Writer.{noHead, dropped, draftBytes, blank, Stored, DraftsHeld, HeadThere, HoldEnded, invalidAfter, SomeDrafts, HeadsEnded}
+use Rattle.row_notes.specs.Drafts.{State, plain, waiting, ended, Draft, settle_state, settled, settle, note_by, keep, kept}
+use Rattle.row_notes.specs.Writer.{no_head, dropped, draft_bytes, blank, Stored, DraftsHeld, HeadThere, HoldEnded, invalid_after, SomeDrafts, HeadsEnded}
 use Rattle.row_notes.specs.declared.ChartNotesScratch.{ChartNotesScratch}
 use Rattle.row_notes.proofs.Model.{gather-map}
 use Rattle.definitions.proofs.Blocks.{blocks-length}
@@ -22,7 +22,7 @@ use Rattle.row_notes.proofs.Steps.{dropped-there}
 keep-settle : (c : ℕ) (d : Draft) → keep (settle c none d) ≡ keep d
 keep-settle c d = go (eqb d.column c)
   where
-    state : (s : State) → noteBy d.row d.column d.kind (settleState none s) none ≡ noteBy d.row d.column d.kind s none
+    state : (s : State) → note_by d.row d.column d.kind (settle_state none s) none ≡ note_by d.row d.column d.kind s none
     state plain = refl
     state waiting = refl
     state (ended o) = refl
@@ -38,8 +38,8 @@ kept-settle c ds = gather-map keep (settle c none) keep (keep-settle c) ds
 pub stored-length : {l hs : List ℕ} {n : ℕ} {invalid : Bool} {ds : List Draft} → Stored l hs n invalid ds → n * 10 ≤ length l
 stored-length {l} {n = n} {ds = ds} S =
     let m : n ≡ length ds = S.count in
-    let e : length l ≡ length (joined (map draftBytes ds)) + length S.rest = ap length S.bytes ∙ length-append (joined (map draftBytes ds)) S.rest in
-    let g : length (joined (map draftBytes ds)) ≡ length ds * 10 = blocks-length draftBytes ten-bytes ds in
+    let e : length l ≡ length (joined (map draft_bytes ds)) + length S.rest = ap length S.bytes ∙ length-append (joined (map draft_bytes ds)) S.rest in
+    let g : length (joined (map draft_bytes ds)) ≡ length ds * 10 = blocks-length draft_bytes ten-bytes ds in
     omega arith
 
 -- From the state s with the slice l: the columns below c have no open head any more.
@@ -47,7 +47,7 @@ pub record Closing (l : List ℕ) (s : ChartNotesScratch) (l' : List ℕ) (r : C
   pub inside : c ≤ 10
   pub same : length l' ≡ length l
   pub count : r.count ≡ s.count
-  pub free : (i : ℕ) → i < c → get_or r.hold_heads i 0 ≡ noHead
+  pub free : (i : ℕ) → i < c → get_or r.hold_heads i 0 ≡ no_head
   pub part : (ds : List Draft) → DraftsHeld l s ds → (es : List Draft) × DraftsHeld l' r es × (kept es ≡ kept ds)
 
 pub closing-start : (l : List ℕ) (s : ChartNotesScratch) → Closing l s l s 0
@@ -59,7 +59,7 @@ module _ (l : List ℕ) (s : ChartNotesScratch) (l' : List ℕ) (r : ChartNotesS
       let S : DraftsHeld l' r (K.part D.drafts D.stored).0 = (K.part D.drafts D.stored).1 in
       record { inside = h; head = λ ne. omega (arith, (S.heads c h ne).0, stored-length S) }
 
-  pub closing-step : (l'' : List ℕ) (t : ChartNotesScratch) → c < 10 → length l'' ≡ length l' → HoldEnded l' r c dropped (invalidAfter r c) l'' t
+  pub closing-step : (l'' : List ℕ) (t : ChartNotesScratch) → c < 10 → length l'' ≡ length l' → HoldEnded l' r c dropped (invalid_after r c) l'' t
       → Closing l s l'' t (c + 1)
   closing-step l'' t h e H = record {
     inside = omega arith;
@@ -71,9 +71,9 @@ module _ (l : List ℕ) (s : ChartNotesScratch) (l' : List ℕ) (r : ChartNotesS
         (map (settle c none) Q.0, rw (H.bytes, H.heads, H.count, H.invalid) (dropped-there l' r c h Q.0 Q.1), kept-settle c Q.0 ∙ Q.2);
   }
     where
-      at_i : (i : ℕ) → i < c + 1 → Dec (i ≡ c) → get_or (set r.hold_heads c noHead) i 0 ≡ noHead
-      at_i i g (yes q) = rw q (get_or-set_same r.hold_heads c noHead 0 (omega (arith, (K.part D.drafts D.stored).1.ten)))
-      at_i i g (no q) = get_or-set_other r.hold_heads c i noHead 0 q ∙ K.free i (omega arith)
+      at_i : (i : ℕ) → i < c + 1 → Dec (i ≡ c) → get_or (set r.hold_heads c no_head) i 0 ≡ no_head
+      at_i i g (yes q) = rw q (get_or-set_same r.hold_heads c no_head 0 (omega (arith, (K.part D.drafts D.stored).1.ten)))
+      at_i i g (no q) = get_or-set_other r.hold_heads c i no_head 0 q ∙ K.free i (omega arith)
 
   pub closing_end : 10 ≤ c → HeadsEnded l s l' r
   closing_end h = record {
@@ -81,7 +81,7 @@ module _ (l : List ℕ) (s : ChartNotesScratch) (l' : List ℕ) (r : ChartNotesS
     ended = λ ds S.
         let Q = K.part ds S in
         let T : DraftsHeld l' r Q.0 = Q.1 in
-        let f : r.count < noHead = T.few in (
+        let f : r.count < no_head = T.few in (
           Q.0,
           record {
             count = T.count;
@@ -90,7 +90,7 @@ module _ (l : List ℕ) (s : ChartNotesScratch) (l' : List ℕ) (r : ChartNotesS
             done = λ k g w.
                 let a : (get_or Q.0 k blank).column < 10 = (T.fine k g).column in
                 let x : get_or r.hold_heads (get_or Q.0 k blank).column 0 ≡ k = T.waits k g w in
-                let y : get_or r.hold_heads (get_or Q.0 k blank).column 0 ≡ noHead = K.free (get_or Q.0 k blank).column (omega arith) in
+                let y : get_or r.hold_heads (get_or Q.0 k blank).column 0 ≡ no_head = K.free (get_or Q.0 k blank).column (omega arith) in
                 omega arith;
             fine = T.fine;
             clean = T.clean;

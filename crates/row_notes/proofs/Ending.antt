@@ -5,7 +5,7 @@ use Prim.Native.Nat.{ℕ, ◌-◌, ◌*◌, ◌≤◌}
 use lib.ListN.{length, take, replicate}
 use lib.Seq.{take_at}
 use Rattle.definitions.specs.Lines.{Row}
-use Rattle.definitions.specs.Notes.{notesFrom}
+use Rattle.definitions.specs.Notes.{notes_from}
 use Rattle.definitions.specs.Records.{records}
 use Rattle.definitions.specs.declared.Note.{Note}
 use Rattle.slices.specs.Zeroed.{zeroed}
@@ -28,15 +28,15 @@ pub finished : (l : List ℕ) (s : ChartNotesScratch) (l₁ : List ℕ) (t : Cha
 finished l s l₁ t l₂ z r e₁ e₂ D C ez rows W =
     let P = D.ended (drafts rows) W.holds in
     let Q : (q : List ℕ) × (l₂ ≡ records (kept P.0) ++ q) = C.bytes P.0 P.1 in
-    let n : kept P.0 ≡ notesFrom 0 rows = P.2 ∙ model rows in
-    let m : r ≡ length (notesFrom 0 rows) = C.count P.0 P.1 ∙ ap length n in
-    let g : length (records (notesFrom 0 rows)) ≡ r * 10 = records-length (notesFrom 0 rows) ∙ ap (λ (k : ℕ). k * 10) (sym m) in
-    let b : l₂ ≡ records (notesFrom 0 rows) ++ Q.0 = Q.1 ∙ ap (λ (x : List Note). records x ++ Q.0) n in
+    let n : kept P.0 ≡ notes_from 0 rows = P.2 ∙ model rows in
+    let m : r ≡ length (notes_from 0 rows) = C.count P.0 P.1 ∙ ap length n in
+    let g : length (records (notes_from 0 rows)) ≡ r * 10 = records-length (notes_from 0 rows) ∙ ap (λ (k : ℕ). k * 10) (sym m) in
+    let b : l₂ ≡ records (notes_from 0 rows) ++ Q.0 = Q.1 ∙ ap (λ (x : List Note). records x ++ Q.0) n in
     record {
       count = m;
       bytes =
           ez
           ∙ ap₂ (λ (x : List ℕ) (k : ℕ). x ++ replicate k 0)
-          (ap (take (r * 10)) b ∙ take_at (records (notesFrom 0 rows)) Q.0 (r * 10) g)
+          (ap (take (r * 10)) b ∙ take_at (records (notes_from 0 rows)) Q.0 (r * 10) g)
           (ap₂ (λ (a k : ℕ). a - k) (e₂ ∙ e₁) (sym g));
     }

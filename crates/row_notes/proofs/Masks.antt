@@ -12,20 +12,20 @@ use lib.Count.{count_trailing_zeros}
 use lib.Dec.{eqb, ltb, leb}
 use lib.ListN.{length, get_or, get_or-eq_default}
 use lib.Seq.{sets, length-sets}
-use Rattle.definitions.specs.Lists.{oneIf}
+use Rattle.definitions.specs.Lists.{number_of_bool}
 use Rattle.definitions.specs.Lines.{Row}
 use Rattle.definitions.specs.Cells.{byte_at}
-use Rattle.definitions.specs.Notes.{effectAt}
+use Rattle.definitions.specs.Notes.{effect_at}
 use Rattle.definitions.specs.Records.{fields}
 use Rattle.definitions.proofs.Lists.{any-default}
-use Rattle.taps.specs.Taps.{bit, tapLineMask}
+use Rattle.taps.specs.Taps.{bit, mask_of_line}
 use Rattle.taps.specs.declared.Taps.TheVariants.{Mask}
 use Rattle.taps.proofs.Masks.{line-taps, line-width, line-fits}
 use Rattle.taps.proofs.Free.{tap-cell, free-byte}
 use Rattle.taps.proofs.Tables.{up_from, same_at}
 use Rattle.row_notes.specs.Masks.{LowOf}
-use Rattle.row_notes.specs.Writer.{noTail, FreeHeads}
-use Rattle.row_notes.specs.Written.{RecordRoom, Written, MaskFits, afterTaps}
+use Rattle.row_notes.specs.Writer.{no_tail, FreeHeads}
+use Rattle.row_notes.specs.Written.{RecordRoom, Written, MaskFits, after_taps}
 use Rattle.row_notes.specs.declared.ChartNotesScratch.{ChartNotesScratch}
 use Rattle.row_notes.proofs.Steps.{zero-nothing, step-nothing}
 use Rattle.row_notes.proofs.Rows.{Midrow, mid_start, mid-ready, mid_step, row_written}
@@ -44,9 +44,9 @@ column-inside m h = same_at (λ m. ltb (column m) 10) (λ m. true) 1024 refl m h
 rest-less : (m : ℕ) → m < 1024 → ltb (rest m) m ≡ not (eqb m 0)
 rest-less m h = same_at (λ m. ltb (rest m) m) (λ m. not (eqb m 0)) 1024 refl m h
 
-column-here : (m : ℕ) → m < 1024 → bit (column m) m ≡ oneIf (not (eqb m 0))
+column-here : (m : ℕ) → m < 1024 → bit (column m) m ≡ number_of_bool (not (eqb m 0))
 unfolding count_trailing_zeros
-column-here m h = same_at (λ m. bit (column m) m) (λ m. oneIf (not (eqb m 0))) 1024 refl m h
+column-here m h = same_at (λ m. bit (column m) m) (λ m. number_of_bool (not (eqb m 0))) 1024 refl m h
 
 column-below : (m c : ℕ) → m < 1024 → c < 10 → cond (ltb c (column m)) (bit c m) 0 ≡ 0
 unfolding count_trailing_zeros
@@ -124,7 +124,7 @@ pub record Taken (l : List ℕ) (s : ChartNotesScratch) (row : Row) (mask : ℕ)
   pub low : (c : ℕ) → c < at → c < 10 → bit c m ≡ 0
   pub high : (c : ℕ) → at ≤ c → c < 10 → bit c m ≡ bit c mask
 
-module _ (l : List ℕ) (s : ChartNotesScratch) (row : Row) (mask : ℕ) (R : RecordRoom s row l) (heads : FreeHeads s.hold_heads row) (e : tapLineMask row ≡ Mask mask) where
+module _ (l : List ℕ) (s : ChartNotesScratch) (row : Row) (mask : ℕ) (R : RecordRoom s row l) (heads : FreeHeads s.hold_heads row) (e : mask_of_line row ≡ Mask mask) where
   cell : (c : ℕ) → c < length row → get_or row c 0 ≡ 48 + bit c mask
   cell c h = any-default row c 0 48 h ∙ tap-cell row mask c (line-taps row mask e)
 
@@ -170,30 +170,30 @@ module _ (l : List ℕ) (s : ChartNotesScratch) (row : Row) (mask : ℕ) (R : Re
             let inside : c < 10 = omega (arith, L.inside) in
             cell c (omega (arith, within t own)) ∙ ap (λ n. 48 + n) (sym (T.high c x inside) ∙ L.below c here)))
 
-        taken-some : (l'' : List ℕ) (k' : ℕ) → l'' ≡ sets l' (k * 10) (fields s.row_index noTail t 0) → k' ≡ k + oneIf b → length l'' ≡ length l' → Taken l s row mask l'' k' r
+        taken-some : (l'' : List ℕ) (k' : ℕ) → l'' ≡ sets l' (k * 10) (fields s.row_index no_tail t 0) → k' ≡ k + number_of_bool b → length l'' ≡ length l' → Taken l s row mask l'' k' r
         taken-some l'' k' el ek es =
             let h : t < length row = within t own in
             let tap : get_or row t 0 ≡ 49 = cell t h ∙ ap (λ n. 48 + n) own in
             let one : b ≡ true = L.tells ∙ rw (ne_eqb m 0 ne) in
-            let counted : k' ≡ k + oneIf (eqb (get_or row t 0) 49) = ek ∙ ap (λ x. k + oneIf x) (one ∙ sym (eq-eqb (get_or row t 0) 49 tap)) in
+            let counted : k' ≡ k + number_of_bool (eqb (get_or row t 0) 49) = ek ∙ ap (λ x. k + number_of_bool x) (one ∙ sym (eq-eqb (get_or row t 0) 49 tap)) in
             record {
               at = t + 1;
-              mid = mid_step l s l' (counting s k) t row there l'' (counting s k') (effectAt (get_or row t 0)) refl h es
+              mid = mid_step l s l' (counting s k) t row there l'' (counting s k') (effect_at (get_or row t 0)) refl h es
                   (tap-step l' (counting s k) t (get_or row t 0) (mid-ready l s l' (counting s k) t row there R h) l'' k' el counted heads.busy heads.free (free-byte _ _ _ heads.taps t h));
               small = L.small;
               low = λ c x y. L.low c (omega arith);
               high = λ c x y. L.high c y (omega arith) ∙ T.high c (omega (arith, later)) y;
             }
 
-      taken_none : m ≡ 0 → (l'' : List ℕ) (k' : ℕ) → l'' ≡ sets l' (k * 10) (fields s.row_index noTail t 0) → k' ≡ k + oneIf b → Taken l s row mask l'' k' r
+      taken_none : m ≡ 0 → (l'' : List ℕ) (k' : ℕ) → l'' ≡ sets l' (k * 10) (fields s.row_index no_tail t 0) → k' ≡ k + number_of_bool b → Taken l s row mask l'' k' r
       taken_none z l'' k' el ek =
           let none : b ≡ false = L.tells ∙ rw (eq-eqb m 0 z) in
           let same : k' ≡ k = ek ∙ rw (none, add-zero) in
           let left : r ≡ m = L.none z ∙ sym z in
-          rw (same, left, el) (record { at = T.at; mid = mid-past l s l' (counting s k) row T.at (fields s.row_index noTail t 0) T.mid; small = T.small; low = T.low; high = T.high })
+          rw (same, left, el) (record { at = T.at; mid = mid-past l s l' (counting s k) row T.at (fields s.row_index no_tail t 0) T.mid; small = T.small; low = T.low; high = T.high })
 
       -- one record more
-      taken_next : (l'' : List ℕ) (k' : ℕ) → l'' ≡ sets l' (k * 10) (fields s.row_index noTail t 0) → k' ≡ k + oneIf b → length l'' ≡ length l' → Taken l s row mask l'' k' r
+      taken_next : (l'' : List ℕ) (k' : ℕ) → l'' ≡ sets l' (k * 10) (fields s.row_index no_tail t 0) → k' ≡ k + number_of_bool b → length l'' ≡ length l' → Taken l s row mask l'' k' r
       taken_next l'' k' el ek es =
           elim (ℕ_discrete m 0) [ yes z ↦ taken_none z l'' k' el ek | no ne ↦ taken-some ne l'' k' el ek es ]
 
@@ -226,12 +226,12 @@ module _ (i n mask : ℕ) (l : List ℕ) (s : ChartNotesScratch) (row : Row) (F 
     pub mask-late : (t : ℕ) (b : Bool) (r : ℕ) → LowOf m t b r → (m ≡ 0 → ⊥) → k * 10 + 10 ≤ length l'
     mask-late t b r L ne = room-late l s row mask F.room F.heads F.mask l' k m T t b r L ne
 
-    pub mask_next : (t : ℕ) (b : Bool) (r : ℕ) → LowOf m t b r → (l'' : List ℕ) (k' : ℕ) → l'' ≡ sets l' (k * 10) (fields i noTail t 0) → k' ≡ k + oneIf b
+    pub mask_next : (t : ℕ) (b : Bool) (r : ℕ) → LowOf m t b r → (l'' : List ℕ) (k' : ℕ) → l'' ≡ sets l' (k * 10) (fields i no_tail t 0) → k' ≡ k + number_of_bool b
         → length l'' ≡ length l' → Taken l s row mask l'' k' r
     mask_next t b r L l'' k' el =
-        taken_next l s row mask F.room F.heads F.mask l' k m T t b r L l'' k' (el ∙ ap (λ j. sets l' (k * 10) (fields j noTail t 0)) (sym F.row))
+        taken_next l s row mask F.room F.heads F.mask l' k m T t b r L l'' k' (el ∙ ap (λ j. sets l' (k * 10) (fields j no_tail t 0)) (sym F.row))
 
     -- no tap is left
-    pub mask_end : m ≡ 0 → (rows : List Row) → Written rows s l → Written (rows ++ (row ∷ [])) (afterTaps s k) l'
+    pub mask_end : m ≡ 0 → (rows : List Row) → Written rows s l → Written (rows ++ (row ∷ [])) (after_taps s k) l'
     mask_end z =
-        row_written l s row F.room l' (afterTaps s k) _ (length row) (taken-end l s row mask F.room F.heads F.mask l' k m T z) (omega arith) refl refl refl refl
+        row_written l s row F.room l' (after_taps s k) _ (length row) (taken-end l s row mask F.room F.heads F.mask l' k m T z) (omega arith) refl refl refl refl

@@ -10,12 +10,12 @@ use lib.Dec.{eqb}
 use borrow.Author.Tests.{eqb-true, eq-eqb, ne_eqb}
 use Rattle.definitions.specs.Lines.{Row}
 use Rattle.definitions.specs.Cells.{cell_of, byte_at}
-use Rattle.definitions.specs.Notes.{effectAt, meets, tailOf, heldNote, cellNotes, rowNotes, notesFrom}
+use Rattle.definitions.specs.Notes.{effect_at, meets, tail_row_of, held_note, cell_notes, row_notes, notes_from}
 use Rattle.definitions.specs.declared.Kind.{Kind}
 use Rattle.definitions.specs.declared.Note.{Note}
 use Rattle.definitions.specs.declared.NoteEffect.{NoteEffect}
 use Rattle.definitions.specs.declared.NoteEffect.TheVariants.{Nothing, Closes, Single, Head}
-use Rattle.row_notes.specs.Drafts.{State, plain, waiting, ended, Draft, settleState, settled, settle, stepCell, stepRow, stepRows, drafts, gather, noteBy, kept}
+use Rattle.row_notes.specs.Drafts.{State, plain, waiting, ended, Draft, settle_state, settled, settle, step_cell, step_row, step_rows, drafts, gather, note_by, kept}
 
 -- ---- gather
 
@@ -34,78 +34,78 @@ gather-same f h e (x ∷ xs) = ap₂ (λ (a b : List _). a ++ b) (e x) (gather-s
 
 -- the notes of a draft, with these rows from row j on still to come
 ahead : ℕ → List Row → Draft → List Note
-ahead j ts d = noteBy d.row d.column d.kind d.state (tailOf d.column j ts)
+ahead j ts d = note_by d.row d.column d.kind d.state (tail_row_of d.column j ts)
 
 module _ (i : ℕ) (rs : List Row) where
   -- the tail of a head in column k that waits while row i is read, with the cells bs from column c on still to come
-  midTail : ℕ → ℕ → Row → Option ℕ
-  midTail k c [] = tailOf k (suc i) rs
-  midTail k c (b ∷ bs) = cond (eqb k c) (meets (effectAt b) i (tailOf k (suc i) rs)) (midTail k (suc c) bs)
+  mid_tail : ℕ → ℕ → Row → Option ℕ
+  mid_tail k c [] = tail_row_of k (suc i) rs
+  mid_tail k c (b ∷ bs) = cond (eqb k c) (meets (effect_at b) i (tail_row_of k (suc i) rs)) (mid_tail k (suc c) bs)
 
   -- a column that has been passed
-  mid-past : (k c : ℕ) (bs : Row) → k < c → midTail k c bs ≡ tailOf k (suc i) rs
-  unfolding midTail
+  mid-past : (k c : ℕ) (bs : Row) → k < c → mid_tail k c bs ≡ tail_row_of k (suc i) rs
+  unfolding mid_tail
   mid-past k c [] h = refl
   mid-past k c (b ∷ bs) h = rw (ne_eqb k c (λ e. omega arith)) (mid-past k (suc c) bs (omega arith))
 
   -- the whole row still to come
-  mid-all : (j c : ℕ) (bs : Row) → midTail (c + j) c bs ≡ meets (effectAt (byte_at j bs)) i (tailOf (c + j) (suc i) rs)
-  unfolding midTail effectAt cell_of
+  mid-all : (j c : ℕ) (bs : Row) → mid_tail (c + j) c bs ≡ meets (effect_at (byte_at j bs)) i (tail_row_of (c + j) (suc i) rs)
+  unfolding mid_tail effect_at cell_of
   mid-all j c [] = refl
   mid-all zero c (b ∷ bs) = rw (eq-eqb (c + zero) c (add-zero c))
   mid-all (suc j) c (b ∷ bs) =
       let e : suc c + j ≡ c + suc j = omega arith in
       rw (ne_eqb (c + suc j) c (λ e. omega arith))
-      (subst (λ k. midTail k (suc c) bs ≡ meets (effectAt (byte_at j bs)) i (tailOf k (suc i) rs)) e (mid-all j (suc c) bs))
+      (subst (λ k. mid_tail k (suc c) bs ≡ meets (effect_at (byte_at j bs)) i (tail_row_of k (suc i) rs)) e (mid-all j (suc c) bs))
 
   mid : ℕ → Row → Draft → List Note
-  mid c bs d = noteBy d.row d.column d.kind d.state (midTail d.column c bs)
+  mid c bs d = note_by d.row d.column d.kind d.state (mid_tail d.column c bs)
 
   -- a head that waits ends with o
-  settle-note : (r c : ℕ) (k : Kind) (s : State) (o t : Option ℕ) → noteBy r c k (settleState o s) t ≡ noteBy r c k s o
+  settle-note : (r c : ℕ) (k : Kind) (s : State) (o t : Option ℕ) → note_by r c k (settle_state o s) t ≡ note_by r c k s o
   settle-note r c k plain o t = refl
   settle-note r c k waiting o t = refl
   settle-note r c k (ended x) o t = refl
 
   -- a cell that ends the heads of its column with o
-  settle-mid : (c b : ℕ) (bs : Row) (o : Option ℕ) → ((t : Option ℕ) → meets (effectAt b) i t ≡ o) → (d : Draft)
+  settle-mid : (c b : ℕ) (bs : Row) (o : Option ℕ) → ((t : Option ℕ) → meets (effect_at b) i t ≡ o) → (d : Draft)
       → mid (suc c) bs (settle c o d) ≡ mid c (b ∷ bs) d
-  unfolding mid midTail
+  unfolding mid mid_tail
   settle-mid c b bs o e d = go (eqb d.column c)
     where
       go : (t : Bool) → mid (suc c) bs (cond t (settled o d) d)
-          ≡ noteBy d.row d.column d.kind d.state (cond t (meets (effectAt b) i (tailOf d.column (suc i) rs)) (midTail d.column (suc c) bs))
+          ≡ note_by d.row d.column d.kind d.state (cond t (meets (effect_at b) i (tail_row_of d.column (suc i) rs)) (mid_tail d.column (suc c) bs))
       go true =
-          settle-note d.row d.column d.kind d.state o (midTail d.column (suc c) bs)
-          ∙ ap (noteBy d.row d.column d.kind d.state) (sym (e (tailOf d.column (suc i) rs)))
+          settle-note d.row d.column d.kind d.state o (mid_tail d.column (suc c) bs)
+          ∙ ap (note_by d.row d.column d.kind d.state) (sym (e (tail_row_of d.column (suc i) rs)))
       go false = refl
 
   -- a cell that says nothing of a head
-  pass-mid : (c b : ℕ) (bs : Row) → ((t : Option ℕ) → meets (effectAt b) i t ≡ t) → (d : Draft) → mid (suc c) bs d ≡ mid c (b ∷ bs) d
-  unfolding mid midTail
-  pass-mid c b bs e d = ap (noteBy d.row d.column d.kind d.state) (go (eqb d.column c) refl)
+  pass-mid : (c b : ℕ) (bs : Row) → ((t : Option ℕ) → meets (effect_at b) i t ≡ t) → (d : Draft) → mid (suc c) bs d ≡ mid c (b ∷ bs) d
+  unfolding mid mid_tail
+  pass-mid c b bs e d = ap (note_by d.row d.column d.kind d.state) (go (eqb d.column c) refl)
     where
       go : (t : Bool) → eqb d.column c ≡ t
-          → midTail d.column (suc c) bs ≡ cond t (meets (effectAt b) i (tailOf d.column (suc i) rs)) (midTail d.column (suc c) bs)
-      go true q = let h : d.column ≡ c = eqb-true _ _ q in mid-past d.column (suc c) bs (omega arith) ∙ sym (e (tailOf d.column (suc i) rs))
+          → mid_tail d.column (suc c) bs ≡ cond t (meets (effect_at b) i (tail_row_of d.column (suc i) rs)) (mid_tail d.column (suc c) bs)
+      go true q = let h : d.column ≡ c = eqb-true _ _ q in mid-past d.column (suc c) bs (omega arith) ∙ sym (e (tail_row_of d.column (suc i) rs))
       go false q = refl
 
-  step-settle : (c b : ℕ) (bs : Row) (o : Option ℕ) → ((t : Option ℕ) → meets (effectAt b) i t ≡ o) → (ds n : List Draft) (m : List Note)
+  step-settle : (c b : ℕ) (bs : Row) (o : Option ℕ) → ((t : Option ℕ) → meets (effect_at b) i t ≡ o) → (ds n : List Draft) (m : List Note)
       → gather (mid (suc c) bs) n ≡ m → gather (mid (suc c) bs) (map (settle c o) ds ++ n) ≡ gather (mid c (b ∷ bs)) ds ++ m
   step-settle c b bs o e ds n m q =
       gather_append (mid (suc c) bs) (map (settle c o) ds) n
       ∙ ap₂ (λ (x y : List Note). x ++ y) (gather-map (mid (suc c) bs) (settle c o) (mid c (b ∷ bs)) (settle-mid c b bs o e) ds) q
 
-  step-pass : (c b : ℕ) (bs : Row) → ((t : Option ℕ) → meets (effectAt b) i t ≡ t) → (ds : List Draft)
+  step-pass : (c b : ℕ) (bs : Row) → ((t : Option ℕ) → meets (effect_at b) i t ≡ t) → (ds : List Draft)
       → gather (mid (suc c) bs) (ds ++ []) ≡ gather (mid c (b ∷ bs)) ds ++ []
   step-pass c b bs e ds = simp append-nil (gather-same (mid (suc c) bs) (mid c (b ∷ bs)) (pass-mid c b bs e) ds)
 
   -- a head that a cell makes
-  head-mid : (c : ℕ) (bs : Row) (k : Kind) → heldNote i c k (midTail c (suc c) bs) ++ [] ≡ heldNote i c k (tailOf c (suc i) rs)
-  head-mid c bs k = append-nil _ ∙ ap (heldNote i c k) (mid-past c (suc c) bs (omega arith))
+  head-mid : (c : ℕ) (bs : Row) (k : Kind) → held_note i c k (mid_tail c (suc c) bs) ++ [] ≡ held_note i c k (tail_row_of c (suc i) rs)
+  head-mid c bs k = append-nil _ ∙ ap (held_note i c k) (mid-past c (suc c) bs (omega arith))
 
-  cell-step : (c b : ℕ) (bs : Row) (x : NoteEffect) → effectAt b ≡ x → (ds : List Draft)
-      → gather (mid (suc c) bs) (stepCell i c x ds) ≡ gather (mid c (b ∷ bs)) ds ++ cellNotes x i c (tailOf c (suc i) rs)
+  cell-step : (c b : ℕ) (bs : Row) (x : NoteEffect) → effect_at b ≡ x → (ds : List Draft)
+      → gather (mid (suc c) bs) (step_cell i c x ds) ≡ gather (mid c (b ∷ bs)) ds ++ cell_notes x i c (tail_row_of c (suc i) rs)
   unfolding mid
   cell-step c b bs Nothing q ds = step-pass c b bs (λ t. ap (λ (y : NoteEffect). meets y i t) q) ds
   cell-step c b bs Closes q ds = step-settle c b bs (some i) (λ t. ap (λ (y : NoteEffect). meets y i t) q) ds _ _ refl
@@ -113,31 +113,31 @@ module _ (i : ℕ) (rs : List Row) where
   cell-step c b bs (Head k) q ds = step-settle c b bs none (λ t. ap (λ (y : NoteEffect). meets y i t) q) ds _ _ (head-mid c bs k)
 
   cells-step : (c : ℕ) (bs : Row) (ds : List Draft)
-      → gather (ahead (suc i) rs) (stepRow i c bs ds) ≡ gather (mid c bs) ds ++ rowNotes i c bs rs
-  unfolding mid midTail ahead stepRow
+      → gather (ahead (suc i) rs) (step_row i c bs ds) ≡ gather (mid c bs) ds ++ row_notes i c bs rs
+  unfolding mid mid_tail ahead step_row
   cells-step c [] ds = sym (append-nil _)
   cells-step c (b ∷ bs) ds =
-      cells-step (suc c) bs (stepCell i c (effectAt b) ds)
-      ∙ ap (λ (l : List Note). l ++ rowNotes i (suc c) bs rs) (cell-step c b bs (effectAt b) refl ds)
-      ∙ append_assoc (gather (mid c (b ∷ bs)) ds) (cellNotes (effectAt b) i c (tailOf c (suc i) rs)) (rowNotes i (suc c) bs rs)
+      cells-step (suc c) bs (step_cell i c (effect_at b) ds)
+      ∙ ap (λ (l : List Note). l ++ row_notes i (suc c) bs rs) (cell-step c b bs (effect_at b) refl ds)
+      ∙ append_assoc (gather (mid c (b ∷ bs)) ds) (cell_notes (effect_at b) i c (tail_row_of c (suc i) rs)) (row_notes i (suc c) bs rs)
 
   row_step : (r : Row) (ds : List Draft)
-      → gather (ahead (suc i) rs) (stepRow i zero r ds) ≡ gather (ahead i (r ∷ rs)) ds ++ rowNotes i zero r rs
+      → gather (ahead (suc i) rs) (step_row i zero r ds) ≡ gather (ahead i (r ∷ rs)) ds ++ row_notes i zero r rs
   unfolding mid ahead
   row_step r ds =
       cells-step zero r ds
-      ∙ ap (λ (l : List Note). l ++ rowNotes i zero r rs)
+      ∙ ap (λ (l : List Note). l ++ row_notes i zero r rs)
       (gather-same (mid zero r) (ahead i (r ∷ rs))
-      (λ d. ap (noteBy d.row d.column d.kind d.state) (rw zero-add at (mid-all d.column zero r))) ds)
+      (λ d. ap (note_by d.row d.column d.kind d.state) (rw zero-add at (mid-all d.column zero r))) ds)
 
-rows_step : (i : ℕ) (rs : List Row) (ds : List Draft) → kept (stepRows i rs ds) ≡ gather (ahead i rs) ds ++ notesFrom i rs
-unfolding ahead stepRows
+rows_step : (i : ℕ) (rs : List Row) (ds : List Draft) → kept (step_rows i rs ds) ≡ gather (ahead i rs) ds ++ notes_from i rs
+unfolding ahead step_rows
 rows_step i [] ds = sym (append-nil (gather (ahead i []) ds))
 rows_step i (r ∷ rs) ds =
-    rows_step (suc i) rs (stepRow i zero r ds)
-    ∙ ap (λ (l : List Note). l ++ notesFrom (suc i) rs) (row_step i rs r ds)
-    ∙ append_assoc (gather (ahead i (r ∷ rs)) ds) (rowNotes i zero r rs) (notesFrom (suc i) rs)
+    rows_step (suc i) rs (step_row i zero r ds)
+    ∙ ap (λ (l : List Note). l ++ notes_from (suc i) rs) (row_step i rs r ds)
+    ∙ append_assoc (gather (ahead i (r ∷ rs)) ds) (row_notes i zero r rs) (notes_from (suc i) rs)
 
 -- the rows' drafts, at the end, are the notes of the definition
-pub model : (rs : List Row) → kept (drafts rs) ≡ notesFrom 0 rs
+pub model : (rs : List Row) → kept (drafts rs) ≡ notes_from 0 rs
 model rs = rows_step zero rs []

@@ -9,15 +9,15 @@ use native.Mathlib.Numerals.{add-one}
 use native.Mathlib.Omega.{arith}
 use lib.ListN.{length, get_or, set, take, drop, length-append, length-take, take-append-drop}
 use lib.Seq.{sets, length-sets, take-suc, take_all, drop-drop, drop-set-lt, get_or-drop}
-use Rattle.definitions.specs.Sizes.{rowNumbersBound}
+use Rattle.definitions.specs.Sizes.{row_numbers_bound}
 use Rattle.definitions.specs.Lists.{joined}
-use Rattle.definitions.specs.Records.{fields, kindNumber, encode, records, word}
+use Rattle.definitions.specs.Records.{fields, number_of_kind, encode, records, word}
 use Rattle.definitions.specs.declared.Kind.{Kind}
 use Rattle.definitions.specs.declared.Tail.TheVariants.{Without, Row}
 use Rattle.definitions.specs.declared.Note.{Note}
 use Rattle.note_records.specs.Fields.{fields_at}
-use Rattle.row_notes.specs.Drafts.{State, plain, waiting, ended, Draft, noteBy, keep, kept}
-use Rattle.row_notes.specs.Writer.{dropped, stateNumber, draftBytes, FineState, Fine, blank, DraftsEnded, Compacted}
+use Rattle.row_notes.specs.Drafts.{State, plain, waiting, ended, Draft, note_by, keep, kept}
+use Rattle.row_notes.specs.Writer.{dropped, state_number, draft_bytes, FineState, Fine, blank, DraftsEnded, Compacted}
 use Rattle.row_notes.proofs.Model.{gather_append}
 use Rattle.definitions.proofs.Blocks.{blocks-get, blocks-length}
 use Rattle.definitions.proofs.ReadBack.{blocks-word, word_row, word-tail, ten}
@@ -27,21 +27,21 @@ use Rattle.row_notes.proofs.Stored.{ten-bytes}
 -- ---- what is left of one draft
 
 module _ (r c : ℕ) (k : Kind) where
-  gone : (s : State) → FineState s → (s ≡ waiting → ⊥) → stateNumber s ≡ dropped → noteBy r c k s none ≡ []
+  gone : (s : State) → FineState s → (s ≡ waiting → ⊥) → state_number s ≡ dropped → note_by r c k s none ≡ []
   gone plain f w e = absurd (omega arith)
   gone waiting f w e = absurd (w refl)
   gone (ended none) f w e = refl
   gone (ended (some j)) f w e = absurd (omega arith)
 
-  stays : (s : State) → (s ≡ waiting → ⊥) → (stateNumber s ≡ dropped → ⊥)
-      → (x : Note) × (noteBy r c k s none ≡ x ∷ []) × (encode x ≡ fields r (stateNumber s) c (kindNumber k))
+  stays : (s : State) → (s ≡ waiting → ⊥) → (state_number s ≡ dropped → ⊥)
+      → (x : Note) × (note_by r c k s none ≡ x ∷ []) × (encode x ≡ fields r (state_number s) c (number_of_kind k))
   unfolding encode
   stays plain w e = (record { row = r; tail = Without; column = c; kind = k }, refl, refl)
   stays waiting w e = absurd (w refl)
   stays (ended none) w e = absurd (e refl)
   stays (ended (some j)) w e = (record { row = r; tail = Row j; column = c; kind = k }, refl, refl)
 
-state-small : (s : State) → FineState s → stateNumber s < 4294967296
+state-small : (s : State) → FineState s → state_number s < 4294967296
 state-small plain f = omega arith
 state-small waiting f = omega arith
 state-small (ended none) f = omega arith
@@ -89,38 +89,38 @@ module _ (l₀ : List ℕ) (n : ℕ) (invalid : Bool) (fits : n * 10 ≤ length 
     below : k < length ds
     below = let m : n ≡ length ds = E.count in omega arith
 
-    old-word : (m : ℕ) → m + 4 ≤ 10 → word l (k * 10 + m) ≡ word (draftBytes (get_or ds k blank)) m
+    old-word : (m : ℕ) → m + 4 ≤ 10 → word l (k * 10 + m) ≡ word (draft_bytes (get_or ds k blank)) m
     old-word m g =
         word-drop l (k * 10) m ∙ ap (λ (x : List ℕ). word x m) C.after ∙ sym (word-drop l₀ (k * 10) m)
-        ∙ ap (λ (x : List ℕ). word x (k * 10 + m)) E.bytes ∙ blocks-word draftBytes ten-bytes ds E.rest k m blank below g
+        ∙ ap (λ (x : List ℕ). word x (k * 10 + m)) E.bytes ∙ blocks-word draft_bytes ten-bytes ds E.rest k m blank below g
 
-    old-byte : (m : ℕ) → m < 10 → get_or l (k * 10 + m) 0 ≡ get_or (draftBytes (get_or ds k blank)) m 0
+    old-byte : (m : ℕ) → m < 10 → get_or l (k * 10 + m) 0 ≡ get_or (draft_bytes (get_or ds k blank)) m 0
     old-byte m g =
         sym (get_or-drop (k * 10) l m 0) ∙ ap (λ (x : List ℕ). get_or x m 0) C.after ∙ get_or-drop (k * 10) l₀ m 0
-        ∙ ap (λ (x : List ℕ). get_or x (k * 10 + m) 0) E.bytes ∙ blocks-get draftBytes ten-bytes ds E.rest k m blank below g
+        ∙ ap (λ (x : List ℕ). get_or x (k * 10 + m) 0) E.bytes ∙ blocks-get draft_bytes ten-bytes ds E.rest k m blank below g
 
     at_row : word l (k * 10) ≡ (get_or ds k blank).row
-    unfolding draftBytes
+    unfolding draft_bytes
     at_row =
-        let f : (get_or ds k blank).row < rowNumbersBound = (E.fine k h).row in
-        rw add-zero at (old-word 0 (omega arith)) ∙ word_row (get_or ds k blank).row (stateNumber (get_or ds k blank).state) _ _ (omega arith)
+        let f : (get_or ds k blank).row < row_numbers_bound = (E.fine k h).row in
+        rw add-zero at (old-word 0 (omega arith)) ∙ word_row (get_or ds k blank).row (state_number (get_or ds k blank).state) _ _ (omega arith)
 
-    at_tail : word l (k * 10 + 4) ≡ stateNumber (get_or ds k blank).state
-    unfolding draftBytes
+    at_tail : word l (k * 10 + 4) ≡ state_number (get_or ds k blank).state
+    unfolding draft_bytes
     at_tail =
         old-word 4 (omega arith)
-        ∙ word-tail (get_or ds k blank).row (stateNumber (get_or ds k blank).state) _ _ (state-small (get_or ds k blank).state (E.fine k h).state)
+        ∙ word-tail (get_or ds k blank).row (state_number (get_or ds k blank).state) _ _ (state-small (get_or ds k blank).state (E.fine k h).state)
 
     at-column : get_or l (k * 10 + 8) 0 ≡ (get_or ds k blank).column
-    unfolding draftBytes fields
+    unfolding draft_bytes fields
     at-column = old-byte 8 (omega arith)
 
-    at-kind : get_or l (k * 10 + 9) 0 ≡ kindNumber (get_or ds k blank).kind
-    unfolding draftBytes fields
+    at-kind : get_or l (k * 10 + 9) 0 ≡ number_of_kind (get_or ds k blank).kind
+    unfolding draft_bytes fields
     at-kind = old-byte 9 (omega arith)
 
     old-fields : fields_at l (k * 10)
-        ≡ fields (get_or ds k blank).row (stateNumber (get_or ds k blank).state) (get_or ds k blank).column (kindNumber (get_or ds k blank).kind)
+        ≡ fields (get_or ds k blank).row (state_number (get_or ds k blank).state) (get_or ds k blank).column (number_of_kind (get_or ds k blank).kind)
     old-fields = rw (at_row, at_tail, at-column, at-kind)
 
     left_over : word l (k * 10 + 4) ≡ dropped → kept (take (k + 1) ds) ≡ kept (take k ds)
@@ -134,7 +134,7 @@ module _ (l₀ : List ℕ) (n : ℕ) (invalid : Bool) (fits : n * 10 ≤ length 
         × (fields_at l (k * 10) ≡ encode x)
     one_more ne =
         let d : Draft = get_or ds k blank in
-        let s : (x : Note) × (keep d ≡ x ∷ []) × (encode x ≡ fields d.row (stateNumber d.state) d.column (kindNumber d.kind)) =
+        let s : (x : Note) × (keep d ≡ x ∷ []) × (encode x ≡ fields d.row (state_number d.state) d.column (number_of_kind d.kind)) =
         stays d.row d.column d.kind d.state (E.done k h) (λ e. ne (at_tail ∙ e)) in (
           s.0,
           kept_more ds k below ∙ ap (λ (x : List Note). kept (take k ds) ++ x) s.1,
@@ -213,7 +213,7 @@ module _ (l₀ : List ℕ) (n : ℕ) (invalid : Bool) (fits : n * 10 ≤ length 
 
 -- ---- nothing was dropped
 
-not-dropped : (s : State) → FineState s → (s ≡ ended none → ⊥) → stateNumber s ≡ dropped → ⊥
+not-dropped : (s : State) → FineState s → (s ≡ ended none → ⊥) → state_number s ≡ dropped → ⊥
 not-dropped plain f ne e = omega arith
 not-dropped waiting f ne e = omega arith
 not-dropped (ended none) f ne e = ne refl
@@ -227,8 +227,8 @@ pub record Stays (d : Draft) : Type 0 where
 
 -- such drafts are their notes
 all_stay : (ds : List Draft) → ((k : ℕ) → k < length ds → Stays (get_or ds k blank))
-    → (length (kept ds) ≡ length ds) × (joined (map encode (kept ds)) ≡ joined (map draftBytes ds))
-unfolding draftBytes
+    → (length (kept ds) ≡ length ds) × (joined (map encode (kept ds)) ≡ joined (map draft_bytes ds))
+unfolding draft_bytes
 all_stay [] h = (refl, refl)
 all_stay (d ∷ ds) h =
     let rest = all_stay ds (λ k g. h (suc k) (omega arith)) in
@@ -245,7 +245,7 @@ retain-all l n invalid q = record {
   bytes = λ ds E. (E.rest, E.bytes ∙ ap (λ (x : List ℕ). x ++ E.rest) (sym (staying ds E).1));
 }
   where
-    staying : (ds : List Draft) → DraftsEnded l n invalid ds → (length (kept ds) ≡ length ds) × (joined (map encode (kept ds)) ≡ joined (map draftBytes ds))
+    staying : (ds : List Draft) → DraftsEnded l n invalid ds → (length (kept ds) ≡ length ds) × (joined (map encode (kept ds)) ≡ joined (map draft_bytes ds))
     staying ds E =
         let m : n ≡ length ds = E.count in
         all_stay ds (λ k h. record { done = E.done k (omega arith); there = E.clean q k h; fine = E.fine k (omega arith) })

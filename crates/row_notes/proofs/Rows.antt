@@ -8,19 +8,19 @@ use native.Mathlib.Numerals.{add-one}
 use native.Mathlib.Omega.{arith}
 use lib.ListN.{length, get_or, drop, drop_of_length-le, replicate, get_or-replicate, length-append}
 use lib.Seq.{drop-cons}
-use Rattle.definitions.specs.Sizes.{rowNumbersBound}
+use Rattle.definitions.specs.Sizes.{row_numbers_bound}
 use Rattle.definitions.specs.Lists.{joined}
 use Rattle.definitions.specs.Lines.{Row}
-use Rattle.definitions.specs.Notes.{effectAt}
+use Rattle.definitions.specs.Notes.{effect_at}
 use Rattle.definitions.specs.declared.NoteEffect.{NoteEffect}
 use Rattle.definitions.proofs.Lists.{All, none, one}
-use Rattle.row_notes.specs.Drafts.{Draft, stepCell, stepRow, stepRows, drafts}
-use Rattle.row_notes.specs.Writer.{noHead, Stored, DraftsHeld, NoteReady, NoteStepped}
+use Rattle.row_notes.specs.Drafts.{Draft, step_cell, step_row, step_rows, drafts}
+use Rattle.row_notes.specs.Writer.{no_head, Stored, DraftsHeld, NoteReady, NoteStepped}
 use Rattle.row_notes.specs.Written.{Written, RecordRoom}
 use Rattle.row_notes.specs.declared.ChartNotesScratch.{ChartNotesScratch}
 
 -- before the first row
-pub none-stored : (l : List ℕ) → Stored l (replicate 10 noHead) 0 false []
+pub none-stored : (l : List ℕ) → Stored l (replicate 10 no_head) 0 false []
 none-stored l = record {
   count = refl;
   few = omega arith;
@@ -28,7 +28,7 @@ none-stored l = record {
   bytes = refl;
   ten = refl;
   waits = λ k h w. absurd (omega arith);
-  heads = λ c h ne. absurd (ne (get_or-replicate 10 c noHead 0 h));
+  heads = λ c h ne. absurd (ne (get_or-replicate 10 c no_head 0 h));
   fine = λ k h. absurd (omega arith);
   clean = λ q k h. absurd (omega arith);
 }
@@ -40,7 +40,7 @@ pub record Midrow (l : List ℕ) (s : ChartNotesScratch) (l' : List ℕ) (r : Ch
   pub bound : r.count ≤ s.count + c
   pub index : r.row_index ≡ s.row_index
   pub part : (ds : List Draft) → DraftsHeld l s ds
-      → (es : List Draft) × DraftsHeld l' r es × (stepRow s.row_index c (drop c row) es ≡ stepRow s.row_index zero row ds)
+      → (es : List Draft) × DraftsHeld l' r es × (step_row s.row_index c (drop c row) es ≡ step_row s.row_index zero row ds)
 
 pub mid_start : (l : List ℕ) (s : ChartNotesScratch) (row : Row) → Midrow l s l s 0 row
 mid_start l s row = record { inside = omega arith; same = refl; bound = omega arith; index = refl; part = λ ds S. (ds, S, refl) }
@@ -52,7 +52,7 @@ module _ (l : List ℕ) (s : ChartNotesScratch) (l' : List ℕ) (r : ChartNotesS
       let a : length row ≤ 10 = R.narrow in
       let b : (s.count + length row) * 10 ≤ length l = R.room in
       let d : s.count ≤ 10 * length R.rows = R.written.low in
-      let e : length R.rows < rowNumbersBound = R.few in
+      let e : length R.rows < row_numbers_bound = R.few in
       let f : r.count ≤ s.count + c = M.bound in
       let g : length l' ≡ length l = M.same in
       record {
@@ -63,9 +63,9 @@ module _ (l : List ℕ) (s : ChartNotesScratch) (l' : List ℕ) (r : ChartNotesS
         head = λ ne. (P.1.heads c (omega arith) ne).0;
       }
 
-  pub mid_step : (l'' : List ℕ) (t : ChartNotesScratch) (x : NoteEffect) → x ≡ effectAt (get_or row c 0) → c < length row → length l'' ≡ length l'
-      → NoteStepped l' r l'' t 1 (stepCell r.row_index c x) → Midrow l s l'' t (c + 1) row
-  unfolding stepRow
+  pub mid_step : (l'' : List ℕ) (t : ChartNotesScratch) (x : NoteEffect) → x ≡ effect_at (get_or row c 0) → c < length row → length l'' ≡ length l'
+      → NoteStepped l' r l'' t 1 (step_cell r.row_index c x) → Midrow l s l'' t (c + 1) row
+  unfolding step_row
   mid_step l'' t x f h e T = record {
     inside = omega arith;
     same = e ∙ M.same;
@@ -73,28 +73,28 @@ module _ (l : List ℕ) (s : ChartNotesScratch) (l' : List ℕ) (r : ChartNotesS
     index = T.row ∙ M.index;
     part = λ ds S.
         let P = M.part ds S in (
-          stepCell s.row_index c (effectAt (get_or row c 0)) P.0,
+          step_cell s.row_index c (effect_at (get_or row c 0)) P.0,
           rw (f, M.index) at (T.stored P.0 P.1),
-          rw add-one (ap (λ (x : Row). stepRow s.row_index c x P.0) (sym (drop-cons row c 0 h)) ∙ P.2),
+          rw add-one (ap (λ (x : Row). step_row s.row_index c x P.0) (sym (drop-cons row c 0 h)) ∙ P.2),
         );
   }
 
   -- the row is done
-  pub mid-end : length row ≤ c → (ds : List Draft) → DraftsHeld l s ds → DraftsHeld l' r (stepRow s.row_index zero row ds)
-  unfolding stepRow
+  pub mid-end : length row ≤ c → (ds : List Draft) → DraftsHeld l s ds → DraftsHeld l' r (step_row s.row_index zero row ds)
+  unfolding step_row
   mid-end h ds S =
       let P = M.part ds S in
-      subst (λ (x : List Draft). DraftsHeld l' r x) (ap (λ (x : Row). stepRow s.row_index c x P.0) (sym (drop_of_length-le row h)) ∙ P.2) P.1
+      subst (λ (x : List Draft). DraftsHeld l' r x) (ap (λ (x : Row). step_row s.row_index c x P.0) (sym (drop_of_length-le row h)) ∙ P.2) P.1
 
 -- ---- one row more
 
 steps-more : (i : ℕ) (rows : List Row) (row : Row) (ds : List Draft)
-    → stepRows i (rows ++ (row ∷ [])) ds ≡ stepRow (i + length rows) zero row (stepRows i rows ds)
-unfolding stepRows
+    → step_rows i (rows ++ (row ∷ [])) ds ≡ step_row (i + length rows) zero row (step_rows i rows ds)
+unfolding step_rows
 steps-more i [] row ds = rw add-zero
-steps-more i (r ∷ rows) row ds = rw (add-suc, ← suc-add) (steps-more (suc i) rows row (stepRow i zero r ds))
+steps-more i (r ∷ rows) row ds = rw (add-suc, ← suc-add) (steps-more (suc i) rows row (step_row i zero r ds))
 
-drafts-more : (rows : List Row) (row : Row) → drafts (rows ++ (row ∷ [])) ≡ stepRow (length rows) zero row (drafts rows)
+drafts-more : (rows : List Row) (row : Row) → drafts (rows ++ (row ∷ [])) ≡ step_row (length rows) zero row (drafts rows)
 drafts-more rows row = steps-more 0 rows row [] ∙ rw zero-add
 
 cells-more : (rows : List Row) (row : Row) → length (joined (rows ++ (row ∷ []))) ≡ length (joined rows) + length row

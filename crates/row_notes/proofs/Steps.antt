@@ -10,18 +10,18 @@ use lib.ListN.{length, get_or, set}
 use lib.Seq.{sets, length-sets, get_or-set_same, set-set, set-get_or}
 use borrow.Author.Tests.{eqb-true}
 use Rattle.definitions.specs.Cells.{cell_of}
-use Rattle.definitions.specs.Notes.{effectAt}
+use Rattle.definitions.specs.Notes.{effect_at}
 use Rattle.definitions.specs.Records.{bytes4}
 use Rattle.definitions.specs.declared.Kind.{Kind}
 use Rattle.definitions.specs.declared.NoteEffect.{NoteEffect}
 use Rattle.definitions.specs.declared.NoteEffect.TheVariants.{Nothing, Closes, Single, Head}
-use Rattle.row_notes.specs.Drafts.{State, plain, waiting, Draft, settle, stepCell}
-use Rattle.row_notes.specs.Writer.{noHead, dropped, draftBytes, FineState, Fine, DraftsHeld, Stored, NoteReady, HoldEnded, NotePushed, CellReady, CellNoted, afterCell, end_at, noteAt, endHead, invalidAfter, NoteStepped}
+use Rattle.row_notes.specs.Drafts.{State, plain, waiting, Draft, settle, step_cell}
+use Rattle.row_notes.specs.Writer.{no_head, dropped, draft_bytes, FineState, Fine, DraftsHeld, Stored, NoteReady, HoldEnded, NotePushed, CellReady, CellNoted, after_cell, end_at, note_at, end_head, invalid_after, NoteStepped}
 use Rattle.row_notes.specs.declared.ChartNotesScratch.{ChartNotesScratch}
 use Rattle.row_notes.proofs.Stored.{stored-settle, stored-plain, stored-head}
 
-pub length-endAt : (l : List ℕ) (h t : ℕ) → length (end_at l h t) ≡ length l
-length-endAt l h t = go (eqb h noHead)
+pub length-end_at : (l : List ℕ) (h t : ℕ) → length (end_at l h t) ≡ length l
+length-end_at l h t = go (eqb h no_head)
   where
     go : (b : Bool) → length (cond b l (sets l (h * 10 + 4) (bytes4 t))) ≡ length l
     go true = refl
@@ -33,19 +33,19 @@ drop_keeps true t e = let z : ◌≡◌ {A = ℕ} 0 1 = cc in absurd (omega arit
 drop_keeps false true e = (refl, refl)
 drop_keeps false false e = let z : ◌≡◌ {A = ℕ} 0 1 = cc in absurd (omega arith)
 
-pub invalid-keeps : (s : ChartNotesScratch) (c : ℕ) → invalidAfter s c ≡ false → (s.has_invalid ≡ false) × (get_or s.hold_heads c 0 ≡ noHead)
+pub invalid-keeps : (s : ChartNotesScratch) (c : ℕ) → invalid_after s c ≡ false → (s.has_invalid ≡ false) × (get_or s.hold_heads c 0 ≡ no_head)
 invalid-keeps s c e =
-    let p = drop_keeps s.has_invalid (eqb (get_or s.hold_heads c 0) noHead) e in
-    (p.0, eqb-true (get_or s.hold_heads c 0) noHead p.1)
+    let p = drop_keeps s.has_invalid (eqb (get_or s.hold_heads c 0) no_head) e in
+    (p.0, eqb-true (get_or s.hold_heads c 0) no_head p.1)
 
 -- the head of a column is dropped
 pub dropped-there : (l : List ℕ) (s : ChartNotesScratch) (c : ℕ) → c < 10 → (ds : List Draft) → DraftsHeld l s ds
-    → Stored (endHead l s.hold_heads c dropped) (set s.hold_heads c noHead) s.count (invalidAfter s c) (map (settle c none) ds)
+    → Stored (end_head l s.hold_heads c dropped) (set s.hold_heads c no_head) s.count (invalid_after s c) (map (settle c none) ds)
 dropped-there l s c h ds S =
-    stored-settle l s.hold_heads s.count s.has_invalid ds S c h none tt (invalidAfter s c)
+    stored-settle l s.hold_heads s.count s.has_invalid ds S c h none tt (invalid_after s c)
     (λ q. let p = invalid-keeps s c q in (p.0, λ e. p.1))
 
-pub step-nothing : (l : List ℕ) (s : ChartNotesScratch) (i c : ℕ) (x : NoteEffect) → x ≡ Nothing → NoteStepped l s l s 1 (stepCell i c x)
+pub step-nothing : (l : List ℕ) (s : ChartNotesScratch) (i c : ℕ) (x : NoteEffect) → x ≡ Nothing → NoteStepped l s l s 1 (step_cell i c x)
 step-nothing l s i c x e = record {
   stored = λ ds S. rw (e, append-nil) S;
   bound = omega arith;
@@ -53,13 +53,13 @@ step-nothing l s i c x e = record {
 }
 
 -- a `0` touches no note
-pub zero-nothing : (b : ℕ) → b ≡ 48 → effectAt b ≡ Nothing
-unfolding effectAt cell_of
+pub zero-nothing : (b : ℕ) → b ≡ 48 → effect_at b ≡ Nothing
+unfolding effect_at cell_of
 zero-nothing b e = rw e
 
 module _ (l : List ℕ) (s : ChartNotesScratch) (c : ℕ) (R : NoteReady l s c) (l' : List ℕ) (r : ChartNotesScratch) where
   pub step-closes : (x : NoteEffect) → x ≡ Closes → HoldEnded l s c s.row_index s.has_invalid l' r
-      → NoteStepped l s l' r 1 (stepCell s.row_index c x)
+      → NoteStepped l s l' r 1 (step_cell s.row_index c x)
   step-closes x e H = record {
     stored = λ ds S.
         rw (e, H.bytes, H.heads, H.count, H.invalid, append-nil)
@@ -69,8 +69,8 @@ module _ (l : List ℕ) (s : ChartNotesScratch) (c : ℕ) (R : NoteReady l s c) 
     row = H.row;
   }
 
-  room : s.count * 10 + 10 ≤ length (endHead l s.hold_heads c dropped)
-  room = rw length-endAt R.room
+  room : s.count * 10 + 10 ≤ length (end_head l s.hold_heads c dropped)
+  room = rw length-end_at R.room
 
   draft : Kind → State → Draft
   draft k t = record { row = s.row_index; column = c; kind = k; state = t }
@@ -79,8 +79,8 @@ module _ (l : List ℕ) (s : ChartNotesScratch) (c : ℕ) (R : NoteReady l s c) 
   unfolding draft
   fine k t f = record { row = R.low; column = R.inside; state = f }
 
-  pub step-single : (x : NoteEffect) (k : Kind) → x ≡ Single k → NotePushed l s c k noHead l' r → NoteStepped l s l' r 1 (stepCell s.row_index c x)
-  unfolding draftBytes draft
+  pub step-single : (x : NoteEffect) (k : Kind) → x ≡ Single k → NotePushed l s c k no_head l' r → NoteStepped l s l' r 1 (step_cell s.row_index c x)
+  unfolding draft_bytes draft
   step-single x k e N = record {
     stored = λ ds S.
         rw (e, N.bytes, N.heads, N.count, N.invalid)
@@ -89,8 +89,8 @@ module _ (l : List ℕ) (s : ChartNotesScratch) (c : ℕ) (R : NoteReady l s c) 
     row = N.row;
   }
 
-  pub step-head : (x : NoteEffect) (k : Kind) → x ≡ Head k → NotePushed l s c k s.count l' r → NoteStepped l s l' r 1 (stepCell s.row_index c x)
-  unfolding draftBytes draft
+  pub step-head : (x : NoteEffect) (k : Kind) → x ≡ Head k → NotePushed l s c k s.count l' r → NoteStepped l s l' r 1 (step_cell s.row_index c x)
+  unfolding draft_bytes draft
   step-head x k e N = record {
     stored = λ ds S.
         let i : c < 10 = R.inside in
@@ -98,7 +98,7 @@ module _ (l : List ℕ) (s : ChartNotesScratch) (c : ℕ) (R : NoteReady l s c) 
         rw (e, N.bytes, N.heads, N.count, N.invalid)
         (rw set-set at
         (stored-head _ _ _ _ _ (dropped-there l s c R.inside ds S) (draft k waiting) (fine k waiting tt) room R.few refl
-        (get_or-set_same s.hold_heads c noHead 0 (omega arith))));
+        (get_or-set_same s.hold_heads c no_head 0 (omega arith))));
     bound = omega (arith, N.count);
     row = N.row;
   }
@@ -124,25 +124,25 @@ module _ (l : List ℕ) (head count row column : ℕ) (R : CellReady l head coun
         head = λ ne. rw (eh, ec) (R.there (λ z. ne (eh ∙ z)));
       }
 
-  pub noted-closes : (x : NoteEffect) → x ≡ Closes → l' ≡ end_at l head row → CellNoted l head count row column x l' noHead count false
+  pub noted-closes : (x : NoteEffect) → x ≡ Closes → l' ≡ end_at l head row → CellNoted l head count row column x l' no_head count false
   noted-closes x e b s eh ec er =
-      let t = afterCell s column noHead count false in
-      subst (λ (q : ℕ). NoteStepped l s l' t 1 (stepCell q column x)) er
+      let t = after_cell s column no_head count false in
+      subst (λ (q : ℕ). NoteStepped l s l' t 1 (step_cell q column x)) er
       (step-closes l s column (ready s eh ec er) l' t x e
       (record { bytes = rw (eh, er) b; heads = refl; count = sym ec; row = refl; invalid = or-false s.has_invalid }))
 
-  pub noted-single : (x : NoteEffect) (k : Kind) → x ≡ Single k → l' ≡ noteAt l head count row column k
-      → CellNoted l head count row column x l' noHead (count + 1) (not (eqb head noHead))
+  pub noted-single : (x : NoteEffect) (k : Kind) → x ≡ Single k → l' ≡ note_at l head count row column k
+      → CellNoted l head count row column x l' no_head (count + 1) (not (eqb head no_head))
   noted-single x k e b s eh ec er =
-      let t = afterCell s column noHead (count + 1) (not (eqb head noHead)) in
-      subst (λ (q : ℕ). NoteStepped l s l' t 1 (stepCell q column x)) er
+      let t = after_cell s column no_head (count + 1) (not (eqb head no_head)) in
+      subst (λ (q : ℕ). NoteStepped l s l' t 1 (step_cell q column x)) er
       (step-single l s column (ready s eh ec er) l' t x k e
       (record { bytes = rw (eh, ec, er) b; heads = refl; count = rw ec; row = refl; invalid = rw eh }))
 
-  pub noted-head : (x : NoteEffect) (k : Kind) → x ≡ Head k → l' ≡ noteAt l head count row column k
-      → CellNoted l head count row column x l' count (count + 1) (not (eqb head noHead))
+  pub noted-head : (x : NoteEffect) (k : Kind) → x ≡ Head k → l' ≡ note_at l head count row column k
+      → CellNoted l head count row column x l' count (count + 1) (not (eqb head no_head))
   noted-head x k e b s eh ec er =
-      let t = afterCell s column count (count + 1) (not (eqb head noHead)) in
-      subst (λ (q : ℕ). NoteStepped l s l' t 1 (stepCell q column x)) er
+      let t = after_cell s column count (count + 1) (not (eqb head no_head)) in
+      subst (λ (q : ℕ). NoteStepped l s l' t 1 (step_cell q column x)) er
       (step-head l s column (ready s eh ec er) l' t x k e
       (record { bytes = rw (eh, ec, er) b; heads = rw ec; count = rw ec; row = refl; invalid = rw eh }))

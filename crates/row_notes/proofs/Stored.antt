@@ -11,29 +11,29 @@ use lib.ListN.{length, get_or, set, take, drop, length-append, length-set, lengt
 use lib.Seq.{sets, ext_get_or, get_or-set_same, get_or-set_other, get_or_at}
 use borrow.Author.Tests.{eqb-true, eqb-false, eq-eqb}
 use Rattle.definitions.specs.Lists.{joined}
-use Rattle.definitions.specs.Records.{fields, bytes4, kindNumber}
-use Rattle.row_notes.specs.Drafts.{State, plain, waiting, ended, Draft, settleState, settled, settle}
-use Rattle.row_notes.specs.Writer.{noHead, endNumber, stateNumber, draftBytes, FineEnd, FineState, Fine, blank, Clean, Stored, endHead}
+use Rattle.definitions.specs.Records.{fields, bytes4, number_of_kind}
+use Rattle.row_notes.specs.Drafts.{State, plain, waiting, ended, Draft, settle_state, settled, settle}
+use Rattle.row_notes.specs.Writer.{no_head, end_number, state_number, draft_bytes, FineEnd, FineState, Fine, blank, Clean, Stored, end_head}
 use Rattle.definitions.proofs.Blocks.{blocks-length}
 use Rattle.note_records.proofs.Blocks.{blocks-sets, blocks_more}
 
-pub ten-bytes : (d : Draft) → length (draftBytes d) ≡ 10
-unfolding draftBytes fields
+pub ten-bytes : (d : Draft) → length (draft_bytes d) ≡ 10
+unfolding draft_bytes fields
 ten-bytes d = refl
 
-getD-map-in : {A B : Type 0} (f : A → B) (l : List A) (k : ℕ) (a : A) (b : B) → k < length l → get_or (map f l) k b ≡ f (get_or l k a)
-getD-map-in f [] k a b h = absurd (omega arith)
-getD-map-in f (x ∷ l) zero a b h = refl
-getD-map-in f (x ∷ l) (suc k) a b h = getD-map-in f l k a b (omega arith)
+get_or-map-in : {A B : Type 0} (f : A → B) (l : List A) (k : ℕ) (a : A) (b : B) → k < length l → get_or (map f l) k b ≡ f (get_or l k a)
+get_or-map-in f [] k a b h = absurd (omega arith)
+get_or-map-in f (x ∷ l) zero a b h = refl
+get_or-map-in f (x ∷ l) (suc k) a b h = get_or-map-in f l k a b (omega arith)
 
 -- ---- one draft
 
-same-state : (o : Option ℕ) (s : State) → (s ≡ waiting → ⊥) → settleState o s ≡ s
+same-state : (o : Option ℕ) (s : State) → (s ≡ waiting → ⊥) → settle_state o s ≡ s
 same-state o plain h = refl
 same-state o waiting h = absurd (h refl)
 same-state o (ended x) h = refl
 
-not-waiting : (o : Option ℕ) (s : State) → settleState o s ≡ waiting → ⊥
+not-waiting : (o : Option ℕ) (s : State) → settle_state o s ≡ waiting → ⊥
 not-waiting o plain e = let z : ◌≡◌ {A = ℕ} 0 1 = cc in omega arith
 not-waiting o waiting e = let z : ◌≡◌ {A = ℕ} 0 1 = cc in omega arith
 not-waiting o (ended x) e = let z : ◌≡◌ {A = ℕ} 0 1 = cc in omega arith
@@ -60,7 +60,7 @@ module _ (c : ℕ) (o : Option ℕ) where
   settle-fine : (d : Draft) → FineEnd o → Fine d → Fine (settle c o d)
   settle-fine d e f = go (eqb d.column c)
     where
-      at-state : (s : State) → FineState s → FineState (settleState o s)
+      at-state : (s : State) → FineState s → FineState (settle_state o s)
       at-state plain g = g
       at-state waiting g = e
       at-state (ended x) g = g
@@ -81,7 +81,7 @@ module _ (c : ℕ) (o : Option ℕ) where
   settle-drops : (d : Draft) → (d.state ≡ ended none → ⊥) → (settle c o d).state ≡ ended none → (d.column ≡ c) × (d.state ≡ waiting) × (o ≡ none)
   settle-drops d ne = go (eqb d.column c) refl
     where
-      at-state : (s : State) → (s ≡ ended none → ⊥) → settleState o s ≡ ended none → (s ≡ waiting) × (o ≡ none)
+      at-state : (s : State) → (s ≡ ended none → ⊥) → settle_state o s ≡ ended none → (s ≡ waiting) × (o ≡ none)
       at-state plain n e = absurd (n e)
       at-state waiting n e = (refl, cc)
       at-state (ended x) n e = absurd (n e)
@@ -97,7 +97,7 @@ module _ (c : ℕ) (o : Option ℕ) where
     map-none h =
         ext_get_or blank (map (settle c o) ds) ds (length-map ds (settle c o))
         (λ k g. let g' : k < length ds = rw length-map at g in
-        getD-map-in (settle c o) ds k blank blank g' ∙ settle_other (get_or ds k blank) (h k g'))
+        get_or-map-in (settle c o) ds k blank blank g' ∙ settle_other (get_or ds k blank) (h k g'))
 
     map-one : (j : ℕ) → j < length ds → (get_or ds j blank).column ≡ c
         → ((k : ℕ) → k < length ds → (get_or ds k blank).column ≡ c → (get_or ds k blank).state ≡ waiting → k ≡ j)
@@ -105,7 +105,7 @@ module _ (c : ℕ) (o : Option ℕ) where
     map-one j hj e h =
         ext_get_or blank (map (settle c o) ds) (set ds j (settled o (get_or ds j blank))) (length-map ds (settle c o) ∙ sym (length-set ds j _))
         (λ k g. let g' : k < length ds = rw length-map at g in
-        getD-map-in (settle c o) ds k blank blank g' ∙ go k g' (ℕ_discrete k j))
+        get_or-map-in (settle c o) ds k blank blank g' ∙ go k g' (ℕ_discrete k j))
       where
         go : (k : ℕ) → k < length ds → Dec (k ≡ j) → settle c o (get_or ds k blank) ≡ get_or (set ds j (settled o (get_or ds j blank))) k blank
         go k g (yes q) =
@@ -114,19 +114,19 @@ module _ (c : ℕ) (o : Option ℕ) where
         go k g (no q) = settle_other (get_or ds k blank) (λ a w. q (h k g a w)) ∙ sym (get_or-set_other ds j k _ blank q)
 
 -- the four bytes that end a head
-patch : (o : Option ℕ) (d : Draft) → d.state ≡ waiting → sets (draftBytes d) 4 (bytes4 (endNumber o)) ≡ draftBytes (settled o d)
-unfolding draftBytes fields
-patch o d w = ap (λ (s : State). fields d.row (stateNumber (settleState o s)) d.column (kindNumber d.kind)) (sym w)
+patch : (o : Option ℕ) (d : Draft) → d.state ≡ waiting → sets (draft_bytes d) 4 (bytes4 (end_number o)) ≡ draft_bytes (settled o d)
+unfolding draft_bytes fields
+patch o d w = ap (λ (s : State). fields d.row (state_number (settle_state o s)) d.column (number_of_kind d.kind)) (sym w)
 
 -- ---- an open head is ended
 
 module _ (l hs : List ℕ) (n : ℕ) (invalid : Bool) (ds : List Draft) (S : Stored l hs n invalid ds) where
   module _ (c : ℕ) (hc : c < 10) (o : Option ℕ) (fo : FineEnd o) where
-    settle-bytes : (t : Bool) → eqb (get_or hs c 0) noHead ≡ t
-        → cond t l (sets l (get_or hs c 0 * 10 + 4) (bytes4 (endNumber o))) ≡ joined (map draftBytes (map (settle c o) ds)) ++ S.rest
+    settle-bytes : (t : Bool) → eqb (get_or hs c 0) no_head ≡ t
+        → cond t l (sets l (get_or hs c 0 * 10 + 4) (bytes4 (end_number o))) ≡ joined (map draft_bytes (map (settle c o) ds)) ++ S.rest
     settle-bytes true q =
-        let e : get_or hs c 0 ≡ noHead = eqb-true _ _ q in
-        let f : n < noHead = S.few in
+        let e : get_or hs c 0 ≡ no_head = eqb-true _ _ q in
+        let f : n < no_head = S.few in
         let m : n ≡ length ds = S.count in
         rw (map-none c o ds (λ k h a w. let x : get_or hs c 0 ≡ k = subst (λ (i : ℕ). get_or hs i 0 ≡ k) a (S.waits k (omega arith) w) in omega arith))
         S.bytes
@@ -135,21 +135,21 @@ module _ (l hs : List ℕ) (n : ℕ) (invalid : Bool) (ds : List Draft) (S : Sto
         let m : n ≡ length ds = S.count in
         let j : get_or hs c 0 < length ds = omega arith in
         rw (map-one c o ds (get_or hs c 0) j p.1 (λ k h a w. sym (subst (λ (i : ℕ). get_or hs i 0 ≡ k) a (S.waits k (omega arith) w))))
-        (ap (λ (x : List ℕ). sets x (get_or hs c 0 * 10 + 4) (bytes4 (endNumber o))) S.bytes
-        ∙ blocks-sets draftBytes ten-bytes ds S.rest (bytes4 (endNumber o)) (get_or hs c 0) 4 blank
+        (ap (λ (x : List ℕ). sets x (get_or hs c 0 * 10 + 4) (bytes4 (end_number o))) S.bytes
+        ∙ blocks-sets draft_bytes ten-bytes ds S.rest (bytes4 (end_number o)) (get_or hs c 0) 4 blank
         (settled o (get_or ds (get_or hs c 0) blank)) j (omega arith) (patch o (get_or ds (get_or hs c 0) blank) p.2))
 
     at_map : (k : ℕ) → k < n → get_or (map (settle c o) ds) k blank ≡ settle c o (get_or ds k blank)
-    at_map k h = let m : n ≡ length ds = S.count in getD-map-in (settle c o) ds k blank blank (omega arith)
+    at_map k h = let m : n ≡ length ds = S.count in get_or-map-in (settle c o) ds k blank blank (omega arith)
 
-    settle-heads : (i : ℕ) → i < 10 → (get_or (set hs c noHead) i 0 ≡ noHead → ⊥) → Dec (i ≡ c)
-        → (get_or (set hs c noHead) i 0 < n) × ((get_or (map (settle c o) ds) (get_or (set hs c noHead) i 0) blank).column ≡ i)
-        × ((get_or (map (settle c o) ds) (get_or (set hs c noHead) i 0) blank).state ≡ waiting)
+    settle-heads : (i : ℕ) → i < 10 → (get_or (set hs c no_head) i 0 ≡ no_head → ⊥) → Dec (i ≡ c)
+        → (get_or (set hs c no_head) i 0 < n) × ((get_or (map (settle c o) ds) (get_or (set hs c no_head) i 0) blank).column ≡ i)
+        × ((get_or (map (settle c o) ds) (get_or (set hs c no_head) i 0) blank).state ≡ waiting)
     settle-heads i h ne (yes q) =
         let t : length hs ≡ 10 = S.ten in
-        absurd (ne (subst (λ (x : ℕ). get_or (set hs c noHead) x 0 ≡ noHead) (sym q) (get_or-set_same hs c noHead 0 (omega arith))))
+        absurd (ne (subst (λ (x : ℕ). get_or (set hs c no_head) x 0 ≡ no_head) (sym q) (get_or-set_same hs c no_head 0 (omega arith))))
     settle-heads i h ne (no q) =
-        let e : get_or (set hs c noHead) i 0 ≡ get_or hs i 0 = get_or-set_other hs c i noHead 0 q in
+        let e : get_or (set hs c no_head) i 0 ≡ get_or hs i 0 = get_or-set_other hs c i no_head 0 q in
         let p : (get_or hs i 0 < n) × ((get_or ds (get_or hs i 0) blank).column ≡ i) × ((get_or ds (get_or hs i 0) blank).state ≡ waiting) =
         S.heads i h (λ x. ne (e ∙ x)) in
         let s : get_or (map (settle c o) ds) (get_or hs i 0) blank ≡ get_or ds (get_or hs i 0) blank =
@@ -157,31 +157,31 @@ module _ (l hs : List ℕ) (n : ℕ) (invalid : Bool) (ds : List Draft) (S : Sto
         rw (e, s) p
 
     -- `flag` says that a draft was dropped where one is
-    module _ (flag : Bool) (keeps : flag ≡ false → (invalid ≡ false) × (o ≡ none → get_or hs c 0 ≡ noHead)) where
+    module _ (flag : Bool) (keeps : flag ≡ false → (invalid ≡ false) × (o ≡ none → get_or hs c 0 ≡ no_head)) where
       settle-clean : Clean flag (map (settle c o) ds)
       settle-clean q k h e =
           let m : n ≡ length ds = S.count in
-          let f : n < noHead = S.few in
+          let f : n < no_head = S.few in
           let h' : k < length ds = rw length-map at h in
           let d : Draft = get_or ds k blank in
           let p : (d.column ≡ c) × (d.state ≡ waiting) × (o ≡ none) =
           settle-drops c o d (S.clean (keeps q).0 k h') (sym (ap (λ (x : Draft). x.state) (at_map k (omega arith))) ∙ e) in
           let x : get_or hs c 0 ≡ k = subst (λ (i : ℕ). get_or hs i 0 ≡ k) p.0 (S.waits k (omega arith) p.1) in
-          let y : get_or hs c 0 ≡ noHead = (keeps q).1 p.2 in
+          let y : get_or hs c 0 ≡ no_head = (keeps q).1 p.2 in
           omega arith
 
-      pub stored-settle : Stored (endHead l hs c (endNumber o)) (set hs c noHead) n flag (map (settle c o) ds)
+      pub stored-settle : Stored (end_head l hs c (end_number o)) (set hs c no_head) n flag (map (settle c o) ds)
       stored-settle = record {
         count = S.count ∙ sym (length-map ds (settle c o));
         few = S.few;
         rest = S.rest;
-        bytes = settle-bytes (eqb (get_or hs c 0) noHead) refl;
-        ten = length-set hs c noHead ∙ S.ten;
+        bytes = settle-bytes (eqb (get_or hs c 0) no_head) refl;
+        ten = length-set hs c no_head ∙ S.ten;
         waits = λ k h w.
             let p : ((get_or ds k blank).state ≡ waiting) × ((get_or ds k blank).column ≡ c → ⊥) =
             settle-waits c o (get_or ds k blank) (sym (ap (λ (d : Draft). d.state) (at_map k h)) ∙ w) in
-            ap (λ (i : ℕ). get_or (set hs c noHead) i 0) (ap (λ (d : Draft). d.column) (at_map k h) ∙ settle-column c o (get_or ds k blank))
-            ∙ get_or-set_other hs c (get_or ds k blank).column noHead 0 p.1 ∙ S.waits k h p.0;
+            ap (λ (i : ℕ). get_or (set hs c no_head) i 0) (ap (λ (d : Draft). d.column) (at_map k h) ∙ settle-column c o (get_or ds k blank))
+            ∙ get_or-set_other hs c (get_or ds k blank).column no_head 0 p.1 ∙ S.waits k h p.0;
         heads = λ i h ne. settle-heads i h ne (ℕ_discrete i c);
         fine = λ k h. rw (at_map k h) (settle-fine c o (get_or ds k blank) fo (S.fine k h));
         clean = settle-clean;
@@ -189,19 +189,19 @@ module _ (l hs : List ℕ) (n : ℕ) (invalid : Bool) (ds : List Draft) (S : Sto
 
   -- ---- a record is added
 
-  module _ (b : Draft) (f : Fine b) (room : n * 10 + 10 ≤ length l) (few : n + 1 < noHead) where
+  module _ (b : Draft) (f : Fine b) (room : n * 10 + 10 ≤ length l) (few : n + 1 < no_head) where
     long : 10 ≤ length S.rest
     long =
         let m : n ≡ length ds = S.count in
-        let e : length l ≡ length (joined (map draftBytes ds)) + length S.rest = ap length S.bytes ∙ length-append (joined (map draftBytes ds)) S.rest in
-        let g : length (joined (map draftBytes ds)) ≡ length ds * 10 = blocks-length draftBytes ten-bytes ds in
+        let e : length l ≡ length (joined (map draft_bytes ds)) + length S.rest = ap length S.bytes ∙ length-append (joined (map draft_bytes ds)) S.rest in
+        let g : length (joined (map draft_bytes ds)) ≡ length ds * 10 = blocks-length draft_bytes ten-bytes ds in
         omega arith
 
-    more_bytes : sets l (n * 10) (draftBytes b) ≡ joined (map draftBytes (ds ++ (b ∷ []))) ++ drop 10 S.rest
+    more_bytes : sets l (n * 10) (draft_bytes b) ≡ joined (map draft_bytes (ds ++ (b ∷ []))) ++ drop 10 S.rest
     more_bytes =
-        ap₂ (λ (x : List ℕ) (k : ℕ). sets x (k * 10) (draftBytes b))
-        (S.bytes ∙ ap (λ (r : List ℕ). joined (map draftBytes ds) ++ r) (sym (take-append-drop 10 S.rest))) S.count
-        ∙ blocks_more draftBytes ten-bytes ds (take 10 S.rest) (drop 10 S.rest) b
+        ap₂ (λ (x : List ℕ) (k : ℕ). sets x (k * 10) (draft_bytes b))
+        (S.bytes ∙ ap (λ (r : List ℕ). joined (map draft_bytes ds) ++ r) (sym (take-append-drop 10 S.rest))) S.count
+        ∙ blocks_more draft_bytes ten-bytes ds (take 10 S.rest) (drop 10 S.rest) b
         (length-take 10 S.rest ∙ (let h : 10 ≤ length S.rest = long in omega arith))
 
     more-count : n + 1 ≡ length (ds ++ (b ∷ []))
@@ -233,13 +233,13 @@ module _ (l hs : List ℕ) (n : ℕ) (invalid : Bool) (ds : List Draft) (S : Sto
     old-waits : (k : ℕ) → k < n → (get_or (ds ++ (b ∷ [])) k blank).state ≡ waiting → get_or hs (get_or (ds ++ (b ∷ [])) k blank).column 0 ≡ k
     old-waits k h = rw (at_old k h) (S.waits k h)
 
-    old-heads : (i : ℕ) → i < 10 → (get_or hs i 0 ≡ noHead → ⊥)
+    old-heads : (i : ℕ) → i < 10 → (get_or hs i 0 ≡ no_head → ⊥)
         → (get_or hs i 0 < n + 1) × ((get_or (ds ++ (b ∷ [])) (get_or hs i 0) blank).column ≡ i) × ((get_or (ds ++ (b ∷ [])) (get_or hs i 0) blank).state ≡ waiting)
     old-heads i h ne =
         let p : (get_or hs i 0 < n) × ((get_or ds (get_or hs i 0) blank).column ≡ i) × ((get_or ds (get_or hs i 0) blank).state ≡ waiting) = S.heads i h ne in
         rw (at_old (get_or hs i 0) p.0) (omega (arith, p.0), p.1, p.2)
 
-    pub stored-plain : b.state ≡ plain → Stored (sets l (n * 10) (draftBytes b)) hs (n + 1) invalid (ds ++ (b ∷ []))
+    pub stored-plain : b.state ≡ plain → Stored (sets l (n * 10) (draft_bytes b)) hs (n + 1) invalid (ds ++ (b ∷ []))
     stored-plain w = record {
       count = more-count;
       few = few;
@@ -254,8 +254,8 @@ module _ (l hs : List ℕ) (n : ℕ) (invalid : Bool) (ds : List Draft) (S : Sto
       clean = more-clean (λ e. let p : plain ≡ ended none = sym w ∙ e in let z : ◌≡◌ {A = ℕ} 0 1 = cc in omega arith);
     }
 
-    pub stored-head : b.state ≡ waiting → get_or hs b.column 0 ≡ noHead
-        → Stored (sets l (n * 10) (draftBytes b)) (set hs b.column n) (n + 1) invalid (ds ++ (b ∷ []))
+    pub stored-head : b.state ≡ waiting → get_or hs b.column 0 ≡ no_head
+        → Stored (sets l (n * 10) (draft_bytes b)) (set hs b.column n) (n + 1) invalid (ds ++ (b ∷ []))
     stored-head w free = record {
       count = more-count;
       few = few;
@@ -265,7 +265,7 @@ module _ (l hs : List ℕ) (n : ℕ) (invalid : Bool) (ds : List Draft) (S : Sto
       waits = below (λ (k : ℕ). (get_or (ds ++ (b ∷ [])) k blank).state ≡ waiting → get_or (set hs b.column n) (get_or (ds ++ (b ∷ [])) k blank).column 0 ≡ k)
           (λ k h e. get_or-set_other hs b.column (get_or (ds ++ (b ∷ [])) k blank).column n 0
           (λ q. let x : get_or hs (get_or (ds ++ (b ∷ [])) k blank).column 0 ≡ k = old-waits k h e in
-          let y : get_or hs (get_or (ds ++ (b ∷ [])) k blank).column 0 ≡ noHead = ap (λ (i : ℕ). get_or hs i 0) q ∙ free in omega arith)
+          let y : get_or hs (get_or (ds ++ (b ∷ [])) k blank).column 0 ≡ no_head = ap (λ (i : ℕ). get_or hs i 0) q ∙ free in omega arith)
           ∙ old-waits k h e)
           (λ e. rw at_new at_n);
       heads = λ i h ne. new-heads i h ne (ℕ_discrete i b.column);
@@ -276,7 +276,7 @@ module _ (l hs : List ℕ) (n : ℕ) (invalid : Bool) (ds : List Draft) (S : Sto
         at_n : get_or (set hs b.column n) b.column 0 ≡ n
         at_n = let t : length hs ≡ 10 = S.ten in let g : b.column < 10 = f.column in get_or-set_same hs b.column n 0 (omega arith)
 
-        new-heads : (i : ℕ) → i < 10 → (get_or (set hs b.column n) i 0 ≡ noHead → ⊥) → Dec (i ≡ b.column)
+        new-heads : (i : ℕ) → i < 10 → (get_or (set hs b.column n) i 0 ≡ no_head → ⊥) → Dec (i ≡ b.column)
             → (get_or (set hs b.column n) i 0 < n + 1) × ((get_or (ds ++ (b ∷ [])) (get_or (set hs b.column n) i 0) blank).column ≡ i)
             × ((get_or (ds ++ (b ∷ [])) (get_or (set hs b.column n) i 0) blank).state ≡ waiting)
         new-heads i h ne (yes q) = rw (q, at_n, at_new) (omega arith, refl, w)

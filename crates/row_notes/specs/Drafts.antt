@@ -3,7 +3,7 @@
 use Rattle.std.specs.Prelude.{cond, List, [], ◌∷◌, ◌++◌, map, ℕ, zero, suc, eqb}
 use Rattle.std.proofs.Math.Option.{Option, some, none}
 use Rattle.definitions.specs.Lines.{Row}
-use Rattle.definitions.specs.Notes.{effectAt, plainNote, heldNote}
+use Rattle.definitions.specs.Notes.{effect_at, plain_note, held_note}
 use Rattle.definitions.specs.declared.Kind.{Kind}
 use Rattle.definitions.specs.declared.Note.{Note}
 use Rattle.definitions.specs.declared.NoteEffect.{NoteEffect}
@@ -22,13 +22,13 @@ pub record Draft : Type 0 where
   pub state : State
 
 -- a head that waits ends so
-abbrev pub settleState : Option ℕ → State → State
-settleState o plain = plain
-settleState o waiting = ended o
-settleState o (ended x) = ended x
+abbrev pub settle_state : Option ℕ → State → State
+settle_state o plain = plain
+settle_state o waiting = ended o
+settle_state o (ended x) = ended x
 
 abbrev pub settled : Option ℕ → Draft → Draft
-settled o d = record { row = d.row; column = d.column; kind = d.kind; state = settleState o d.state }
+settled o d = record { row = d.row; column = d.column; kind = d.kind; state = settle_state o d.state }
 
 -- the heads of column c end so
 abbrev pub settle : ℕ → Option ℕ → Draft → Draft
@@ -51,36 +51,36 @@ made Closes i c = []
 made (Single k) i c = one i c k plain
 made (Head k) i c = one i c k waiting
 
-abbrev pub stepCell : ℕ → ℕ → NoteEffect → List Draft → List Draft
-stepCell i c x ds = touch x i c ds ++ made x i c
+abbrev pub step_cell : ℕ → ℕ → NoteEffect → List Draft → List Draft
+step_cell i c x ds = touch x i c ds ++ made x i c
 
 -- the cells of row i from column c on
-unfoldable pub stepRow : ℕ → ℕ → Row → List Draft → List Draft
-stepRow i c [] ds = ds
-stepRow i c (b ∷ bs) ds = stepRow i (suc c) bs (stepCell i c (effectAt b) ds)
+unfoldable pub step_row : ℕ → ℕ → Row → List Draft → List Draft
+step_row i c [] ds = ds
+step_row i c (b ∷ bs) ds = step_row i (suc c) bs (step_cell i c (effect_at b) ds)
 
 -- these rows, of which the first is row i
-unfoldable pub stepRows : ℕ → List Row → List Draft → List Draft
-stepRows i [] ds = ds
-stepRows i (r ∷ rs) ds = stepRows (suc i) rs (stepRow i zero r ds)
+unfoldable pub step_rows : ℕ → List Row → List Draft → List Draft
+step_rows i [] ds = ds
+step_rows i (r ∷ rs) ds = step_rows (suc i) rs (step_row i zero r ds)
 
 -- the drafts of the rows read so far
 abbrev pub drafts : List Row → List Draft
-drafts rows = stepRows 0 rows []
+drafts rows = step_rows 0 rows []
 
 abbrev pub gather : {A B : Type 0} → (A → List B) → List A → List B
 gather f [] = []
 gather f (x ∷ xs) = f x ++ gather f xs
 
 -- the notes of a draft, where a head that waits gets this tail
-abbrev pub noteBy : ℕ → ℕ → Kind → State → Option ℕ → List Note
-noteBy i c k plain t = plainNote i c k
-noteBy i c k waiting t = heldNote i c k t
-noteBy i c k (ended o) t = heldNote i c k o
+abbrev pub note_by : ℕ → ℕ → Kind → State → Option ℕ → List Note
+note_by i c k plain t = plain_note i c k
+note_by i c k waiting t = held_note i c k t
+note_by i c k (ended o) t = held_note i c k o
 
 -- the notes that are left at the end: a head that still waits is none
 abbrev pub keep : Draft → List Note
-keep d = noteBy d.row d.column d.kind d.state none
+keep d = note_by d.row d.column d.kind d.state none
 
 abbrev pub kept : List Draft → List Note
 kept ds = gather keep ds

@@ -3,23 +3,23 @@
 use Rattle.std.specs.Prelude.{◌≡◌, Bool, false, cond, ◌||◌, not, List, ◌++◌, map, ℕ, ◌+◌, ◌*◌, ◌<◌, ◌≤◌, eqb, length, get_or, set}
 use Rattle.std.proofs.Math.Option.{Option, some, none}
 use Rattle.std.proofs.lemmas.List.Edits.{sets}
-use Rattle.definitions.specs.Sizes.{rowNumbersBound}
+use Rattle.definitions.specs.Sizes.{row_numbers_bound}
 use Rattle.definitions.specs.Lists.{joined}
 use Rattle.definitions.specs.Lines.{Row}
-use Rattle.definitions.specs.Records.{fields, bytes4, kindNumber, records}
+use Rattle.definitions.specs.Records.{fields, bytes4, number_of_kind, records}
 use Rattle.definitions.specs.declared.Kind.{Kind}
 use Rattle.definitions.specs.declared.Kind.TheVariants.{Tap}
 use Rattle.taps.specs.Taps.{FreeTaps, FreeAre}
 use Rattle.definitions.specs.declared.NoteEffect.{NoteEffect}
-use Rattle.row_notes.specs.Drafts.{State, plain, waiting, ended, Draft, kept, stepCell}
+use Rattle.row_notes.specs.Drafts.{State, plain, waiting, ended, Draft, kept, step_cell}
 use Rattle.row_notes.specs.declared.ChartNotesScratch.{ChartNotesScratch}
 
 -- in place of an open head, and the tail fields of records without a tail and of dropped ones
-abbrev pub noHead : ℕ
-noHead = 4294967295
+abbrev pub no_head : ℕ
+no_head = 4294967295
 
-abbrev pub noTail : ℕ
-noTail = 4294967295
+abbrev pub no_tail : ℕ
+no_tail = 4294967295
 
 abbrev pub dropped : ℕ
 dropped = 4294967294
@@ -29,26 +29,26 @@ pub record FreeHeads (hs : List ℕ) (row : Row) : Type 0 where
   pub busy : ℕ
   pub mask : ℕ
   pub taps : FreeTaps busy mask row
-  pub free : FreeAre busy noHead hs
+  pub free : FreeAre busy no_head hs
 
 -- ---- the drafts as bytes
 
-abbrev pub endNumber : Option ℕ → ℕ
-endNumber none = dropped
-endNumber (some j) = j
+abbrev pub end_number : Option ℕ → ℕ
+end_number none = dropped
+end_number (some j) = j
 
-abbrev pub stateNumber : State → ℕ
-stateNumber plain = noTail
-stateNumber waiting = noTail
-stateNumber (ended o) = endNumber o
+abbrev pub state_number : State → ℕ
+state_number plain = no_tail
+state_number waiting = no_tail
+state_number (ended o) = end_number o
 
-unfoldable pub draftBytes : Draft → List ℕ
-draftBytes d = fields d.row (stateNumber d.state) d.column (kindNumber d.kind)
+unfoldable pub draft_bytes : Draft → List ℕ
+draft_bytes d = fields d.row (state_number d.state) d.column (number_of_kind d.kind)
 
 -- rows and tail rows are below 16,777,216, columns below 10
 abbrev pub FineEnd : Option ℕ → Type 0
 FineEnd none = Unit {0}
-FineEnd (some j) = j < rowNumbersBound
+FineEnd (some j) = j < row_numbers_bound
 
 abbrev pub FineState : State → Type 0
 FineState plain = Unit {0}
@@ -56,7 +56,7 @@ FineState waiting = Unit {0}
 FineState (ended o) = FineEnd o
 
 pub record Fine (d : Draft) : Type 0 where
-  pub row : d.row < rowNumbersBound
+  pub row : d.row < row_numbers_bound
   pub column : d.column < 10
   pub state : FineState d.state
 
@@ -70,12 +70,12 @@ Clean invalid ds = invalid ≡ false → (k : ℕ) → k < length ds → (get_or
 -- the slice l begins with the bytes of the n drafts; at c in hs is the number of the draft that waits in column c
 pub record Stored (l hs : List ℕ) (n : ℕ) (invalid : Bool) (ds : List Draft) : Type 0 where
   pub count : n ≡ length ds
-  pub few : n < noHead
+  pub few : n < no_head
   pub rest : List ℕ
-  pub bytes : l ≡ joined (map draftBytes ds) ++ rest
+  pub bytes : l ≡ joined (map draft_bytes ds) ++ rest
   pub ten : length hs ≡ 10
   pub waits : (k : ℕ) → k < n → (get_or ds k blank).state ≡ waiting → get_or hs (get_or ds k blank).column 0 ≡ k
-  pub heads : (c : ℕ) → c < 10 → (get_or hs c 0 ≡ noHead → ⊥)
+  pub heads : (c : ℕ) → c < 10 → (get_or hs c 0 ≡ no_head → ⊥)
       → (get_or hs c 0 < n) × ((get_or ds (get_or hs c 0) blank).column ≡ c) × ((get_or ds (get_or hs c 0) blank).state ≡ waiting)
   pub fine : (k : ℕ) → k < n → Fine (get_or ds k blank)
   pub clean : Clean invalid ds
@@ -88,23 +88,23 @@ DraftsHeld l s ds = Stored l s.hold_heads s.count s.has_invalid ds
 -- the record of a column's open head lies in the slice
 pub record HeadThere (l : List ℕ) (s : ChartNotesScratch) (column : ℕ) : Type 0 where
   pub inside : column < 10
-  pub head : (get_or s.hold_heads column 0 ≡ noHead → ⊥) → get_or s.hold_heads column 0 * 10 + 10 ≤ length l
+  pub head : (get_or s.hold_heads column 0 ≡ no_head → ⊥) → get_or s.hold_heads column 0 * 10 + 10 ≤ length l
 
 -- the slice after the note of a head, if there is one, has ended so
 abbrev pub end_at : List ℕ → ℕ → ℕ → List ℕ
-end_at l head tail = cond (eqb head noHead) l (sets l (head * 10 + 4) (bytes4 tail))
+end_at l head tail = cond (eqb head no_head) l (sets l (head * 10 + 4) (bytes4 tail))
 
 -- the same of the open head of a column
-abbrev pub endHead : List ℕ → List ℕ → ℕ → ℕ → List ℕ
-endHead l hs column tail = end_at l (get_or hs column 0) tail
+abbrev pub end_head : List ℕ → List ℕ → ℕ → ℕ → List ℕ
+end_head l hs column tail = end_at l (get_or hs column 0) tail
 
 -- whether a record was dropped, after the open head of a column was
-abbrev pub invalidAfter : ChartNotesScratch → ℕ → Bool
-invalidAfter s column = s.has_invalid || not (eqb (get_or s.hold_heads column 0) noHead)
+abbrev pub invalid_after : ChartNotesScratch → ℕ → Bool
+invalid_after s column = s.has_invalid || not (eqb (get_or s.hold_heads column 0) no_head)
 
 pub record HoldEnded (l : List ℕ) (s : ChartNotesScratch) (column tail : ℕ) (flag : Bool) (l' : List ℕ) (r : ChartNotesScratch) : Type 0 where
-  pub bytes : l' ≡ endHead l s.hold_heads column tail
-  pub heads : r.hold_heads ≡ set s.hold_heads column noHead
+  pub bytes : l' ≡ end_head l s.hold_heads column tail
+  pub heads : r.hold_heads ≡ set s.hold_heads column no_head
   pub count : r.count ≡ s.count
   pub row : r.row_index ≡ s.row_index
   pub invalid : r.has_invalid ≡ flag
@@ -112,30 +112,30 @@ pub record HoldEnded (l : List ℕ) (s : ChartNotesScratch) (column tail : ℕ) 
 -- what a cell in a column asks
 pub record NoteReady (l : List ℕ) (s : ChartNotesScratch) (column : ℕ) : Type 0 where
   pub inside : column < 10
-  pub low : s.row_index < rowNumbersBound
+  pub low : s.row_index < row_numbers_bound
   pub room : s.count * 10 + 10 ≤ length l
-  pub few : s.count + 1 < noHead
-  pub head : (get_or s.hold_heads column 0 ≡ noHead → ⊥) → get_or s.hold_heads column 0 < s.count
+  pub few : s.count + 1 < no_head
+  pub head : (get_or s.hold_heads column 0 ≡ no_head → ⊥) → get_or s.hold_heads column 0 < s.count
 
 -- the column's open head is dropped, a record without a tail is added, and `head` is the column's open head
 pub record NotePushed (l : List ℕ) (s : ChartNotesScratch) (column : ℕ) (kind : Kind) (head : ℕ) (l' : List ℕ) (r : ChartNotesScratch) : Type 0 where
-  pub bytes : l' ≡ sets (endHead l s.hold_heads column dropped) (s.count * 10) (fields s.row_index noTail column (kindNumber kind))
+  pub bytes : l' ≡ sets (end_head l s.hold_heads column dropped) (s.count * 10) (fields s.row_index no_tail column (number_of_kind kind))
   pub heads : r.hold_heads ≡ set s.hold_heads column head
   pub count : r.count ≡ s.count + 1
   pub row : r.row_index ≡ s.row_index
-  pub invalid : r.has_invalid ≡ invalidAfter s column
+  pub invalid : r.has_invalid ≡ invalid_after s column
 
 -- what a cell asks, in numbers: the open head of its column, the number of records, its row and its column
 pub record CellReady (l : List ℕ) (head count row column : ℕ) : Type 0 where
   pub inside : column < 10
-  pub low : row < rowNumbersBound
+  pub low : row < row_numbers_bound
   pub room : count * 10 + 10 ≤ length l
-  pub few : count + 1 < noHead
-  pub there : (head ≡ noHead → ⊥) → head < count
+  pub few : count + 1 < no_head
+  pub there : (head ≡ no_head → ⊥) → head < count
 
 -- the slice after the head's note was dropped and a record without a tail added
-abbrev pub noteAt : List ℕ → ℕ → ℕ → ℕ → ℕ → Kind → List ℕ
-noteAt l head count row column kind = sets (end_at l head dropped) (count * 10) (fields row noTail column (kindNumber kind))
+abbrev pub note_at : List ℕ → ℕ → ℕ → ℕ → ℕ → Kind → List ℕ
+note_at l head count row column kind = sets (end_at l head dropped) (count * 10) (fields row no_tail column (number_of_kind kind))
 
 -- whatever drafts were there, f of them are, and at most m more
 pub record NoteStepped (l : List ℕ) (s : ChartNotesScratch) (l' : List ℕ) (r : ChartNotesScratch) (m : ℕ) (f : List Draft → List Draft) : Type 0 where
@@ -144,15 +144,15 @@ pub record NoteStepped (l : List ℕ) (s : ChartNotesScratch) (l' : List ℕ) (r
   pub row : r.row_index ≡ s.row_index
 
 -- the struct after a cell of a column, with the column's open head and the number of records, and whether the cell dropped a record
-abbrev pub afterCell : ChartNotesScratch → ℕ → ℕ → ℕ → Bool → ChartNotesScratch
-afterCell s column head count invalid =
+abbrev pub after_cell : ChartNotesScratch → ℕ → ℕ → ℕ → Bool → ChartNotesScratch
+after_cell s column head count invalid =
     record { hold_heads = set s.hold_heads column head; count = count; row_index = s.row_index; has_invalid = s.has_invalid || invalid }
 
 -- the same in numbers: whatever struct has them, and whatever drafts were there, is one step on
 abbrev pub CellNoted : List ℕ → ℕ → ℕ → ℕ → ℕ → NoteEffect → List ℕ → ℕ → ℕ → Bool → Type 0
 CellNoted l head count row column x l' head' count' invalid =
     (s : ChartNotesScratch) → get_or s.hold_heads column 0 ≡ head → s.count ≡ count → s.row_index ≡ row
-    → NoteStepped l s l' (afterCell s column head' count' invalid) 1 (stepCell row column x)
+    → NoteStepped l s l' (after_cell s column head' count' invalid) 1 (step_cell row column x)
 
 -- ---- the end
 
@@ -165,7 +165,7 @@ pub record SomeDrafts (l : List ℕ) (s : ChartNotesScratch) : Type 0 where
 pub record DraftsEnded (l : List ℕ) (n : ℕ) (invalid : Bool) (ds : List Draft) : Type 0 where
   pub count : n ≡ length ds
   pub rest : List ℕ
-  pub bytes : l ≡ joined (map draftBytes ds) ++ rest
+  pub bytes : l ≡ joined (map draft_bytes ds) ++ rest
   pub done : (k : ℕ) → k < n → (get_or ds k blank).state ≡ waiting → ⊥
   pub fine : (k : ℕ) → k < n → Fine (get_or ds k blank)
   pub clean : Clean invalid ds

@@ -1,12 +1,12 @@
 -- What callers of the note writer go by: the state and the slice after some rows, what one more row asks, and the end.
 use Rattle.std.specs.Prelude.{◌≡◌, List, ℕ, ◌+◌, ◌*◌, ◌<◌, ◌≤◌, length}
-use Rattle.definitions.specs.Sizes.{rowNumbersBound}
+use Rattle.definitions.specs.Sizes.{row_numbers_bound}
 use Rattle.definitions.specs.Lists.{joined, padded}
 use Rattle.definitions.specs.Lines.{Row}
-use Rattle.definitions.specs.Notes.{notesFrom}
+use Rattle.definitions.specs.Notes.{notes_from}
 use Rattle.definitions.specs.Records.{records}
 use Rattle.row_notes.specs.Drafts.{drafts}
-use Rattle.taps.specs.Taps.{tapLineMask}
+use Rattle.taps.specs.Taps.{mask_of_line}
 use Rattle.taps.specs.declared.Taps.TheVariants.{Mask}
 use Rattle.row_notes.specs.Writer.{DraftsHeld, FreeHeads}
 use Rattle.row_notes.specs.declared.ChartNotesScratch.{ChartNotesScratch}
@@ -22,7 +22,7 @@ pub record Written (rows : List Row) (s : ChartNotesScratch) (l : List ℕ) : Ty
 pub record RecordRoom (s : ChartNotesScratch) (row l : List ℕ) : Type 0 where
   pub rows : List Row
   pub written : Written rows s l
-  pub few : length rows < rowNumbersBound
+  pub few : length rows < row_numbers_bound
   pub narrow : length row ≤ 10
   pub room : (s.count + length row) * 10 ≤ length l
 
@@ -32,7 +32,7 @@ pub record MaskFits (i n m : ℕ) (l : List ℕ) (s : ChartNotesScratch) (cells 
   pub count : s.count ≡ n
   pub room : RecordRoom s cells l
   pub heads : FreeHeads s.hold_heads cells
-  pub mask : tapLineMask cells ≡ Mask m
+  pub mask : mask_of_line cells ≡ Mask m
 
 pub record SomeMask (i n m : ℕ) (l : List ℕ) : Type 0 where
   pub scratch : ChartNotesScratch
@@ -40,8 +40,8 @@ pub record SomeMask (i n m : ℕ) (l : List ℕ) : Type 0 where
   pub fits : MaskFits i n m l scratch cells
 
 -- the struct after a row of taps, with the number of records
-abbrev pub afterTaps : ChartNotesScratch → ℕ → ChartNotesScratch
-afterTaps s n =
+abbrev pub after_taps : ChartNotesScratch → ℕ → ChartNotesScratch
+after_taps s n =
     record { hold_heads = s.hold_heads; count = n; row_index = s.row_index + 1; has_invalid = s.has_invalid }
 
 pub record SomeRows (s : ChartNotesScratch) (l : List ℕ) : Type 0 where
@@ -50,5 +50,5 @@ pub record SomeRows (s : ChartNotesScratch) (l : List ℕ) : Type 0 where
 
 -- A slice of this length is left as l: the records of the rows' notes, and zeros. r is the number of notes.
 pub record Finished (rows : List Row) (size : ℕ) (l : List ℕ) (r : ℕ) : Type 0 where
-  pub count : r ≡ length (notesFrom 0 rows)
-  pub bytes : l ≡ padded 0 size (records (notesFrom 0 rows))
+  pub count : r ≡ length (notes_from 0 rows)
+  pub bytes : l ≡ padded 0 size (records (notes_from 0 rows))

@@ -4,12 +4,12 @@
 
 ghost use Rattle.std.specs.Prelude.{◌≡◌, true, List, [], ◌∷◌, ◌++◌, ℕ, ◌+◌, ◌*◌, ◌≤◌, ◌<◌, length};
 ghost use Rattle.std.proofs.lemmas.List.Edits.{sets};
-ghost use Rattle.definitions.specs.Lists.{oneIf};
+ghost use Rattle.definitions.specs.Lists.{number_of_bool};
 ghost use Rattle.definitions.specs.Lines.{Row};
 ghost use Rattle.definitions.specs.Records.{fields};
-ghost use Rattle.row_notes.specs.Writer.{HeadThere, HoldEnded, invalidAfter, noHead, noTail, dropped, end_at, noteAt, CellReady, HeadsEnded, Compacted, SomeDrafts};
+ghost use Rattle.row_notes.specs.Writer.{HeadThere, HoldEnded, invalid_after, no_head, no_tail, dropped, end_at, note_at, CellReady, HeadsEnded, Compacted, SomeDrafts};
 ghost use Rattle.row_notes.specs.Masks.{LowOf};
-ghost use Rattle.row_notes.specs.Written.{Written, MaskFits, SomeMask, afterTaps, SomeRows, Finished};
+ghost use Rattle.row_notes.specs.Written.{Written, MaskFits, SomeMask, after_taps, SomeRows, Finished};
 ghost use Rattle.row_notes.specs.declared.ChartNotesScratch.{ChartNotesScratch};
 
 use definitions::Kind;
@@ -45,7 +45,7 @@ pub fn begin() -> ChartNotesScratch
 
 // Ends a head's note with this tail; `NO_HEAD` has none.
 pub fn end_note(head: u32, tail: u32, notes: &mut [u8])
-    requires { (head ≡ noHead → ⊥) → head * 10 + 10 ≤ length notes.old }
+    requires { (head ≡ no_head → ⊥) → head * 10 + 10 ≤ length notes.old }
     ensures { notes.new ≡ end_at notes.old head tail }
 {
     if head != NO_HEAD {
@@ -56,7 +56,7 @@ pub fn end_note(head: u32, tail: u32, notes: &mut [u8])
 // Drops a head's note and adds a record without a tail.
 pub fn put_note(head: u32, count: usize, row: u32, column: usize, kind: Kind, notes: &mut [u8])
     requires { CellReady notes.old head count row column }
-    ensures { notes.new ≡ noteAt notes.old head count row column kind }
+    ensures { notes.new ≡ note_at notes.old head count row column kind }
 {
     end_note(head, INVALID_NOTE_ROW, notes);
     put_record(
@@ -84,7 +84,7 @@ fn end_hold(s: ChartNotesScratch, column: usize, tail: u32, notes: &mut [u8]) ->
 // Drops the open head of a column, if there is one.
 fn invalidate_hold(s: ChartNotesScratch, column: usize, notes: &mut [u8]) -> ChartNotesScratch
     requires { HeadThere notes.old s column }
-    ensures { HoldEnded notes.old s column dropped (invalidAfter s column) notes.new result }
+    ensures { HoldEnded notes.old s column dropped (invalid_after s column) notes.new result }
 {
     let head = s.hold_heads[column];
     let had = s.has_invalid;
@@ -96,8 +96,8 @@ fn invalidate_hold(s: ChartNotesScratch, column: usize, notes: &mut [u8]) -> Cha
 // A record of a tap at the end of the records, and their number with it; where there is no tap the next record is written over this one.
 fn push_tap(row: u32, count: usize, column: usize, tap: bool, notes: &mut [u8]) -> usize
     requires { (count * 10 + 10 ≤ length notes.old) × (column < 10) × (count < 4294967295) }
-    ensures value { result ≡ count + oneIf tap }
-    ensures notes_after { notes.new ≡ sets notes.old (count * 10) (fields row noTail column 0) }
+    ensures value { result ≡ count + number_of_bool tap }
+    ensures notes_after { notes.new ≡ sets notes.old (count * 10) (fields row no_tail column 0) }
 {
     put_record(notes, count, row, NO_TAIL_ROW, column as u8, 0);
     count + cells::one_if(tap) as usize
@@ -134,7 +134,7 @@ fn low_bit(mask: u32) -> LowBit
 // written whatever the mask is, and more only where it has more taps, so that few rows branch on theirs.
 pub fn push_mask(row: u32, number: usize, mask: u16, notes: &mut [u8]) -> usize
     requires { SomeMask row number mask notes.old }
-    ensures { (s : ChartNotesScratch) (cells : Row) → MaskFits row number mask notes.old s cells → (rows : List Row) → Written rows s notes.old → Written (rows ++ (cells ∷ [])) (afterTaps s result) notes.new }
+    ensures { (s : ChartNotesScratch) (cells : Row) → MaskFits row number mask notes.old s cells → (rows : List Row) → Written rows s notes.old → Written (rows ++ (cells ∷ [])) (after_taps s result) notes.new }
 {
     let one = low_bit(mask as u32);
     let first = push_tap(row, number, one.column, one.tap, notes);

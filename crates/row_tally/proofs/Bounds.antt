@@ -6,18 +6,18 @@ use native.Mathlib.Omega.{arith}
 use lib.Dec.{eqb, leb}
 use lib.ListN.{length}
 use Rattle.definitions.proofs.Lists.{one-le}
-use Rattle.definitions.specs.Lists.{oneIf, count}
+use Rattle.definitions.specs.Lists.{number_of_bool, count}
 use Rattle.definitions.specs.Lines.{Row}
 use Rattle.definitions.specs.Cells.{cell_of}
-use Rattle.definitions.specs.Tally.{CountKind, countedAs, place, rowSum, rowSumBy, noStats, addRow}
+use Rattle.definitions.specs.Tally.{CountKind, counted_as, place, row_sum, row_sum_by, empty_stats, tally_with_row}
 use Rattle.definitions.specs.Tally.{nothing, hold, roll, tail, mine, lift, fake}
-use Rattle.definitions.specs.Judged.{isJudgedArrow, isUnjudgedFake, judgedSum, judgeRow}
+use Rattle.definitions.specs.Judged.{is_judged_arrow, is_unjudged_fake, judged_sum, judge_row}
 use Rattle.definitions.specs.declared.Cell.{Cell}
 use Rattle.definitions.specs.declared.RowSum.{RowSum}
 use Rattle.definitions.specs.declared.ArrowStats.{ArrowStats}
 use Rattle.row_tally.specs.Bounds.{Under, Below}
-use Rattle.row_tally.specs.Sums.{noSum, addArrow, addCounted, addCell}
-use Rattle.row_tally.proofs.Sums.{sumFrom, sum-start, sum-end, sum-next}
+use Rattle.row_tally.specs.Sums.{empty_sum, add_arrow, add_counted, sum_with_cell}
+use Rattle.row_tally.proofs.Sums.{sum_from, sum-start, sum-end, sum-next}
 
 pub under_more : (j k : ℕ) (s : RowSum) → j ≤ k → Under j s → Under k s
 under_more j k s h u = omega arith
@@ -26,7 +26,7 @@ pub below_more : (j k : ℕ) (t : ArrowStats) → j ≤ k → Below j t → Belo
 below_more j k t h b = omega arith
 
 -- a cell is counted in one way at most
-heads-le : (k : CountKind) → oneIf (eqb (place k) 1) + oneIf (eqb (place k) 2) ≤ 1
+heads-le : (k : CountKind) → number_of_bool (eqb (place k) 1) + number_of_bool (eqb (place k) 2) ≤ 1
 heads-le nothing = omega arith
 heads-le hold = omega arith
 heads-le roll = omega arith
@@ -36,62 +36,62 @@ heads-le lift = omega arith
 heads-le fake = omega arith
 
 module _ (k : ℕ) (s : RowSum) (c : ℕ) (arrow : Bool) (u : Under k s) where
-  pub under-cell : (x : Cell) → Under (k + 1) (addCell s c x arrow)
-  unfolding addArrow addCounted
+  pub under-cell : (x : Cell) → Under (k + 1) (sum_with_cell s c x arrow)
+  unfolding add_arrow add_counted
   under-cell x =
       let a = one-le arrow in
       let l = one-le (arrow && eqb (c % 4) 0) in
       let d = one-le (arrow && eqb (c % 4) 1) in
       let p = one-le (arrow && eqb (c % 4) 2) in
       let r = one-le (arrow && eqb (c % 4) 3) in
-      let h = one-le (eqb (place (countedAs x)) 1) in
-      let o = one-le (eqb (place (countedAs x)) 2) in
-      let b = heads-le (countedAs x) in
-      let t = one-le (eqb (place (countedAs x)) 3) in
-      let m = one-le (eqb (place (countedAs x)) 4) in
-      let i = one-le (eqb (place (countedAs x)) 5) in
-      let f = one-le (eqb (place (countedAs x)) 6) in
+      let h = one-le (eqb (place (counted_as x)) 1) in
+      let o = one-le (eqb (place (counted_as x)) 2) in
+      let b = heads-le (counted_as x) in
+      let t = one-le (eqb (place (counted_as x)) 3) in
+      let m = one-le (eqb (place (counted_as x)) 4) in
+      let i = one-le (eqb (place (counted_as x)) 5) in
+      let f = one-le (eqb (place (counted_as x)) 6) in
       omega arith
 
 -- a row adds at most its length to each count
-under-from : (arrow : Cell → Bool) (k : ℕ) (s : RowSum) (c : ℕ) (r : Row) → Under k s → Under (k + length r) (sumFrom arrow s c r)
+under-from : (arrow : Cell → Bool) (k : ℕ) (s : RowSum) (c : ℕ) (r : Row) → Under k s → Under (k + length r) (sum_from arrow s c r)
 under-from arrow k s c [] u = rw (sum-end arrow s c) (under_more k (k + 0) s (omega arith) u)
 under-from arrow k s c (b ∷ r) u =
     rw (sum-next arrow s c b r)
     (under_more (k + 1 + length r) (k + suc (length r)) _ (omega arith)
-    (under-from arrow (k + 1) (addCell s c (cell_of b) (arrow (cell_of b))) (suc c) r (under-cell k s c (arrow (cell_of b)) u (cell_of b))))
+    (under-from arrow (k + 1) (sum_with_cell s c (cell_of b) (arrow (cell_of b))) (suc c) r (under-cell k s c (arrow (cell_of b)) u (cell_of b))))
 
-under-by : (arrow : Cell → Bool) (r : Row) → Under (length r) (rowSumBy arrow r)
+under-by : (arrow : Cell → Bool) (r : Row) → Under (length r) (row_sum_by arrow r)
 under-by arrow r =
     rw (← sum-start arrow r)
-    (under_more (0 + length r) (length r) _ (omega arith) (under-from arrow 0 noSum 0 r (omega arith)))
+    (under_more (0 + length r) (length r) _ (omega arith) (under-from arrow 0 empty_sum 0 r (omega arith)))
 
 count-le : (p : ℕ → Bool) (r : Row) → count p r ≤ length r
 count-le p [] = omega arith
 count-le p (b ∷ r) = omega (arith, one-le (p b), count-le p r)
 
 -- the counts of a row of at most n cells
-pub under-row : (n : ℕ) (r : Row) → length r ≤ n → Under n (rowSum r)
-unfolding rowSum
+pub under-row : (n : ℕ) (r : Row) → length r ≤ n → Under n (row_sum r)
+unfolding row_sum
 under-row n r h = under_more (length r) n _ h (under-by _ r)
 
-pub under-judged : (n : ℕ) (judged : Bool) (r : Row) → length r ≤ n → Under n (judgedSum judged r)
-unfolding judgedSum
-under-judged n true r h = under_more (length r) n _ h (under-by isJudgedArrow r)
-under-judged n false r h = omega (arith, count-le (λ b. isUnjudgedFake (cell_of b)) r)
+pub under-judged : (n : ℕ) (judged : Bool) (r : Row) → length r ≤ n → Under n (judged_sum judged r)
+unfolding judged_sum
+under-judged n true r h = under_more (length r) n _ h (under-by is_judged_arrow r)
+under-judged n false r h = omega (arith, count-le (λ b. is_unjudged_fake (cell_of b)) r)
 
 module _ (k n : ℕ) (t : ArrowStats) (s : RowSum) (b : Below k t) (u : Under n s) (pos : 1 ≤ n) where
   -- a row adds at most n to each count of a tally
-  pub below_row : Below (k + n) (addRow t s)
-  unfolding addRow
+  pub below_row : Below (k + n) (tally_with_row t s)
+  unfolding tally_with_row
   below_row =
       let a = one-le (leb 1 s.arrows) in
       let j = one-le (leb 2 s.arrows) in
       let h = one-le (leb 1 s.arrows && leb 3 (s.arrows + t.holding)) in
       omega arith
 
-  pub below-judged : (judged : Bool) (held : ℕ) → Below (k + n) (judgeRow t judged held s)
-  unfolding judgeRow
+  pub below-judged : (judged : Bool) (held : ℕ) → Below (k + n) (judge_row t judged held s)
+  unfolding judge_row
   below-judged judged held =
       let a = one-le (leb 1 s.arrows) in
       let j = one-le (leb 2 s.arrows) in
@@ -99,13 +99,13 @@ module _ (k n : ℕ) (t : ArrowStats) (s : RowSum) (b : Below k t) (u : Under n 
       omega arith
 
 -- a row of at most ten cells adds at most 10 to each
-pub below-line : (k : ℕ) (t : ArrowStats) (r : Row) → length r ≤ 10 → Below k t → Below (k + 10) (addRow t (rowSum r))
-below-line k t r h b = below_row k 10 t (rowSum r) b (under-row 10 r h) (omega arith)
+pub below-line : (k : ℕ) (t : ArrowStats) (r : Row) → length r ≤ 10 → Below k t → Below (k + 10) (tally_with_row t (row_sum r))
+below-line k t r h b = below_row k 10 t (row_sum r) b (under-row 10 r h) (omega arith)
 
 pub below-judged-line : (k : ℕ) (t : ArrowStats) (judged : Bool) (held : ℕ) (r : Row) → length r ≤ 10 → Below k t
-    → Below (k + 10) (judgeRow t judged held (judgedSum judged r))
+    → Below (k + 10) (judge_row t judged held (judged_sum judged r))
 below-judged-line k t judged held r h b =
-    below-judged k 10 t (judgedSum judged r) b (under-judged 10 judged r h) (omega arith) judged held
+    below-judged k 10 t (judged_sum judged r) b (under-judged 10 judged r h) (omega arith) judged held
 
-pub below_none : Below 0 noStats
+pub below_none : Below 0 empty_stats
 below_none = omega arith

@@ -7,35 +7,35 @@ use native.Mathlib.Nat.{add-zero, add-suc, suc-add}
 use lib.ListN.{length}
 use Rattle.definitions.specs.Lines.{Row}
 use Rattle.definitions.specs.Tracker.{Pair}
-use Rattle.definitions.specs.Tally.{rowSum, noStats, addRow, tallyFrom, tally}
-use Rattle.definitions.specs.Correction.{keepRow, keepFrom}
-use Rattle.definitions.specs.Judged.{judgedSum, judgeRow, openBefore, judgeFrom}
+use Rattle.definitions.specs.Tally.{row_sum, empty_stats, tally_with_row, tally_from, tally}
+use Rattle.definitions.specs.Correction.{keep_row, keep_from}
+use Rattle.definitions.specs.Judged.{judged_sum, judge_row, open_before, judge_from}
 use Rattle.definitions.specs.declared.ArrowStats.{ArrowStats}
 
-tally-from : (t : ArrowStats) (rows : List Row) (r : Row) → tallyFrom t (rows ++ (r ∷ [])) ≡ addRow (tallyFrom t rows) (rowSum r)
+tally-from : (t : ArrowStats) (rows : List Row) (r : Row) → tally_from t (rows ++ (r ∷ [])) ≡ tally_with_row (tally_from t rows) (row_sum r)
 tally-from t [] r = refl
-tally-from t (q ∷ rows) r = tally-from (addRow t (rowSum q)) rows r
+tally-from t (q ∷ rows) r = tally-from (tally_with_row t (row_sum q)) rows r
 
-pub tally-snoc : (rows : List Row) (r : Row) → tally (rows ++ (r ∷ [])) ≡ addRow (tally rows) (rowSum r)
+pub tally-snoc : (rows : List Row) (r : Row) → tally (rows ++ (r ∷ [])) ≡ tally_with_row (tally rows) (row_sum r)
 unfolding tally
-tally-snoc rows r = tally-from noStats rows r
+tally-snoc rows r = tally-from empty_stats rows r
 
-pub tally-none : tally [] ≡ noStats
+pub tally-none : tally [] ≡ empty_stats
 unfolding tally
 tally-none = refl
 
 module _ (ps : ℕ → List Pair) where
   pub keep_snoc : (i : ℕ) (rows : List Row) (r : Row)
-      → keepFrom ps i (rows ++ (r ∷ [])) ≡ keepFrom ps i rows ++ (keepRow ps (i + length rows) 0 r ∷ [])
+      → keep_from ps i (rows ++ (r ∷ [])) ≡ keep_from ps i rows ++ (keep_row ps (i + length rows) 0 r ∷ [])
   keep_snoc i [] r = rw add-zero
-  keep_snoc i (q ∷ rows) r = rw (add-suc, ← suc-add) (ap (λ (l : List Row). keepRow ps i 0 q ∷ l) (keep_snoc (suc i) rows r))
+  keep_snoc i (q ∷ rows) r = rw (add-suc, ← suc-add) (ap (λ (l : List Row). keep_row ps i 0 q ∷ l) (keep_snoc (suc i) rows r))
 
   module _ (L : ℕ) (J : ℕ → Bool) where
     -- the judged tally t with row i
-    abbrev pub judgedAfter : ArrowStats → ℕ → Row → ArrowStats
-    judgedAfter t i r = judgeRow t (J i) (openBefore L J ps i) (judgedSum (J i) (keepRow ps i 0 r))
+    abbrev pub judged_after : ArrowStats → ℕ → Row → ArrowStats
+    judged_after t i r = judge_row t (J i) (open_before L J ps i) (judged_sum (J i) (keep_row ps i 0 r))
 
     pub judge-snoc : (t : ArrowStats) (i : ℕ) (rows : List Row) (r : Row)
-        → judgeFrom L J ps t i (rows ++ (r ∷ [])) ≡ judgedAfter (judgeFrom L J ps t i rows) (i + length rows) r
+        → judge_from L J ps t i (rows ++ (r ∷ [])) ≡ judged_after (judge_from L J ps t i rows) (i + length rows) r
     judge-snoc t i [] r = rw add-zero
-    judge-snoc t i (q ∷ rows) r = rw (add-suc, ← suc-add) (judge-snoc (judgedAfter t i q) (suc i) rows r)
+    judge-snoc t i (q ∷ rows) r = rw (add-suc, ← suc-add) (judge-snoc (judged_after t i q) (suc i) rows r)

@@ -7,22 +7,22 @@ use native.Mathlib.Nat.{zero-add, add-zero, add_assoc}
 use lib.Dec.{eqb}
 use Rattle.definitions.specs.Lines.{Row}
 use Rattle.definitions.specs.Cells.{cell_of}
-use Rattle.definitions.specs.Tally.{countFrom, counted, direction, rowSumBy}
+use Rattle.definitions.specs.Tally.{count_from, counted, direction, row_sum_by}
 use Rattle.definitions.specs.Tally.{hold, roll, tail, mine, lift, fake}
 use Rattle.definitions.specs.declared.Cell.{Cell}
 use Rattle.definitions.specs.declared.Cell.TheVariants.{Empty}
 use Rattle.definitions.specs.declared.RowSum.{RowSum}
-use Rattle.row_tally.specs.Sums.{noSum, addArrow, addCounted, addCell}
+use Rattle.row_tally.specs.Sums.{empty_sum, add_arrow, add_counted, sum_with_cell}
 
 -- the sum s, with the cells of a row from column c on
-unfoldable pub sumFrom : (Cell → Bool) → RowSum → ℕ → Row → RowSum
-sumFrom arrow s c r =
+unfoldable pub sum_from : (Cell → Bool) → RowSum → ℕ → Row → RowSum
+sum_from arrow s c r =
     record {
-      arrows = s.arrows + countFrom (λ c x. arrow x) c r;
-      left = s.left + countFrom (λ c x. arrow x && eqb (direction c) 0) c r;
-      down = s.down + countFrom (λ c x. arrow x && eqb (direction c) 1) c r;
-      up = s.up + countFrom (λ c x. arrow x && eqb (direction c) 2) c r;
-      right = s.right + countFrom (λ c x. arrow x && eqb (direction c) 3) c r;
+      arrows = s.arrows + count_from (λ c x. arrow x) c r;
+      left = s.left + count_from (λ c x. arrow x && eqb (direction c) 0) c r;
+      down = s.down + count_from (λ c x. arrow x && eqb (direction c) 1) c r;
+      up = s.up + count_from (λ c x. arrow x && eqb (direction c) 2) c r;
+      right = s.right + count_from (λ c x. arrow x && eqb (direction c) 3) c r;
       holds = s.holds + counted hold r;
       rolls = s.rolls + counted roll r;
       tails = s.tails + counted tail r;
@@ -31,19 +31,19 @@ sumFrom arrow s c r =
       fakes = s.fakes + counted fake r;
     }
 
-pub sum-start : (arrow : Cell → Bool) (r : Row) → sumFrom arrow noSum 0 r ≡ rowSumBy arrow r
-unfolding sumFrom rowSumBy
+pub sum-start : (arrow : Cell → Bool) (r : Row) → sum_from arrow empty_sum 0 r ≡ row_sum_by arrow r
+unfolding sum_from row_sum_by
 sum-start arrow r = simp zero-add
 
-pub sum-end : (arrow : Cell → Bool) (s : RowSum) (c : ℕ) → sumFrom arrow s c [] ≡ s
-unfolding sumFrom
+pub sum-end : (arrow : Cell → Bool) (s : RowSum) (c : ℕ) → sum_from arrow s c [] ≡ s
+unfolding sum_from
 sum-end arrow s c = simp add-zero
 
 pub sum-next : (arrow : Cell → Bool) (s : RowSum) (c b : ℕ) (r : Row)
-    → sumFrom arrow s c (b ∷ r) ≡ sumFrom arrow (addCell s c (cell_of b) (arrow (cell_of b))) (suc c) r
-unfolding sumFrom addArrow addCounted
+    → sum_from arrow s c (b ∷ r) ≡ sum_from arrow (sum_with_cell s c (cell_of b) (arrow (cell_of b))) (suc c) r
+unfolding sum_from add_arrow add_counted
 sum-next arrow s c b r = simp add_assoc
 
-pub no_cell : (s : RowSum) (c : ℕ) → addCell s c Empty false ≡ s
-unfolding addArrow addCounted
+pub no_cell : (s : RowSum) (c : ℕ) → sum_with_cell s c Empty false ≡ s
+unfolding add_arrow add_counted
 no_cell s c = simp add-zero

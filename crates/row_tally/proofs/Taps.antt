@@ -6,13 +6,13 @@ use Prim.Native.Nat.{ℕ, zero, suc, ◌+◌, ◌/◌, ◌^◌, ◌<◌}
 use native.Mathlib.Nat.{mod-lt, add-zero}
 use native.Mathlib.Omega.{arith}
 use lib.Dec.{eqb}
-use Rattle.definitions.specs.Lists.{oneIf}
+use Rattle.definitions.specs.Lists.{number_of_bool}
 use Rattle.definitions.specs.Lines.{Row}
-use Rattle.definitions.specs.Cells.{cell_of, byte_at, isArrow}
-use Rattle.definitions.specs.Tally.{countFrom, direction, rowSumBy, rowSum}
-use Rattle.definitions.specs.Judged.{isJudgedArrow, onlyFakes, judgedSum}
+use Rattle.definitions.specs.Cells.{cell_of, byte_at, is_arrow}
+use Rattle.definitions.specs.Tally.{count_from, direction, row_sum_by, row_sum}
+use Rattle.definitions.specs.Judged.{is_judged_arrow, sum_of_fakes, judged_sum}
 use Rattle.definitions.specs.declared.Cell.{Cell}
-use Rattle.taps.specs.Taps.{tapLineMask, bit, maskCounts, unpack}
+use Rattle.taps.specs.Taps.{mask_of_line, bit, mask_counts, unpack}
 use Rattle.taps.specs.declared.Taps.TheVariants.{Mask}
 use Rattle.taps.proofs.Masks.{row_of, mask-row, line-taps, tap-line-sum}
 use Rattle.taps.proofs.Free.{tap-cell}
@@ -21,46 +21,46 @@ use Rattle.row_tally.proofs.Bounds.{under-row}
 use Rattle.row_tally.proofs.Kept.{unjudged}
 
 -- the counts of a mask are those of a row of ten cells
-pub mask_under : (m : ℕ) → m < 1024 → Under 10 (unpack (maskCounts m))
+pub mask_under : (m : ℕ) → m < 1024 → Under 10 (unpack (mask_counts m))
 mask_under m h = rw (← mask-row m h) (under-row 10 (row_of 10 m) (omega arith))
 
 -- tests that agree on a row's cells count the same
 count_same : (p q : ℕ → Cell → Bool) (c : ℕ) (r : Row) → ((d k : ℕ) → p d (cell_of (byte_at k r)) ≡ q d (cell_of (byte_at k r)))
-    → countFrom p c r ≡ countFrom q c r
+    → count_from p c r ≡ count_from q c r
 count_same p q c [] h = refl
-count_same p q c (b ∷ r) h = ap₂ (λ (x y : ℕ). x + y) (ap oneIf (h c 0)) (count_same p q (suc c) r (λ d k. h d (suc k)))
+count_same p q c (b ∷ r) h = ap₂ (λ (x y : ℕ). x + y) (ap number_of_bool (h c 0)) (count_same p q (suc c) r (λ d k. h d (suc k)))
 
-module _ (r : Row) (m : ℕ) (e : tapLineMask r ≡ Mask m) where
+module _ (r : Row) (m : ℕ) (e : mask_of_line r ≡ Mask m) where
   -- a `1` is an arrow of either, and a `0` of neither
-  same-arrow : (k : ℕ) → isJudgedArrow (cell_of (byte_at k r)) ≡ isArrow (cell_of (byte_at k r))
+  same-arrow : (k : ℕ) → is_judged_arrow (cell_of (byte_at k r)) ≡ is_arrow (cell_of (byte_at k r))
   unfolding cell_of
   same-arrow k = rw (tap-cell r m k (line-taps r m e)) (go (bit k m) (mod-lt (m / 2 ^ k) (omega arith)))
     where
-      go : (f : ℕ) → f < 2 → isJudgedArrow (cell_of (48 + f)) ≡ isArrow (cell_of (48 + f))
+      go : (f : ℕ) → f < 2 → is_judged_arrow (cell_of (48 + f)) ≡ is_arrow (cell_of (48 + f))
       go zero h = refl
       go (suc zero) h = refl
       go (suc (suc f)) h = absurd (omega arith)
 
-  same_sum : rowSumBy isJudgedArrow r ≡ rowSumBy isArrow r
-  unfolding rowSumBy
+  same_sum : row_sum_by is_judged_arrow r ≡ row_sum_by is_arrow r
+  unfolding row_sum_by
   same_sum =
-      rw (count_same (λ c x. isJudgedArrow x) (λ c x. isArrow x) 0 r (λ d k. same-arrow k), towards 0, towards 1, towards 2, towards 3)
+      rw (count_same (λ c x. is_judged_arrow x) (λ c x. is_arrow x) 0 r (λ d k. same-arrow k), towards 0, towards 1, towards 2, towards 3)
     where
-      towards : (n : ℕ) → countFrom (λ c x. isJudgedArrow x && eqb (direction c) n) 0 r ≡ countFrom (λ c x. isArrow x && eqb (direction c) n) 0 r
+      towards : (n : ℕ) → count_from (λ c x. is_judged_arrow x && eqb (direction c) n) 0 r ≡ count_from (λ c x. is_arrow x && eqb (direction c) n) 0 r
       towards n =
-          count_same (λ c x. isJudgedArrow x && eqb (direction c) n) (λ c x. isArrow x && eqb (direction c) n) 0 r
+          count_same (λ c x. is_judged_arrow x && eqb (direction c) n) (λ c x. is_arrow x && eqb (direction c) n) 0 r
           (λ d k. ap (λ t. t && eqb (direction d) n) (same-arrow k))
 
-  pub taps-judged : unpack (maskCounts m) ≡ judgedSum true r
-  unfolding judgedSum rowSum
+  pub taps-judged : unpack (mask_counts m) ≡ judged_sum true r
+  unfolding judged_sum row_sum
   taps-judged = sym (same_sum ∙ tap-line-sum r m e)
 
-  pub taps-unjudged : onlyFakes (unpack (maskCounts m)).arrows ≡ judgedSum false r
-  unfolding judgedSum unpack
-  taps-unjudged = ap onlyFakes (simp add-zero) ∙ ap (λ s. onlyFakes (s.arrows + s.mines + s.fakes)) taps-judged ∙ unjudged r
+  pub taps-unjudged : sum_of_fakes (unpack (mask_counts m)).arrows ≡ judged_sum false r
+  unfolding judged_sum unpack
+  taps-unjudged = ap sum_of_fakes (simp add-zero) ∙ ap (λ s. sum_of_fakes (s.arrows + s.mines + s.fakes)) taps-judged ∙ unjudged r
 
   -- and it has no head
-  pub taps-heads : (judged : Bool) → (judgedSum judged r).holds + (judgedSum judged r).rolls ≡ 0
+  pub taps-heads : (judged : Bool) → (judged_sum judged r).holds + (judged_sum judged r).rolls ≡ 0
   unfolding unpack
   taps-heads true = rw (← taps-judged)
   taps-heads false = rw (← taps-unjudged)

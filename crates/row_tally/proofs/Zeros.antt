@@ -7,62 +7,62 @@ use native.Mathlib.Nat.{add-zero, zero-add, sub-zero}
 use native.Mathlib.Omega.{arith}
 use borrow.Author.Tests.{eqb-true, le-leb}
 use lib.Dec.{eqb, leb}
-use Rattle.definitions.specs.Lists.{oneIf, count}
+use Rattle.definitions.specs.Lists.{number_of_bool, count}
 use Rattle.definitions.specs.Lines.{Row}
-use Rattle.definitions.specs.Cells.{cell_of, isArrow}
-use Rattle.definitions.specs.Figures.{isStep}
-use Rattle.definitions.specs.Reduction.{allZero}
-use Rattle.definitions.specs.Tracker.{Pair, holdAt}
-use Rattle.definitions.specs.Tally.{place, countedAs, countFrom, direction, rowSumBy, rowSum, addRow}
-use Rattle.definitions.specs.Correction.{keepRow}
-use Rattle.definitions.specs.Judged.{onlyFakes}
+use Rattle.definitions.specs.Cells.{cell_of, is_arrow}
+use Rattle.definitions.specs.Figures.{is_step}
+use Rattle.definitions.specs.Reduction.{all_zero}
+use Rattle.definitions.specs.Tracker.{Pair, hold_at}
+use Rattle.definitions.specs.Tally.{place, counted_as, count_from, direction, row_sum_by, row_sum, tally_with_row}
+use Rattle.definitions.specs.Correction.{keep_row}
+use Rattle.definitions.specs.Judged.{sum_of_fakes}
 use Rattle.definitions.specs.declared.ArrowStats.{ArrowStats}
 use Rattle.definitions.specs.declared.Cell.{Cell}
 use Rattle.definitions.specs.declared.Cell.TheVariants.{Empty}
 use Rattle.definitions.proofs.Bools.{and_left, and_right}
 
-pub zero-kept : (ps : ℕ → List Pair) (i c : ℕ) (r : Row) → allZero r ≡ true → keepRow ps i c r ≡ r
-unfolding holdAt cell_of
+pub zero-kept : (ps : ℕ → List Pair) (i c : ℕ) (r : Row) → all_zero r ≡ true → keep_row ps i c r ≡ r
+unfolding hold_at cell_of
 zero-kept ps i c [] z = refl
 zero-kept ps i c (b ∷ r) z =
-    ap₂ (λ (x : ℕ) (xs : Row). x ∷ xs) (rw (eqb-true b 48 (and_left (eqb b 48) (allZero r) z))) (zero-kept ps i (suc c) r (and_right (eqb b 48) (allZero r) z))
+    ap₂ (λ (x : ℕ) (xs : Row). x ∷ xs) (rw (eqb-true b 48 (and_left (eqb b 48) (all_zero r) z))) (zero-kept ps i (suc c) r (and_right (eqb b 48) (all_zero r) z))
 
-pub zero-count : (p : ℕ → Bool) → p 48 ≡ false → (r : Row) → allZero r ≡ true → count p r ≡ 0
+pub zero-count : (p : ℕ → Bool) → p 48 ≡ false → (r : Row) → all_zero r ≡ true → count p r ≡ 0
 zero-count p n [] z = refl
-zero-count p n (b ∷ r) z = rw (eqb-true b 48 (and_left (eqb b 48) (allZero r) z), n, zero-count p n r (and_right (eqb b 48) (allZero r) z))
+zero-count p n (b ∷ r) z = rw (eqb-true b 48 (and_left (eqb b 48) (all_zero r) z), n, zero-count p n r (and_right (eqb b 48) (all_zero r) z))
 
-zero-from : (p : ℕ → Cell → Bool) → ((c : ℕ) → p c Empty ≡ false) → (c : ℕ) (r : Row) → allZero r ≡ true → countFrom p c r ≡ 0
+zero-from : (p : ℕ → Cell → Bool) → ((c : ℕ) → p c Empty ≡ false) → (c : ℕ) (r : Row) → all_zero r ≡ true → count_from p c r ≡ 0
 unfolding cell_of
 zero-from p n c [] z = refl
-zero-from p n c (b ∷ r) z = rw (eqb-true b 48 (and_left (eqb b 48) (allZero r) z), n c, zero-from p n (suc c) r (and_right (eqb b 48) (allZero r) z))
+zero-from p n c (b ∷ r) z = rw (eqb-true b 48 (and_left (eqb b 48) (all_zero r) z), n c, zero-from p n (suc c) r (and_right (eqb b 48) (all_zero r) z))
 
-module _ (r : Row) (z : allZero r ≡ true) where
+module _ (r : Row) (z : all_zero r ≡ true) where
   -- the row's sum has 0 throughout, as that of no fakes
-  pub zero-sum : (arrow : Cell → Bool) → arrow Empty ≡ false → rowSumBy arrow r ≡ onlyFakes 0
-  unfolding rowSumBy cell_of
+  pub zero-sum : (arrow : Cell → Bool) → arrow Empty ≡ false → row_sum_by arrow r ≡ sum_of_fakes 0
+  unfolding row_sum_by cell_of
   zero-sum arrow n =
       rw (zero-from (λ c x. arrow x) (λ c. n) 0 r z, towards 0, towards 1, towards 2, towards 3, others 1 refl, others 2 refl, others 3 refl, others 4 refl, others 5 refl, others 6 refl)
     where
-      towards : (d : ℕ) → countFrom (λ c x. arrow x && eqb (direction c) d) 0 r ≡ 0
+      towards : (d : ℕ) → count_from (λ c x. arrow x && eqb (direction c) d) 0 r ≡ 0
       towards d = zero-from (λ c x. arrow x && eqb (direction c) d) (λ c. ap (λ t. t && eqb (direction c) d) n) 0 r z
 
-      others : (k : ℕ) → eqb 0 k ≡ false → count (λ b. eqb (place (countedAs (cell_of b))) k) r ≡ 0
-      others k n = zero-count (λ b. eqb (place (countedAs (cell_of b))) k) n r z
+      others : (k : ℕ) → eqb 0 k ≡ false → count (λ b. eqb (place (counted_as (cell_of b))) k) r ≡ 0
+      others k n = zero-count (λ b. eqb (place (counted_as (cell_of b))) k) n r z
 
-pub zero-adds : (t : ArrowStats) (r : Row) → allZero r ≡ true → addRow t (rowSum r) ≡ t
-unfolding addRow rowSum
-zero-adds t r z = rw (zero-sum r z isArrow refl) (simp (add-zero, sub-zero) refl)
+pub zero-adds : (t : ArrowStats) (r : Row) → all_zero r ≡ true → tally_with_row t (row_sum r) ≡ t
+unfolding tally_with_row row_sum
+zero-adds t r z = rw (zero-sum r z is_arrow refl) (simp (add-zero, sub-zero) refl)
 
 -- a row is a step where its sum has an arrow
-step_from : (c : ℕ) (r : Row) → leb 1 (countFrom (λ c x. isArrow x) c r) ≡ isStep r
-unfolding isStep
+step_from : (c : ℕ) (r : Row) → leb 1 (count_from (λ c x. is_arrow x) c r) ≡ is_step r
+unfolding is_step
 step_from c [] = refl
-step_from c (b ∷ r) = go (isArrow (cell_of b)) (countFrom (λ c x. isArrow x) (suc c) r) (isStep r) (step_from (suc c) r)
+step_from c (b ∷ r) = go (is_arrow (cell_of b)) (count_from (λ c x. is_arrow x) (suc c) r) (is_step r) (step_from (suc c) r)
   where
-    go : (t : Bool) (n : ℕ) (s : Bool) → leb 1 n ≡ s → leb 1 (oneIf t + n) ≡ (t || s)
+    go : (t : Bool) (n : ℕ) (s : Bool) → leb 1 n ≡ s → leb 1 (number_of_bool t + n) ≡ (t || s)
     go true n s e = le-leb 1 (1 + n) (omega arith)
     go false n s e = rw zero-add e
 
-pub step-arrows : (r : Row) → leb 1 (rowSum r).arrows ≡ isStep r
-unfolding rowSum rowSumBy
+pub step-arrows : (r : Row) → leb 1 (row_sum r).arrows ≡ is_step r
+unfolding row_sum row_sum_by
 step-arrows r = step_from 0 r

@@ -1,15 +1,15 @@
 -- What one cell adds to its row's sum: cited by private functions alone.
 use Rattle.std.specs.Prelude.{Bool, true, false, ◌&&◌, ℕ, ◌+◌, eqb}
-use Rattle.definitions.specs.Lists.{oneIf}
-use Rattle.definitions.specs.Cells.{isArrow}
-use Rattle.definitions.specs.Tally.{CountKind, countedAs, place, direction}
+use Rattle.definitions.specs.Lists.{number_of_bool}
+use Rattle.definitions.specs.Cells.{is_arrow}
+use Rattle.definitions.specs.Tally.{CountKind, counted_as, place, direction}
 use Rattle.definitions.specs.Tally.{hold, roll, tail, mine, lift, fake}
-use Rattle.definitions.specs.Judged.{isJudgedArrow}
+use Rattle.definitions.specs.Judged.{is_judged_arrow}
 use Rattle.definitions.specs.declared.Cell.{Cell}
 use Rattle.definitions.specs.declared.RowSum.{RowSum}
 
-abbrev pub noSum : RowSum
-noSum =
+abbrev pub empty_sum : RowSum
+empty_sum =
     record {
       arrows = 0;
       left = 0;
@@ -25,14 +25,14 @@ noSum =
     }
 
 -- with an arrow in column c, where there is one
-unfoldable pub addArrow : RowSum → ℕ → Bool → RowSum
-addArrow s c arrow =
+unfoldable pub add_arrow : RowSum → ℕ → Bool → RowSum
+add_arrow s c arrow =
     record {
-      arrows = s.arrows + oneIf arrow;
-      left = s.left + oneIf (arrow && eqb (direction c) 0);
-      down = s.down + oneIf (arrow && eqb (direction c) 1);
-      up = s.up + oneIf (arrow && eqb (direction c) 2);
-      right = s.right + oneIf (arrow && eqb (direction c) 3);
+      arrows = s.arrows + number_of_bool arrow;
+      left = s.left + number_of_bool (arrow && eqb (direction c) 0);
+      down = s.down + number_of_bool (arrow && eqb (direction c) 1);
+      up = s.up + number_of_bool (arrow && eqb (direction c) 2);
+      right = s.right + number_of_bool (arrow && eqb (direction c) 3);
       holds = s.holds;
       rolls = s.rolls;
       tails = s.tails;
@@ -42,11 +42,11 @@ addArrow s c arrow =
     }
 
 abbrev one_of : CountKind → Cell → ℕ
-one_of k x = oneIf (eqb (place (countedAs x)) (place k))
+one_of k x = number_of_bool (eqb (place (counted_as x)) (place k))
 
 -- with what a cell is counted as beside an arrow
-unfoldable pub addCounted : RowSum → Cell → RowSum
-addCounted s x =
+unfoldable pub add_counted : RowSum → Cell → RowSum
+add_counted s x =
     record {
       arrows = s.arrows;
       left = s.left;
@@ -62,10 +62,10 @@ addCounted s x =
     }
 
 -- with a cell in column c, which is an arrow or not
-abbrev pub addCell : RowSum → ℕ → Cell → Bool → RowSum
-addCell s c x arrow = addCounted (addArrow s c arrow) x
+abbrev pub sum_with_cell : RowSum → ℕ → Cell → Bool → RowSum
+sum_with_cell s c x arrow = add_counted (add_arrow s c arrow) x
 
 -- the arrows of a judged row, or of a plain one
-abbrev pub arrowOf : Bool → Cell → Bool
-arrowOf true x = isJudgedArrow x
-arrowOf false x = isArrow x
+abbrev pub arrow_of : Bool → Cell → Bool
+arrow_of true x = is_judged_arrow x
+arrow_of false x = is_arrow x

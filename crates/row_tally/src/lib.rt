@@ -2,25 +2,25 @@
 #![tactic(auto)]
 
 ghost use Rattle.std.specs.Prelude.{◌≡◌, true, ◌+◌, ◌-◌, ◌≤◌, ◌<◌, length};
-ghost use Rattle.definitions.specs.Sizes.{countBound};
-ghost use Rattle.definitions.specs.Cells.{cell_of, isArrow};
-ghost use Rattle.definitions.specs.Tracker.{holdAt};
-ghost use Rattle.definitions.specs.Tally.{noStats, rowSum, rowSumBy, addSum, addRow};
-ghost use Rattle.definitions.specs.Correction.{keepHead, withSteps};
-ghost use Rattle.definitions.specs.Judged.{isJudgedArrow, onlyFakes, judgedSum, judgeRow};
-ghost use Rattle.taps.specs.Taps.{tapLineMask, Fits, TapCounts};
+ghost use Rattle.definitions.specs.Sizes.{count_bound};
+ghost use Rattle.definitions.specs.Cells.{cell_of, is_arrow};
+ghost use Rattle.definitions.specs.Tracker.{hold_at};
+ghost use Rattle.definitions.specs.Tally.{empty_stats, row_sum, row_sum_by, tally_with_sum, tally_with_row};
+ghost use Rattle.definitions.specs.Correction.{head_if_paired, tally_with_steps};
+ghost use Rattle.definitions.specs.Judged.{is_judged_arrow, sum_of_fakes, judged_sum, judge_row};
+ghost use Rattle.taps.specs.Taps.{mask_of_line, Fits, TapCounts};
 ghost use Rattle.taps.specs.declared.Taps.TheVariants.{Mask};
 ghost use Rattle.definitions.specs.Lines.{Row};
 ghost use Rattle.definitions.specs.declared.Cell.TheVariants.{Lift};
 ghost use Rattle.row_tally.specs.Bounds.{Under, Below};
-ghost use Rattle.row_tally.specs.Kept.{hasBit, keptCell, keepMask};
-ghost use Rattle.row_tally.specs.Sums.{noSum, addArrow, addCounted, addCell, arrowOf};
+ghost use Rattle.row_tally.specs.Kept.{bit_is_set, cell_by_mask, row_by_mask};
+ghost use Rattle.row_tally.specs.Sums.{empty_sum, add_arrow, add_counted, sum_with_cell, arrow_of};
 
 use definitions::{ArrowStats, Cell, DepthEffect, RowSum};
 
 // The sum of no cells.
 pub fn no_sum() -> RowSum
-    ensures { result ≡ noSum }
+    ensures { result ≡ empty_sum }
 {
     RowSum {
         arrows: 0,
@@ -38,10 +38,10 @@ pub fn no_sum() -> RowSum
 }
 
 // With an arrow in a column. Column mod 4 gives left, down, up, right.
-#[tactic(auto, unfolding(crate::specs::Sums::addArrow))]
+#[tactic(auto, unfolding(crate::specs::Sums::add_arrow))]
 fn bump_dir(s: RowSum, column: usize) -> RowSum
     requires { Under 10 s }
-    ensures { result ≡ addArrow s column true }
+    ensures { result ≡ add_arrow s column true }
 {
     let mut t = s;
     t.arrows += 1;
@@ -56,10 +56,10 @@ fn bump_dir(s: RowSum, column: usize) -> RowSum
 }
 
 // With a lift, which is an arrow of a judged row.
-#[tactic(auto, unfolding(crate::specs::Sums::addArrow, crate::specs::Sums::addCounted))]
+#[tactic(auto, unfolding(crate::specs::Sums::add_arrow, crate::specs::Sums::add_counted))]
 fn add_lift(s: RowSum, column: usize, judged: bool) -> RowSum
     requires { Under 10 s }
-    ensures { result ≡ addCounted (addArrow s column judged) Lift }
+    ensures { result ≡ add_counted (add_arrow s column judged) Lift }
 {
     if judged {
         let mut t = bump_dir(s, column);
@@ -72,10 +72,10 @@ fn add_lift(s: RowSum, column: usize, judged: bool) -> RowSum
 }
 
 // One cell of a row, in a column, by one match: an arrow, what else it is counted as, or both. A judged row has lifts for arrows too.
-#[tactic(auto, unfolding(crate::specs::Sums::addArrow, crate::specs::Sums::addCounted))]
+#[tactic(auto, unfolding(crate::specs::Sums::add_arrow, crate::specs::Sums::add_counted))]
 fn add_cell(s: RowSum, column: usize, b: u8, judged: bool) -> RowSum
     requires { Under 10 s }
-    ensures { result ≡ addCell s column (cell_of b) (arrowOf judged (cell_of b)) }
+    ensures { result ≡ sum_with_cell s column (cell_of b) (arrow_of judged (cell_of b)) }
 {
     match cells::cell_of(b) {
         Cell::Tap => bump_dir(s, column),
@@ -112,7 +112,7 @@ fn add_cell(s: RowSum, column: usize, b: u8, judged: bool) -> RowSum
 // One cell of a plain row.
 pub fn sum_cell(s: RowSum, column: usize, b: u8) -> RowSum
     requires { Under 10 s }
-    ensures { result ≡ addCell s column (cell_of b) (isArrow (cell_of b)) }
+    ensures { result ≡ sum_with_cell s column (cell_of b) (is_arrow (cell_of b)) }
 {
     add_cell(s, column, b, false)
 }
@@ -120,14 +120,14 @@ pub fn sum_cell(s: RowSum, column: usize, b: u8) -> RowSum
 // One cell of a judged row.
 pub fn judged_cell(s: RowSum, column: usize, b: u8) -> RowSum
     requires { Under 10 s }
-    ensures { result ≡ addCell s column (cell_of b) (isJudgedArrow (cell_of b)) }
+    ensures { result ≡ sum_with_cell s column (cell_of b) (is_judged_arrow (cell_of b)) }
 {
     add_cell(s, column, b, true)
 }
 
 // The tally of no rows.
 pub fn no_stats() -> ArrowStats
-    ensures { result ≡ noStats }
+    ensures { result ≡ empty_stats }
 {
     ArrowStats {
         total_arrows: 0,
@@ -149,8 +149,8 @@ pub fn no_stats() -> ArrowStats
 
 // The tally with one row more, where `hand` says whether it is a hand and `holding` what is held after it.
 fn add_sum(t: ArrowStats, s: RowSum, hand: bool, holding: u32) -> ArrowStats
-    requires { Below countBound t × Under 10 s }
-    ensures { result ≡ addSum t s hand holding }
+    requires { Below count_bound t × Under 10 s }
+    ensures { result ≡ tally_with_sum t s hand holding }
 {
     let step = cells::one_if(1 <= s.arrows);
     let jump = cells::one_if(2 <= s.arrows);
@@ -183,10 +183,10 @@ fn held_after(holding: u32, heads: u32, tails: u32) -> u32
 }
 
 // The tally with one row more, by value. A hand is a step whose arrows plus the holds before the row make 3 or more.
-#[tactic(auto, unfolding(definitions::specs::Tally::addRow))]
+#[tactic(auto, unfolding(definitions::specs::Tally::tally_with_row))]
 fn add_row(t: ArrowStats, s: RowSum) -> ArrowStats
-    requires { Below countBound t × Under 10 s }
-    ensures { result ≡ addRow t s }
+    requires { Below count_bound t × Under 10 s }
+    ensures { result ≡ tally_with_row t s }
 {
     let hand = (1 <= s.arrows) & (3 <= s.arrows + t.holding);
     let holding = held_after(t.holding, s.holds + s.rolls, s.tails);
@@ -195,8 +195,8 @@ fn add_row(t: ArrowStats, s: RowSum) -> ArrowStats
 
 // The running tally is lent by the caller and altered there.
 fn add_row_into(stats: &mut ArrowStats, s: RowSum)
-    requires { Below countBound stats.old × Under 10 s }
-    ensures { stats.new ≡ addRow stats.old s }
+    requires { Below count_bound stats.old × Under 10 s }
+    ensures { stats.new ≡ tally_with_row stats.old s }
 {
     let t = *stats;
     let r = add_row(t, s);
@@ -205,8 +205,8 @@ fn add_row_into(stats: &mut ArrowStats, s: RowSum)
 
 // The tally with one row more: it is lent to the row count, and handed back.
 pub fn add_row_lent(t: ArrowStats, s: RowSum) -> ArrowStats
-    requires { Below countBound t × Under 10 s }
-    ensures { result ≡ addRow t s }
+    requires { Below count_bound t × Under 10 s }
+    ensures { result ≡ tally_with_row t s }
 {
     let mut stats = t;
     add_row_into(&mut stats, s);
@@ -214,10 +214,10 @@ pub fn add_row_lent(t: ArrowStats, s: RowSum) -> ArrowStats
 }
 
 // The judged tally with one row more, before which `held` holds are open: a hand is told otherwise than on a plain row, and nothing is held.
-#[tactic(auto, unfolding(definitions::specs::Tally::addRow, definitions::specs::Judged::judgeRow))]
+#[tactic(auto, unfolding(definitions::specs::Tally::tally_with_row, definitions::specs::Judged::judge_row))]
 pub fn add_judged_row(t: ArrowStats, judged: bool, held: u32, s: RowSum) -> ArrowStats
-    requires { Below countBound t × Under 10 s × (held ≤ countBound) }
-    ensures { result ≡ judgeRow t judged held s }
+    requires { Below count_bound t × Under 10 s × (held ≤ count_bound) }
+    ensures { result ≡ judge_row t judged held s }
 {
     let hand = judged & (1 <= s.arrows + s.mines + s.fakes) & (3 <= s.arrows + held);
     let hands = t.hands + cells::one_if(hand);
@@ -229,8 +229,8 @@ pub fn add_judged_row(t: ArrowStats, judged: bool, held: u32, s: RowSum) -> Arro
 
 // The tally with one row of taps alone more.
 pub fn count_taps(t: ArrowStats, mask: u16, wide: bool, counts: &[u16; 256]) -> ArrowStats
-    requires { TapCounts wide counts.now × Below countBound t × Fits wide mask }
-    ensures { (row : Row) → tapLineMask row ≡ Mask mask → result ≡ addRow t (rowSum row) }
+    requires { TapCounts wide counts.now × Below count_bound t × Fits wide mask }
+    ensures { (row : Row) → mask_of_line row ≡ Mask mask → result ≡ tally_with_row t (row_sum row) }
 {
     let s = taps::tap_sum(mask, wide, counts);
     add_row_lent(t, s)
@@ -239,14 +239,14 @@ pub fn count_taps(t: ArrowStats, mask: u16, wide: bool, counts: &[u16; 256]) -> 
 // Whether the mask has the bit of a column.
 fn has_bit(mask: u16, column: usize) -> bool
     requires { column < 10 }
-    ensures { result ≡ hasBit column mask }
+    ensures { result ≡ bit_is_set column mask }
 {
     (mask >> column) & 1 == 1
 }
 
 // A byte as it is counted anew: a head that is not paired is a `0`.
 fn keep_head(b: u8, paired: bool) -> u8
-    ensures { result ≡ keepHead (holdAt b) paired b }
+    ensures { result ≡ head_if_paired (hold_at b) paired b }
 {
     match cells::hold_effect(b) {
         DepthEffect::Opens => { if paired { b } else { b'0' } }
@@ -259,7 +259,7 @@ fn keep_head(b: u8, paired: bool) -> u8
 // One cell of a row of which only the heads of a mask count, judged or plain.
 fn kept_cell(s: RowSum, column: usize, b: u8, heads: u16, judged: bool) -> RowSum
     requires { (column < 10) × Under 10 s }
-    ensures { result ≡ addCell s column (keptCell heads column b) (arrowOf judged (keptCell heads column b)) }
+    ensures { result ≡ sum_with_cell s column (cell_by_mask heads column b) (arrow_of judged (cell_by_mask heads column b)) }
 {
     let kept = keep_head(b, has_bit(heads, column));
     add_cell(s, column, kept, judged)
@@ -268,7 +268,7 @@ fn kept_cell(s: RowSum, column: usize, b: u8, heads: u16, judged: bool) -> RowSu
 // What a row adds up to of which only the heads of a mask count, judged or plain.
 fn kept_sum(row: &[u8], heads: u16, judged: bool) -> RowSum
     requires { length row.now ≤ 10 }
-    ensures { result ≡ rowSumBy (arrowOf judged) (keepMask heads 0 row.now) }
+    ensures { result ≡ row_sum_by (arrow_of judged) (row_by_mask heads 0 row.now) }
 {
     let mut s = no_sum();
     let mut i = 0;
@@ -281,8 +281,8 @@ fn kept_sum(row: &[u8], heads: u16, judged: bool) -> RowSum
 
 // The tally with one row more, of which only the heads of a mask count.
 pub fn count_line_masked(t: ArrowStats, row: &[u8], heads: u16) -> ArrowStats
-    requires { (length row.now ≤ 10) × Below countBound t }
-    ensures { result ≡ addRow t (rowSum (keepMask heads 0 row.now)) }
+    requires { (length row.now ≤ 10) × Below count_bound t }
+    ensures { result ≡ tally_with_row t (row_sum (row_by_mask heads 0 row.now)) }
 {
     let s = kept_sum(row, heads, false);
     add_row_lent(t, s)
@@ -290,7 +290,7 @@ pub fn count_line_masked(t: ArrowStats, row: &[u8], heads: u16) -> ArrowStats
 
 // A sum of fakes alone.
 fn only_fakes(n: u32) -> RowSum
-    ensures { result ≡ onlyFakes n }
+    ensures { result ≡ sum_of_fakes n }
 {
     let mut s = no_sum();
     s.fakes = n;
@@ -300,7 +300,7 @@ fn only_fakes(n: u32) -> RowSum
 // What a row adds up to, judged or not, of which only the heads of a mask count. On an unjudged row each arrow, mine and fake is one fake.
 pub fn judged_sum_masked(judged: bool, row: &[u8], heads: u16) -> RowSum
     requires { length row.now ≤ 10 }
-    ensures { result ≡ judgedSum judged (keepMask heads 0 row.now) }
+    ensures { result ≡ judged_sum judged (row_by_mask heads 0 row.now) }
 {
     let s = kept_sum(row, heads, true);
     if judged {
@@ -312,7 +312,7 @@ pub fn judged_sum_masked(judged: bool, row: &[u8], heads: u16) -> RowSum
 // What a row of taps alone adds up to, judged or not. On an unjudged row each tap is one fake.
 fn judged_taps(judged: bool, mask: u16, wide: bool, counts: &[u16; 256]) -> RowSum
     requires { TapCounts wide counts.now × Fits wide mask }
-    ensures { Under 10 result × ((row : Row) → tapLineMask row ≡ Mask mask → result ≡ judgedSum judged row) }
+    ensures { Under 10 result × ((row : Row) → mask_of_line row ≡ Mask mask → result ≡ judged_sum judged row) }
 {
     let s = taps::tap_sum(mask, wide, counts);
     if judged {
@@ -330,8 +330,8 @@ pub fn judge_taps(
     wide: bool,
     counts: &[u16; 256],
 ) -> ArrowStats
-    requires { TapCounts wide counts.now × Below countBound t × (held ≤ countBound) × Fits wide mask }
-    ensures { (row : Row) → tapLineMask row ≡ Mask mask → result ≡ judgeRow t judged held (judgedSum judged row) }
+    requires { TapCounts wide counts.now × Below count_bound t × (held ≤ count_bound) × Fits wide mask }
+    ensures { (row : Row) → mask_of_line row ≡ Mask mask → result ≡ judge_row t judged held (judged_sum judged row) }
 {
     let s = judged_taps(judged, mask, wide, counts);
     add_judged_row(t, judged, held, s)
@@ -339,7 +339,7 @@ pub fn judge_taps(
 
 // A tally that keeps the steps of another.
 pub fn with_steps(t: ArrowStats, steps: u32) -> ArrowStats
-    ensures { result ≡ withSteps steps t }
+    ensures { result ≡ tally_with_steps steps t }
 {
     let mut r = t;
     r.total_steps = steps;

@@ -11,22 +11,22 @@ use lib.Bits.{bit_and, bit_or}
 use lib.Dec.{eqb}
 use lib.ListN.{get_or}
 use lib.Pow.{pow-lt}
-use Rattle.definitions.specs.Lists.{oneIf}
+use Rattle.definitions.specs.Lists.{number_of_bool}
 use Rattle.taps.specs.Taps.{bit, FreeAre}
 use Rattle.taps.proofs.Tables.{up_from, same_at}
 use Rattle.taps.proofs.Free.{bit-and, bit-or}
 use Rattle.row_walk.specs.Rows.{Marked}
 
 -- of ten columns, all but one
-keep-bit : (i c : ℕ) → i < 10 → c < 10 → bit c (1023 - 2 ^ i) ≡ oneIf (not (eqb c i))
+keep-bit : (i c : ℕ) → i < 10 → c < 10 → bit c (1023 - 2 ^ i) ≡ number_of_bool (not (eqb c i))
 keep-bit i c h k =
-    same_at (λ c. bit c (1023 - 2 ^ i)) (λ c. oneIf (not (eqb c i))) 10
-    (same_at (λ i. up_from (λ c. bit c (1023 - 2 ^ i)) 0 10) (λ i. up_from (λ c. oneIf (not (eqb c i))) 0 10) 10 refl i h) c k
+    same_at (λ c. bit c (1023 - 2 ^ i)) (λ c. number_of_bool (not (eqb c i))) 10
+    (same_at (λ i. up_from (λ c. bit c (1023 - 2 ^ i)) 0 10) (λ i. up_from (λ c. number_of_bool (not (eqb c i))) 0 10) 10 refl i h) c k
 
-own-bit : (i c : ℕ) → i < 10 → c < 10 → bit c (2 ^ i) ≡ oneIf (eqb c i)
+own-bit : (i c : ℕ) → i < 10 → c < 10 → bit c (2 ^ i) ≡ number_of_bool (eqb c i)
 own-bit i c h k =
-    same_at (λ c. bit c (2 ^ i)) (λ c. oneIf (eqb c i)) 10
-    (same_at (λ i. up_from (λ c. bit c (2 ^ i)) 0 10) (λ i. up_from (λ c. oneIf (eqb c i)) 0 10) 10 refl i h) c k
+    same_at (λ c. bit c (2 ^ i)) (λ c. number_of_bool (eqb c i)) 10
+    (same_at (λ i. up_from (λ c. bit c (2 ^ i)) 0 10) (λ i. up_from (λ c. number_of_bool (eqb c i)) 0 10) 10 refl i h) c k
 
 -- the bit of a column as the shift gives it
 pub shifted : (i : ℕ) → i < 10 → 1 * 2 ^ i % 4294967296 ≡ 2 ^ i
@@ -65,7 +65,7 @@ module _ (busy i : ℕ) (h : i < 10) where
   })
 
 -- where a column has a bit, nothing is said of its number
-none-used : (b : Bool) → oneIf b ≡ 0 → b ≡ false
+none-used : (b : Bool) → number_of_bool b ≡ 0 → b ≡ false
 none-used true e = absurd (omega arith)
 none-used false e = refl
 

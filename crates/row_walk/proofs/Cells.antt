@@ -10,25 +10,25 @@ use lib.Dec.{eqb}
 use lib.ListN.{length, get_or, set, drop, length-set, drop_of_length-le}
 use lib.Seq.{set-get_or, get_or-set_same, get_or-set_other}
 use Rattle.definitions.specs.Lines.{Row}
-use Rattle.definitions.specs.Cells.{cell_of, isArrow}
-use Rattle.definitions.specs.Tracker.{holdAt}
-use Rattle.definitions.specs.Objects.{objectAt}
-use Rattle.definitions.specs.Notes.{effectAt}
-use Rattle.definitions.specs.Tally.{rowSum}
+use Rattle.definitions.specs.Cells.{cell_of, is_arrow}
+use Rattle.definitions.specs.Tracker.{hold_at}
+use Rattle.definitions.specs.Objects.{object_at}
+use Rattle.definitions.specs.Notes.{effect_at}
+use Rattle.definitions.specs.Tally.{row_sum}
 use Rattle.definitions.specs.declared.RowSum.{RowSum}
 use Rattle.taps.specs.Taps.{FreeAre}
 use Rattle.phantoms.specs.declared.Phantoms.{Phantoms}
-use Rattle.phantoms.specs.Phantoms.{phantomAt, CellCounted}
+use Rattle.phantoms.specs.Phantoms.{phantom_at, CellCounted}
 use Rattle.phantoms.proofs.Loop.{Passed, passed_start, passed-next, passed-end}
 use Rattle.objects.proofs.Scan.{Scanned, scan-start, scan-next, scan-end}
 use Rattle.row_tally.proofs.Bounds.{under_more}
-use Rattle.row_tally.specs.Sums.{noSum, addArrow, addCounted, addCell}
+use Rattle.row_tally.specs.Sums.{empty_sum, add_arrow, add_counted, sum_with_cell}
 use Rattle.row_tally.proofs.Loops.{Summed, summed-start, summed-next, summed-end, drop-next}
-use Rattle.row_notes.specs.Writer.{noHead, afterCell}
+use Rattle.row_notes.specs.Writer.{no_head, after_cell}
 use Rattle.row_notes.proofs.Steps.{zero-nothing, step-nothing}
 use Rattle.row_notes.proofs.Rows.{Midrow, mid_start, mid_step, row_written}
 use Rattle.cell_walk.specs.Cells.{ByteWalked}
-use Rattle.row_walk.specs.Rows.{isUsed, CellSeen, phantomsOf, notesOf, CellsReady, RowWalked}
+use Rattle.row_walk.specs.Rows.{is_used, CellSeen, phantoms_of, notes_of, CellsReady, RowWalked}
 use Rattle.row_walk.specs.declared.Marks.{Marks}
 use Rattle.row_walk.specs.declared.Seen.{Seen}
 use Rattle.cell_walk.specs.declared.CellAt.{CellAt}
@@ -37,23 +37,23 @@ use Rattle.row_walk.proofs.Bits.{free-marked}
 
 -- From the numbers ds₀, low₀, hs₀ of the columns, n records in l₀ and the marks m₀ on, in row number k.
 pub record Cells (row : Row) (l₀ ds₀ low₀ hs₀ : List ℕ) (n k : ℕ) (m : Marks) (l ds low hs : List ℕ) (s : Seen) (i : ℕ) : Type 0 where
-  pub passed : Passed row (phantomsOf ds₀ m) (phantomsOf ds s.marks) i
+  pub passed : Passed row (phantoms_of ds₀ m) (phantoms_of ds s.marks) i
   pub scanned : Scanned row low₀ low s.object i
-  pub mid : Midrow l₀ (notesOf hs₀ n k m) l (notesOf hs s.count k s.marks) i row
-  pub summed : Summed isArrow (drop i row) (rowSum row) s.sum i
+  pub mid : Midrow l₀ (notes_of hs₀ n k m) l (notes_of hs s.count k s.marks) i row
+  pub summed : Summed is_arrow (drop i row) (row_sum row) s.sum i
   pub depths : FreeAre m.busy 0 ds₀ → FreeAre s.marks.busy 0 ds
   pub lows : FreeAre m.busy 0 low₀ → FreeAre s.marks.busy 0 low
-  pub heads : FreeAre m.busy noHead hs₀ → FreeAre s.marks.busy noHead hs
+  pub heads : FreeAre m.busy no_head hs₀ → FreeAre s.marks.busy no_head hs
   pub size : length hs ≡ 10
 
-pub cells-start : (row : Row) (l ds low hs : List ℕ) (n k : ℕ) (m : Marks) → CellsReady row l ds low hs n k m → (sum : RowSum) → sum ≡ noSum
+pub cells-start : (row : Row) (l ds low hs : List ℕ) (n k : ℕ) (m : Marks) → CellsReady row l ds low hs n k m → (sum : RowSum) → sum ≡ empty_sum
     → Cells row l ds low hs n k m l ds low hs (record { marks = m; sum = sum; count = n; object = false }) 0
-unfolding rowSum
+unfolding row_sum
 cells-start row l ds low hs n k m R sum e = record {
-  passed = passed_start row (phantomsOf ds m) R.depths;
+  passed = passed_start row (phantoms_of ds m) R.depths;
   scanned = scan-start row low R.lows;
-  mid = mid_start l (notesOf hs n k m) row;
-  summed = summed-start isArrow row sum e;
+  mid = mid_start l (notes_of hs n k m) row;
+  summed = summed-start is_arrow row sum e;
   depths = λ f. f;
   lows = λ f. f;
   heads = λ f. f;
@@ -77,29 +77,29 @@ counted-cell b at l l' r w = record { depth = w.depth; heads = w.heads; tails = 
 -- ---- a `0`
 
 zero-passed : (row : Row) (p r : Phantoms) (i : ℕ) → Passed row p r i → i < length row → i < 10 → get_or row i 0 ≡ 48 → Passed row p r (i + 1)
-unfolding holdAt cell_of
+unfolding hold_at cell_of
 zero-passed row p r i s h m e =
     rw (set-get_or r.depths i 0, add-zero r.heads, add-zero r.tails, or-false) at
-    (passed-next row p r (record { depth = phantomAt r i; heads = 0; tails = 0; met = false }) i s h m
+    (passed-next row p r (record { depth = phantom_at r i; heads = 0; tails = 0; met = false }) i s h m
     (rw e (record { depth = refl; heads = refl; tails = refl; met = refl })))
 
 zero-scanned : (row : Row) (l₀ l : List ℕ) (object : Bool) (i : ℕ) → Scanned row l₀ l object i → i < length row → i < 10 → get_or row i 0 ≡ 48 → Scanned row l₀ l object (i + 1)
-unfolding objectAt cell_of
+unfolding object_at cell_of
 zero-scanned row l₀ l object i s h k e =
     rw (set-get_or l i 0, or-false) at (scan-next row l₀ l object i s false (get_or l i 0) h k (rw e refl) (rw e refl))
 
-zero-sum : (s : RowSum) (c b : ℕ) → b ≡ 48 → s ≡ addCell s c (cell_of b) (isArrow (cell_of b))
-unfolding cell_of addArrow addCounted
+zero-sum : (s : RowSum) (c b : ℕ) → b ≡ 48 → s ≡ sum_with_cell s c (cell_of b) (is_arrow (cell_of b))
+unfolding cell_of add_arrow add_counted
 zero-sum s c b e = simp (e, add-zero)
 
 module _ (row : Row) (l₀ ds₀ low₀ hs₀ : List ℕ) (n k : ℕ) (m : Marks) (l ds low hs : List ℕ) (s : Seen) (i : ℕ)
     (C : Cells row l₀ ds₀ low₀ hs₀ n k m l ds low hs s i) (h : i < length row) (u : i < 10) where
   pub cells-zero : get_or row i 0 ≡ 48 → Cells row l₀ ds₀ low₀ hs₀ n k m l ds low hs s (i + 1)
   cells-zero e = record {
-    passed = zero-passed row (phantomsOf ds₀ m) (phantomsOf ds s.marks) i C.passed h u e;
+    passed = zero-passed row (phantoms_of ds₀ m) (phantoms_of ds s.marks) i C.passed h u e;
     scanned = zero-scanned row low₀ low s.object i C.scanned h u e;
     mid = mid_step l₀ _ l _ i row C.mid l _ _ refl h refl (step-nothing l _ _ i _ (zero-nothing _ e));
-    summed = summed-next isArrow (drop i row) (drop (i + 1) row) (rowSum row) s.sum s.sum i (get_or row i 0) (drop-next row i h) (zero-sum s.sum i _ e) C.summed;
+    summed = summed-next is_arrow (drop i row) (drop (i + 1) row) (row_sum row) s.sum s.sum i (get_or row i 0) (drop-next row i h) (zero-sum s.sum i _ e) C.summed;
     depths = C.depths;
     lows = C.lows;
     heads = C.heads;
@@ -112,18 +112,18 @@ module _ (row : Row) (l₀ ds₀ low₀ hs₀ : List ℕ) (n k : ℕ) (m : Marks
       → (t : Seen) → CellSeen s i w t
       → Cells row l₀ ds₀ low₀ hs₀ n k m l' (set ds i w.phantom.depth) (set low i w.object.depth) (set hs i w.head) t (i + 1)
   cells-next l' w el W t T =
-      let free = unused w.phantom.depth w.object.depth w.head noHead in
-      let old = notesOf hs s.count k s.marks in
+      let free = unused w.phantom.depth w.object.depth w.head no_head in
+      let old = notes_of hs s.count k s.marks in
       record {
-        passed = rw (T.heads, T.tails, T.met) (passed-next row (phantomsOf ds₀ m) (phantomsOf ds s.marks) w.phantom i C.passed h u (counted-cell _ _ l l' w W));
+        passed = rw (T.heads, T.tails, T.met) (passed-next row (phantoms_of ds₀ m) (phantoms_of ds s.marks) w.phantom i C.passed h u (counted-cell _ _ l l' w W));
         scanned = rw T.object (scan-next row low₀ low s.object i C.scanned w.object.object w.object.depth h u W.object W.low);
-        mid = rw (T.count, T.invalid) (mid_step l₀ _ l old i row C.mid l' (afterCell old i w.head w.count w.invalid) (effectAt (get_or row i 0)) refl h el (W.noted old refl refl refl));
-        summed = summed-next isArrow (drop i row) (drop (i + 1) row) (rowSum row) s.sum t.sum i (get_or row i 0) (drop-next row i h) (T.sum _ W.kind W.tails) C.summed;
-        depths = λ f. free-marked s.marks.busy i t.marks.busy (isUsed w) 0 ds (set ds i w.phantom.depth) T.busy
+        mid = rw (T.count, T.invalid) (mid_step l₀ _ l old i row C.mid l' (after_cell old i w.head w.count w.invalid) (effect_at (get_or row i 0)) refl h el (W.noted old refl refl refl));
+        summed = summed-next is_arrow (drop i row) (drop (i + 1) row) (row_sum row) s.sum t.sum i (get_or row i 0) (drop-next row i h) (T.sum _ W.kind W.tails) C.summed;
+        depths = λ f. free-marked s.marks.busy i t.marks.busy (is_used w) 0 ds (set ds i w.phantom.depth) T.busy
             (λ e. get_or-set_same ds i w.phantom.depth 0 (omega (arith, C.passed.size)) ∙ (free e).0) (λ c ne. get_or-set_other ds i c w.phantom.depth 0 ne) (C.depths f);
-        lows = λ f. free-marked s.marks.busy i t.marks.busy (isUsed w) 0 low (set low i w.object.depth) T.busy
+        lows = λ f. free-marked s.marks.busy i t.marks.busy (is_used w) 0 low (set low i w.object.depth) T.busy
             (λ e. get_or-set_same low i w.object.depth 0 (omega (arith, C.scanned.size)) ∙ (free e).1) (λ c ne. get_or-set_other low i c w.object.depth 0 ne) (C.lows f);
-        heads = λ f. free-marked s.marks.busy i t.marks.busy (isUsed w) noHead hs (set hs i w.head) T.busy
+        heads = λ f. free-marked s.marks.busy i t.marks.busy (is_used w) no_head hs (set hs i w.head) T.busy
             (λ e. get_or-set_same hs i w.head 0 (omega (arith, C.size)) ∙ (free e).2) (λ c ne. get_or-set_other hs i c w.head 0 ne) (C.heads f);
         size = length-set hs i w.head ∙ C.size;
       }
@@ -133,11 +133,11 @@ pub cells-end : (row : Row) (l₀ ds₀ low₀ hs₀ : List ℕ) (n k : ℕ) (m 
     → CellsReady row l₀ ds₀ low₀ hs₀ n k m → Cells row l₀ ds₀ low₀ hs₀ n k m l ds low hs s i → length row ≤ i
     → RowWalked row l₀ ds₀ low₀ hs₀ n k m l ds low hs s
 cells-end row l₀ ds₀ low₀ hs₀ n k m l ds low hs s i R C h = record {
-  sum = summed-end isArrow _ _ _ _ (drop_of_length-le row h) C.summed;
+  sum = summed-end is_arrow _ _ _ _ (drop_of_length-le row h) C.summed;
   under = under_more i 10 s.sum (omega (arith, C.passed.within, R.room.narrow)) C.summed.under;
   counted = λ L rows wide narrow counts. passed-end _ _ _ _ C.passed h L rows wide narrow counts;
   tested = scan-end row (record { depths = low₀ }) _ _ _ C.scanned h;
-  written = row_written _ _ _ R.room _ (notesOf hs s.count (k + 1) s.marks) _ _ C.mid h refl refl refl refl;
+  written = row_written _ _ _ R.room _ (notes_of hs s.count (k + 1) s.marks) _ _ C.mid h refl refl refl refl;
   depths = C.depths;
   lows = C.lows;
   heads = C.heads;

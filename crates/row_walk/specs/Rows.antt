@@ -1,70 +1,70 @@
 -- A mask of columns with the bit of one of them as told; one cell more; and a row that was walked by its cells.
 use Rattle.std.specs.Prelude.{◌≡◌, Bool, not, ◌||◌, List, [], ◌∷◌, ◌++◌, ℕ, ◌+◌, ◌<◌, eqb, length}
-use Rattle.definitions.specs.Sizes.{countBound}
-use Rattle.definitions.specs.Lists.{oneIf}
+use Rattle.definitions.specs.Sizes.{count_bound}
+use Rattle.definitions.specs.Lists.{number_of_bool}
 use Rattle.definitions.specs.Lines.{Row}
-use Rattle.definitions.specs.Cells.{cell_of, isArrow}
-use Rattle.definitions.specs.Tracker.{holdAt}
-use Rattle.definitions.specs.Correction.{isClosing}
-use Rattle.definitions.specs.Notes.{effectAt}
-use Rattle.definitions.specs.Tally.{rowSum}
+use Rattle.definitions.specs.Cells.{cell_of, is_arrow}
+use Rattle.definitions.specs.Tracker.{hold_at}
+use Rattle.definitions.specs.Correction.{is_closing}
+use Rattle.definitions.specs.Notes.{effect_at}
+use Rattle.definitions.specs.Tally.{row_sum}
 use Rattle.taps.specs.Taps.{bit, FreeAre}
 use Rattle.phantoms.specs.declared.Phantoms.{Phantoms}
 use Rattle.phantoms.specs.Phantoms.{Low, RowCounted}
 use Rattle.objects.specs.Rows.{RowDone}
 use Rattle.objects.specs.Rows as objects
 use Rattle.row_tally.specs.Bounds.{Under}
-use Rattle.row_tally.specs.Sums.{addCell}
+use Rattle.row_tally.specs.Sums.{sum_with_cell}
 use Rattle.row_notes.specs.declared.ChartNotesScratch.{ChartNotesScratch}
-use Rattle.row_notes.specs.Writer.{noHead}
+use Rattle.row_notes.specs.Writer.{no_head}
 use Rattle.row_notes.specs.Written.{Written, RecordRoom}
-use Rattle.cell_walk.specs.Cells.{effectKind}
+use Rattle.cell_walk.specs.Cells.{effect_kind}
 use Rattle.cell_walk.specs.declared.WalkCell.{WalkCell}
 use Rattle.row_walk.specs.declared.Marks.{Marks}
 use Rattle.row_walk.specs.declared.Seen.{Seen}
 
 pub record Marked (busy i : ℕ) (used : Bool) (r : ℕ) : Type 0 where
-  pub here : bit i r ≡ oneIf used
+  pub here : bit i r ≡ number_of_bool used
   pub others : (c : ℕ) → c < 10 → (c ≡ i → ⊥) → bit c r ≡ bit c busy
 
 -- whether a cell leaves its column in use
-abbrev pub isUsed : WalkCell → Bool
-isUsed w = (not (eqb w.phantom.depth 0) || not (eqb w.object.depth 0)) || not (eqb w.head noHead)
+abbrev pub is_used : WalkCell → Bool
+is_used w = (not (eqb w.phantom.depth 0) || not (eqb w.object.depth 0)) || not (eqb w.head no_head)
 
 pub record CellSeen (s : Seen) (c : ℕ) (w : WalkCell) (r : Seen) : Type 0 where
   pub heads : r.marks.heads ≡ s.marks.heads + w.phantom.heads
   pub tails : r.marks.tails ≡ s.marks.tails + w.phantom.tails
   pub met : r.marks.met ≡ (s.marks.met || w.phantom.met)
   pub invalid : r.marks.invalid ≡ (s.marks.invalid || w.invalid)
-  pub busy : Marked s.marks.busy c (isUsed w) r.marks.busy
-  pub sum : (b : ℕ) → w.kind ≡ effectKind (effectAt b) → w.phantom.tails ≡ oneIf (isClosing (holdAt b)) → r.sum ≡ addCell s.sum c (cell_of b) (isArrow (cell_of b))
+  pub busy : Marked s.marks.busy c (is_used w) r.marks.busy
+  pub sum : (b : ℕ) → w.kind ≡ effect_kind (effect_at b) → w.phantom.tails ≡ number_of_bool (is_closing (hold_at b)) → r.sum ≡ sum_with_cell s.sum c (cell_of b) (is_arrow (cell_of b))
   pub count : r.count ≡ w.count
   pub object : r.object ≡ (s.object || w.object.object)
 
 -- the marks and the numbers of the columns as the structs of the layers beneath
-abbrev pub phantomsOf : List ℕ → Marks → Phantoms
-phantomsOf ds m = record { depths = ds; heads = m.heads; tails = m.tails; met = m.met }
+abbrev pub phantoms_of : List ℕ → Marks → Phantoms
+phantoms_of ds m = record { depths = ds; heads = m.heads; tails = m.tails; met = m.met }
 
-abbrev pub notesOf : List ℕ → ℕ → ℕ → Marks → ChartNotesScratch
-notesOf hs n i m = record { hold_heads = hs; count = n; row_index = i; has_invalid = m.invalid }
+abbrev pub notes_of : List ℕ → ℕ → ℕ → Marks → ChartNotesScratch
+notes_of hs n i m = record { hold_heads = hs; count = n; row_index = i; has_invalid = m.invalid }
 
 -- what a row asks: the phantom depths, the object depths and the open heads of the columns, the number of records and of rows
 pub record CellsReady (row : Row) (l ds low hs : List ℕ) (n i : ℕ) (m : Marks) : Type 0 where
   pub depths : length ds ≡ 10
   pub lows : length low ≡ 10
   pub heads : length hs ≡ 10
-  pub phantoms : Low countBound (phantomsOf ds m)
+  pub phantoms : Low count_bound (phantoms_of ds m)
   pub objects : objects.DepthsLow 4294967294 (record { depths = low })
-  pub room : RecordRoom (notesOf hs n i m) row l
+  pub room : RecordRoom (notes_of hs n i m) row l
 
 -- The row's cells are done: it is summed, counted, tested for an object and noted, and what was free and still is has no bit in `busy`.
 pub record RowWalked (row : Row) (l ds low hs : List ℕ) (n i : ℕ) (m : Marks) (l' ds' low' hs' : List ℕ) (r : Seen) : Type 0 where
-  pub sum : r.sum ≡ rowSum row
+  pub sum : r.sum ≡ row_sum row
   pub under : Under 10 r.sum
-  pub counted : RowCounted row (phantomsOf ds m) (phantomsOf ds' r.marks)
+  pub counted : RowCounted row (phantoms_of ds m) (phantoms_of ds' r.marks)
   pub tested : RowDone row (record { depths = low }) (record { object = r.object; depths = record { depths = low' } })
-  pub written : (rows : List Row) → Written rows (notesOf hs n i m) l → Written (rows ++ (row ∷ [])) (notesOf hs' r.count (i + 1) r.marks) l'
+  pub written : (rows : List Row) → Written rows (notes_of hs n i m) l → Written (rows ++ (row ∷ [])) (notes_of hs' r.count (i + 1) r.marks) l'
   pub depths : FreeAre m.busy 0 ds → FreeAre r.marks.busy 0 ds'
   pub lows : FreeAre m.busy 0 low → FreeAre r.marks.busy 0 low'
-  pub heads : FreeAre m.busy noHead hs → FreeAre r.marks.busy noHead hs'
+  pub heads : FreeAre m.busy no_head hs → FreeAre r.marks.busy no_head hs'
   pub ten : (length ds' ≡ 10) × (length low' ≡ 10) × (length hs' ≡ 10)

@@ -4,9 +4,9 @@ use mathlib.Core.List.{List, [], ◌∷◌, ◌++◌}
 use Prim.Native.Nat.{ℕ, ◌+◌, ◌*◌, ◌≤◌}
 use native.Mathlib.Omega.{arith}
 use lib.ListN.{length}
-use Rattle.definitions.specs.Lists.{oneIf}
+use Rattle.definitions.specs.Lists.{number_of_bool}
 use Rattle.definitions.specs.Lines.{Row}
-use Rattle.definitions.specs.Figures.{isStep, density}
+use Rattle.definitions.specs.Figures.{is_step, density}
 use Rattle.definitions.proofs.Figures.{density-snoc}
 use Rattle.scans.proofs.Raw.{steps-most}
 
@@ -17,7 +17,7 @@ Steps n cur = n ≡ density cur
 pub steps-start : Steps 0 []
 steps-start = refl
 
-pub steps-more : (n k : ℕ) (r : Row) → k ≡ oneIf (isStep r) → (cur : List Row) → Steps n cur → Steps (n + k) (cur ++ (r ∷ []))
+pub steps-more : (n k : ℕ) (r : Row) → k ≡ number_of_bool (is_step r) → (cur : List Row) → Steps n cur → Steps (n + k) (cur ++ (r ∷ []))
 steps-more n k r e cur h = rw (h, e) (sym (density-snoc cur r))
 
 pub steps-few : (n b : ℕ) (cur : List Row) → Steps n cur → 5 * length cur ≤ b → 5 * n ≤ b

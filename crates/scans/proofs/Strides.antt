@@ -13,7 +13,7 @@ use lib.Count.{count_trailing_zeros, under}
 use lib.ListN.{length}
 use Rattle.definitions.specs.Lists.{only_if}
 use Rattle.definitions.specs.Lines.{Row}
-use Rattle.definitions.specs.Reduction.{allZero, multiple, offZero, atMultiples, allows, stride, reduce}
+use Rattle.definitions.specs.Reduction.{all_zero, multiple, off_zero, at_multiples, allows, stride, reduce}
 use Rattle.definitions.proofs.Reduction.{stride-is, even-multiple, odd-multiple}
 use Rattle.reduction.proofs.Blocks.{multiples-length}
 use Rattle.reduction.proofs.Strides.{stride-divides}
@@ -42,31 +42,31 @@ leb-min k a b = go (leb k a) refl (leb k b) refl
     go false p u q = sym (lt-leb k (min a b) (omega (arith, leb-false k a p)))
 
 -- one row more
-off-snoc : (s i : ℕ) (rs : List Row) (r : Row) → offZero s i (rs ++ (r ∷ [])) ≡ (offZero s i rs && (multiple s (i + length rs) || allZero r))
-off-snoc s i [] r = rw add-zero (and-true (multiple s i || allZero r))
+off-snoc : (s i : ℕ) (rs : List Row) (r : Row) → off_zero s i (rs ++ (r ∷ [])) ≡ (off_zero s i rs && (multiple s (i + length rs) || all_zero r))
+off-snoc s i [] r = rw add-zero (and-true (multiple s i || all_zero r))
   where
     and-true : (x : Bool) → (x && true) ≡ x
     and-true true = refl
     and-true false = refl
 off-snoc s i (x ∷ rs) r =
-    ap (λ t. (multiple s i || allZero x) && t) (off-snoc s (suc i) rs r ∙ ap (λ n. offZero s (suc i) rs && (multiple s n || allZero r)) (omega arith))
-    ∙ assoc (multiple s i || allZero x) (offZero s (suc i) rs) (multiple s (i + suc (length rs)) || allZero r)
+    ap (λ t. (multiple s i || all_zero x) && t) (off-snoc s (suc i) rs r ∙ ap (λ n. off_zero s (suc i) rs && (multiple s n || all_zero r)) (omega arith))
+    ∙ assoc (multiple s i || all_zero x) (off_zero s (suc i) rs) (multiple s (i + suc (length rs)) || all_zero r)
   where
     assoc : (x y z : Bool) → (x && (y && z)) ≡ ((x && y) && z)
     assoc true y z = refl
     assoc false y z = refl
 
 -- a row that is all zero changes nothing, and any other allows what its number allows
-pub off-zero-row : (s : ℕ) (rs : List Row) (r : Row) → allZero r ≡ true → offZero s 0 (rs ++ (r ∷ [])) ≡ offZero s 0 rs
-off-zero-row s rs r z = off-snoc s 0 rs r ∙ rw z (go (offZero s 0 rs) (multiple s (0 + length rs)))
+pub off-zero-row : (s : ℕ) (rs : List Row) (r : Row) → all_zero r ≡ true → off_zero s 0 (rs ++ (r ∷ [])) ≡ off_zero s 0 rs
+off-zero-row s rs r z = off-snoc s 0 rs r ∙ rw z (go (off_zero s 0 rs) (multiple s (0 + length rs)))
   where
     go : (x y : Bool) → (x && (y || true)) ≡ x
     go true true = refl
     go true false = refl
     go false y = refl
 
-pub off-other-row : (k shift : ℕ) (rs : List Row) (r : Row) → k ≤ 64 → allZero r ≡ false → offZero (2 ^ k) 0 rs ≡ leb k shift
-    → offZero (2 ^ k) 0 (rs ++ (r ∷ [])) ≡ leb k (min shift (count_trailing_zeros 64 (length rs)))
+pub off-other-row : (k shift : ℕ) (rs : List Row) (r : Row) → k ≤ 64 → all_zero r ≡ false → off_zero (2 ^ k) 0 rs ≡ leb k shift
+    → off_zero (2 ^ k) 0 (rs ++ (r ∷ [])) ≡ leb k (min shift (count_trailing_zeros 64 (length rs)))
 off-other-row k shift rs r w z e =
     off-snoc (2 ^ k) 0 rs r
     ∙ rw (z, e) (ap (λ t. leb k shift && t) (or-false (multiple (2 ^ k) (0 + length rs)) ∙ ap (multiple (2 ^ k)) {x = 0 + length rs} {y = length rs} (omega arith) ∙ divides-trailing 64 k (length rs) w) ∙ leb-min k shift (count_trailing_zeros 64 (length rs)))
@@ -111,20 +111,20 @@ stride-by (r ∷ rs) e h b w f = go (stride-is r rs).power
 
 -- The stride of some rows, but for the row count the exponents up to `shift` allowed.
 pub stride-shift : (rs : List Row) (shift : ℕ) → 0 < length rs → length rs < 2 ^ 64 → shift ≤ 64
-    → ((k : ℕ) → k ≤ 64 → offZero (2 ^ k) 0 rs ≡ leb k shift) → stride rs ≡ 2 ^ min shift (count_trailing_zeros 64 (length rs))
+    → ((k : ℕ) → k ≤ 64 → off_zero (2 ^ k) 0 rs ≡ leb k shift) → stride rs ≡ 2 ^ min shift (count_trailing_zeros 64 (length rs))
 stride-shift rs shift h b w f =
     stride-by rs (min shift (count_trailing_zeros 64 (length rs))) h b (omega arith)
     (λ k l. rw (divides-trailing 64 k (length rs) l, f k l) (leb-min k (count_trailing_zeros 64 (length rs)) shift ∙ ap (leb k) {x = min (count_trailing_zeros 64 (length rs)) shift} {y = min shift (count_trailing_zeros 64 (length rs))} (omega arith)))
 
 -- how many rows stay
-multiples-same : (s i : ℕ) (rs ss : List Row) → length rs ≡ length ss → length (atMultiples s i rs) ≡ length (atMultiples s i ss)
+multiples-same : (s i : ℕ) (rs ss : List Row) → length rs ≡ length ss → length (at_multiples s i rs) ≡ length (at_multiples s i ss)
 multiples-same s i [] [] e = refl
 multiples-same s i [] (y ∷ ss) e = absurd (omega arith)
 multiples-same s i (x ∷ rs) [] e = absurd (omega arith)
 multiples-same s i (x ∷ rs) (y ∷ ss) e = go (multiple s i) (multiples-same s (suc i) rs ss (omega arith))
   where
-    go : (t : Bool) → length (atMultiples s (suc i) rs) ≡ length (atMultiples s (suc i) ss)
-        → length (only_if t (x ∷ []) ++ atMultiples s (suc i) rs) ≡ length (only_if t (y ∷ []) ++ atMultiples s (suc i) ss)
+    go : (t : Bool) → length (at_multiples s (suc i) rs) ≡ length (at_multiples s (suc i) ss)
+        → length (only_if t (x ∷ []) ++ at_multiples s (suc i) rs) ≡ length (only_if t (y ∷ []) ++ at_multiples s (suc i) ss)
     go true h = ap suc h
     go false h = h
 

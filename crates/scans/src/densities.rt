@@ -1,20 +1,20 @@
 // Densities: for each measure the rows with a 1, 2 or 4.
 ghost use Rattle.std.specs.Prelude.{◌≡◌, ◌+◌, ◌/◌, ◌≤◌, length};
-ghost use Rattle.definitions.specs.Sizes.{mostBytes};
+ghost use Rattle.definitions.specs.Sizes.{most_bytes};
 ghost use Rattle.definitions.specs.Lists.{padded};
-ghost use Rattle.definitions.specs.Figures.{densities as densitiesOf};
-ghost use Rattle.definitions.specs.Entries.{measuresAnswer, densitiesLeft};
+ghost use Rattle.definitions.specs.Figures.{densities as densities_of};
+ghost use Rattle.definitions.specs.Entries.{measures_answer, densities_left};
 
 use definitions::Refusal;
 use reader::charts::ChartLine;
 
 // The densities of an accepted text, with zeros after them.
 fn fill_densities(data: &[u8], lanes: usize, densities: &mut [u32]) -> usize
-    requires data_len_bound { length «data».now ≤ mostBytes }
+    requires data_len_bound { length «data».now ≤ most_bytes }
     requires data_in_bounds { (length «data».now + 1) / 2 + 1 ≤ length densities.old }
     requires le_lanes { (4 ≤ lanes) × (lanes ≤ 10) }
-    ensures value { result ≡ length (densitiesOf lanes «data».now) }
-    ensures densities_after { densities.new ≡ padded 0 (length densities.old) (densitiesOf lanes «data».now) }
+    ensures value { result ≡ length (densities_of lanes «data».now) }
+    ensures densities_after { densities.new ≡ padded 0 (length densities.old) (densities_of lanes «data».now) }
 {
     let mut m = 0;
     let mut steps: u32 = 0;
@@ -37,10 +37,10 @@ fn fill_densities(data: &[u8], lanes: usize, densities: &mut [u32]) -> usize
 }
 
 // For each measure its minimised rows with a 1, 2 or 4. The answer counts the measures.
-#[tactic(auto, using(crate::proofs::Raw::densities_count), unfolding(definitions::specs::Entries::measuresAnswer))]
+#[tactic(auto, using(crate::proofs::Raw::densities_count), unfolding(definitions::specs::Entries::measures_answer))]
 pub fn measure_densities(data: &[u8], lanes: usize, densities: &mut [u32]) -> Result<usize, Refusal>
-    ensures value { result ≡ measuresAnswer lanes «data».now densities.old }
-    ensures densities_after { densities.new ≡ densitiesLeft lanes «data».now densities.old }
+    ensures value { result ≡ measures_answer lanes «data».now densities.old }
+    ensures densities_after { densities.new ≡ densities_left lanes «data».now densities.old }
 {
     let len = data.len();
     refusals::text_fits(len)?;

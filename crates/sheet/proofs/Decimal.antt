@@ -9,23 +9,23 @@ use lib.Dec.{ltb}
 use Rattle.sheet.specs.Sheet.{digits}
 
 -- digits read from the left, with what was read before them
-abbrev pub readDigits : ℕ → List ℕ → ℕ
-readDigits before [] = before
-readDigits before (b ∷ s) = readDigits (10 * before + (b - 48)) s
+abbrev pub read_digits : ℕ → List ℕ → ℕ
+read_digits before [] = before
+read_digits before (b ∷ s) = read_digits (10 * before + (b - 48)) s
 
-read-last : (before : ℕ) (s : List ℕ) (b : ℕ) → readDigits before (s ++ (b ∷ [])) ≡ 10 * readDigits before s + (b - 48)
+read-last : (before : ℕ) (s : List ℕ) (b : ℕ) → read_digits before (s ++ (b ∷ [])) ≡ 10 * read_digits before s + (b - 48)
 read-last before [] b = refl
 read-last before (x ∷ s) b = read-last (10 * before + (x - 48)) s b
 
 last-digit : (n q r : ℕ) → q * 10 + r ≡ n → 10 * q + (48 + r - 48) ≡ n
 last-digit n q r e = omega arith
 
-pub digits-read : (most n : ℕ) → n < 10 ^ most → readDigits 0 (digits most n) ≡ n
+pub digits-read : (most n : ℕ) → n < 10 ^ most → read_digits 0 (digits most n) ≡ n
 digits-read zero n h = omega arith
 digits-read (suc most) n h = go (ltb n 10) refl (λ g. digits-read most (n / 10) g)
   where
-    go : (t : Bool) → ltb n 10 ≡ t → (n / 10 < 10 ^ most → readDigits 0 (digits most (n / 10)) ≡ n / 10)
-        → readDigits 0 (cond t ((48 + n) ∷ []) (digits most (n / 10) ++ ((48 + n % 10) ∷ []))) ≡ n
+    go : (t : Bool) → ltb n 10 ≡ t → (n / 10 < 10 ^ most → read_digits 0 (digits most (n / 10)) ≡ n / 10)
+        → read_digits 0 (cond t ((48 + n) ∷ []) (digits most (n / 10) ++ ((48 + n % 10) ∷ []))) ≡ n
     go true e rest = omega arith
     go false e rest =
         let some : 0 < 10 = omega arith in

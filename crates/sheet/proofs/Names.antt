@@ -3,7 +3,7 @@ use Rattle.std.proofs.Common.{◌≡◌, refl, ℕ, zero, suc, ◌≤◌, Bool, 
 use Rattle.std.specs.Prelude.{leb}
 use Rattle.std.proofs.lemmas.Bool.{leb-true}
 use Rattle.definitions.specs.declared.ArrowStats.{ArrowStats}
-use Rattle.sheet.specs.Sheet.{fieldsOf, fieldAt}
+use Rattle.sheet.specs.Sheet.{named_fields, field_at}
 
 -- as a test
 abbrev short : List (List ℕ × ℕ) → Bool
@@ -23,6 +23,6 @@ name-short (f ∷ fs) (suc i) e = go (leb (length f.0) 12) e (λ g. name-short f
     go true g rest = rest g
     go false g rest = cc
 
-pub field-name : (t : ArrowStats) (i : ℕ) → length (fieldAt t i).0 ≤ 12
-unfolding fieldsOf
-field-name t i = name-short (fieldsOf t) i refl
+pub field-name : (t : ArrowStats) (i : ℕ) → length (field_at t i).0 ≤ 12
+unfolding named_fields
+field-name t i = name-short (named_fields t) i refl

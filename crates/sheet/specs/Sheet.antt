@@ -1,6 +1,6 @@
 -- Document 01, "The program card": the lines it prints.
 use Rattle.std.specs.Prelude.{cond, List, [], ◌∷◌, ◌++◌, ℕ, zero, suc, ◌+◌, ◌-◌, ◌/◌, ◌%◌, ltb, length, get_or, replicate, codes, Result, Ok, Err}
-use Rattle.definitions.specs.Records.{kindNumber, readNote}
+use Rattle.definitions.specs.Records.{number_of_kind, note_of_record}
 use Rattle.definitions.specs.declared.Tail.{Tail}
 use Rattle.definitions.specs.declared.Tail.TheVariants.{Without, Row}
 use Rattle.definitions.specs.declared.Note.{Note}
@@ -19,16 +19,16 @@ unfoldable pub number : ℕ → List ℕ
 number n = digits 20 n
 
 -- with a byte after it: 32 within a line, 10 at its end
-unfoldable pub numberField : ℕ → ℕ → List ℕ
-numberField n after = number n ++ (after ∷ [])
+unfoldable pub number_field : ℕ → ℕ → List ℕ
+number_field n after = number n ++ (after ∷ [])
 
 -- a number right-aligned in so many columns; one that has more digits is written whole
 unfoldable pub aligned : ℕ → ℕ → List ℕ
 aligned width n = replicate (width - length (number n)) 32 ++ number n
 
 -- a text with as many blanks after it as its columns have left
-unfoldable pub leftAligned : ℕ → List ℕ → List ℕ
-leftAligned width text = text ++ replicate (width - length text) 32
+unfoldable pub aligned_left : ℕ → List ℕ → List ℕ
+aligned_left width text = text ++ replicate (width - length text) 32
 
 -- what f gives for 0 to n - 1, one after the other
 abbrev pub listed : (ℕ → List ℕ) → ℕ → List ℕ
@@ -36,8 +36,8 @@ listed f zero = []
 listed f (suc k) = listed f k ++ f k
 
 -- a tally's fields in their order, each with its name
-unfoldable pub fieldsOf : ArrowStats → List (List ℕ × ℕ)
-fieldsOf t =
+unfoldable pub named_fields : ArrowStats → List (List ℕ × ℕ)
+named_fields t =
     (codes "total_arrows", t.total_arrows)
     ∷ (codes "left", t.left)
     ∷ (codes "down", t.down)
@@ -55,50 +55,50 @@ fieldsOf t =
     ∷ []
 
 -- one of them
-abbrev pub fieldAt : ArrowStats → ℕ → List ℕ × ℕ
-fieldAt t i = get_or (fieldsOf t) i ([], 0)
+abbrev pub field_at : ArrowStats → ℕ → List ℕ × ℕ
+field_at t i = get_or (named_fields t) i ([], 0)
 
 -- "`measures` and `notes` count measures and note records", and so on: a name with its blank, and a number
-unfoldable pub figureLine : List ℕ → ℕ → List ℕ
-figureLine name n = name ++ numberField n 10
+unfoldable pub line_of_figure : List ℕ → ℕ → List ℕ
+line_of_figure name n = name ++ number_field n 10
 
 -- "`m`: measure, density, spacing (1 or 0)."
-unfoldable pub measureLine : ℕ → ℕ → ℕ → List ℕ
-measureLine m density spaced = codes "m " ++ (numberField m 32 ++ (numberField density 32 ++ numberField spaced 10))
+unfoldable pub line_of_measure : ℕ → ℕ → ℕ → List ℕ
+line_of_measure m density spaced = codes "m " ++ (number_field m 32 ++ (number_field density 32 ++ number_field spaced 10))
 
 -- "tail or `-`"
-abbrev pub tailField : Tail → List ℕ
-tailField Without = 45 ∷ 10 ∷ []
-tailField (Row j) = numberField j 10
+abbrev pub field_of_tail : Tail → List ℕ
+field_of_tail Without = 45 ∷ 10 ∷ []
+field_of_tail (Row j) = number_field j 10
 
 -- "`n`: row, column, kind, tail or `-`."
-unfoldable pub noteLine : Note → List ℕ
-noteLine n = codes "n " ++ (numberField n.row 32 ++ (numberField n.column 32 ++ (numberField (kindNumber n.kind) 32 ++ tailField n.tail)))
+unfoldable pub line_of_note : Note → List ℕ
+line_of_note n = codes "n " ++ (number_field n.row 32 ++ (number_field n.column 32 ++ (number_field (number_of_kind n.kind) 32 ++ field_of_tail n.tail)))
 
 -- the line of a record; one that cannot be read has none
-abbrev pub recordLine : Result Note Refusal → List ℕ
-recordLine (Ok n) = noteLine n
-recordLine (Err k) = []
+abbrev pub line_of_record : Result Note Refusal → List ℕ
+line_of_record (Ok n) = line_of_note n
+line_of_record (Err k) = []
 
 -- "All `m` lines stand before the `n` lines, each in rising order": those of the first measures, by their densities and spacings
-abbrev pub measureLines : List ℕ → List ℕ → ℕ → List ℕ
-measureLines densities spacings n = listed (λ (k : ℕ). measureLine k (get_or densities k 0) (get_or spacings k 0)) n
+abbrev pub lines_of_measures : List ℕ → List ℕ → ℕ → List ℕ
+lines_of_measures densities spacings n = listed (λ (k : ℕ). line_of_measure k (get_or densities k 0) (get_or spacings k 0)) n
 
 -- those of the first note records
-abbrev pub recordLines : List ℕ → ℕ → List ℕ
-recordLines records n = listed (λ (k : ℕ). recordLine (readNote records k)) n
+abbrev pub lines_of_records : List ℕ → ℕ → List ℕ
+lines_of_records records n = listed (λ (k : ℕ). line_of_record (note_of_record records k)) n
 
 -- the six figures at the head
-unfoldable pub headLines : ChartFigures → List ℕ
-headLines f =
-    figureLine (codes "measures ") f.measures
-    ++ (figureLine (codes "rows ") f.rows
-    ++ (figureLine (codes "arrows ") f.stats.total_arrows
-    ++ (figureLine (codes "steps ") f.stats.total_steps
-    ++ (figureLine (codes "notes ") f.notes
-    ++ figureLine (codes "last ") f.last_row))))
+unfoldable pub lines_of_head : ChartFigures → List ℕ
+lines_of_head f =
+    line_of_figure (codes "measures ") f.measures
+    ++ (line_of_figure (codes "rows ") f.rows
+    ++ (line_of_figure (codes "arrows ") f.stats.total_arrows
+    ++ (line_of_figure (codes "steps ") f.stats.total_steps
+    ++ (line_of_figure (codes "notes ") f.notes
+    ++ line_of_figure (codes "last ") f.last_row))))
 
 -- the whole sheet of these figures, with the densities and spacings of as many measures and as many note records
-unfoldable pub sheetOf : ChartFigures → List ℕ → List ℕ → List ℕ → List ℕ
-sheetOf f densities spacings records =
-    headLines f ++ (measureLines densities spacings f.measures ++ recordLines records f.notes)
+unfoldable pub sheet_of : ChartFigures → List ℕ → List ℕ → List ℕ → List ℕ
+sheet_of f densities spacings records =
+    lines_of_head f ++ (lines_of_measures densities spacings f.measures ++ lines_of_records records f.notes)

@@ -1,6 +1,6 @@
 // The fields of a tally, each with its name.
 ghost use Rattle.std.specs.Prelude.{◌≡◌, ◌<◌, [], get_or};
-ghost use Rattle.sheet.specs.Sheet.{fieldsOf};
+ghost use Rattle.sheet.specs.Sheet.{named_fields};
 
 use definitions::ArrowStats;
 use std::marker::Model;
@@ -43,9 +43,9 @@ pub fn field_at(fields: &[Field; 14], i: usize) -> &Field
 }
 
 // The fields of a tally in their order.
-#[tactic(auto, unfolding(crate::specs::Sheet::fieldsOf))]
+#[tactic(auto, unfolding(crate::specs::Sheet::named_fields))]
 pub fn fields_of(stats: &ArrowStats) -> [Field; 14]
-    ensures { result ≡ fieldsOf stats.now }
+    ensures { result ≡ named_fields stats.now }
 {
     [
         Field {

@@ -2,8 +2,8 @@
 #![tactic(auto)]
 
 ghost use Rattle.std.specs.Prelude.{◌≤◌, length};
-ghost use Rattle.definitions.specs.Records.{readNote};
-ghost use Rattle.sheet.specs.Sheet.{figureLine, measureLine, tailField, noteLine, recordLine, measureLines, recordLines, headLines, sheetOf};
+ghost use Rattle.definitions.specs.Records.{note_of_record};
+ghost use Rattle.sheet.specs.Sheet.{line_of_figure, line_of_measure, field_of_tail, line_of_note, line_of_record, lines_of_measures, lines_of_records, lines_of_head, sheet_of};
 ghost use Rattle.sheet.specs.Page.{Prints};
 
 mod fields;
@@ -23,9 +23,9 @@ pub struct SheetFigures {
 }
 
 // A name, with its blank, and a number.
-#[tactic(auto, unfolding(crate::specs::Sheet::figureLine))]
+#[tactic(auto, unfolding(crate::specs::Sheet::line_of_figure))]
 fn figure_line(page: &mut Page, name: &str, n: u64) -> Result<(), Full>
-    ensures { Prints page.old (figureLine name.now n) page.new result }
+    ensures { Prints page.old (line_of_figure name.now n) page.new result }
 {
     page.text(name)?;
     page.field(n, b'\n')?;
@@ -33,9 +33,9 @@ fn figure_line(page: &mut Page, name: &str, n: u64) -> Result<(), Full>
 }
 
 // The six figures at the head.
-#[tactic(auto, unfolding(crate::specs::Sheet::headLines))]
+#[tactic(auto, unfolding(crate::specs::Sheet::lines_of_head))]
 fn head_lines(page: &mut Page, figures: &ChartFigures) -> Result<(), Full>
-    ensures { Prints page.old (headLines figures.now) page.new result }
+    ensures { Prints page.old (lines_of_head figures.now) page.new result }
 {
     figure_line(page, "measures ", figures.measures as u64)?;
     figure_line(page, "rows ", figures.rows as u64)?;
@@ -47,9 +47,9 @@ fn head_lines(page: &mut Page, figures: &ChartFigures) -> Result<(), Full>
 }
 
 // A measure: its number, density and spacing.
-#[tactic(auto, unfolding(crate::specs::Sheet::measureLine))]
+#[tactic(auto, unfolding(crate::specs::Sheet::line_of_measure))]
 fn measure_line(page: &mut Page, m: u64, density: u64, spaced: u64) -> Result<(), Full>
-    ensures { Prints page.old (measureLine m density spaced) page.new result }
+    ensures { Prints page.old (line_of_measure m density spaced) page.new result }
 {
     page.text("m ")?;
     page.field(m, b' ')?;
@@ -60,7 +60,7 @@ fn measure_line(page: &mut Page, m: u64, density: u64, spaced: u64) -> Result<()
 
 // The row of a tail, or `-`.
 fn tail_field(page: &mut Page, tail: Tail) -> Result<(), Full>
-    ensures { Prints page.old (tailField tail) page.new result }
+    ensures { Prints page.old (field_of_tail tail) page.new result }
 {
     match tail {
         Tail::Without => page.text("-\n"),
@@ -69,9 +69,9 @@ fn tail_field(page: &mut Page, tail: Tail) -> Result<(), Full>
 }
 
 // A note: its row, column, kind and tail.
-#[tactic(auto, unfolding(crate::specs::Sheet::noteLine))]
+#[tactic(auto, unfolding(crate::specs::Sheet::line_of_note))]
 fn note_line(page: &mut Page, note: Note) -> Result<(), Full>
-    ensures { Prints page.old (noteLine note) page.new result }
+    ensures { Prints page.old (line_of_note note) page.new result }
 {
     page.text("n ")?;
     page.field(note.row as u64, b' ')?;
@@ -83,7 +83,7 @@ fn note_line(page: &mut Page, note: Note) -> Result<(), Full>
 
 // The line of a record; one that cannot be read has none.
 fn record_line(page: &mut Page, records: &[u8], index: usize) -> Result<(), Full>
-    ensures { Prints page.old (recordLine (readNote records.now index)) page.new result }
+    ensures { Prints page.old (line_of_record (note_of_record records.now index)) page.new result }
 {
     match read_note(records, index) {
         Ok(note) => note_line(page, note),
@@ -100,7 +100,7 @@ fn measure_lines(
 ) -> Result<(), Full>
     requires densities_in_bounds { count ≤ length densities.now }
     requires spacing_in_bounds { count ≤ length spacing.now }
-    ensures { Prints page.old (measureLines densities.now spacing.now count) page.new result }
+    ensures { Prints page.old (lines_of_measures densities.now spacing.now count) page.new result }
 {
     for k in 0..count {
         measure_line(page, k as u64, densities[k] as u64, spacing[k] as u64)?;
@@ -110,7 +110,7 @@ fn measure_lines(
 
 #[tactic(auto, using(crate::proofs::Listing::listed_next))]
 fn record_lines(page: &mut Page, records: &[u8], count: usize) -> Result<(), Full>
-    ensures { Prints page.old (recordLines records.now count) page.new result }
+    ensures { Prints page.old (lines_of_records records.now count) page.new result }
 {
     for k in 0..count {
         record_line(page, records, k)?;
@@ -119,7 +119,7 @@ fn record_lines(page: &mut Page, records: &[u8], count: usize) -> Result<(), Ful
 }
 
 // The whole card.
-#[tactic(auto, unfolding(crate::specs::Sheet::sheetOf))]
+#[tactic(auto, unfolding(crate::specs::Sheet::sheet_of))]
 pub fn print_card(
     page: &mut Page,
     figures: &ChartFigures,
@@ -129,7 +129,7 @@ pub fn print_card(
 ) -> Result<(), Full>
     requires densities_in_bounds { figures.now.measures ≤ length densities.now }
     requires spacing_in_bounds { figures.now.measures ≤ length spacing.now }
-    ensures { Prints page.old (sheetOf figures.now densities.now spacing.now records.now) page.new result }
+    ensures { Prints page.old (sheet_of figures.now densities.now spacing.now records.now) page.new result }
 {
     head_lines(page, figures)?;
     measure_lines(page, densities, spacing, figures.measures)?;

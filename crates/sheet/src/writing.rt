@@ -1,6 +1,6 @@
 // A page of lent bytes that says when it is full.
 ghost use Rattle.std.specs.Prelude.{◌≡◌, ◌∷◌, [], ◌≤◌, length, replicate};
-ghost use Rattle.sheet.specs.Sheet.{number, numberField, aligned, leftAligned};
+ghost use Rattle.sheet.specs.Sheet.{number, number_field, aligned, aligned_left};
 
 use itoa::Buffer;
 
@@ -105,9 +105,9 @@ impl<'a> Page<'a> {
     }
 
     // A text with as many blanks after it as its columns have left.
-    #[tactic(auto, unfolding(crate::specs::Sheet::leftAligned))]
+    #[tactic(auto, unfolding(crate::specs::Sheet::aligned_left))]
     pub fn left_aligned(&mut self, text: &str, width: usize) -> Result<(), Full>
-        ensures { Prints self.old (leftAligned width text.now) self.new result }
+        ensures { Prints self.old (aligned_left width text.now) self.new result }
     {
         self.text(text)?;
         self.blanks(width.saturating_sub(text.len()))?;
@@ -115,9 +115,9 @@ impl<'a> Page<'a> {
     }
 
     // A number with a byte after it.
-    #[tactic(auto, unfolding(crate::specs::Sheet::numberField))]
+    #[tactic(auto, unfolding(crate::specs::Sheet::number_field))]
     pub fn field(&mut self, n: u64, after: u8) -> Result<(), Full>
-        ensures { Prints self.old (numberField n after) self.new result }
+        ensures { Prints self.old (number_field n after) self.new result }
     {
         self.number(n)?;
         self.byte(after)?;

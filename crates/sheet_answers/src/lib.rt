@@ -3,15 +3,15 @@
 #![tactic(auto)]
 
 ghost use Rattle.std.specs.Prelude.{◌≡◌, [], ◌+◌, ◌-◌, ◌*◌, ◌/◌, ◌≤◌, length, take};
-ghost use Rattle.definitions.specs.Sizes.{mostBytes};
+ghost use Rattle.definitions.specs.Sizes.{most_bytes};
 ghost use Rattle.definitions.specs.Lists.{padded};
-ghost use Rattle.definitions.specs.Lanes.{mostRows};
-ghost use Rattle.definitions.specs.Figures.{minimisedText, densities as densitiesOf, spacings as spacingsOf};
-ghost use Rattle.definitions.specs.Beats.{f32, beats as beatsOf};
-ghost use Rattle.definitions.specs.Notes.{notes as notesOf};
+ghost use Rattle.definitions.specs.Lanes.{most_rows_in};
+ghost use Rattle.definitions.specs.Figures.{minimised_text, densities as densities_of, spacings as spacings_of};
+ghost use Rattle.definitions.specs.Beats.{f32, beats as beats_of};
+ghost use Rattle.definitions.specs.Notes.{notes as notes_of};
 ghost use Rattle.definitions.specs.Records.{records};
-ghost use Rattle.sheet_answers.specs.Answers.{sheetFigures};
-ghost use Rattle.definitions.specs.Judged.{judgedTally};
+ghost use Rattle.sheet_answers.specs.Answers.{sheet_figures};
+ghost use Rattle.definitions.specs.Judged.{judged_tally};
 
 use definitions::ArrowStats;
 use sheet::SheetFigures;
@@ -29,8 +29,8 @@ fn one_less(n: usize) -> usize
 // one that it was minimised from.
 fn judge_minimised(minimised: &[u8], lanes: usize, work: &mut [u16]) -> ArrowStats
     requires le_lanes { (4 ≤ lanes) × (lanes ≤ 10) }
-    requires minimised_len_bound { (length minimised.now - 1 ≤ mostBytes) × (mostRows lanes (length minimised.now - 1) ≤ length work.old) }
-    ensures value { result ≡ judgedTally lanes (take (length minimised.now - 1) minimised.now) }
+    requires minimised_len_bound { (length minimised.now - 1 ≤ most_bytes) × (most_rows_in lanes (length minimised.now - 1) ≤ length work.old) }
+    ensures value { result ≡ judged_tally lanes (take (length minimised.now - 1) minimised.now) }
     ensures work_after { work.new ≡ padded 0 (length work.old) [] }
 {
     let end = one_less(minimised.len());
@@ -48,16 +48,16 @@ pub fn sheet_answers(
     work: &mut [u16],
     notes: &mut [u8],
 ) -> SheetFigures
-    requires le_lanes { (4 ≤ lanes) × (lanes ≤ 10) × (length «data».now ≤ mostBytes) }
+    requires le_lanes { (4 ≤ lanes) × (lanes ≤ 10) × (length «data».now ≤ most_bytes) }
     requires data_in_bounds { (length «data».now + 1 ≤ length text.old) × ((length «data».now + 1) / 2 + 1 ≤ length densities.old) × ((length «data».now + 1) / 2 + 1 ≤ length spacing.old) }
-    requires data_in_bounds_2 { (mostRows lanes (length «data».now) ≤ length beats.old) × (mostRows lanes (length «data».now) ≤ length work.old) × (10 * lanes * mostRows lanes (length «data».now) ≤ length notes.old) }
-    ensures value { result ≡ sheetFigures lanes «data».now }
-    ensures text_after { text.new ≡ padded 0 (length text.old) (minimisedText lanes «data».now) }
-    ensures densities_after { densities.new ≡ padded 0 (length densities.old) (densitiesOf lanes «data».now) }
-    ensures spacing_after { spacing.new ≡ padded 0 (length spacing.old) (spacingsOf lanes «data».now) }
-    ensures beats_after { beats.new ≡ padded (f32 0) (length beats.old) (beatsOf lanes «data».now) }
+    requires data_in_bounds_2 { (most_rows_in lanes (length «data».now) ≤ length beats.old) × (most_rows_in lanes (length «data».now) ≤ length work.old) × (10 * lanes * most_rows_in lanes (length «data».now) ≤ length notes.old) }
+    ensures value { result ≡ sheet_figures lanes «data».now }
+    ensures text_after { text.new ≡ padded 0 (length text.old) (minimised_text lanes «data».now) }
+    ensures densities_after { densities.new ≡ padded 0 (length densities.old) (densities_of lanes «data».now) }
+    ensures spacing_after { spacing.new ≡ padded 0 (length spacing.old) (spacings_of lanes «data».now) }
+    ensures beats_after { beats.new ≡ padded (f32 0) (length beats.old) (beats_of lanes «data».now) }
     ensures work_after { work.new ≡ padded 0 (length work.old) [] }
-    ensures notes_after { notes.new ≡ padded 0 (length notes.old) (records (notesOf lanes «data».now)) }
+    ensures notes_after { notes.new ≡ padded 0 (length notes.old) (records (notes_of lanes «data».now)) }
 {
     let chart = chart::chart_figures(data, lanes, text, densities, beats, work, notes);
     let kept = kept::keep_figures(data, lanes, text, densities, work);

@@ -2,9 +2,9 @@
 #![tactic(auto)]
 
 ghost use Rattle.std.specs.Prelude.{◌≡◌, ◌/◌, length};
-ghost use Rattle.definitions.specs.Records.{readNote};
+ghost use Rattle.definitions.specs.Records.{note_of_record};
 ghost use Rattle.sheet.specs.Page.{Prints};
-ghost use Rattle.sheet_json.specs.Json.{separator, named, figure, lastBeat, jsonHeads, member, members, jsonTallies, densityEntry, densityEntries, truth, spacingEntry, spacingEntries, tailValue, noteValue, recordValue, recordEntry, recordEntries, jsonLists, jsonOf};
+ghost use Rattle.sheet_json.specs.Json.{separator, named, figure, last_beat_of, json_heads, member, members, json_tallies, entry_of_density, entries_of_densities, truth, entry_of_spacing, entries_of_spacings, value_of_tail, value_of_note, value_of_record, entry_of_record, entries_of_records, json_lists, json_of};
 
 use definitions::{ArrowStats, ChartFigures, Note, Tail};
 use note_records::{kind_number, read_note};
@@ -44,9 +44,9 @@ fn figure(page: &mut Page, name: &str, n: u64) -> Result<(), Full>
 }
 
 // The last beat in whole beats, what is left in 48ths, and all in 48ths.
-#[tactic(auto, unfolding(crate::specs::Json::lastBeat))]
+#[tactic(auto, unfolding(crate::specs::Json::last_beat_of))]
 fn last_beat(page: &mut Page, last: u64) -> Result<(), Full>
-    ensures { Prints page.old (lastBeat last) page.new result }
+    ensures { Prints page.old (last_beat_of last) page.new result }
 {
     page.text(",\"last_beat\":{")?;
     named(page, "beats", last / 48)?;
@@ -55,9 +55,9 @@ fn last_beat(page: &mut Page, last: u64) -> Result<(), Full>
     Ok(())
 }
 
-#[tactic(auto, unfolding(crate::specs::Json::jsonHeads))]
+#[tactic(auto, unfolding(crate::specs::Json::json_heads))]
 fn heads(page: &mut Page, figures: &ChartFigures) -> Result<(), Full>
-    ensures { Prints page.old (jsonHeads figures.now) page.new result }
+    ensures { Prints page.old (json_heads figures.now) page.new result }
 {
     page.text("{")?;
     named(page, "measures", figures.measures as u64)?;
@@ -90,9 +90,9 @@ fn members(page: &mut Page, stats: &ArrowStats) -> Result<(), Full>
 }
 
 // The three tallies.
-#[tactic(auto, unfolding(crate::specs::Json::jsonTallies))]
+#[tactic(auto, unfolding(crate::specs::Json::json_tallies))]
 fn tallies(page: &mut Page, figures: &SheetFigures) -> Result<(), Full>
-    ensures { Prints page.old (jsonTallies figures.now) page.new result }
+    ensures { Prints page.old (json_tallies figures.now) page.new result }
 {
     page.text("},\"main\":{")?;
     members(page, &figures.chart.stats)?;
@@ -103,9 +103,9 @@ fn tallies(page: &mut Page, figures: &SheetFigures) -> Result<(), Full>
     Ok(())
 }
 
-#[tactic(auto, unfolding(crate::specs::Json::densityEntry))]
+#[tactic(auto, unfolding(crate::specs::Json::entry_of_density))]
 fn density_entry(page: &mut Page, k: usize, density: u64) -> Result<(), Full>
-    ensures { Prints page.old (densityEntry k density) page.new result }
+    ensures { Prints page.old (entry_of_density k density) page.new result }
 {
     separator(page, k)?;
     page.number(density)?;
@@ -113,7 +113,7 @@ fn density_entry(page: &mut Page, k: usize, density: u64) -> Result<(), Full>
 }
 
 fn density_entries(page: &mut Page, densities: &[u32]) -> Result<(), Full>
-    ensures { Prints page.old (densityEntries densities.now (length densities.now)) page.new result }
+    ensures { Prints page.old (entries_of_densities densities.now (length densities.now)) page.new result }
 {
     for k in 0..densities.len() {
         density_entry(page, k, densities[k] as u64)?;
@@ -131,9 +131,9 @@ fn truth(page: &mut Page, spaced: u64) -> Result<(), Full>
     }
 }
 
-#[tactic(auto, unfolding(crate::specs::Json::spacingEntry))]
+#[tactic(auto, unfolding(crate::specs::Json::entry_of_spacing))]
 fn spacing_entry(page: &mut Page, k: usize, spaced: u64) -> Result<(), Full>
-    ensures { Prints page.old (spacingEntry k spaced) page.new result }
+    ensures { Prints page.old (entry_of_spacing k spaced) page.new result }
 {
     separator(page, k)?;
     truth(page, spaced)?;
@@ -141,7 +141,7 @@ fn spacing_entry(page: &mut Page, k: usize, spaced: u64) -> Result<(), Full>
 }
 
 fn spacing_entries(page: &mut Page, spacing: &[u8]) -> Result<(), Full>
-    ensures { Prints page.old (spacingEntries spacing.now (length spacing.now)) page.new result }
+    ensures { Prints page.old (entries_of_spacings spacing.now (length spacing.now)) page.new result }
 {
     for k in 0..spacing.len() {
         spacing_entry(page, k, spacing[k] as u64)?;
@@ -151,7 +151,7 @@ fn spacing_entries(page: &mut Page, spacing: &[u8]) -> Result<(), Full>
 
 // A tail's row, or null.
 fn tail_value(page: &mut Page, tail: Tail) -> Result<(), Full>
-    ensures { Prints page.old (tailValue tail) page.new result }
+    ensures { Prints page.old (value_of_tail tail) page.new result }
 {
     match tail {
         Tail::Without => page.text("null"),
@@ -160,9 +160,9 @@ fn tail_value(page: &mut Page, tail: Tail) -> Result<(), Full>
 }
 
 // Row, column, kind and tail.
-#[tactic(auto, unfolding(crate::specs::Json::noteValue))]
+#[tactic(auto, unfolding(crate::specs::Json::value_of_note))]
 fn note_value(page: &mut Page, note: Note) -> Result<(), Full>
-    ensures { Prints page.old (noteValue note) page.new result }
+    ensures { Prints page.old (value_of_note note) page.new result }
 {
     page.text("[")?;
     page.field(note.row as u64, b',')?;
@@ -175,7 +175,7 @@ fn note_value(page: &mut Page, note: Note) -> Result<(), Full>
 
 // A record; one that cannot be read is null.
 fn record_value(page: &mut Page, records: &[u8], index: usize) -> Result<(), Full>
-    ensures { Prints page.old (recordValue (readNote records.now index)) page.new result }
+    ensures { Prints page.old (value_of_record (note_of_record records.now index)) page.new result }
 {
     match read_note(records, index) {
         Ok(note) => note_value(page, note),
@@ -183,9 +183,9 @@ fn record_value(page: &mut Page, records: &[u8], index: usize) -> Result<(), Ful
     }
 }
 
-#[tactic(auto, unfolding(crate::specs::Json::recordEntry))]
+#[tactic(auto, unfolding(crate::specs::Json::entry_of_record))]
 fn record_entry(page: &mut Page, records: &[u8], index: usize) -> Result<(), Full>
-    ensures { Prints page.old (recordEntry index (readNote records.now index)) page.new result }
+    ensures { Prints page.old (entry_of_record index (note_of_record records.now index)) page.new result }
 {
     separator(page, index)?;
     record_value(page, records, index)?;
@@ -193,7 +193,7 @@ fn record_entry(page: &mut Page, records: &[u8], index: usize) -> Result<(), Ful
 }
 
 fn record_entries(page: &mut Page, records: &[u8], count: usize) -> Result<(), Full>
-    ensures { Prints page.old (recordEntries records.now count) page.new result }
+    ensures { Prints page.old (entries_of_records records.now count) page.new result }
 {
     for k in 0..count {
         record_entry(page, records, k)?;
@@ -202,9 +202,9 @@ fn record_entries(page: &mut Page, records: &[u8], count: usize) -> Result<(), F
 }
 
 // The three lists, and the end of the object.
-#[tactic(auto, unfolding(crate::specs::Json::jsonLists))]
+#[tactic(auto, unfolding(crate::specs::Json::json_lists))]
 fn lists(page: &mut Page, densities: &[u32], spacing: &[u8], records: &[u8]) -> Result<(), Full>
-    ensures { Prints page.old (jsonLists densities.now spacing.now records.now) page.new result }
+    ensures { Prints page.old (json_lists densities.now spacing.now records.now) page.new result }
 {
     page.text("},\"densities\":[")?;
     density_entries(page, densities)?;
@@ -217,7 +217,7 @@ fn lists(page: &mut Page, densities: &[u32], spacing: &[u8], records: &[u8]) -> 
 }
 
 // The whole form.
-#[tactic(auto, unfolding(crate::specs::Json::jsonOf))]
+#[tactic(auto, unfolding(crate::specs::Json::json_of))]
 pub fn print_json(
     page: &mut Page,
     figures: &SheetFigures,
@@ -225,7 +225,7 @@ pub fn print_json(
     spacing: &[u8],
     records: &[u8],
 ) -> Result<(), Full>
-    ensures { Prints page.old (jsonOf figures.now densities.now spacing.now records.now) page.new result }
+    ensures { Prints page.old (json_of figures.now densities.now spacing.now records.now) page.new result }
 {
     heads(page, &figures.chart)?;
     tallies(page, figures)?;

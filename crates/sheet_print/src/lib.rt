@@ -2,18 +2,18 @@
 #![tactic(auto)]
 
 ghost use Rattle.std.specs.Prelude.{◌≡◌, ◌/◌, ◌≤◌, length};
-ghost use Rattle.definitions.specs.Records.{readNote};
+ghost use Rattle.definitions.specs.Records.{note_of_record};
 ghost use Rattle.sheet.specs.Page.{Prints};
-ghost use Rattle.sheet_print.specs.Print.{countLine, three, lastLine, printHeads, tallyLine, tallyLines, tallyHead, printTallies, lineStart, mark, densityEntry, densityLines, densityHead, heldWord, heldLine, heldRecord, heldLines, heldHead, printOf};
+ghost use Rattle.sheet_print.specs.Print.{line_of_count, three, line_of_last_beat, print_heads, line_of_tally, lines_of_tally, head_of_tally, print_tallies, start_of_line, mark, entry_of_density, lines_of_densities, head_of_densities, word_of_held, line_of_held, held_line_of_record, lines_of_held, head_of_held, print_of};
 
 use definitions::{ChartFigures, Kind, Note, Tail};
 use note_records::{kind_number, read_note};
 use sheet::{Full, Page, SheetFigures, field_at, fields_of};
 
 // A name and a number in nine columns.
-#[tactic(auto, unfolding(crate::specs::Print::countLine))]
+#[tactic(auto, unfolding(crate::specs::Print::line_of_count))]
 fn count_line(page: &mut Page, name: &str, n: u64) -> Result<(), Full>
-    ensures { Prints page.old (countLine name.now n) page.new result }
+    ensures { Prints page.old (line_of_count name.now n) page.new result }
 {
     page.text(name)?;
     page.aligned(n, 9)?;
@@ -34,9 +34,9 @@ fn three_columns(page: &mut Page, a: u64, b: u64, c: u64) -> Result<(), Full>
 }
 
 // The last beat in whole beats and what is left in 48ths.
-#[tactic(auto, unfolding(crate::specs::Print::lastLine))]
+#[tactic(auto, unfolding(crate::specs::Print::line_of_last_beat))]
 fn last_line(page: &mut Page, last: u64) -> Result<(), Full>
-    ensures { Prints page.old (lastLine last) page.new result }
+    ensures { Prints page.old (line_of_last_beat last) page.new result }
 {
     page.text("last beat   ")?;
     page.aligned(last / 48, 9)?;
@@ -46,9 +46,9 @@ fn last_line(page: &mut Page, last: u64) -> Result<(), Full>
     Ok(())
 }
 
-#[tactic(auto, unfolding(crate::specs::Print::printHeads))]
+#[tactic(auto, unfolding(crate::specs::Print::print_heads))]
 fn head_lines(page: &mut Page, figures: &ChartFigures) -> Result<(), Full>
-    ensures { Prints page.old (printHeads figures.now) page.new result }
+    ensures { Prints page.old (print_heads figures.now) page.new result }
 {
     count_line(page, "measures    ", figures.measures as u64)?;
     count_line(page, "rows        ", figures.rows as u64)?;
@@ -59,18 +59,18 @@ fn head_lines(page: &mut Page, figures: &ChartFigures) -> Result<(), Full>
 }
 
 // A field of the three tallies.
-#[tactic(auto, unfolding(crate::specs::Print::tallyLine))]
+#[tactic(auto, unfolding(crate::specs::Print::line_of_tally))]
 fn tally_line(page: &mut Page, name: &str, main: u64, kept: u64, judged: u64) -> Result<(), Full>
-    ensures { Prints page.old (tallyLine name.now main kept judged) page.new result }
+    ensures { Prints page.old (line_of_tally name.now main kept judged) page.new result }
 {
     page.left_aligned(name, 12)?;
     three_columns(page, main, kept, judged)?;
     Ok(())
 }
 
-#[tactic(auto, unfolding(crate::specs::Print::tallyLines))]
+#[tactic(auto, unfolding(crate::specs::Print::lines_of_tally))]
 fn tally_lines(page: &mut Page, figures: &SheetFigures) -> Result<(), Full>
-    ensures { Prints page.old (tallyLines figures.now) page.new result }
+    ensures { Prints page.old (lines_of_tally figures.now) page.new result }
 {
     let main = fields_of(&figures.chart.stats);
     let kept = fields_of(&figures.kept.stats);
@@ -88,32 +88,32 @@ fn tally_lines(page: &mut Page, figures: &SheetFigures) -> Result<(), Full>
     Ok(())
 }
 
-#[tactic(auto, unfolding(crate::specs::Print::tallyHead))]
+#[tactic(auto, unfolding(crate::specs::Print::head_of_tally))]
 fn tally_head(page: &mut Page) -> Result<(), Full>
-    ensures { Prints page.old tallyHead page.new result }
+    ensures { Prints page.old head_of_tally page.new result }
 {
     page.text("\n                 main     kept   judged\n")
 }
 
-#[tactic(auto, unfolding(crate::specs::Print::printTallies))]
+#[tactic(auto, unfolding(crate::specs::Print::print_tallies))]
 fn tallies(page: &mut Page, figures: &SheetFigures) -> Result<(), Full>
-    ensures { Prints page.old (printTallies figures.now) page.new result }
+    ensures { Prints page.old (print_tallies figures.now) page.new result }
 {
     tally_head(page)?;
     tally_lines(page, figures)?;
     Ok(())
 }
 
-#[tactic(auto, unfolding(crate::specs::Print::densityHead))]
+#[tactic(auto, unfolding(crate::specs::Print::head_of_densities))]
 fn density_head(page: &mut Page) -> Result<(), Full>
-    ensures { Prints page.old densityHead page.new result }
+    ensures { Prints page.old head_of_densities page.new result }
 {
     page.text("\ndensities, 16 measures to a line; = equally spaced, - not")
 }
 
 // Where measure k begins a line, the end of the line before and its number.
 fn line_start(page: &mut Page, k: u64) -> Result<(), Full>
-    ensures { Prints page.old (lineStart k) page.new result }
+    ensures { Prints page.old (start_of_line k) page.new result }
 {
     if k % 16 == 0 {
         page.text("\n")?;
@@ -130,9 +130,9 @@ fn spacing_mark(spaced: u64) -> u8
 }
 
 // A measure: its density and spacing.
-#[tactic(auto, unfolding(crate::specs::Print::densityEntry))]
+#[tactic(auto, unfolding(crate::specs::Print::entry_of_density))]
 fn density_entry(page: &mut Page, k: u64, density: u64, spaced: u64) -> Result<(), Full>
-    ensures { Prints page.old (densityEntry k density spaced) page.new result }
+    ensures { Prints page.old (entry_of_density k density spaced) page.new result }
 {
     line_start(page, k)?;
     page.aligned(density, 3)?;
@@ -142,7 +142,7 @@ fn density_entry(page: &mut Page, k: u64, density: u64, spaced: u64) -> Result<(
 
 fn density_lines(page: &mut Page, densities: &[u32], spacing: &[u8]) -> Result<(), Full>
     requires { length densities.now ≤ length spacing.now }
-    ensures { Prints page.old (densityLines densities.now spacing.now (length densities.now)) page.new result }
+    ensures { Prints page.old (lines_of_densities densities.now spacing.now (length densities.now)) page.new result }
 {
     for k in 0..densities.len() {
         density_entry(page, k as u64, densities[k] as u64, spacing[k] as u64)?;
@@ -150,15 +150,15 @@ fn density_lines(page: &mut Page, densities: &[u32], spacing: &[u8]) -> Result<(
     Ok(())
 }
 
-#[tactic(auto, unfolding(crate::specs::Print::heldHead))]
+#[tactic(auto, unfolding(crate::specs::Print::head_of_held))]
 fn held_head(page: &mut Page) -> Result<(), Full>
-    ensures { Prints page.old heldHead page.new result }
+    ensures { Prints page.old head_of_held page.new result }
 {
     page.text("\n\nholds and rolls\n          row   column     tail\n")
 }
 
 fn held_word(page: &mut Page, kind: Kind) -> Result<(), Full>
-    ensures { Prints page.old (heldWord kind) page.new result }
+    ensures { Prints page.old (word_of_held kind) page.new result }
 {
     if kind_number(kind) == 2 {
         page.text("roll")
@@ -169,7 +169,7 @@ fn held_word(page: &mut Page, kind: Kind) -> Result<(), Full>
 
 // A hold or roll: row, column and tail row. A note without a tail has no line.
 fn held_line(page: &mut Page, note: Note) -> Result<(), Full>
-    ensures { Prints page.old (heldLine note note.tail) page.new result }
+    ensures { Prints page.old (line_of_held note note.tail) page.new result }
 {
     match note.tail {
         Tail::Without => page.text(""),
@@ -182,7 +182,7 @@ fn held_line(page: &mut Page, note: Note) -> Result<(), Full>
 
 // The line of a record; one that cannot be read has none.
 fn held_record(page: &mut Page, records: &[u8], index: usize) -> Result<(), Full>
-    ensures { Prints page.old (heldRecord (readNote records.now index)) page.new result }
+    ensures { Prints page.old (held_line_of_record (note_of_record records.now index)) page.new result }
 {
     match read_note(records, index) {
         Ok(note) => held_line(page, note),
@@ -191,7 +191,7 @@ fn held_record(page: &mut Page, records: &[u8], index: usize) -> Result<(), Full
 }
 
 fn held_lines(page: &mut Page, records: &[u8], count: usize) -> Result<(), Full>
-    ensures { Prints page.old (heldLines records.now count) page.new result }
+    ensures { Prints page.old (lines_of_held records.now count) page.new result }
 {
     for k in 0..count {
         held_record(page, records, k)?;
@@ -200,7 +200,7 @@ fn held_lines(page: &mut Page, records: &[u8], count: usize) -> Result<(), Full>
 }
 
 // The whole form.
-#[tactic(auto, unfolding(crate::specs::Print::printOf))]
+#[tactic(auto, unfolding(crate::specs::Print::print_of))]
 pub fn print_columns(
     page: &mut Page,
     figures: &SheetFigures,
@@ -209,7 +209,7 @@ pub fn print_columns(
     records: &[u8],
 ) -> Result<(), Full>
     requires { length densities.now ≤ length spacing.now }
-    ensures { Prints page.old (printOf figures.now densities.now spacing.now records.now) page.new result }
+    ensures { Prints page.old (print_of figures.now densities.now spacing.now records.now) page.new result }
 {
     head_lines(page, &figures.chart)?;
     tallies(page, figures)?;

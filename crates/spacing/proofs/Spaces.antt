@@ -10,12 +10,12 @@ use borrow.Author.Tests.{le-leb, eq-eqb, ne_eqb, eqb-true}
 use lib.Dec.{leb, eqb}
 use lib.Count.{count_trailing_zeros}
 use lib.ListN.{length, length-append}
-use Rattle.definitions.specs.Sizes.{rowNumbersBound}
-use Rattle.definitions.specs.Lists.{oneIf}
+use Rattle.definitions.specs.Sizes.{row_numbers_bound}
+use Rattle.definitions.specs.Lists.{number_of_bool}
 use Rattle.definitions.specs.Lines.{Row}
 use Rattle.definitions.specs.Measures.{chart}
-use Rattle.definitions.specs.Reduction.{allZero, offZero, reduce, stride, minimised}
-use Rattle.definitions.specs.Figures.{isStep, density, spacing, spacings}
+use Rattle.definitions.specs.Reduction.{all_zero, off_zero, reduce, stride, minimised}
+use Rattle.definitions.specs.Figures.{is_step, density, spacing, spacings}
 use Rattle.definitions.proofs.Bools.{and_left, and_right}
 use Rattle.definitions.proofs.Figures.{density-snoc}
 use Rattle.spacing.specs.declared.MeasureSpacing.{MeasureSpacing}
@@ -24,16 +24,16 @@ use Rattle.scans.proofs.Raw.{spacing-raw, steps-most}
 use Rattle.scans.proofs.Strides.{off-zero-row, off-other-row, stride-shift, reduce-length}
 
 -- the figure of a measure as the scan stores it
-abbrev pub spacedIn : List Row → ℕ
-spacedIn rs = oneIf (spacing (reduce rs))
+abbrev pub spaced_in : List Row → ℕ
+spaced_in rs = number_of_bool (spacing (reduce rs))
 
-pub spacings-raw : (L : ℕ) (text : List ℕ) → spacings L text ≡ map spacedIn (chart L text)
+pub spacings-raw : (L : ℕ) (text : List ℕ) → spacings L text ≡ map spaced_in (chart L text)
 unfolding spacings minimised
 spacings-raw L text = go (chart L text)
   where
-    go : (ms : List (List Row)) → map (λ (m : List Row). oneIf (spacing m)) (map reduce ms) ≡ map spacedIn ms
+    go : (ms : List (List Row)) → map (λ (m : List Row). number_of_bool (spacing m)) (map reduce ms) ≡ map spaced_in ms
     go [] = refl
-    go (m ∷ ms) = ap (λ l. spacedIn m ∷ l) (go ms)
+    go (m ∷ ms) = ap (λ l. spaced_in m ∷ l) (go ms)
 
 pub spaces-start : Spaces (record { rows = 0; steps = 0; shift = 64 }) []
 spaces-start = record { rows = refl; steps = inl refl; most = omega arith; shift = λ k h. sym (le-leb k 64 h) }
@@ -60,12 +60,12 @@ module _ (s : MeasureSpacing) (cur : List Row) (x : Spaces s cur) (row : Row) wh
   spaces-lost z ne =
       record {
         rows = longer;
-        steps = inr (refl, omega (arith, longer, few.0), omega (arith, longer, few.1, density-snoc cur row, at_most (isStep row)));
+        steps = inr (refl, omega (arith, longer, few.0), omega (arith, longer, few.1, density-snoc cur row, at_most (is_step row)));
         most = omega arith;
-        shift = λ k h. stays k h (allZero row) refl;
+        shift = λ k h. stays k h (all_zero row) refl;
       }
     where
-      at_most : (t : Bool) → oneIf t ≤ 1
+      at_most : (t : Bool) → number_of_bool t ≤ 1
       at_most true = omega arith
       at_most false = omega arith
 
@@ -76,25 +76,25 @@ module _ (s : MeasureSpacing) (cur : List Row) (x : Spaces s cur) (row : Row) wh
           (λ y. (omega (arith, y.1, x.rows), omega (arith, y.2, x.rows)))
           x.steps
 
-      stays : (k : ℕ) → k ≤ 64 → (t : Bool) → allZero row ≡ t → offZero (2 ^ k) 0 (cur ++ (row ∷ [])) ≡ leb k 0
+      stays : (k : ℕ) → k ≤ 64 → (t : Bool) → all_zero row ≡ t → off_zero (2 ^ k) 0 (cur ++ (row ∷ [])) ≡ leb k 0
       stays k h true w = off-zero-row (2 ^ k) cur row w ∙ x.shift k h ∙ ap (leb k) z
       stays k h false w =
           off-other-row k s.shift cur row h w (x.shift k h)
           ∙ ap (leb k) (ap (λ m. min m (count_trailing_zeros 64 (length cur))) z ∙ zero-min (count_trailing_zeros 64 (length cur)))
 
 -- one row more, all zero or not, of a measure that may be spaced
-module _ (s : MeasureSpacing) (cur : List Row) (x : Spaces s cur) (hope : (s.shift ≡ 0 → s.steps ≡ s.rows)) (row : Row) (n : ℕ) (e : n ≡ oneIf (isStep row)) where
+module _ (s : MeasureSpacing) (cur : List Row) (x : Spaces s cur) (hope : (s.shift ≡ 0 → s.steps ≡ s.rows)) (row : Row) (n : ℕ) (e : n ≡ number_of_bool (is_step row)) where
   more : s.steps + n ≡ density (cur ++ (row ∷ []))
   more = rw (counted, e) (sym (density-snoc cur row))
     where
       counted : s.steps ≡ density cur
       counted = ⊎_elim (λ q. q) (λ y. let w = hope y.0 in absurd (omega (arith, y.1, x.rows, w))) x.steps
 
-  pub spaces-zero : allZero row ≡ true → Spaces (record { rows = s.rows + 1; steps = s.steps + n; shift = s.shift }) (cur ++ (row ∷ []))
+  pub spaces-zero : all_zero row ≡ true → Spaces (record { rows = s.rows + 1; steps = s.steps + n; shift = s.shift }) (cur ++ (row ∷ []))
   spaces-zero z =
       record { rows = longer s cur x row; steps = inl more; most = x.most; shift = λ k h. off-zero-row (2 ^ k) cur row z ∙ x.shift k h }
 
-  pub spaces-other : (t : ℕ) → t ≡ min s.shift (count_trailing_zeros 64 s.rows) → allZero row ≡ false → Spaces (record { rows = s.rows + 1; steps = s.steps + n; shift = t }) (cur ++ (row ∷ []))
+  pub spaces-other : (t : ℕ) → t ≡ min s.shift (count_trailing_zeros 64 s.rows) → all_zero row ≡ false → Spaces (record { rows = s.rows + 1; steps = s.steps + n; shift = t }) (cur ++ (row ∷ []))
   spaces-other t q z =
       record {
         rows = longer s cur x row;
@@ -109,13 +109,13 @@ spaces-few s cur x b h =
     (omega (arith, x.rows), ⊎_elim (λ e. omega (arith, e, steps-most cur)) (λ y. omega (arith, y.1)) x.steps)
 
 -- without rows it is spaced
-pub spaced-none : (s : MeasureSpacing) (cur : List Row) → Spaces s cur → s.rows ≡ 0 → 1 ≡ spacedIn cur
+pub spaced-none : (s : MeasureSpacing) (cur : List Row) → Spaces s cur → s.rows ≡ 0 → 1 ≡ spaced_in cur
 unfolding reduce stride
 spaced-none s [] x h = refl
 spaced-none s (r ∷ cur) x h = absurd (omega (arith, x.rows))
 
 -- with rows it is, where as many have a step as stay
-module _ (s : MeasureSpacing) (cur : List Row) (x : Spaces s cur) (some : 0 < s.rows) (few : s.rows ≤ rowNumbersBound) (t : ℕ) (q : t ≡ min s.shift (count_trailing_zeros 64 s.rows)) where
+module _ (s : MeasureSpacing) (cur : List Row) (x : Spaces s cur) (some : 0 < s.rows) (few : s.rows ≤ row_numbers_bound) (t : ℕ) (q : t ≡ min s.shift (count_trailing_zeros 64 s.rows)) where
   kept : s.rows / 2 ^ t ≡ length (reduce cur)
   kept =
       let a : 0 < length cur = omega (arith, x.rows) in
@@ -131,17 +131,17 @@ module _ (s : MeasureSpacing) (cur : List Row) (x : Spaces s cur) (some : 0 < s.
       let none : t ≡ 0 = omega (arith, q, z) in
       ap (λ k. s.rows / 2 ^ k) none ∙ div-one s.rows
 
-  pub spaced-yes : s.steps ≡ s.rows / 2 ^ t → 1 ≡ spacedIn cur
+  pub spaced-yes : s.steps ≡ s.rows / 2 ^ t → 1 ≡ spaced_in cur
   spaced-yes h =
       ⊎_elim
-      (λ e. sym (ap oneIf (spacing-raw cur ∙ eq-eqb (density cur) (length (reduce cur)) (sym e ∙ h ∙ kept))))
+      (λ e. sym (ap number_of_bool (spacing-raw cur ∙ eq-eqb (density cur) (length (reduce cur)) (sym e ∙ h ∙ kept))))
       (λ y. absurd (omega (arith, y.1, x.rows, h, all_stay y.0)))
       x.steps
 
-  pub spaced-no : (s.steps ≡ s.rows / 2 ^ t → ⊥) → 0 ≡ spacedIn cur
+  pub spaced-no : (s.steps ≡ s.rows / 2 ^ t → ⊥) → 0 ≡ spaced_in cur
   spaced-no h =
       ⊎_elim
-      (λ c. sym (ap oneIf (spacing-raw cur ∙ ne_eqb (density cur) (length (reduce cur)) (λ e. h (c ∙ e ∙ sym kept)))))
+      (λ c. sym (ap number_of_bool (spacing-raw cur ∙ ne_eqb (density cur) (length (reduce cur)) (λ e. h (c ∙ e ∙ sym kept)))))
       (λ y.
-      sym (ap oneIf (spacing-raw cur ∙ ne_eqb (density cur) (length (reduce cur)) (λ e. omega (arith, y.2, x.rows, e, kept, all_stay y.0)))))
+      sym (ap number_of_bool (spacing-raw cur ∙ ne_eqb (density cur) (length (reduce cur)) (λ e. omega (arith, y.2, x.rows, e, kept, all_stay y.0)))))
       x.steps

@@ -2,12 +2,12 @@
 #![tactic(auto)]
 
 ghost use Rattle.std.specs.Prelude.{◌≡◌, List, [], ◌∷◌, ◌++◌, ◌+◌, ◌/◌, ◌≤◌, ◌<◌, min, length};
-ghost use Rattle.definitions.specs.Sizes.{mostBytes, rowNumbersBound};
-ghost use Rattle.definitions.specs.Lists.{oneIf, padded};
+ghost use Rattle.definitions.specs.Sizes.{most_bytes, row_numbers_bound};
+ghost use Rattle.definitions.specs.Lists.{number_of_bool, padded};
 ghost use Rattle.definitions.specs.Lines.{Row};
 ghost use Rattle.definitions.specs.Reduction.{reduce};
-ghost use Rattle.definitions.specs.Figures.{spacing as spacingOf, spacings};
-ghost use Rattle.definitions.specs.Entries.{measuresAnswer, spacingsLeft};
+ghost use Rattle.definitions.specs.Figures.{spacing as spacing_of, spacings};
+ghost use Rattle.definitions.specs.Entries.{measures_answer, spacings_left};
 ghost use Rattle.spacing.specs.Spaces.{Spaces};
 
 use definitions::Refusal;
@@ -41,7 +41,7 @@ fn no_spacing() -> MeasureSpacing
 // The open measure with one row more. Where the stride is 1 for good and some row is no step, no row can make the measure spaced again, and
 // none is looked at.
 fn spacing_row(s: MeasureSpacing, row: &[u8]) -> MeasureSpacing
-    requires { (s.rows < rowNumbersBound) × (s.steps < rowNumbersBound) }
+    requires { (s.rows < row_numbers_bound) × (s.steps < row_numbers_bound) }
     ensures { (cur : List Row) → Spaces s cur → Spaces result (cur ++ (row.now ∷ [])) }
 {
     let rows = s.rows;
@@ -69,8 +69,8 @@ fn spacing_row(s: MeasureSpacing, row: &[u8]) -> MeasureSpacing
 
 // Whether the measure's minimised rows all have a 1, 2 or 4, as 1 or 0: as many rows have one as stay.
 fn is_spaced(s: MeasureSpacing) -> u8
-    requires { s.rows ≤ rowNumbersBound }
-    ensures { (cur : List Row) → Spaces s cur → result ≡ oneIf (spacingOf (reduce cur)) }
+    requires { s.rows ≤ row_numbers_bound }
+    ensures { (cur : List Row) → Spaces s cur → result ≡ number_of_bool (spacing_of (reduce cur)) }
 {
     let rows = s.rows;
     if rows == 0 {
@@ -86,7 +86,7 @@ fn is_spaced(s: MeasureSpacing) -> u8
 
 // The spacing of an accepted text, with zeros after it.
 pub fn fill_spacing(data: &[u8], lanes: usize, spacing: &mut [u8]) -> usize
-    requires data_len_bound { length «data».now ≤ mostBytes }
+    requires data_len_bound { length «data».now ≤ most_bytes }
     requires data_in_bounds { (length «data».now + 1) / 2 + 1 ≤ length spacing.old }
     requires le_lanes { (4 ≤ lanes) × (lanes ≤ 10) }
     ensures value { result ≡ length (spacings lanes «data».now) }
@@ -113,10 +113,10 @@ pub fn fill_spacing(data: &[u8], lanes: usize, spacing: &mut [u8]) -> usize
 }
 
 // For each measure whether it has no rows or each of its minimised rows has a 1, 2 or 4: 1 or 0. The answer counts the measures.
-#[tactic(auto, using(scans::proofs::Raw::spacings_count), unfolding(definitions::specs::Entries::measuresAnswer))]
+#[tactic(auto, using(scans::proofs::Raw::spacings_count), unfolding(definitions::specs::Entries::measures_answer))]
 pub fn equally_spaced_impl(data: &[u8], lanes: usize, spacing: &mut [u8]) -> Result<usize, Refusal>
-    ensures value { result ≡ measuresAnswer lanes «data».now spacing.old }
-    ensures spacing_after { spacing.new ≡ spacingsLeft lanes «data».now spacing.old }
+    ensures value { result ≡ measures_answer lanes «data».now spacing.old }
+    ensures spacing_after { spacing.new ≡ spacings_left lanes «data».now spacing.old }
 {
     let len = data.len();
     refusals::text_fits(len)?;

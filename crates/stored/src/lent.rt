@@ -1,59 +1,59 @@
 // Arrays to lend to an entry: they hold the answers of every text of at most 4,095 bytes, and other numbers before the call.
 ghost use Rattle.std.specs.Prelude.{◌≡◌, length};
-ghost use Rattle.stored.specs.Lent.{lentText, lentDensities, lentSpacing, lentBeats, lentWork, lentNotes, lentFigures, lentChart};
+ghost use Rattle.stored.specs.Lent.{lent_text, lent_densities, lent_spacing, lent_beats, lent_work, lent_notes, lent_figures, lent_chart};
 
-#[tactic(auto, unfolding(crate::specs::Lent::lentText))]
+#[tactic(auto, unfolding(crate::specs::Lent::lent_text))]
 pub fn text() -> [u8; 4096]
-    ensures { (result ≡ lentText) × (4096 ≡ length result) }
+    ensures { (result ≡ lent_text) × (4096 ≡ length result) }
 {
     [165; 4096]
 }
 
-#[tactic(auto, unfolding(crate::specs::Lent::lentDensities))]
+#[tactic(auto, unfolding(crate::specs::Lent::lent_densities))]
 pub fn densities() -> [u32; 2049]
-    ensures { (result ≡ lentDensities) × (2049 ≡ length result) }
+    ensures { (result ≡ lent_densities) × (2049 ≡ length result) }
 {
     [2779096485; 2049]
 }
 
-#[tactic(auto, unfolding(crate::specs::Lent::lentSpacing))]
+#[tactic(auto, unfolding(crate::specs::Lent::lent_spacing))]
 pub fn spacing() -> [u8; 2049]
-    ensures { (result ≡ lentSpacing) × (2049 ≡ length result) }
+    ensures { (result ≡ lent_spacing) × (2049 ≡ length result) }
 {
     [165; 2049]
 }
 
-#[tactic(auto, unfolding(crate::specs::Lent::lentBeats))]
+#[tactic(auto, unfolding(crate::specs::Lent::lent_beats))]
 pub fn beats() -> [f32; 820]
-    ensures { (result ≡ lentBeats) × (820 ≡ length result) }
+    ensures { (result ≡ lent_beats) × (820 ≡ length result) }
 {
     [1.5; 820]
 }
 
-#[tactic(auto, unfolding(crate::specs::Lent::lentWork))]
+#[tactic(auto, unfolding(crate::specs::Lent::lent_work))]
 pub fn work() -> [u16; 820]
-    ensures { (result ≡ lentWork) × (820 ≡ length result) }
+    ensures { (result ≡ lent_work) × (820 ≡ length result) }
 {
     [42405; 820]
 }
 
-#[tactic(auto, unfolding(crate::specs::Lent::lentNotes))]
+#[tactic(auto, unfolding(crate::specs::Lent::lent_notes))]
 pub fn notes() -> [u8; 40960]
-    ensures { (result ≡ lentNotes) × (40960 ≡ length result) }
+    ensures { (result ≡ lent_notes) × (40960 ≡ length result) }
 {
     [165; 40960]
 }
 
-#[tactic(auto, unfolding(crate::specs::Lent::lentFigures))]
+#[tactic(auto, unfolding(crate::specs::Lent::lent_figures))]
 pub fn figures() -> [u64; 32]
-    ensures { (result ≡ lentFigures) × (32 ≡ length result) }
+    ensures { (result ≡ lent_figures) × (32 ≡ length result) }
 {
     [165; 32]
 }
 
-#[tactic(auto, unfolding(crate::specs::Lent::lentChart))]
+#[tactic(auto, unfolding(crate::specs::Lent::lent_chart))]
 pub fn chart() -> [u64; 3]
-    ensures { (result ≡ lentChart) × (3 ≡ length result) }
+    ensures { (result ≡ lent_chart) × (3 ≡ length result) }
 {
     [165; 3]
 }

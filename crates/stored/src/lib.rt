@@ -2,8 +2,8 @@
 #![tactic(auto)]
 
 ghost use Rattle.std.specs.Prelude.{◌≡◌, ◌+◌, ◌*◌, ◌≤◌, ◌<◌, get_or};
-ghost use Rattle.lines.specs.Words.{halfAt};
-ghost use Rattle.stored.specs.Layout.{afterPlace, part_of, contentStart, contentOf, figuresOf, longAt, lanes_at, textEnd, flagsEnd, storedText, flags_of};
+ghost use Rattle.lines.specs.Words.{half_word_at};
+ghost use Rattle.stored.specs.Layout.{after_place, part_of, start_of_content, content_of, stored_figures, long_number_at, lanes_at, end_of_text, end_of_flags, stored_text, flags_of};
 
 pub mod lent;
 
@@ -31,9 +31,9 @@ fn byte_at(s: &[u8], at: usize) -> u64
 }
 
 // The place n bytes after `at`; one that is past every record where either is larger than a record can be.
-#[tactic(auto, unfolding(crate::specs::Layout::afterPlace))]
+#[tactic(auto, unfolding(crate::specs::Layout::after_place))]
 pub fn after(at: usize, n: u64) -> usize
-    ensures { (result ≡ afterPlace at n) × (result ≤ 2000000) }
+    ensures { (result ≡ after_place at n) × (result ≤ 2000000) }
 {
     if at < 1000000 {
         if n < 1000000 {
@@ -46,7 +46,7 @@ pub fn after(at: usize, n: u64) -> usize
 // The number of the four bytes from `at` on, low byte first; bytes past the record's end are 0.
 pub fn number_at(s: &[u8], at: usize) -> u64
     requires { at ≤ 2000000 }
-    ensures { (result ≡ halfAt s.now at) × (result < 4294967296) }
+    ensures { (result ≡ half_word_at s.now at) × (result < 4294967296) }
 {
     byte_at(s, at)
         + byte_at(s, at + 1) * 0x100
@@ -57,7 +57,7 @@ pub fn number_at(s: &[u8], at: usize) -> u64
 // The number of the eight bytes from `at` on, low byte first; bytes past the record's end are 0.
 pub fn long_at(s: &[u8], at: usize) -> u64
     requires { at ≤ 1999996 }
-    ensures { result ≡ longAt s.now at }
+    ensures { result ≡ long_number_at s.now at }
 {
     number_at(s, at) + 4294967296 * number_at(s, at + 4)
 }
@@ -79,7 +79,7 @@ pub fn part(s: &[u8], start: usize, end: usize) -> &[u8]
 // figures and the lengths of its four contents.
 pub fn content_start(s: &[u8], at: usize, k: usize) -> usize
     requires { k ≤ 4 }
-    ensures { (result ≡ contentStart s.now at k) × (result ≤ 2000000) }
+    ensures { (result ≡ start_of_content s.now at k) × (result ≤ 2000000) }
 {
     let mut place = after(at, 272);
     let mut i = 0;
@@ -93,21 +93,21 @@ pub fn content_start(s: &[u8], at: usize, k: usize) -> usize
 // Contents number k of an answer: text, measures, beats, notes.
 pub fn content(s: &[u8], at: usize, k: usize) -> &[u8]
     requires { k < 4 }
-    ensures { result.now ≡ contentOf s.now at k }
+    ensures { result.now ≡ content_of s.now at k }
 {
     part(s, content_start(s, at, k), content_start(s, at, k + 1))
 }
 
 // The figures of an answer.
 pub fn figures(s: &[u8], at: usize) -> &[u8]
-    ensures { result.now ≡ figuresOf s.now at }
+    ensures { result.now ≡ stored_figures s.now at }
 {
     part(s, at, after(at, 256))
 }
 
 // Where the answer after this one begins.
 pub fn next_answer(s: &[u8], at: usize) -> usize
-    ensures { result ≡ contentStart s.now at 4 }
+    ensures { result ≡ start_of_content s.now at 4 }
 {
     content_start(s, at, 4)
 }
@@ -120,19 +120,19 @@ pub fn lanes(s: &[u8]) -> usize
 }
 
 fn text_end(s: &[u8]) -> usize
-    ensures { result ≡ textEnd s.now }
+    ensures { result ≡ end_of_text s.now }
 {
     after(16, number_at(s, 0))
 }
 
 pub fn flags_end(s: &[u8]) -> usize
-    ensures { result ≡ flagsEnd s.now }
+    ensures { result ≡ end_of_flags s.now }
 {
     after(text_end(s), number_at(s, 4))
 }
 
 pub fn text(s: &[u8]) -> &[u8]
-    ensures { result.now ≡ storedText s.now }
+    ensures { result.now ≡ stored_text s.now }
 {
     part(s, 16, text_end(s))
 }

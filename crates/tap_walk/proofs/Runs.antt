@@ -8,7 +8,7 @@ use borrow.Author.Tests.{lt-ltb}
 use lib.Dec.{eqb}
 use lib.ListN.{length, take, length-append}
 use lib.Seq.{length-take-le}
-use Rattle.definitions.specs.Sizes.{countBound, rowsBound}
+use Rattle.definitions.specs.Sizes.{count_bound, row_count_bound}
 use Rattle.definitions.specs.Lists.{joined}
 use Rattle.definitions.specs.Lines.{Row}
 use Rattle.taps.specs.Taps.{FreeTaps, FreeAre}
@@ -27,14 +27,14 @@ use Rattle.measure_tally.proofs.Rows.{counted-row}
 use Rattle.measure_notes.specs.Noted.{NotedRows}
 use Rattle.measure_notes.proofs.Rows.{noted-row}
 use Rattle.measure_run.specs.declared.Run.{Run}
-use Rattle.measure_run.specs.Held.{Rest, countingOf, row_at, notingOf}
+use Rattle.measure_run.specs.Held.{Rest, counting_of, row_at, noting_of}
 use Rattle.tap_walk.specs.Walked.{TapsAdded, Walking}
 
 -- ---- one row more
 
 -- the last object row
 module _ (first : ℕ) (q : Rest) (m : Marks) (r : Run) (above : first ≤ r.row) (done : List (List Row)) (cur : List Row) where
-  pub kept_run : LastKept (notingOf first q m r).last done cur → (row : Row) (low : List ℕ) (object : Bool) (busy : ℕ)
+  pub kept_run : LastKept (noting_of first q m r).last done cur → (row : Row) (low : List ℕ) (object : Bool) (busy : ℕ)
       → RowDone row (record { depths = q.low }) (record { object = object; depths = record { depths = low } }) → FreeAre busy 0 low
       → LastKept (record { depths = record { depths = low }; busy = busy; found = q.found; row = row_at first (cond object (r.row + 1) r.last); rows = r.row + 1 - first; midx = q.midx }) done (cur ++ (row ∷ []))
   kept_run x row low true busy w free =
@@ -48,28 +48,28 @@ module _ (first : ℕ) (q : Rest) (m : Marks) (r : Run) (above : first ≤ r.row
 module _ (L : ℕ) (q : Rest) (m : Marks) (r : Run) (l l' : List ℕ) (done : List (List Row)) (cur : List Row) (row : Row) where
   -- of taps
   module _ (mask : ℕ) (t : Run) (A : TapsAdded r mask l l' t) (free : FreeTaps m.busy mask row) (w : length row ≤ L) where
-    pub counted-taps : L ≤ 10 → Counted L (countingOf q m r) done cur → Counted L (countingOf q m t) done (cur ++ (row ∷ []))
+    pub counted-taps : L ≤ 10 → Counted L (counting_of q m r) done cur → Counted L (counting_of q m t) done (cur ++ (row ∷ []))
     counted-taps v x =
         rw A.row (counted-row L _ done cur x row w v _ _ _ (A.stats row free.mask) (free-row _ _ row _ free x.free) x.free)
 
-    pub noted-taps : (first : ℕ) → first ≤ r.row → r.row < rowsBound → length row ≤ 10 → (r.count + length row) * 10 ≤ length l
-        → NotedRows L (notingOf first q m r) l done cur → NotedRows L (notingOf first q m t) l' done (cur ++ (row ∷ []))
+    pub noted-taps : (first : ℕ) → first ≤ r.row → r.row < row_count_bound → length row ≤ 10 → (r.count + length row) * 10 ≤ length l
+        → NotedRows L (noting_of first q m r) l done cur → NotedRows L (noting_of first q m t) l' done (cur ++ (row ∷ []))
     noted-taps first above few narrow space x =
-        let room : RecordRoom (notingOf first q m r).scratch row l = record { rows = joined done ++ cur; written = x.written; few = omega (arith, x.written.row); narrow = narrow; room = space } in
+        let room : RecordRoom (noting_of first q m r).scratch row l = record { rows = joined done ++ cur; written = x.written; few = omega (arith, x.written.row); narrow = narrow; room = space } in
         rw (A.row, A.last)
         (noted-row L _ l l' row done cur w x _ _ _
-        (A.written (notingOf first q m r).scratch row (record { row = refl; count = refl; room = room; heads = record { busy = m.busy; mask = mask; taps = free; free = x.free }; mask = free.mask }))
+        (A.written (noting_of first q m r).scratch row (record { row = refl; count = refl; room = room; heads = record { busy = m.busy; mask = mask; taps = free; free = x.free }; mask = free.mask }))
         (kept_run first q m r above done cur x.last row q.low (not (eqb mask 0)) m.busy (free-done _ _ row _ free x.last.free) x.last.free)
         x.free)
 
 -- ---- what one more asks
 
-pub stats-few : (q : Rest) (m : Marks) (r : Run) → r.row < rowsBound → Few (countingOf q m r) → Below countBound r.stats
-stats-few q m r h few = below_more (10 * r.row) countBound r.stats (omega arith) few.stats
+pub stats-few : (q : Rest) (m : Marks) (r : Run) → r.row < row_count_bound → Few (counting_of q m r) → Below count_bound r.stats
+stats-few q m r h few = below_more (10 * r.row) count_bound r.stats (omega arith) few.stats
 
 -- the rows of the measure are numbers
-pub run-few : (L first : ℕ) (q : Rest) (m : Marks) (r : Run) (l : List ℕ) (ms : List Row) → Walking L (countingOf q m r) (notingOf first q m r) l ms (r.row - first)
-    → first ≤ r.row → r.row ≤ first + length ms → first + length ms < rowsBound
+pub run-few : (L first : ℕ) (q : Rest) (m : Marks) (r : Run) (l : List ℕ) (ms : List Row) → Walking L (counting_of q m r) (noting_of first q m r) l ms (r.row - first)
+    → first ≤ r.row → r.row ≤ first + length ms → first + length ms < row_count_bound
 run-few L first q m r l ms W h k =
     let here : length (take (r.row - first) ms) ≡ r.row - first = length-take-le (r.row - first) ms (omega arith) in
     omega (arith, W.counted.rows, length-append (joined W.done) (take (r.row - first) ms), here, W.few)

@@ -5,7 +5,7 @@ use Prim.Native.Nat.{ℕ, ◌≤◌, ◌<◌}
 use native.Mathlib.Omega.{arith}
 use lib.ListN.{length, take, length-append}
 use lib.Seq.{length-take-le}
-use Rattle.definitions.specs.Sizes.{measuresBound, rowsBound}
+use Rattle.definitions.specs.Sizes.{measures_bound, row_count_bound}
 use Rattle.definitions.specs.Lists.{joined}
 use Rattle.definitions.specs.Lines.{Row}
 use Rattle.measure_tally.specs.declared.Counting.{Counting}
@@ -32,7 +32,7 @@ module _ (L : ℕ) (c : Counting) (n : Noting) (l : List ℕ) (ms : List Row) (i
   many : length (take i ms) ≡ i
   many = length-take-le i ms (omega arith)
 
-  pub count-few : (c.rows < rowsBound) × Few c
+  pub count-few : (c.rows < row_count_bound) × Few c
   count-few = (omega (arith, W.counted.rows, length-append (joined W.done) (take i ms), many, W.few), W.counted.few)
 
   pub note-ready : (row : Row) → length row ≡ L → L ≤ 10 → RowReady n row l
@@ -42,6 +42,6 @@ module _ (L : ℕ) (c : Counting) (n : Noting) (l : List ℕ) (ms : List Row) (i
       (one-room n.scratch.row_index (length (joined W.done)) (length ms) L (length l) (omega (arith, number, many)) W.room)
 
 -- the measure can end
-pub measure-ready : (L : ℕ) (c : Counting) (n : Noting) (l : List ℕ) (ms : List Row) (i : ℕ) → Walking L c n l ms i → i ≤ length ms → (n.last.rows < rowsBound) × (n.last.midx ≤ measuresBound)
+pub measure-ready : (L : ℕ) (c : Counting) (n : Noting) (l : List ℕ) (ms : List Row) (i : ℕ) → Walking L c n l ms i → i ≤ length ms → (n.last.rows < row_count_bound) × (n.last.midx ≤ measures_bound)
 measure-ready L c n l ms i W h =
     (omega (arith, W.noted.last.rows, length-take-le i ms h, W.few), omega (arith, W.noted.last.midx, W.midx))

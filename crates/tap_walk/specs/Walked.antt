@@ -1,32 +1,32 @@
 -- Ordinary rows: what one more asks, and a measure of which some rows are walked.
 use Rattle.std.specs.Prelude.{◌≡◌, Bool, cond, not, List, [], ◌∷◌, ◌++◌, ℕ, ◌+◌, ◌-◌, ◌*◌, ◌<◌, ◌≤◌, eqb, length, take}
-use Rattle.definitions.specs.Sizes.{countBound, measuresBound, rowsBound}
+use Rattle.definitions.specs.Sizes.{count_bound, measures_bound, row_count_bound}
 use Rattle.definitions.specs.Lists.{joined}
 use Rattle.definitions.specs.Lines.{Row}
-use Rattle.definitions.specs.Tally.{rowSum, addRow}
-use Rattle.taps.specs.Taps.{tapLineMask, Fits}
+use Rattle.definitions.specs.Tally.{row_sum, tally_with_row}
+use Rattle.taps.specs.Taps.{mask_of_line, Fits}
 use Rattle.taps.specs.declared.Taps.TheVariants.{Mask}
 use Rattle.row_tally.specs.Bounds.{Below}
 use Rattle.row_notes.specs.declared.ChartNotesScratch.{ChartNotesScratch}
-use Rattle.row_notes.specs.Written.{Written, MaskFits, SomeMask, afterTaps}
+use Rattle.row_notes.specs.Written.{Written, MaskFits, SomeMask, after_taps}
 use Rattle.row_walk.specs.declared.Marks.{Marks}
 use Rattle.measure_tally.specs.declared.Counting.{Counting}
 use Rattle.measure_tally.specs.Counted.{Counted}
 use Rattle.measure_notes.specs.declared.Noting.{Noting}
 use Rattle.measure_notes.specs.Noted.{NotedRows}
 use Rattle.measure_run.specs.declared.Run.{Run}
-use Rattle.measure_run.specs.Held.{Rest, countingOf, notingOf}
+use Rattle.measure_run.specs.Held.{Rest, counting_of, noting_of}
 
 -- what a row of taps asks, and what is then so
 pub record TapsReady (r : Run) (mask : ℕ) (wide : Bool) (l : List ℕ) : Type 0 where
-  pub few : Below countBound r.stats
-  pub rows : r.row < rowsBound
+  pub few : Below count_bound r.stats
+  pub rows : r.row < row_count_bound
   pub fits : Fits wide mask
   pub some : SomeMask r.row r.count mask l
 
 pub record TapsAdded (r : Run) (mask : ℕ) (l l' : List ℕ) (t : Run) : Type 0 where
-  pub stats : (cells : Row) → tapLineMask cells ≡ Mask mask → t.stats ≡ addRow r.stats (rowSum cells)
-  pub written : (s : ChartNotesScratch) (cells : Row) → MaskFits r.row r.count mask l s cells → (rows : List Row) → Written rows s l → Written (rows ++ (cells ∷ [])) (afterTaps s t.count) l'
+  pub stats : (cells : Row) → mask_of_line cells ≡ Mask mask → t.stats ≡ tally_with_row r.stats (row_sum cells)
+  pub written : (s : ChartNotesScratch) (cells : Row) → MaskFits r.row r.count mask l s cells → (rows : List Row) → Written rows s l → Written (rows ++ (cells ∷ [])) (after_taps s t.count) l'
   pub row : t.row ≡ r.row + 1
   pub last : t.last ≡ cond (not (eqb mask 0)) (r.row + 1) r.last
 
@@ -35,11 +35,11 @@ pub record Walking (L : ℕ) (c : Counting) (n : Noting) (l : List ℕ) (ms : Li
   pub done : List (List Row)
   pub counted : Counted L c done (take i ms)
   pub noted : NotedRows L n l done (take i ms)
-  pub few : length (joined done) + length ms < rowsBound
+  pub few : length (joined done) + length ms < row_count_bound
   pub room : (length (joined done) + length ms) * L * 10 ≤ length l
-  pub midx : length done ≤ measuresBound
+  pub midx : length done ≤ measures_bound
 
 -- The same of what a walk holds, where `first` rows stand before the measure.
 pub record Running (L first : ℕ) (m : Marks) (r : Run) (l : List ℕ) (ms : List Row) : Type 0 where
   pub rest : Rest
-  pub walking : Walking L (countingOf rest m r) (notingOf first rest m r) l ms (r.row - first)
+  pub walking : Walking L (counting_of rest m r) (noting_of first rest m r) l ms (r.row - first)

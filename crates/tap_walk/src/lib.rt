@@ -3,11 +3,11 @@
 
 ghost use Rattle.std.specs.Prelude.{List, ◌+◌, ◌-◌, ◌*◌, ◌≤◌, ◌<◌, length, take, drop};
 ghost use Rattle.definitions.specs.Lines.{Row};
-ghost use Rattle.taps.specs.Taps.{wideRow, TapCounts};
+ghost use Rattle.taps.specs.Taps.{wide_row, TapCounts};
 ghost use Rattle.reduction.specs.Rows.{rows_at};
 ghost use Rattle.measure_tally.specs.Counted.{Counted};
 ghost use Rattle.measure_notes.specs.Noted.{NotedRows};
-ghost use Rattle.measure_run.specs.Held.{Rest, countingOf, notingOf};
+ghost use Rattle.measure_run.specs.Held.{Rest, counting_of, noting_of};
 ghost use Rattle.tap_walk.specs.Walked.{TapsReady, TapsAdded, Running};
 
 use measure_run::Run;
@@ -43,11 +43,11 @@ pub fn walk_taps(
     slots: &mut [u8],
     counts: &[u16; 256],
 ) -> Run
-    requires lanes_nonzero { (0 < lanes) × (lanes ≤ 10) × (start + rows * (lanes + 1) ≤ length text.now) × (first ≤ old.row) × (old.row ≤ first + rows) × TapCounts (wideRow lanes) counts.now }
+    requires lanes_nonzero { (0 < lanes) × (lanes ≤ 10) × (start + rows * (lanes + 1) ≤ length text.now) × (first ≤ old.row) × (old.row ≤ first + rows) × TapCounts (wide_row lanes) counts.now }
     requires running { Running lanes first m old slots.old (rows_at (lanes + 1) lanes rows (drop start text.now)) }
     ensures row_le_row { (old.row ≤ result.row) × (result.row ≤ first + rows) }
-    ensures counted { (q : Rest) (done : List (List Row)) → Counted lanes (countingOf q m old) done (take (old.row - first) (rows_at (lanes + 1) lanes rows (drop start text.now))) → Counted lanes (countingOf q m result) done (take (result.row - first) (rows_at (lanes + 1) lanes rows (drop start text.now))) }
-    ensures noted_rows { (q : Rest) (done : List (List Row)) → NotedRows lanes (notingOf first q m old) slots.old done (take (old.row - first) (rows_at (lanes + 1) lanes rows (drop start text.now))) → NotedRows lanes (notingOf first q m result) slots.new done (take (result.row - first) (rows_at (lanes + 1) lanes rows (drop start text.now))) }
+    ensures counted { (q : Rest) (done : List (List Row)) → Counted lanes (counting_of q m old) done (take (old.row - first) (rows_at (lanes + 1) lanes rows (drop start text.now))) → Counted lanes (counting_of q m result) done (take (result.row - first) (rows_at (lanes + 1) lanes rows (drop start text.now))) }
+    ensures noted_rows { (q : Rest) (done : List (List Row)) → NotedRows lanes (noting_of first q m old) slots.old done (take (old.row - first) (rows_at (lanes + 1) lanes rows (drop start text.now))) → NotedRows lanes (noting_of first q m result) slots.new done (take (result.row - first) (rows_at (lanes + 1) lanes rows (drop start text.now))) }
 {
     let mut r = old;
     let stop = first + rows as u32;

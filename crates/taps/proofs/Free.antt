@@ -15,7 +15,7 @@ use Rattle.definitions.proofs.Lists.{any-default}
 use Rattle.definitions.specs.Lists.{count}
 use Rattle.definitions.specs.Lines.{Row}
 use Rattle.definitions.specs.Cells.{byte_at}
-use Rattle.taps.specs.Taps.{Tells, tapMask, tapLineMask, bit, FreeTaps, freeOf, freeTaps}
+use Rattle.taps.specs.Taps.{Tells, tap_mask, mask_of_line, bit, FreeTaps, free_of, taps_if_free}
 use Rattle.taps.specs.declared.Taps.{Taps}
 use Rattle.taps.specs.declared.Taps.TheVariants.{Mask, Other}
 use Rattle.taps.proofs.Masks.{not-other, parts, line-taps, line_small}
@@ -53,31 +53,31 @@ apart m busy e c one =
 -- ---- a row is free of `busy`, or it is not
 
 -- by the number of the row's mask
-pub free-number : (busy n : ℕ) (r : Row) → Tells n (tapLineMask r) → (ltb n 65536 && eqb (bit_and n busy) 0) ≡ true → (n < 65536) × (Mask n ≡ freeTaps busy r)
-unfolding freeTaps
+pub free-number : (busy n : ℕ) (r : Row) → Tells n (mask_of_line r) → (ltb n 65536 && eqb (bit_and n busy) 0) ≡ true → (n < 65536) × (Mask n ≡ taps_if_free busy r)
+unfolding taps_if_free
 free-number busy n r e h =
     let below : n < 65536 = ltb-true n 65536 (and_left _ _ h) in
-    let told : tapLineMask r ≡ Mask n = tells-below (tapLineMask r) n e below in
-    (below, sym (ap (freeOf busy) told ∙ ap (λ (t : Bool). cond t (Mask n) Other) (and_right (ltb n 65536) (eqb (bit_and n busy) 0) h)))
+    let told : mask_of_line r ≡ Mask n = tells-below (mask_of_line r) n e below in
+    (below, sym (ap (free_of busy) told ∙ ap (λ (t : Bool). cond t (Mask n) Other) (and_right (ltb n 65536) (eqb (bit_and n busy) 0) h)))
 
-pub unfree-number : (busy n : ℕ) (r : Row) → Tells n (tapLineMask r) → (ltb n 65536 && eqb (bit_and n busy) 0) ≡ false → Other ≡ freeTaps busy r
-unfolding freeTaps
-unfree-number busy n r e h = go (tapLineMask r) refl
+pub unfree-number : (busy n : ℕ) (r : Row) → Tells n (mask_of_line r) → (ltb n 65536 && eqb (bit_and n busy) 0) ≡ false → Other ≡ taps_if_free busy r
+unfolding taps_if_free
+unfree-number busy n r e h = go (mask_of_line r) refl
   where
-    go : (t : Taps) → tapLineMask r ≡ t → Other ≡ freeOf busy (tapLineMask r)
-    go Other w = sym (ap (freeOf busy) w)
+    go : (t : Taps) → mask_of_line r ≡ t → Other ≡ free_of busy (mask_of_line r)
+    go Other w = sym (ap (free_of busy) w)
     go (Mask m) w =
         let same : n ≡ m = subst (Tells n) w e in
         let small : ltb m 65536 ≡ true = lt-ltb m 65536 (line_small r m w) in
         let busy-bit : eqb (bit_and m busy) 0 ≡ false = sym (ap (λ (t : Bool). t && eqb (bit_and m busy) 0) small) ∙ rw same at h in
-        sym (ap (freeOf busy) w ∙ ap (λ (t : Bool). cond t (Mask m) Other) busy-bit)
+        sym (ap (free_of busy) w ∙ ap (λ (t : Bool). cond t (Mask m) Other) busy-bit)
 
 -- what a mask that was answered says
-pub free-told : {t : Taps} {busy m : ℕ} {r : Row} → t ≡ freeTaps busy r → t ≡ Mask m → FreeTaps busy m r
-unfolding freeTaps
-free-told {t} {busy} {m} {r} e g = go (tapLineMask r) refl (sym e ∙ g)
+pub free-told : {t : Taps} {busy m : ℕ} {r : Row} → t ≡ taps_if_free busy r → t ≡ Mask m → FreeTaps busy m r
+unfolding taps_if_free
+free-told {t} {busy} {m} {r} e g = go (mask_of_line r) refl (sym e ∙ g)
   where
-    given : (n : ℕ) (p : Bool) → tapLineMask r ≡ Mask n → (p ≡ true → bit_and n busy ≡ 0) → cond p (Mask n) Other ≡ Mask m → FreeTaps busy m r
+    given : (n : ℕ) (p : Bool) → mask_of_line r ≡ Mask n → (p ≡ true → bit_and n busy ≡ 0) → cond p (Mask n) Other ≡ Mask m → FreeTaps busy m r
     given n false w h f = not-other m f
     given n true w h f =
         let same : n ≡ m = cc in
@@ -86,28 +86,28 @@ free-told {t} {busy} {m} {r} e g = go (tapLineMask r) refl (sym e ∙ g)
           free = λ k. rw same at (apart n busy (h refl) k);
         }
 
-    go : (u : Taps) → tapLineMask r ≡ u → freeOf busy u ≡ Mask m → FreeTaps busy m r
+    go : (u : Taps) → mask_of_line r ≡ u → free_of busy u ≡ Mask m → FreeTaps busy m r
     go (Mask n) w f = given n (eqb (bit_and n busy) 0) w (λ h. eqb-true (bit_and n busy) 0 h) f
     go Other w f = not-other m f
 
 -- ---- the cells of a row with a mask
 
-pub tap-cell : (r : Row) (m c : ℕ) → tapMask r ≡ Mask m → byte_at c r ≡ 48 + bit c m
-unfolding tapMask
+pub tap-cell : (r : Row) (m c : ℕ) → tap_mask r ≡ Mask m → byte_at c r ≡ 48 + bit c m
+unfolding tap_mask
 tap-cell [] m c e = let w : 0 ≡ m = cc in omega (arith, ap (bit c) (sym w) ∙ bit-none c)
 tap-cell (b ∷ r) m zero e =
-    let s = parts b (tapMask r) m e in
+    let s = parts b (tap_mask r) m e in
     omega (arith, s.byte, ap (bit 0) s.whole ∙ bit-first s.first s.rest s.small)
 tap-cell (b ∷ r) m (suc c) e =
-    let s = parts b (tapMask r) m e in
+    let s = parts b (tap_mask r) m e in
     tap-cell r s.rest c s.after ∙ ap (λ n. 48 + n) (sym (ap (bit (suc c)) s.whole ∙ bit-next s.first s.rest c s.small))
 
 -- cells of which neither a `0` nor a `1` is one
-pub taps-count : (f : ℕ → Bool) → f 48 ≡ false → f 49 ≡ false → (r : Row) (m : ℕ) → tapMask r ≡ Mask m → count f r ≡ 0
-unfolding tapMask
+pub taps-count : (f : ℕ → Bool) → f 48 ≡ false → f 49 ≡ false → (r : Row) (m : ℕ) → tap_mask r ≡ Mask m → count f r ≡ 0
+unfolding tap_mask
 taps-count f x y [] m e = refl
 taps-count f x y (b ∷ r) m e =
-    let s = parts b (tapMask r) m e in
+    let s = parts b (tap_mask r) m e in
     rw (s.byte, bits s.first s.small, taps-count f x y r s.rest s.after)
   where
     bits : (k : ℕ) → k ≤ 1 → f (48 + k) ≡ false

@@ -12,13 +12,13 @@ use lib.ListN.{length}
 use lib.Pow.{pow-lt}
 use borrow.Author.Tests.{eqb-true}
 use Rattle.definitions.specs.Lines.{Row}
-use Rattle.definitions.specs.Cells.{cell_of, isArrow}
-use Rattle.definitions.specs.Lists.{oneIf, count, sumColumns}
+use Rattle.definitions.specs.Cells.{cell_of, is_arrow}
+use Rattle.definitions.specs.Lists.{number_of_bool, count, sum_columns}
 use Rattle.definitions.specs.declared.Cell.{Cell}
 use Rattle.definitions.specs.declared.Cell.TheVariants.{Empty, Tap}
-use Rattle.definitions.specs.Tally.{rowSum, rowSumBy, countFrom, direction}
+use Rattle.definitions.specs.Tally.{row_sum, row_sum_by, count_from, direction}
 use Rattle.definitions.specs.declared.RowSum.{RowSum}
-use Rattle.taps.specs.Taps.{Small, withBit, tapMask, hasMask, tapLineMask, wideRow, Fits, bit, towards, maskCounts, unpack}
+use Rattle.taps.specs.Taps.{Small, with_bit, tap_mask, has_mask, mask_of_line, wide_row, Fits, bit, towards, mask_counts, unpack}
 use Rattle.taps.specs.declared.Taps.{Taps}
 use Rattle.taps.specs.declared.Taps.TheVariants.{Mask, Other}
 
@@ -34,7 +34,7 @@ pub record Parts (b : ℕ) (t : Taps) (m : ℕ) : Type 0 where
   pub after : t ≡ Mask rest
   pub whole : m ≡ first + 2 * rest
 
-pub parts : (b : ℕ) (t : Taps) (m : ℕ) → withBit b t ≡ Mask m → Parts b t m
+pub parts : (b : ℕ) (t : Taps) (m : ℕ) → with_bit b t ≡ Mask m → Parts b t m
 parts b Other m e = not-other m e
 parts b (Mask n) m e = go (eqb b 48) (eqb b 49) (λ h. eqb-true b 48 h) (λ h. eqb-true b 49 h) e
   where
@@ -47,16 +47,16 @@ parts b (Mask n) m e = go (eqb b 48) (eqb b 49) (λ h. eqb-true b 48 h) (λ h. e
         record { first = 1; rest = n; small = omega arith; byte = k refl; after = refl; whole = omega arith }
     go false false h k f = not-other m f
 
-pub mask_lt : (r : Row) (m : ℕ) → tapMask r ≡ Mask m → m < 2 ^ length r
-unfolding tapMask
+pub mask_lt : (r : Row) (m : ℕ) → tap_mask r ≡ Mask m → m < 2 ^ length r
+unfolding tap_mask
 mask_lt [] m e = let w : 0 ≡ m = cc in omega arith
 mask_lt (b ∷ r) m e =
-    let s = parts b (tapMask r) m e in
+    let s = parts b (tap_mask r) m e in
     let h : s.rest < 2 ^ length r = mask_lt r s.rest s.after in
     omega (arith, pow-suc 2 (length r))
 
 -- the same of a row of up to k cells
-pub mask-few : (k : ℕ) (r : Row) (m : ℕ) → length r ≤ k → tapMask r ≡ Mask m → m < 2 ^ k
+pub mask-few : (k : ℕ) (r : Row) (m : ℕ) → length r ≤ k → tap_mask r ≡ Mask m → m < 2 ^ k
 mask-few k r m h e =
     elim (dec_lt (length r) k) [
       | yes l ↦ omega (arith, mask_lt r m e, pow-lt l)
@@ -68,11 +68,11 @@ abbrev pub row_of : ℕ → ℕ → Row
 row_of zero m = []
 row_of (suc w) m = (48 + m % 2) ∷ row_of w (m / 2)
 
-row_back : (r : Row) (m : ℕ) → tapMask r ≡ Mask m → r ≡ row_of (length r) m
-unfolding tapMask
+row_back : (r : Row) (m : ℕ) → tap_mask r ≡ Mask m → r ≡ row_of (length r) m
+unfolding tap_mask
 row_back [] m e = refl
 row_back (b ∷ r) m e =
-    let s = parts b (tapMask r) m e in
+    let s = parts b (tap_mask r) m e in
     let low : b ≡ 48 + m % 2 = omega arith in
     let high : s.rest ≡ m / 2 = omega arith in
     ap₂ (λ (x : ℕ) (l : Row). x ∷ l) low (row_back r s.rest s.after ∙ ap (row_of (length r)) high)
@@ -80,20 +80,20 @@ row_back (b ∷ r) m e =
 -- ---- The sum of a mask's row
 
 -- the bits of a mask in the w columns from c on that q takes
-abbrev sumBits : (ℕ → Bool) → ℕ → ℕ → ℕ → ℕ
-sumBits q m c zero = 0
-sumBits q m c (suc w) = cond (q c) (bit c m) 0 + sumBits q m (suc c) w
+abbrev sum_bits : (ℕ → Bool) → ℕ → ℕ → ℕ → ℕ
+sum_bits q m c zero = 0
+sum_bits q m c (suc w) = cond (q c) (bit c m) 0 + sum_bits q m (suc c) w
 
 none-taken : (t : Bool) → ◌≡◌ {A = ℕ} (cond t 0 0) 0
 none-taken true = refl
 none-taken false = refl
 
 -- a cell of a row of taps counts by its bit, where a test fails on a `0`
-one_bit : (b : ℕ) (f : Cell → Bool) (t : Bool) → b ≤ 1 → f Empty ≡ false → f Tap ≡ t → oneIf (f (cell_of (48 + b))) ≡ cond t b 0
+one_bit : (b : ℕ) (f : Cell → Bool) (t : Bool) → b ≤ 1 → f Empty ≡ false → f Tap ≡ t → number_of_bool (f (cell_of (48 + b))) ≡ cond t b 0
 unfolding cell_of
-one_bit zero f t h e k = ap oneIf e ∙ sym (none-taken t)
-one_bit (suc zero) f true h e k = ap oneIf k
-one_bit (suc zero) f false h e k = ap oneIf k
+one_bit zero f t h e k = ap number_of_bool e ∙ sym (none-taken t)
+one_bit (suc zero) f true h e k = ap number_of_bool k
+one_bit (suc zero) f false h e k = ap number_of_bool k
 one_bit (suc (suc b)) f t h e k = absurd (omega arith)
 
 halved : (m c : ℕ) → m / 2 ^ c / 2 ≡ m / 2 ^ suc c
@@ -101,26 +101,26 @@ halved m c = div-div-eq-div-mul m (2 ^ c) 2 ∙ ap (λ n. m / n) (sym (pow-suc 2
 
 -- what a test of column and cell counts in a mask's row
 module _ (p : ℕ → Cell → Bool) (q : ℕ → Bool) (zeros : (c : ℕ) → p c Empty ≡ false) (ones : (c : ℕ) → p c Tap ≡ q c) (m : ℕ) where
-  counts-from : (c w : ℕ) → countFrom p c (row_of w (m / 2 ^ c)) ≡ sumBits q m c w
+  counts-from : (c w : ℕ) → count_from p c (row_of w (m / 2 ^ c)) ≡ sum_bits q m c w
   counts-from c zero = refl
   counts-from c (suc w) =
       ap₂ ◌+◌
       (one_bit (bit c m) (p c) (q c) (omega arith) (zeros c) (ones c))
-      (ap (λ n. countFrom p (suc c) (row_of w n)) (halved m c) ∙ counts-from (suc c) w)
+      (ap (λ n. count_from p (suc c) (row_of w n)) (halved m c) ∙ counts-from (suc c) w)
 
 -- a test that fails on `0` and `1` counts nothing
 counts-none : (p : ℕ → Bool) → p 48 ≡ false → p 49 ≡ false → (w m : ℕ) → count p (row_of w m) ≡ 0
 counts-none p e k zero m = refl
 counts-none p e k (suc w) m = ap₂ ◌+◌ (go (m % 2) (omega arith)) (counts-none p e k w (m / 2))
   where
-    go : (b : ℕ) → b ≤ 1 → oneIf (p (48 + b)) ≡ 0
-    go zero h = ap oneIf e
-    go (suc zero) h = ap oneIf k
+    go : (b : ℕ) → b ≤ 1 → number_of_bool (p (48 + b)) ≡ 0
+    go zero h = ap number_of_bool e
+    go (suc zero) h = ap number_of_bool k
     go (suc (suc b)) h = absurd (omega arith)
 
 -- past its highest bit a mask has none
 module _ (q : ℕ → Bool) (m : ℕ) where
-  none_above : (c k : ℕ) → m < 2 ^ c → 0 ≡ sumBits q m c k
+  none_above : (c k : ℕ) → m < 2 ^ c → 0 ≡ sum_bits q m c k
   none_above c zero h = refl
   none_above c (suc k) h =
       let low : bit c m ≡ 0 = ap (λ n. n % 2) (div-eq_of_lt h) in
@@ -128,13 +128,13 @@ module _ (q : ℕ → Bool) (m : ℕ) where
       let rest = none_above (suc c) k (omega (arith, pow-suc 2 c)) in
       omega arith
 
-  to-ten : (c w k : ℕ) → m < 2 ^ (c + w) → sumBits q m c w ≡ sumBits q m c (w + k)
+  to-ten : (c w k : ℕ) → m < 2 ^ (c + w) → sum_bits q m c w ≡ sum_bits q m c (w + k)
   to-ten c zero k h = none_above c (0 + k) (subst (λ n. m < 2 ^ n) (omega arith) h)
   to-ten c (suc w) k h =
       ap (λ n. cond (q c) (bit c m) 0 + n) (to-ten (suc c) w k (subst (λ n. m < 2 ^ n) (omega arith) h))
-      ∙ ap (sumBits q m c) (sym (suc-add w k))
+      ∙ ap (sum_bits q m c) (sym (suc-add w k))
 
-  few_bits : (c w : ℕ) → sumBits q m c w ≤ w
+  few_bits : (c w : ℕ) → sum_bits q m c w ≤ w
   few_bits c zero = omega arith
   few_bits c (suc w) =
       let first : cond (q c) (bit c m) 0 ≤ 1 = go (q c) in
@@ -167,43 +167,43 @@ packed a l d u r h₁ h₂ h₃ h₄ h₅ =
 
 -- the sum of a mask's row, at each width up to 10
 module _ (w m : ℕ) (short : w ≤ 10) (few : m < 2 ^ w) where
-  counts : (p : ℕ → Cell → Bool) (q : ℕ → Bool) → ((c : ℕ) → p c Empty ≡ false) → ((c : ℕ) → p c Tap ≡ q c) → countFrom p 0 (row_of w m) ≡ sumBits q m 0 10
+  counts : (p : ℕ → Cell → Bool) (q : ℕ → Bool) → ((c : ℕ) → p c Empty ≡ false) → ((c : ℕ) → p c Tap ≡ q c) → count_from p 0 (row_of w m) ≡ sum_bits q m 0 10
   counts p q e k =
       let all : w + (10 - w) ≡ 10 = omega arith in
-      ap (λ n. countFrom p 0 (row_of w n)) (sym (div-one m))
+      ap (λ n. count_from p 0 (row_of w n)) (sym (div-one m))
       ∙ counts-from p q e k m 0 w
       ∙ to-ten q m 0 w (10 - w) (subst (λ n. m < 2 ^ n) (omega arith) few)
-      ∙ ap (sumBits q m 0) all
+      ∙ ap (sum_bits q m 0) all
 
   below : m < 1024
   below = omega (arith, pow-le-pow_right {n = 2} (omega arith) short)
 
-  ten-bits : sumBits (λ c. true) m 0 10 ≡ sumColumns 10 (λ c. bit c m)
+  ten-bits : sum_bits (λ c. true) m 0 10 ≡ sum_columns 10 (λ c. bit c m)
   ten-bits = go (bit 0 m) (bit 1 m) (bit 2 m) (bit 3 m) (bit 4 m) (bit 5 m) (bit 6 m) (bit 7 m) (bit 8 m) (bit 9 m)
     where
       go : (a b c d e f g h i j : ℕ) → a + (b + (c + (d + (e + (f + (g + (h + (i + (j + 0))))))))) ≡ 0 + a + b + c + d + e + f + g + h + i + j
       go a b c d e f g h i j = omega arith
 
   -- the columns of each direction; there is no eleventh and no twelfth
-  lefts : sumBits (λ c. eqb (direction c) 0) m 0 10 ≡ towards 0 m
+  lefts : sum_bits (λ c. eqb (direction c) 0) m 0 10 ≡ towards 0 m
   lefts = go (bit 0 m) (bit 4 m) (bit 8 m)
     where
       go : (x y z : ℕ) → x + (0 + (0 + (0 + (y + (0 + (0 + (0 + (z + (0 + 0))))))))) ≡ x + y + z
       go x y z = omega arith
 
-  downs : sumBits (λ c. eqb (direction c) 1) m 0 10 ≡ towards 1 m
+  downs : sum_bits (λ c. eqb (direction c) 1) m 0 10 ≡ towards 1 m
   downs = go (bit 1 m) (bit 5 m) (bit 9 m)
     where
       go : (x y z : ℕ) → 0 + (x + (0 + (0 + (0 + (y + (0 + (0 + (0 + (z + 0))))))))) ≡ x + y + z
       go x y z = omega arith
 
-  ups : sumBits (λ c. eqb (direction c) 2) m 0 10 ≡ towards 2 m
+  ups : sum_bits (λ c. eqb (direction c) 2) m 0 10 ≡ towards 2 m
   ups = go (bit 2 m) (bit 6 m) (bit 10 m) (ap (λ n. n % 2) (div-eq_of_lt below))
     where
       go : (x y z : ℕ) → z ≡ 0 → 0 + (0 + (x + (0 + (0 + (0 + (y + (0 + (0 + (0 + 0))))))))) ≡ x + y + z
       go x y z h = omega arith
 
-  rights : sumBits (λ c. eqb (direction c) 3) m 0 10 ≡ towards 3 m
+  rights : sum_bits (λ c. eqb (direction c) 3) m 0 10 ≡ towards 3 m
   rights = go (bit 3 m) (bit 7 m) (bit 11 m) (ap (λ n. n % 2) (div-eq_of_lt (omega (arith, below))))
     where
       go : (x y z : ℕ) → z ≡ 0 → 0 + (0 + (0 + (x + (0 + (0 + (0 + (y + (0 + (0 + 0))))))))) ≡ x + y + z
@@ -215,31 +215,31 @@ module _ (w m : ℕ) (short : w ≤ 10) (few : m < 2 ^ w) where
       go : (x y z : ℕ) → x ≤ 1 → y ≤ 1 → z ≤ 1 → x + y + z ≤ 3
       go x y z h k l = omega arith
 
-  pub counts-few : maskCounts m < 4096
-  unfolding maskCounts
+  pub counts-few : mask_counts m < 4096
+  unfolding mask_counts
   counts-few =
-      go (sumColumns 10 (λ c. bit c m)) (towards 0 m) (towards 1 m) (towards 2 m) (towards 3 m)
+      go (sum_columns 10 (λ c. bit c m)) (towards 0 m) (towards 1 m) (towards 2 m) (towards 3 m)
       (subst (λ n. n ≤ 10) ten-bits (few_bits (λ c. true) m 0 10)) (few-towards 0) (few-towards 1) (few-towards 2) (few-towards 3)
     where
       go : (a l d u r : ℕ) → a ≤ 10 → l ≤ 3 → d ≤ 3 → u ≤ 3 → r ≤ 3 → a + (2 ^ 4 * l + 2 ^ 6 * d + 2 ^ 8 * u + 2 ^ 10 * r) < 4096
       go a l d u r h₁ h₂ h₃ h₄ h₅ = omega arith
 
-  pub sum_row : rowSum (row_of w m) ≡ unpack (maskCounts m)
-  unfolding rowSum rowSumBy maskCounts cell_of
+  pub sum_row : row_sum (row_of w m) ≡ unpack (mask_counts m)
+  unfolding row_sum row_sum_by mask_counts cell_of
   sum_row =
       made
-      (counts (λ c x. isArrow x) (λ c. true) (λ c. refl) (λ c. refl) ∙ ten-bits)
-      (counts (λ c x. isArrow x && eqb (direction c) 0) (λ c. eqb (direction c) 0) (λ c. refl) (λ c. refl) ∙ lefts)
-      (counts (λ c x. isArrow x && eqb (direction c) 1) (λ c. eqb (direction c) 1) (λ c. refl) (λ c. refl) ∙ downs)
-      (counts (λ c x. isArrow x && eqb (direction c) 2) (λ c. eqb (direction c) 2) (λ c. refl) (λ c. refl) ∙ ups)
-      (counts (λ c x. isArrow x && eqb (direction c) 3) (λ c. eqb (direction c) 3) (λ c. refl) (λ c. refl) ∙ rights)
+      (counts (λ c x. is_arrow x) (λ c. true) (λ c. refl) (λ c. refl) ∙ ten-bits)
+      (counts (λ c x. is_arrow x && eqb (direction c) 0) (λ c. eqb (direction c) 0) (λ c. refl) (λ c. refl) ∙ lefts)
+      (counts (λ c x. is_arrow x && eqb (direction c) 1) (λ c. eqb (direction c) 1) (λ c. refl) (λ c. refl) ∙ downs)
+      (counts (λ c x. is_arrow x && eqb (direction c) 2) (λ c. eqb (direction c) 2) (λ c. refl) (λ c. refl) ∙ ups)
+      (counts (λ c x. is_arrow x && eqb (direction c) 3) (λ c. eqb (direction c) 3) (λ c. refl) (λ c. refl) ∙ rights)
       (counts-none _ refl refl w m)
       (counts-none _ refl refl w m)
       (counts-none _ refl refl w m)
       (counts-none _ refl refl w m)
       (counts-none _ refl refl w m)
       (counts-none _ refl refl w m)
-      ∙ packed (sumColumns 10 (λ c. bit c m)) (towards 0 m) (towards 1 m) (towards 2 m) (towards 3 m)
+      ∙ packed (sum_columns 10 (λ c. bit c m)) (towards 0 m) (towards 1 m) (towards 2 m) (towards 3 m)
       (subst (λ n. n ≤ 10) ten-bits (few_bits (λ c. true) m 0 10)) (few-towards 0) (few-towards 1) (few-towards 2) (few-towards 3)
     where
       made : {a₁ a₂ b₁ b₂ c₁ c₂ d₁ d₂ e₁ e₂ f₁ f₂ g₁ g₂ h₁ h₂ i₁ i₂ j₁ j₂ k₁ k₂ : ℕ} → a₁ ≡ a₂ → b₁ ≡ b₂ → c₁ ≡ c₂ → d₁ ≡ d₂ → e₁ ≡ e₂
@@ -249,16 +249,16 @@ module _ (w m : ℕ) (short : w ≤ 10) (few : m < 2 ^ w) where
       made a b c d e f g h i j k = cc
 
 -- A row of taps alone adds up to what its mask's counts stand for.
-tap-row-sum : (r : Row) (m : ℕ) → length r ≤ 10 → tapMask r ≡ Mask m → rowSum r ≡ unpack (maskCounts m)
-tap-row-sum r m h e = ap rowSum (row_back r m e) ∙ sum_row (length r) m h (mask_lt r m e)
+tap-row-sum : (r : Row) (m : ℕ) → length r ≤ 10 → tap_mask r ≡ Mask m → row_sum r ≡ unpack (mask_counts m)
+tap-row-sum r m h e = ap row_sum (row_back r m e) ∙ sum_row (length r) m h (mask_lt r m e)
 
 -- every mask is that of a row of ten cells
-pub mask-row : (m : ℕ) → m < 1024 → rowSum (row_of 10 m) ≡ unpack (maskCounts m)
+pub mask-row : (m : ℕ) → m < 1024 → row_sum (row_of 10 m) ≡ unpack (mask_counts m)
 mask-row m h = sum_row 10 m (omega arith) h
 
 -- ---- Rows of the widths that have masks
 
-pub width : (n : ℕ) → hasMask n ≡ true → (4 ≤ n) × (n ≤ 10)
+pub width : (n : ℕ) → has_mask n ≡ true → (4 ≤ n) × (n ≤ 10)
 width n e = go (eqb n 4) (eqb n 8) (eqb n 5) (eqb n 10) (eqb-true n 4) (eqb-true n 8) (eqb-true n 5) (eqb-true n 10) e
   where
     go : (p q s t : Bool) → (p ≡ true → n ≡ 4) → (q ≡ true → n ≡ 8) → (s ≡ true → n ≡ 5) → (t ≡ true → n ≡ 10) → (p || q || s || t) ≡ true
@@ -271,37 +271,37 @@ width n e = go (eqb n 4) (eqb n 8) (eqb n 5) (eqb n 10) (eqb-true n 4) (eqb-true
 
 module _ (r : Row) where
   -- a row of such a width has the mask of its cells
-  pub line-mask : hasMask (length r) ≡ true → tapMask r ≡ tapLineMask r
-  unfolding tapLineMask
+  pub line-mask : has_mask (length r) ≡ true → tap_mask r ≡ mask_of_line r
+  unfolding mask_of_line
   line-mask t = rw t
 
-  pub line_other : hasMask (length r) ≡ false → Other ≡ tapLineMask r
-  unfolding tapLineMask
+  pub line_other : has_mask (length r) ≡ false → Other ≡ mask_of_line r
+  unfolding mask_of_line
   line_other t = rw t
 
-  module _ (m : ℕ) (e : tapLineMask r ≡ Mask m) where
-    line-told : (hasMask (length r) ≡ true) × (tapMask r ≡ Mask m)
-    unfolding tapLineMask
-    line-told = go (hasMask (length r)) refl e
+  module _ (m : ℕ) (e : mask_of_line r ≡ Mask m) where
+    line-told : (has_mask (length r) ≡ true) × (tap_mask r ≡ Mask m)
+    unfolding mask_of_line
+    line-told = go (has_mask (length r)) refl e
       where
-        go : (t : Bool) → hasMask (length r) ≡ t → cond t (tapMask r) Other ≡ Mask m → (hasMask (length r) ≡ true) × (tapMask r ≡ Mask m)
+        go : (t : Bool) → has_mask (length r) ≡ t → cond t (tap_mask r) Other ≡ Mask m → (has_mask (length r) ≡ true) × (tap_mask r ≡ Mask m)
         go true h q = (h, q)
         go false h q = not-other m q
 
-    pub line-taps : tapMask r ≡ Mask m
+    pub line-taps : tap_mask r ≡ Mask m
     line-taps = line-told.1
 
     pub line-width : (4 ≤ length r) × (length r ≤ 10)
     line-width = width (length r) line-told.0
 
-    pub tap-line-sum : rowSum r ≡ unpack (maskCounts m)
+    pub tap-line-sum : row_sum r ≡ unpack (mask_counts m)
     tap-line-sum = tap-row-sum r m line-width.1 line-taps
 
     -- the table has the masks of rows of four and eight
-    pub line-fits : Fits (wideRow (length r)) m
+    pub line-fits : Fits (wide_row (length r)) m
     line-fits = (mask-few 10 r m line-width.1 line-taps, λ w. mask-few 8 r m (short w) line-taps)
       where
-        short : wideRow (length r) ≡ false → length r ≤ 8
+        short : wide_row (length r) ≡ false → length r ≤ 8
         short w = go (eqb (length r) 4) (eqb (length r) 8) (eqb-true (length r) 4) (eqb-true (length r) 8) w
           where
             go : (p q : Bool) → (p ≡ true → length r ≡ 4) → (q ≡ true → length r ≡ 8) → not (p || q) ≡ false → length r ≤ 8
@@ -309,8 +309,8 @@ module _ (r : Row) where
             go false true a b f = omega (arith, b refl)
             go false false a b f = let z : ◌≡◌ {A = ℕ} 0 1 = cc in absurd (omega arith)
 
-pub fits-at : (r : Row) (m L : ℕ) → length r ≡ L → tapLineMask r ≡ Mask m → Fits (wideRow L) m
-fits-at r m L h e = subst (λ n. Fits (wideRow n) m) h (line-fits r m e)
+pub fits-at : (r : Row) (m L : ℕ) → length r ≡ L → mask_of_line r ≡ Mask m → Fits (wide_row L) m
+fits-at r m L h e = subst (λ n. Fits (wide_row n) m) h (line-fits r m e)
 
 -- ---- Two rows of taps, one after the other
 abbrev pub beside : ℕ → Taps → Taps → Taps
@@ -323,7 +323,7 @@ module _ (w : ℕ) where
   twice : (m n : ℕ) → 2 * (m + 2 ^ w * n) ≡ 2 * m + 2 ^ suc w * n
   twice m n = let e : 2 ^ suc w * n ≡ 2 * (2 ^ w * n) = rw (pow-succ' 2 w, mul_assoc) in omega arith
 
-  more : (b : ℕ) (t u : Taps) → withBit b (beside w t u) ≡ beside (suc w) (withBit b t) u
+  more : (b : ℕ) (t u : Taps) → with_bit b (beside w t u) ≡ beside (suc w) (with_bit b t) u
   more b Other u = refl
   more b (Mask m) Other = go (eqb b 48) (eqb b 49)
     where
@@ -344,10 +344,10 @@ none : (t : Taps) → t ≡ beside 0 (Mask 0) t
 none (Mask m) = ap Mask (omega arith)
 none Other = refl
 
-pub mask_append : (r s : Row) → tapMask (r ++ s) ≡ beside (length r) (tapMask r) (tapMask s)
-unfolding tapMask
-mask_append [] s = none (tapMask s)
-mask_append (b ∷ r) s = ap (withBit b) (mask_append r s) ∙ more (length r) b (tapMask r) (tapMask s)
+pub mask_append : (r s : Row) → tap_mask (r ++ s) ≡ beside (length r) (tap_mask r) (tap_mask s)
+unfolding tap_mask
+mask_append [] s = none (tap_mask s)
+mask_append (b ∷ r) s = ap (with_bit b) (mask_append r s) ∙ more (length r) b (tap_mask r) (tap_mask s)
 
 -- the two masks that stand beside each other
 pub record Sides (w : ℕ) (t u : Taps) (m : ℕ) : Type 0 where
@@ -368,8 +368,8 @@ and-15 n = and_mask n 4
 pub and-3 : (n : ℕ) → bit_and n 3 ≡ n % 4
 and-3 n = and_mask n 2
 
-pub mask-small : (r : Row) → length r ≤ 10 → Small (tapMask r)
+pub mask-small : (r : Row) → length r ≤ 10 → Small (tap_mask r)
 mask-small r h m e = omega (arith, mask-few 10 r m h e)
 
-pub line_small : (r : Row) → Small (tapLineMask r)
+pub line_small : (r : Row) → Small (mask_of_line r)
 line_small r m e = omega (arith, (line-fits r m e).0)

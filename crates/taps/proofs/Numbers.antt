@@ -5,7 +5,7 @@ use Prim.Native.Nat.{ℕ, ◌<◌, ◌≤◌}
 use native.Mathlib.Omega.{arith}
 use lib.Dec.{eqb}
 use borrow.Author.Tests.{eqb-true, ne_eqb}
-use Rattle.taps.specs.Taps.{number_of, Small, Tells, hasMask}
+use Rattle.taps.specs.Taps.{number_of, Small, Tells, has_mask}
 use Rattle.taps.specs.declared.Taps.{Taps}
 use Rattle.taps.specs.declared.Taps.TheVariants.{Mask, Other}
 
@@ -42,7 +42,7 @@ then-five n e four = go (eqb n 5) (eqb-true n 5) (rw (ne_eqb n 4 four) at e)
     go true b f = b refl
     go false b f = let z : ◌≡◌ {A = ℕ} 0 1 = cc in absurd (omega arith)
 
-pub no-width : (n : ℕ) → (eqb n 4 || eqb n 5) ≡ false → (n ≡ 8 → ⊥) → (n ≡ 10 → ⊥) → hasMask n ≡ false
+pub no-width : (n : ℕ) → (eqb n 4 || eqb n 5) ≡ false → (n ≡ 8 → ⊥) → (n ≡ 10 → ⊥) → has_mask n ≡ false
 no-width n e eight ten = rw (ne_eqb n 8 eight, ne_eqb n 10 ten) (go (eqb n 4) (eqb n 5) e)
   where
     go : (p q : Bool) → (p || q) ≡ false → (p || false || q || false) ≡ false

@@ -9,37 +9,37 @@ use borrow.Author.Tests.{eqb-true}
 use lib.Dec.{eqb}
 use lib.ListN.{get_or}
 use Rattle.definitions.proofs.Lists.{one-le}
-use Rattle.definitions.specs.Lists.{oneIf}
-use Rattle.taps.specs.Taps.{bit, FreeAre, unlikeFrom, unlikeMask}
+use Rattle.definitions.specs.Lists.{number_of_bool}
+use Rattle.taps.specs.Taps.{bit, FreeAre, unlike_from, unlike_mask}
 use Rattle.taps.proofs.Free.{bit-first, bit-next}
 
-from-none : (n : ℕ) (l : List ℕ) (c k i : ℕ) → i < k → bit i (unlikeFrom n l c k) ≡ 0 → get_or l (c + i) 0 ≡ n
+from-none : (n : ℕ) (l : List ℕ) (c k i : ℕ) → i < k → bit i (unlike_from n l c k) ≡ 0 → get_or l (c + i) 0 ≡ n
 from-none n l c zero i h e = absurd (omega arith)
 from-none n l c (suc k) zero h e =
     let here : c + 0 ≡ c = omega arith in
     ap (λ p. get_or l p 0) here
-    ∙ go (eqb (get_or l c 0) n) (λ q. eqb-true (get_or l c 0) n q) (sym (bit-first (oneIf (not (eqb (get_or l c 0) n))) (unlikeFrom n l (suc c) k) (one-le (not (eqb (get_or l c 0) n)))) ∙ e)
+    ∙ go (eqb (get_or l c 0) n) (λ q. eqb-true (get_or l c 0) n q) (sym (bit-first (number_of_bool (not (eqb (get_or l c 0) n))) (unlike_from n l (suc c) k) (one-le (not (eqb (get_or l c 0) n)))) ∙ e)
   where
-    go : (t : Bool) → (t ≡ true → get_or l c 0 ≡ n) → oneIf (not t) ≡ 0 → get_or l c 0 ≡ n
+    go : (t : Bool) → (t ≡ true → get_or l c 0 ≡ n) → number_of_bool (not t) ≡ 0 → get_or l c 0 ≡ n
     go true q z = q refl
     go false q z = absurd (omega arith)
 from-none n l c (suc k) (suc i) h e =
     let next : c + suc i ≡ suc c + i = omega arith in
     ap (λ p. get_or l p 0) next
-    ∙ from-none n l (suc c) k i (omega arith) (sym (bit-next (oneIf (not (eqb (get_or l c 0) n))) (unlikeFrom n l (suc c) k) i (one-le (not (eqb (get_or l c 0) n)))) ∙ e)
+    ∙ from-none n l (suc c) k i (omega arith) (sym (bit-next (number_of_bool (not (eqb (get_or l c 0) n))) (unlike_from n l (suc c) k) i (one-le (not (eqb (get_or l c 0) n)))) ∙ e)
 
-pub unlike-free : (n : ℕ) (l : List ℕ) → FreeAre (unlikeMask n l) n l
-unfolding unlikeMask
+pub unlike-free : (n : ℕ) (l : List ℕ) → FreeAre (unlike_mask n l) n l
+unfolding unlike_mask
 unlike-free n l c h e = let here : 0 + c ≡ c = omega arith in ap (λ p. get_or l p 0) (sym here) ∙ from-none n l 0 10 c h e
 
-pub from-lt : (n : ℕ) (l : List ℕ) (c k : ℕ) → unlikeFrom n l c k < 2 ^ k
+pub from-lt : (n : ℕ) (l : List ℕ) (c k : ℕ) → unlike_from n l c k < 2 ^ k
 from-lt n l c zero = omega arith
 from-lt n l c (suc k) = omega (arith, one-le (not (eqb (get_or l c 0) n)), from-lt n l (suc c) k, pow-succ' 2 k)
 
 -- one number more in front of those from c on
 pub from-before : (n : ℕ) (l : List ℕ) (c : ℕ) → 0 < c → c ≤ 10
-    → unlikeFrom n l (c - 1) (10 - (c - 1)) ≡ oneIf (not (eqb (get_or l (c - 1) 0) n)) + 2 * unlikeFrom n l c (10 - c)
+    → unlike_from n l (c - 1) (10 - (c - 1)) ≡ number_of_bool (not (eqb (get_or l (c - 1) 0) n)) + 2 * unlike_from n l c (10 - c)
 from-before n l c h k =
     let one_more : 10 - (c - 1) ≡ suc (10 - c) = omega arith in
     let next : suc (c - 1) ≡ c = omega arith in
-    ap (unlikeFrom n l (c - 1)) one_more ∙ ap (λ p. oneIf (not (eqb (get_or l (c - 1) 0) n)) + 2 * unlikeFrom n l p (10 - c)) next
+    ap (unlike_from n l (c - 1)) one_more ∙ ap (λ p. number_of_bool (not (eqb (get_or l (c - 1) 0) n)) + 2 * unlike_from n l p (10 - c)) next

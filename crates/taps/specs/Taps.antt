@@ -1,21 +1,21 @@
 -- Document 01, `TAP_MASK_COUNTS`: the mask of a row of `0` and `1` alone, and the counts that the table has for it.
 use Rattle.std.specs.Prelude.{Bool, true, false, cond, ◌||◌, not, ◌≡◌, List, [], ◌∷◌, ℕ, zero, suc, ◌+◌, ◌*◌, ◌/◌, ◌%◌, ◌^◌, ◌<◌, ◌≤◌, eqb, length, get_or, replicate}
 use Rattle.std.specs.Int.Bits.{bit_and}
-use Rattle.definitions.specs.Lists.{sumColumns, oneIf}
+use Rattle.definitions.specs.Lists.{sum_columns, number_of_bool}
 use Rattle.definitions.specs.Lines.{Row}
 use Rattle.definitions.specs.declared.RowSum.{RowSum}
 use Rattle.taps.specs.declared.Taps.{Taps}
 use Rattle.taps.specs.declared.Taps.TheVariants.{Mask, Other}
 
 -- the mask of a byte and the cells after it
-abbrev pub withBit : ℕ → Taps → Taps
-withBit b (Mask m) = cond (eqb b 48) (Mask (2 * m)) (cond (eqb b 49) (Mask (1 + 2 * m)) Other)
-withBit b Other = Other
+abbrev pub with_bit : ℕ → Taps → Taps
+with_bit b (Mask m) = cond (eqb b 48) (Mask (2 * m)) (cond (eqb b 49) (Mask (1 + 2 * m)) Other)
+with_bit b Other = Other
 
 -- A row of `0` and `1` alone as a number, its first column in the lowest bit.
-unfoldable pub tapMask : Row → Taps
-tapMask [] = Mask 0
-tapMask (b ∷ r) = withBit b (tapMask r)
+unfoldable pub tap_mask : Row → Taps
+tap_mask [] = Mask 0
+tap_mask (b ∷ r) = with_bit b (tap_mask r)
 
 -- a mask as a number, and the number of cells that have none
 abbrev pub number_of : Taps → ℕ
@@ -32,79 +32,79 @@ Tells n (Mask m) = n ≡ m
 Tells n Other = 65536 ≤ n
 
 -- the widths of rows that have masks
-abbrev pub hasMask : ℕ → Bool
-hasMask n = eqb n 4 || eqb n 8 || eqb n 5 || eqb n 10
+abbrev pub has_mask : ℕ → Bool
+has_mask n = eqb n 4 || eqb n 8 || eqb n 5 || eqb n 10
 
-unfoldable pub tapLineMask : Row → Taps
-tapLineMask r = cond (hasMask (length r)) (tapMask r) Other
+unfoldable pub mask_of_line : Row → Taps
+mask_of_line r = cond (has_mask (length r)) (tap_mask r) Other
 
 -- "Only 4 and 8 lanes use it.": rows of other widths are counted without it.
-abbrev pub wideRow : ℕ → Bool
-wideRow n = not (eqb n 4 || eqb n 8)
+abbrev pub wide_row : ℕ → Bool
+wide_row n = not (eqb n 4 || eqb n 8)
 
 -- A mask of up to ten columns, and of up to eight where the table is used.
 abbrev pub Fits : Bool → ℕ → Type 0
 Fits wide m = (m < 1024) × (wide ≡ false → m < 256)
 
 -- n cells `0`
-abbrev pub zeroCells : ℕ → Row
-zeroCells n = replicate n 48
+abbrev pub zero_cells : ℕ → Row
+zero_cells n = replicate n 48
 
 -- The lowest k bits of a mask, each in a byte of its own.
-abbrev pub spreadBits : ℕ → ℕ → ℕ
-spreadBits zero m = 0
-spreadBits (suc k) m = m % 2 + 256 * spreadBits k (m / 2)
+abbrev pub spread_bits : ℕ → ℕ → ℕ
+spread_bits zero m = 0
+spread_bits (suc k) m = m % 2 + 256 * spread_bits k (m / 2)
 
 unfoldable pub spread : ℕ → ℕ
-spread m = spreadBits 4 m
+spread m = spread_bits 4 m
 
 abbrev pub bit : ℕ → ℕ → ℕ
 bit c m = m / 2 ^ c % 2
 
 -- A product by `factor` sets the bits of k cells, of which `zeros` is the word where all are `0`, from place n on: `places` has these bits.
 abbrev pub BitsPlaced : ℕ → ℕ → ℕ → ℕ → ℕ → Type 0
-BitsPlaced zeros factor places n k = (m : ℕ) → m < 2 ^ k → bit_and ((zeros + spreadBits 2 m) * factor) places ≡ 2 ^ n * m
+BitsPlaced zeros factor places n k = (m : ℕ) → m < 2 ^ k → bit_and ((zeros + spread_bits 2 m) * factor) places ≡ 2 ^ n * m
 
 -- A row has this mask, and no tap of it stands in a column of `busy`.
 pub record FreeTaps (busy m : ℕ) (r : Row) : Type 0 where
-  pub mask : tapLineMask r ≡ Mask m
+  pub mask : mask_of_line r ≡ Mask m
   pub free : (c : ℕ) → bit c m ≡ 1 → bit c busy ≡ 0
 
 -- a mask that has no bit in common with `busy`
-abbrev pub freeOf : ℕ → Taps → Taps
-freeOf busy (Mask m) = cond (eqb (bit_and m busy) 0) (Mask m) Other
-freeOf busy Other = Other
+abbrev pub free_of : ℕ → Taps → Taps
+free_of busy (Mask m) = cond (eqb (bit_and m busy) 0) (Mask m) Other
+free_of busy Other = Other
 
 -- The mask of a row that has one and no tap in a column of `busy`.
-unfoldable pub freeTaps : ℕ → Row → Taps
-freeTaps busy r = freeOf busy (tapLineMask r)
+unfoldable pub taps_if_free : ℕ → Row → Taps
+taps_if_free busy r = free_of busy (mask_of_line r)
 
 -- of ten numbers, those whose place has no bit in `busy` are n
 abbrev pub FreeAre : ℕ → ℕ → List ℕ → Type 0
 FreeAre busy n l = (c : ℕ) → c < 10 → bit c busy ≡ 0 → get_or l c 0 ≡ n
 
 -- Which of k numbers from place c on are not n, as a mask: the first of them in the lowest bit.
-abbrev pub unlikeFrom : ℕ → List ℕ → ℕ → ℕ → ℕ
-unlikeFrom n l c zero = 0
-unlikeFrom n l c (suc k) = oneIf (not (eqb (get_or l c 0) n)) + 2 * unlikeFrom n l (suc c) k
+abbrev pub unlike_from : ℕ → List ℕ → ℕ → ℕ → ℕ
+unlike_from n l c zero = 0
+unlike_from n l c (suc k) = number_of_bool (not (eqb (get_or l c 0) n)) + 2 * unlike_from n l (suc c) k
 
-unfoldable pub unlikeMask : ℕ → List ℕ → ℕ
-unlikeMask n l = unlikeFrom n l 0 10
+unfoldable pub unlike_mask : ℕ → List ℕ → ℕ
+unlike_mask n l = unlike_from n l 0 10
 
 -- the ones of a mask in the columns of a direction
 abbrev pub towards : ℕ → ℕ → ℕ
 towards d m = bit d m + bit (d + 4) m + bit (d + 8) m
 
 -- "ones of the mask in bits 0 to 3, then 2 bits for each direction from bit 4", of up to ten columns
-unfoldable pub maskCounts : ℕ → ℕ
-maskCounts m =
-    sumColumns 10 (λ c. bit c m)
+unfoldable pub mask_counts : ℕ → ℕ
+mask_counts m =
+    sum_columns 10 (λ c. bit c m)
     + (2 ^ 4 * towards 0 m + 2 ^ 6 * towards 1 m + 2 ^ 8 * towards 2 m + 2 ^ 10 * towards 3 m)
 
 -- a list that has each mask's counts at its number; for wide rows those of the first five columns, and from 32 on those of the next five
 abbrev pub TapCounts : Bool → List ℕ → Type 0
-TapCounts false l = (m : ℕ) → m < 256 → get_or l m 0 ≡ maskCounts m
-TapCounts true l = (m : ℕ) → m < 32 → (get_or l m 0 ≡ maskCounts m) × (get_or l (32 + m) 0 ≡ maskCounts (32 * m))
+TapCounts false l = (m : ℕ) → m < 256 → get_or l m 0 ≡ mask_counts m
+TapCounts true l = (m : ℕ) → m < 32 → (get_or l m 0 ≡ mask_counts m) × (get_or l (32 + m) 0 ≡ mask_counts (32 * m))
 
 -- the row's sum that the counts stand for
 unfoldable pub unpack : ℕ → RowSum

@@ -6,8 +6,8 @@ mod five_counts;
 
 ghost use Rattle.std.specs.Prelude.{◌≡◌, ◌++◌, ℕ, ◌+◌, ◌*◌, ◌≤◌, ◌<◌, length, get_or, take, drop};
 ghost use Rattle.definitions.specs.Lines.{Row};
-ghost use Rattle.lines.specs.Words.{halfAt, word_of, Bytes};
-ghost use Rattle.taps.specs.Taps.{number_of, Small, Tells, BitsPlaced, tapMask, tapLineMask, freeTaps, spread, zeroCells, unlikeMask, wideRow, Fits, maskCounts, TapCounts, unpack};
+ghost use Rattle.lines.specs.Words.{half_word_at, word_of, Bytes};
+ghost use Rattle.taps.specs.Taps.{number_of, Small, Tells, BitsPlaced, tap_mask, mask_of_line, taps_if_free, spread, zero_cells, unlike_mask, wide_row, Fits, mask_counts, TapCounts, unpack};
 ghost use Rattle.taps.specs.declared.Taps;
 
 use counts::TAP_MASK_COUNTS;
@@ -45,7 +45,7 @@ const NO_MASK: u32 = 65536;
 // cells are handed over as words, and `zeros` is the second word where all its cells are `0`.
 fn tap_cells(first: u64, second: u64, zeros: u64) -> u32
     requires { (first < 4294967296) × (second < 4294967296) × (zeros < 4294967296) }
-    ensures { (a b : Row) → Bytes a → Bytes b → length a ≡ 4 → length b ≤ 4 → first ≡ word_of a → second ≡ word_of b → zeros ≡ word_of (zeroCells (length b)) → result ≡ number_of (tapMask (a ++ b)) }
+    ensures { (a b : Row) → Bytes a → Bytes b → length a ≡ 4 → length b ≤ 4 → first ≡ word_of a → second ≡ word_of b → zeros ≡ word_of (zero_cells (length b)) → result ≡ number_of (tap_mask (a ++ b)) }
 {
     let word = first + second * 0x1_0000_0000;
     if word & 0xfefe_fefe_fefe_fefe == 0x3030_3030 + zeros * 0x1_0000_0000 {
@@ -58,7 +58,7 @@ fn tap_cells(first: u64, second: u64, zeros: u64) -> u32
 // The mask of the first four cells.
 fn number4(row: &[u8]) -> u32
     requires { 4 ≤ length row.now }
-    ensures { result ≡ number_of (tapMask (take 4 row.now)) }
+    ensures { result ≡ number_of (tap_mask (take 4 row.now)) }
 {
     tap_cells(words::half_at(row, 0), 0, 0)
 }
@@ -66,7 +66,7 @@ fn number4(row: &[u8]) -> u32
 // The mask of the first eight cells.
 fn number8(row: &[u8]) -> u32
     requires { 8 ≤ length row.now }
-    ensures { result ≡ number_of (tapMask (take 8 row.now)) }
+    ensures { result ≡ number_of (tap_mask (take 8 row.now)) }
 {
     tap_cells(words::half_at(row, 0), words::half_at(row, 4), 0x3030_3030)
 }
@@ -75,7 +75,7 @@ fn number8(row: &[u8]) -> u32
 // the places of `bits`. A number past all masks stays past them.
 fn with_rest(number: u32, rest: u64, zeros: u64, factor: u64, bits: u64) -> u32
     requires { (number ≤ 65536) × (rest < 65536) × (factor < 65536) × (bits < 1024) }
-    ensures { (a b : Row) → Bytes b → length b ≤ 2 → number ≡ number_of (tapMask a) → rest ≡ word_of b → zeros ≡ word_of (zeroCells (length b)) → BitsPlaced zeros factor bits (length a) (length b) → Tells result (tapMask (a ++ b)) }
+    ensures { (a b : Row) → Bytes b → length b ≤ 2 → number ≡ number_of (tap_mask a) → rest ≡ word_of b → zeros ≡ word_of (zero_cells (length b)) → BitsPlaced zeros factor bits (length a) (length b) → Tells result (tap_mask (a ++ b)) }
 {
     if rest & 0xfefe == zeros {
         number + (rest * factor & bits) as u32
@@ -86,8 +86,8 @@ fn with_rest(number: u32, rest: u64, zeros: u64, factor: u64, bits: u64) -> u32
 
 // The mask of five cells, by that of the first four.
 fn number5(row: &[u8], four: u32) -> u32
-    requires { (length row.now ≡ 5) × (four ≡ number_of (tapMask (take 4 row.now))) }
-    ensures { Tells result (tapMask row.now) }
+    requires { (length row.now ≡ 5) × (four ≡ number_of (tap_mask (take 4 row.now))) }
+    ensures { Tells result (tap_mask row.now) }
 {
     with_rest(four, wide(row[4]), 0x30, 16, 0x10)
 }
@@ -95,7 +95,7 @@ fn number5(row: &[u8], four: u32) -> u32
 // The mask of ten cells, by that of the first eight.
 fn number10(row: &[u8]) -> u32
     requires { length row.now ≡ 10 }
-    ensures { Tells result (tapMask row.now) }
+    ensures { Tells result (tap_mask row.now) }
 {
     let eight = number8(row);
     with_rest(
@@ -109,7 +109,7 @@ fn number10(row: &[u8]) -> u32
 
 // The mask of a row of four, five, eight or ten cells; no other width has masks.
 fn line_number(row: &[u8]) -> u32
-    ensures { Tells result (tapLineMask row.now) }
+    ensures { Tells result (mask_of_line row.now) }
 {
     let n = row.len();
     if (n == 4) | (n == 5) {
@@ -142,7 +142,7 @@ fn taps_of(number: u32) -> Taps
 // The mask of the first four cells.
 pub fn tap_mask4(row: &[u8]) -> Taps
     requires { 4 ≤ length row.now }
-    ensures { result ≡ tapMask (take 4 row.now) }
+    ensures { result ≡ tap_mask (take 4 row.now) }
 {
     taps_of(number4(row))
 }
@@ -150,14 +150,14 @@ pub fn tap_mask4(row: &[u8]) -> Taps
 // The mask of the first eight cells.
 pub fn tap_mask8(row: &[u8]) -> Taps
     requires { 8 ≤ length row.now }
-    ensures { result ≡ tapMask (take 8 row.now) }
+    ensures { result ≡ tap_mask (take 8 row.now) }
 {
     taps_of(number8(row))
 }
 
 // The mask of a row of four, five, eight or ten cells.
 pub fn tap_line_mask(row: &[u8]) -> Taps
-    ensures { result ≡ tapLineMask row.now }
+    ensures { result ≡ mask_of_line row.now }
 {
     taps_of(line_number(row))
 }
@@ -165,7 +165,7 @@ pub fn tap_line_mask(row: &[u8]) -> Taps
 // The mask of a row that has one and no tap in a column of `busy`; any other row is left to its cells.
 #[inline(always)]
 pub fn free_taps(row: &[u8], busy: u32) -> Taps
-    ensures { result ≡ freeTaps busy row.now }
+    ensures { result ≡ taps_if_free busy row.now }
 {
     let number = line_number(row);
     if (number < NO_MASK) & (number & busy == 0) {
@@ -177,7 +177,7 @@ pub fn free_taps(row: &[u8], busy: u32) -> Taps
 
 // The columns of ten whose number is not this one, as a mask.
 pub fn unlike(numbers: &[u32; 10], n: u32) -> u32
-    ensures { result ≡ unlikeMask n numbers.now }
+    ensures { result ≡ unlike_mask n numbers.now }
 {
     let mut mask: u32 = 0;
     let mut c: usize = 10;
@@ -193,14 +193,14 @@ pub fn unlike(numbers: &[u32; 10], n: u32) -> u32
 
 // Whether rows of so many cells are counted without `TAP_MASK_COUNTS`: "Only 4 and 8 lanes use it."
 pub fn is_wide(columns: usize) -> bool
-    ensures { result ≡ wideRow columns }
+    ensures { result ≡ wide_row columns }
 {
     (columns != 4) & (columns != 8)
 }
 
 // The table for rows of so many cells, to be lent: a look into a constant itself would write out all its entries each time.
 pub fn tap_mask_counts(columns: usize) -> [u16; 256]
-    ensures { TapCounts (wideRow columns) result }
+    ensures { TapCounts (wide_row columns) result }
 {
     if is_wide(columns) {
         FIVE_COUNTS
@@ -212,7 +212,7 @@ pub fn tap_mask_counts(columns: usize) -> [u16; 256]
 // A mask's counts: the table's entry, or the sum of two where the table is of five columns and five.
 fn tap_counts(mask: u16, wide: bool, counts: &[u16; 256]) -> u16
     requires { TapCounts wide counts.now × Fits wide mask }
-    ensures { result ≡ maskCounts mask }
+    ensures { result ≡ mask_counts mask }
 {
     let m = mask as usize;
     if wide {
@@ -224,7 +224,7 @@ fn tap_counts(mask: u16, wide: bool, counts: &[u16; 256]) -> u16
 // What a row of taps alone adds up to.
 pub fn tap_sum(mask: u16, wide: bool, counts: &[u16; 256]) -> RowSum
     requires { TapCounts wide counts.now × Fits wide mask }
-    ensures { result ≡ unpack (maskCounts mask) }
+    ensures { result ≡ unpack (mask_counts mask) }
 {
     let n = tap_counts(mask, wide, counts) as u32;
     RowSum {

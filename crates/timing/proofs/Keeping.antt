@@ -7,12 +7,12 @@ use lib.Ieee.{Float}
 use lib.ListN.{length}
 use lib.Seq.{length-take-le}
 use Rattle.definitions.specs.Lists.{joined, padded}
-use Rattle.definitions.specs.Lanes.{mostRows}
+use Rattle.definitions.specs.Lanes.{most_rows_in}
 use Rattle.definitions.specs.Lines.{Row}
 use Rattle.definitions.specs.Measures.{chart}
 use Rattle.definitions.specs.Reduction.{reduce, minimised}
-use Rattle.definitions.specs.Beats.{f32, measureBeats, beats as beatsOf}
-use Rattle.definitions.specs.TimingRows.{timingRows, timingHeads}
+use Rattle.definitions.specs.Beats.{f32, measure_beats, beats as beats_of}
+use Rattle.definitions.specs.TimingRows.{timing_rows, timing_heads}
 use Rattle.definitions.proofs.Lists.{joined_snoc}
 use Rattle.output.proofs.Writing.{rows-done}
 use Rattle.reader.proofs.ChartLoops.{Over, Few}
@@ -24,7 +24,7 @@ use Rattle.timing.specs.TimingPass.{Timed, TimedAll}
 
 -- the pass counts rows and measures, which are few
 pub record Small (L : ℕ) (p : TimingPass) (len : ℕ) : Type 0 where
-  pub rows : p.kept + p.rows ≤ mostRows L len
+  pub rows : p.kept + p.rows ≤ most_rows_in L len
   pub fifth : 5 * (p.kept + p.rows) ≤ len + 1
   pub midx : 2 * p.midx ≤ len + 1
 
@@ -46,7 +46,7 @@ timed-more L p q text after beats row w f done cur = subst (λ n. Timed n p text
 pub timed-all : (L : ℕ) (p q : TimingPass) (data-text text after : List ℕ) (beats beats₁ : List Float) → Over L data-text (Reduced (Timed L p text beats))
     → ((done : List (List Row)) (cur : List Row) → Timed L p text beats done cur → Timed L q after beats₁ (done ++ (reduce cur ∷ [])) [])
     → q.out ≤ length after → q.kept ≤ length beats₁ → TimedAll L data-text q after beats₁
-unfolding timingRows timingHeads minimised measureBeats beatsOf
+unfolding timing_rows timing_heads minimised measure_beats beats_of
 timed-all L p q data-text text after beats beats₁ x f fits room =
     let ended : map reduce x.done ++ (reduce x.cur ∷ []) ≡ map reduce (chart L data-text) =
     sym (ap (map reduce) x.chart-is ∙ map-append reduce x.done (x.cur ∷ [])) in
@@ -62,11 +62,11 @@ timed-all L p q data-text text after beats beats₁ x f fits room =
     }
 
 module _ (L : ℕ) (data-text : List ℕ) (p : TimingPass) (text : List ℕ) (beats : List Float) (x : TimedAll L data-text p text beats) where
-  pub all-bytes : p.out ≡ length (timingRows L data-text)
+  pub all-bytes : p.out ≡ length (timing_rows L data-text)
   all-bytes = sym (length-take-le p.out text x.text-room) ∙ ap length x.text-is
 
-  pub all-text : {n : ℕ} → length text ≡ n → zeroed 0 p.out text ≡ padded 0 n (timingRows L data-text)
-  all-text size = zeroed-answer 0 text p.out _ (λ L. timingRows L data-text) refl size x.text-room x.text-is
+  pub all-text : {n : ℕ} → length text ≡ n → zeroed 0 p.out text ≡ padded 0 n (timing_rows L data-text)
+  all-text size = zeroed-answer 0 text p.out _ (λ L. timing_rows L data-text) refl size x.text-room x.text-is
 
-  pub all-beats : {n : ℕ} → length beats ≡ n → zeroed (f32 0) p.kept beats ≡ padded (f32 0) n (beatsOf L data-text)
-  all-beats size = zeroed-answer (f32 0) beats p.kept _ (λ L. beatsOf L data-text) refl size x.beats-room x.beats-are
+  pub all-beats : {n : ℕ} → length beats ≡ n → zeroed (f32 0) p.kept beats ≡ padded (f32 0) n (beats_of L data-text)
+  all-beats size = zeroed-answer (f32 0) beats p.kept _ (λ L. beats_of L data-text) refl size x.beats-room x.beats-are

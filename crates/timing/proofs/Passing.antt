@@ -11,11 +11,11 @@ use lib.ListN.{length, take, drop, get_or, length-append, take-append-drop}
 use lib.Seq.{drop-cons}
 use Rattle.definitions.specs.Lists.{joined}
 use Rattle.definitions.specs.Lines.{Row}
-use Rattle.definitions.specs.Tracker.{holdAt}
-use Rattle.definitions.specs.Correction.{isOpening}
+use Rattle.definitions.specs.Tracker.{hold_at}
+use Rattle.definitions.specs.Correction.{is_opening}
 use Rattle.definitions.specs.Reduction.{reduce}
-use Rattle.definitions.specs.Beats.{rowBeats}
-use Rattle.definitions.specs.TimingRows.{hasHead}
+use Rattle.definitions.specs.Beats.{row_beats}
+use Rattle.definitions.specs.TimingRows.{has_some_head}
 use Rattle.definitions.proofs.Lists.{joined_snoc}
 use Rattle.beats.proofs.Beats.{beats-appended}
 use Rattle.reduction.specs.Rows.{placed, RowsStand, Reduced}
@@ -28,16 +28,16 @@ use Rattle.timing.specs.declared.TimingPass.{TimingPass}
 use Rattle.timing.specs.TimingPass.{Timed, SomeTimed}
 
 -- one byte more is looked at: n says whether it is a head
-pub head_more : (s : List ℕ) (i : ℕ) (has n : Bool) → i < length s → n ≡ isOpening (holdAt (get_or s i 0))
-    → (has || hasHead (drop i s)) ≡ ((has || n) || hasHead (drop (i + 1) s))
+pub head_more : (s : List ℕ) (i : ℕ) (has n : Bool) → i < length s → n ≡ is_opening (hold_at (get_or s i 0))
+    → (has || has_some_head (drop i s)) ≡ ((has || n) || has_some_head (drop (i + 1) s))
 head_more s i has n h e = rw (or_assoc, e, add-one, drop-cons s i 0)
 
-head-append : (s t : List ℕ) → hasHead (s ++ t) ≡ (hasHead s || hasHead t)
+head-append : (s t : List ℕ) → has_some_head (s ++ t) ≡ (has_some_head s || has_some_head t)
 head-append [] t = refl
 head-append (b ∷ s) t = rw (head-append s t, or_assoc)
 
 -- one measure more: the heads of its rows
-head-measure : (done : List (List Row)) (m : List Row) → hasHead (joined (joined (done ++ (m ∷ [])))) ≡ (hasHead (joined (joined done)) || hasHead (joined m))
+head-measure : (done : List (List Row)) (m : List Row) → has_some_head (joined (joined (done ++ (m ∷ [])))) ≡ (has_some_head (joined (joined done)) || has_some_head (joined m))
 head-measure done m = rw (joined_snoc done m, joined-append (joined done) m) (head-append (joined (joined done)) (joined m))
 
 pub timed-start : (L : ℕ) (text : List ℕ) (beats : List Float) → Timed L (record { start = 0; out = 0; kept = 0; rows = 0; midx = 0; heads = false }) text beats [] []
@@ -91,8 +91,8 @@ module _ (L : ℕ) (p : TimingPass) (text after : List ℕ) (beats : List Float)
         (wrote-sep (back-to-back L) [] after p.start out done (reduce cur) wrote (rw add-zero h)))
 
     pub timed-measure : p.start + kept * L ≤ length after → p.kept ≤ length beats → (beats₁ : List Float) (found : Bool)
-        → beats₁ ≡ (take p.kept beats ++ rowBeats p.midx kept 0 kept) ++ drop (p.kept + kept) beats
-        → found ≡ hasHead (take (p.start + kept * L - p.start) (drop p.start after))
+        → beats₁ ≡ (take p.kept beats ++ row_beats p.midx kept 0 kept) ++ drop (p.kept + kept) beats
+        → found ≡ has_some_head (take (p.start + kept * L - p.start) (drop p.start after))
         → Timed L (record { start = p.start + kept * L; out = p.start + kept * L; kept = p.kept + kept; rows = 0; midx = p.midx + 1; heads = p.heads || found }) after beats₁ (done ++ (reduce cur ∷ [])) []
     timed-measure h room beats₁ found eb ef =
         record {

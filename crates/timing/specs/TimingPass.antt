@@ -2,9 +2,9 @@
 use Rattle.std.specs.Prelude.{◌≡◌, List, [], ℕ, ◌≤◌, Float, length, take}
 use Rattle.definitions.specs.Lists.{joined}
 use Rattle.definitions.specs.Lines.{Row}
-use Rattle.definitions.specs.Beats.{beatsFrom, beats as beatsOf}
-use Rattle.definitions.specs.TimingRows.{timingRows, hasHead, timingHeads}
-use Rattle.definitions.specs.Entries.{rowCount}
+use Rattle.definitions.specs.Beats.{beats_from, beats as beats_of}
+use Rattle.definitions.specs.TimingRows.{timing_rows, has_some_head, timing_heads}
+use Rattle.definitions.specs.Entries.{row_count}
 use Rattle.output.specs.Wrote.{Wrote}
 use Rattle.timing.specs.declared.TimingPass.{TimingPass}
 
@@ -14,8 +14,8 @@ pub record Timed (L : ℕ) (p : TimingPass) (text : List ℕ) (beats : List Floa
   pub kept : p.kept ≡ length (joined done)
   pub rows : p.rows ≡ length cur
   pub midx : p.midx ≡ length done
-  pub beats-are : take p.kept beats ≡ joined (beatsFrom 0 done)
-  pub heads : p.heads ≡ hasHead (joined (joined done))
+  pub beats-are : take p.kept beats ≡ joined (beats_from 0 done)
+  pub heads : p.heads ≡ has_some_head (joined (joined done))
 
 pub record SomeTimed (L : ℕ) (p : TimingPass) (text : List ℕ) (beats : List Float) : Type 0 where
   pub done : List (List Row)
@@ -24,9 +24,9 @@ pub record SomeTimed (L : ℕ) (p : TimingPass) (text : List ℕ) (beats : List 
 
 -- A whole text was read: rows, beats and heads are those of its minimised measures.
 pub record TimedAll (L : ℕ) (chart-text : List ℕ) (p : TimingPass) (text : List ℕ) (beats : List Float) : Type 0 where
-  pub text-is : take p.out text ≡ timingRows L chart-text
+  pub text-is : take p.out text ≡ timing_rows L chart-text
   pub text-room : p.out ≤ length text
-  pub beats-are : take p.kept beats ≡ beatsOf L chart-text
+  pub beats-are : take p.kept beats ≡ beats_of L chart-text
   pub beats-room : p.kept ≤ length beats
-  pub rows : p.kept ≡ rowCount L chart-text
-  pub heads : p.heads ≡ timingHeads L chart-text
+  pub rows : p.kept ≡ row_count L chart-text
+  pub heads : p.heads ≡ timing_heads L chart-text

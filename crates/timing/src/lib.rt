@@ -3,16 +3,16 @@
 #![tactic(auto)]
 
 ghost use Rattle.std.specs.Prelude.{◌≡◌, List, [], ◌∷◌, ◌++◌, ℕ, ◌+◌, ◌≤◌, ◌<◌, Float, length};
-ghost use Rattle.definitions.specs.Sizes.{measuresBound, mostBytes, rowsBound};
+ghost use Rattle.definitions.specs.Sizes.{measures_bound, most_bytes, row_count_bound};
 ghost use Rattle.definitions.specs.Lists.{padded};
-ghost use Rattle.definitions.specs.Lanes.{mostRows};
+ghost use Rattle.definitions.specs.Lanes.{most_rows_in};
 ghost use Rattle.definitions.specs.Lines.{Row};
-ghost use Rattle.definitions.specs.Tracker.{holdAt};
-ghost use Rattle.definitions.specs.Correction.{isOpening};
+ghost use Rattle.definitions.specs.Tracker.{hold_at};
+ghost use Rattle.definitions.specs.Correction.{is_opening};
 ghost use Rattle.definitions.specs.Reduction.{reduce};
-ghost use Rattle.definitions.specs.Beats.{f32, beats as beatsOf};
-ghost use Rattle.definitions.specs.TimingRows.{hasHead, timingRows};
-ghost use Rattle.definitions.specs.Entries.{timingFigures, timingAnswer, timingText, timingBeats};
+ghost use Rattle.definitions.specs.Beats.{f32, beats as beats_of};
+ghost use Rattle.definitions.specs.TimingRows.{has_some_head, timing_rows};
+ghost use Rattle.definitions.specs.Entries.{figures_of_timing, timing_answer, timing_text, timing_beats};
 ghost use Rattle.timing.specs.TimingPass.{Timed, SomeTimed, TimedAll};
 
 use definitions::{Refusal, TimingFigures};
@@ -32,7 +32,7 @@ pub struct TimingPass {
 
 // Whether the byte is a 2 or 4.
 fn is_head(b: u8) -> bool
-    ensures { result ≡ isOpening (holdAt b) }
+    ensures { result ≡ is_opening (hold_at b) }
 {
     match b {
         b'2' => true,
@@ -43,7 +43,7 @@ fn is_head(b: u8) -> bool
 
 // Whether any of the bytes is. It looks at every byte, so that no turn of the loop branches on one.
 fn has_head(bytes: &[u8]) -> bool
-    ensures { result ≡ hasHead bytes.now }
+    ensures { result ≡ has_some_head bytes.now }
 {
     let mut has = false;
     let mut i = 0;
@@ -70,7 +70,7 @@ fn no_pass() -> TimingPass
 
 // One row more of the open measure.
 fn pass_row(p: TimingPass, text: &mut [u8], row: &[u8]) -> TimingPass
-    requires { (p.out + length row.now ≤ length text.old) × (p.rows < rowsBound) }
+    requires { (p.out + length row.now ≤ length text.old) × (p.rows < row_count_bound) }
     ensures timed { (beats : List Float) (done : List (List Row)) (cur : List Row) → Timed (length row.now) p text.old beats done cur → Timed (length row.now) result text.new beats done (cur ++ (row.now ∷ [])) }
     ensures out_value { result.out ≡ p.out + length row.now }
 {
@@ -88,7 +88,7 @@ fn pass_row(p: TimingPass, text: &mut [u8], row: &[u8]) -> TimingPass
 
 // The open measure ends: its rows are minimised in place, and the beats of those that are kept are written.
 fn finish_timing_rows(p: TimingPass, text: &mut [u8], beats: &mut [f32], lanes: usize) -> TimingPass
-    requires lanes_nonzero { (0 < lanes) × (p.out ≤ length text.old) × (p.rows < rowsBound) × (p.midx ≤ measuresBound) × SomeTimed lanes p text.old beats.old }
+    requires lanes_nonzero { (0 < lanes) × (p.out ≤ length text.old) × (p.rows < row_count_bound) × (p.midx ≤ measures_bound) × SomeTimed lanes p text.old beats.old }
     requires rows_in_bounds { p.kept + p.rows ≤ length beats.old }
     ensures timed { (done : List (List Row)) (cur : List Row) → Timed lanes p text.old beats.old done cur → Timed lanes result text.new beats.new (done ++ (reduce cur ∷ [])) [] }
     ensures out_le_out { (result.out ≤ p.out) × (result.kept ≤ p.kept + p.rows) }
@@ -113,8 +113,8 @@ fn finish_timing_rows(p: TimingPass, text: &mut [u8], beats: &mut [f32], lanes: 
 
 // The whole text, its last measure too.
 fn pass_chart(data: &[u8], lanes: usize, text: &mut [u8], beats: &mut [f32]) -> TimingPass
-    requires le_lanes { (4 ≤ lanes) × (length «data».now ≤ mostBytes) × (lanes ≤ 10) }
-    requires data_in_bounds { (length «data».now + 1 ≤ length text.old) × (mostRows lanes (length «data».now) ≤ length beats.old) }
+    requires le_lanes { (4 ≤ lanes) × (length «data».now ≤ most_bytes) × (lanes ≤ 10) }
+    requires data_in_bounds { (length «data».now + 1 ≤ length text.old) × (most_rows_in lanes (length «data».now) ≤ length beats.old) }
     ensures { TimedAll lanes «data».now result text.new beats.new }
 {
     let mut p = no_pass();
@@ -133,11 +133,11 @@ fn pass_chart(data: &[u8], lanes: usize, text: &mut [u8], beats: &mut [f32]) -> 
 
 // The call where it is accepted: the pass, and zeros past each answer.
 fn timing_figures(data: &[u8], lanes: usize, text: &mut [u8], beats: &mut [f32]) -> TimingFigures
-    requires le_lanes { (4 ≤ lanes) × (length «data».now ≤ mostBytes) × (lanes ≤ 10) }
-    requires data_in_bounds { (length «data».now + 1 ≤ length text.old) × (mostRows lanes (length «data».now) ≤ length beats.old) }
-    ensures value { result ≡ timingFigures lanes «data».now }
-    ensures text_after { text.new ≡ padded 0 (length text.old) (timingRows lanes «data».now) }
-    ensures beats_after { beats.new ≡ padded (f32 0) (length beats.old) (beatsOf lanes «data».now) }
+    requires le_lanes { (4 ≤ lanes) × (length «data».now ≤ most_bytes) × (lanes ≤ 10) }
+    requires data_in_bounds { (length «data».now + 1 ≤ length text.old) × (most_rows_in lanes (length «data».now) ≤ length beats.old) }
+    ensures value { result ≡ figures_of_timing lanes «data».now }
+    ensures text_after { text.new ≡ padded 0 (length text.old) (timing_rows lanes «data».now) }
+    ensures beats_after { beats.new ≡ padded (f32 0) (length beats.old) (beats_of lanes «data».now) }
 {
     let p = pass_chart(data, lanes, text, beats);
     let bytes = p.out;
@@ -152,16 +152,16 @@ fn timing_figures(data: &[u8], lanes: usize, text: &mut [u8], beats: &mut [f32])
 }
 
 // The minimised rows of a text, L bytes each, back to back, and their beats.
-#[tactic(auto, unfolding(definitions::specs::Entries::timingAnswer))]
+#[tactic(auto, unfolding(definitions::specs::Entries::timing_answer))]
 pub fn minimize_timing_rows(
     data: &[u8],
     lanes: usize,
     text: &mut [u8],
     beats: &mut [f32],
 ) -> Result<TimingFigures, Refusal>
-    ensures value { result ≡ timingAnswer lanes «data».now text.old beats.old }
-    ensures text_after { text.new ≡ timingText lanes «data».now text.old beats.old }
-    ensures beats_after { beats.new ≡ timingBeats lanes «data».now text.old beats.old }
+    ensures value { result ≡ timing_answer lanes «data».now text.old beats.old }
+    ensures text_after { text.new ≡ timing_text lanes «data».now text.old beats.old }
+    ensures beats_after { beats.new ≡ timing_beats lanes «data».now text.old beats.old }
 {
     let len = data.len();
     refusals::text_fits(len)?;

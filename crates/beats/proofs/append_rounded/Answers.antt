@@ -1,7 +1,7 @@
 -- `beats::append_rounded` meets its contract. The loop's invariant: the slice is as it was, with the first r beats pasted in at `at`.
 use Rattle.std.proofs.Common.{ℕ, ◌+◌, ap, ◌∙◌, le_antisymm, length-set, rules}
 use lib.Seq.{paste}
-use Rattle.definitions.specs.Beats.{rowBeats}
+use Rattle.definitions.specs.Beats.{row_beats}
 use Rattle.beats.proofs.Row.{beat-is}
 use Rattle.beats.proofs.Beats.{beats-next, beats-all}
 use Rattle.beats.proofs.append_rounded.Goals as goal
@@ -17,5 +17,5 @@ loop-r-preserved c = (
 pub returns : goal.returns
 returns c =
     c.loop-r.invariant.2
-    ∙ ap (λ (k : ℕ). paste c.args.beats.now c.args.at (rowBeats c.args.midx c.args.rows 0 c.args.rows) k) (le_antisymm c.loop-r.invariant.0 c.loop-r-test.false)
+    ∙ ap (λ (k : ℕ). paste c.args.beats.now c.args.at (row_beats c.args.midx c.args.rows 0 c.args.rows) k) (le_antisymm c.loop-r.invariant.0 c.loop-r-test.false)
     ∙ beats-all c.args.beats.now c.args.at c.args.midx c.args.rows

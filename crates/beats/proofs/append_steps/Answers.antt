@@ -3,7 +3,7 @@ use Rattle.std.proofs.Common.{ℕ, ◌+◌, ◌^◌, false, sym, ap, ◌∙◌, 
 use lib.Ieee.{Float}
 use lib.Ieee.Exact.{HasValue}
 use lib.Seq.{paste}
-use Rattle.definitions.specs.Beats.{rowBeats}
+use Rattle.definitions.specs.Beats.{row_beats}
 use Rattle.beats.proofs.Row.{steps-are, beat-is}
 use Rattle.beats.proofs.Beats.{beats-next, beats-all}
 use Rattle.beats.proofs.append_steps.Goals as goal
@@ -22,5 +22,5 @@ loop-r-preserved c =
 pub returns : goal.returns
 returns c =
     c.loop-r.invariant.2
-    ∙ ap (λ (k : ℕ). paste c.args.beats.now c.args.at (rowBeats c.args.midx c.args.rows 0 c.args.rows) k) (le_antisymm c.loop-r.invariant.0 c.loop-r-test.false)
+    ∙ ap (λ (k : ℕ). paste c.args.beats.now c.args.at (row_beats c.args.midx c.args.rows 0 c.args.rows) k) (le_antisymm c.loop-r.invariant.0 c.loop-r-test.false)
     ∙ beats-all c.args.beats.now c.args.at c.args.midx c.args.rows

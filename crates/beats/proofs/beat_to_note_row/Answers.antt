@@ -1,7 +1,7 @@
 -- `beats::beat_to_note_row` meets its contract. Assumes nothing.
 use Rattle.std.proofs.Common.{◌≡◌, ℕ, ◌^◌, refl, ◌∙◌}
 use lib.Ieee.{Float, binary64, add, mul, div, of_int, of_bits}
-use Rattle.definitions.specs.Beats.{f64, beat, whole, lastRow}
+use Rattle.definitions.specs.Beats.{f64, beat, whole, last_row}
 use Rattle.beats.specs.Places.{Inside}
 use Rattle.beats.specs.Upto.{Upto}
 use Rattle.beats.proofs.Last.{scaled-upto}
@@ -18,8 +18,8 @@ code-upto : (m r n : ℕ) → Inside m r n → Upto (code m r n) (2 ^ 38)
 unfolding beat of_bits of_int
 code-upto m r n i = scaled-upto m r n i
 
-code_is : (m r n : ℕ) → whole (code m r n) ≡ lastRow m r n
-unfolding lastRow beat of_bits of_int
+code_is : (m r n : ℕ) → whole (code m r n) ≡ last_row m r n
+unfolding last_row beat of_bits of_int
 code_is m r n = refl
 
 pub lrint_f64-requires : goal.lrint_f64-requires

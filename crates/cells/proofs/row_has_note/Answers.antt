@@ -5,7 +5,7 @@ use mathlib.Core.List.{[], ◌++◌}
 use Prim.Native.Nat.{ℕ, ◌+◌, ◌*◌, ◌-◌, ◌≤◌}
 use native.Mathlib.Omega.{arith}
 use lib.ListN.{length}
-use Rattle.definitions.specs.Figures.{isStep}
+use Rattle.definitions.specs.Figures.{is_step}
 use Rattle.lines.proofs.RowWords.{places, picks, picks-word, picks-bytes}
 use Rattle.cells.proofs.Ends.{step-ends, step-wide, step-append, half-word, between}
 use Rattle.cells.proofs.RowWords.{nothing, over_word, over-bytes, over-step}
@@ -17,14 +17,14 @@ few c = between (length c.args.row.now) c.if-n.false
 
 -- what the first word tells
 told : (c : goal.Then-n-le8) →
-    c.word_has_note-has.result ≡ isStep (picks c.args.row.now (places 0 (places c.second_half-mid.result [])))
+    c.word_has_note-has.result ≡ is_step (picks c.args.row.now (places 0 (places c.second_half-mid.result [])))
 told c =
     c.word_has_note-has.ensures (picks c.args.row.now (places 0 (places c.second_half-mid.result []))) refl (picks-bytes c.args.row.now (λ k. (c.type_inv.row k).fits) (places 0 (places c.second_half-mid.result [])))
     (picks-word c.args.row.now 0 c.second_half-mid.result ∙ ap₂ (λ (x y : ℕ). x + y * 4294967296) (sym c.half_at.ensures.0) (sym c.half_at-2.ensures.0))
 
 -- what the first word tells
 told-2 : (c : goal.After-word_has_note) →
-    c.word_has_note-has.result ≡ isStep (picks c.args.row.now (places 0 (places c.second_half-mid.result [])))
+    c.word_has_note-has.result ≡ is_step (picks c.args.row.now (places 0 (places c.second_half-mid.result [])))
 told-2 c =
     c.word_has_note-has.ensures (picks c.args.row.now (places 0 (places c.second_half-mid.result []))) refl (picks-bytes c.args.row.now (λ k. (c.type_inv.row k).fits) (places 0 (places c.second_half-mid.result [])))
     (picks-word c.args.row.now 0 c.second_half-mid.result ∙ ap₂ (λ (x y : ℕ). x + y * 4294967296) (sym c.half_at.ensures.0) (sym c.half_at-2.ensures.0))
@@ -38,12 +38,12 @@ returns c =
     let low : 8 ≤ length c.args.row.now = omega (arith, c.if-n-le8.false) in
     let mid : c.second_half-mid.result ≡ 4 = c.second_half-mid.ensures.3 low in
     let end = picks c.args.row.now (places (length c.args.row.now - 4) []) in
-    let last : c.word_has_note.result ≡ isStep end =
+    let last : c.word_has_note.result ≡ is_step end =
     c.word_has_note.ensures (end ++ nothing) refl
     (over-bytes end (picks-bytes c.args.row.now (λ k. (c.type_inv.row k).fits) (places (length c.args.row.now - 4) [])))
     (over_word end ∙ half-word c.args.row.now (length c.args.row.now - 4) ∙ sym c.half_at-3.ensures.0)
     ∙ over-step end in
-    let first : c.word_has_note-has.result ≡ isStep (picks c.args.row.now (places 0 (places 4 []))) = told-2 c ∙ ap (λ k. isStep (picks c.args.row.now (places 0 (places k [])))) mid in
+    let first : c.word_has_note-has.result ≡ is_step (picks c.args.row.now (places 0 (places 4 []))) = told-2 c ∙ ap (λ k. is_step (picks c.args.row.now (places 0 (places k [])))) mid in
     ap₂ (λ (x y : Bool). x || y) first last
     ∙ step-append (picks c.args.row.now (places 0 (places 4 []))) end
     ∙ step-wide c.args.row.now low (few c).1

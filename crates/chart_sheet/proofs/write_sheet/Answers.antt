@@ -6,15 +6,15 @@ use native.Mathlib.Omega.{arith}
 use lib.ListN.{length, set}
 use lib.Seq.{length-take-le}
 use Rattle.definitions.specs.Lists.{padded}
-use Rattle.definitions.specs.Lanes.{lanes_of, mostRows}
+use Rattle.definitions.specs.Lanes.{lanes_of, most_rows_in}
 use Rattle.definitions.specs.Figures.{densities, spacings}
 use Rattle.definitions.specs.Notes.{notes}
 use Rattle.definitions.specs.Records.{records}
 use Rattle.definitions.proofs.Lanes.{lanes-at-least, lanes-at-most}
-use Rattle.definitions.specs.Entries.{chartFigures, chartPlaces}
-use Rattle.sheet_answers.specs.Answers.{sheetFigures}
+use Rattle.definitions.specs.Entries.{figures_of_chart, places_of_chart}
+use Rattle.sheet_answers.specs.Answers.{sheet_figures}
 use Rattle.slices.proofs.Zeroed.{zeroed-answer}
-use Rattle.chart_sheet.specs.Forms.{chartSheet}
+use Rattle.chart_sheet.specs.Forms.{sheet_in_form}
 use Rattle.chart_sheet.proofs.Writing.{Gathered, measures-fit, spacings-fit, notes-fit, notes-small, form-is, form-fits, chart-is}
 use Rattle.chart_sheet.proofs.write_sheet.Goals as goal
 use Rattle.chart_sheet.proofs.write_sheet.Goals.{After-sheet_answers-figures}
@@ -36,7 +36,7 @@ gathered c =
     let x = c.sheet_answers-figures in
     record {
       short = c.requires.data_len_bound;
-      answers = x.ensures.value ∙ ap (λ (L : ℕ). sheetFigures L text) l;
+      answers = x.ensures.value ∙ ap (λ (L : ℕ). sheet_figures L text) l;
       densities-are = x.ensures.densities_after ∙ ap (λ (L : ℕ). padded 0 (length c.args.densities.now) (densities L text)) l;
       spacings-are = x.ensures.spacing_after ∙ ap (λ (L : ℕ). padded 0 (length c.args.spacing.now) (spacings L text)) l;
       notes-are = x.ensures.notes_after ∙ ap (λ (L : ℕ). padded 0 (length c.args.notes.now) (records (notes L text))) l;
@@ -48,8 +48,8 @@ gathered c =
 pub sheet_answers-figures-requires : goal.sheet_answers-figures-requires
 sheet_answers-figures-requires c =
     let l = c.lanes_of-columns.ensures.value in
-    let rows = ap (λ (L : ℕ). mostRows L (length c.args.data.now)) l in
-    let bytes = ap (λ (L : ℕ). 10 * L * mostRows L (length c.args.data.now)) l in
+    let rows = ap (λ (L : ℕ). most_rows_in L (length c.args.data.now)) l in
+    let bytes = ap (λ (L : ℕ). 10 * L * most_rows_in L (length c.args.data.now)) l in
     record {
       le_lanes = (omega (arith, lanes-at-least c.args.lanes), omega (arith, lanes-at-most c.args.lanes), c.requires.data_len_bound);
       data_in_bounds = c.requires.data_in_bounds;
@@ -92,15 +92,15 @@ returns-clause-value c =
     let g = gathered (goal.at.returns-clause-value c).After-sheet_answers-figures in
     let form = c.put_form-bytes in
     let L = lanes_of c.args.lanes in
-    let places = c.chart_places-places.ensures ∙ ap chartPlaces (chart-is g) in
+    let places = c.chart_places-places.ensures ∙ ap places_of_chart (chart-is g) in
     ap (λ (m : List ℕ). set m 7 form.result) places
-    ∙ ap (set (chartPlaces (chartFigures L c.args.data.now)) 7) (form.ensures.value ∙ ap length (form-is g c.args.form))
+    ∙ ap (set (places_of_chart (figures_of_chart L c.args.data.now)) 7) (form.ensures.value ∙ ap length (form-is g c.args.form))
 
 pub returns-clause-sheet_after : goal.returns-clause-sheet_after
 returns-clause-sheet_after c =
     let g = gathered (goal.at.returns-clause-sheet_after c).After-sheet_answers-figures in
     let form = c.put_form-bytes in
     c.zero_past.ensures
-    ∙ zeroed-answer 0 form.new.out form.result (length c.args.sheet.now) (λ (k : ℕ). chartSheet c.args.form (lanes_of c.args.lanes) c.args.data.now) {L = 0} {L₁ = 0} refl form.auto.out
+    ∙ zeroed-answer 0 form.new.out form.result (length c.args.sheet.now) (λ (k : ℕ). sheet_in_form c.args.form (lanes_of c.args.lanes) c.args.data.now) {L = 0} {L₁ = 0} refl form.auto.out
     form.ensures.within
     (form.ensures.out_after ∙ form-is g c.args.form)

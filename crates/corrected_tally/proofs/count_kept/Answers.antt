@@ -2,7 +2,7 @@
 use Prim.Native.Nat.{◌*◌, ◌≤◌}
 use mathlib.Core.Path.{◌∙◌}
 use native.Mathlib.Omega.{arith}
-use Rattle.definitions.specs.Sizes.{countBound}
+use Rattle.definitions.specs.Sizes.{count_bound}
 use Rattle.row_tally.proofs.Bounds.{below_more}
 use Rattle.reader.proofs.BackLoops.{BackCome, came, came-more, back-come, next-inside, next-wide, all-came}
 use Rattle.corrected_tally.proofs.Counting.{counting-start, counting-row, counting-end}
@@ -28,7 +28,7 @@ pub count_row-stats-requires : goal.count_row-stats-requires
 count_row-stats-requires c =
     let x = come (goal.at.count_row-stats-requires c).At-loop-cells in
     let wide = next-wide _ _ _ _ _ x _ _ c.in-Some.ensures.steps in
-    let small : 10 * c.loop-cells.i ≤ countBound = omega (arith, c.loop-cells.invariant.size, x.few, c.requires.0.short) in
+    let small : 10 * c.loop-cells.i ≤ count_bound = omega (arith, c.loop-cells.invariant.size, x.few, c.requires.0.short) in
     (omega (arith, c.requires.0.most, wide), rw wide c.tap_mask_counts-counts.ensures, below_more _ _ _ small c.loop-cells.invariant.low)
 
 pub overflow_add-i : goal.overflow_add-i

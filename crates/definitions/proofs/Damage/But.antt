@@ -5,10 +5,10 @@ use mathlib.Core.List.{List, [], ◌∷◌, map}
 use Prim.Native.Nat.{ℕ, zero, suc, ◌+◌, ◌<◌}
 use native.Mathlib.Omega.{arith}
 use lib.ListN.{length, take, drop, get_elem?}
-use Rattle.definitions.specs.Lists.{toFirst}
-use Rattle.definitions.specs.Lines.{Row, lineKind, lineRow}
-use Rattle.definitions.specs.Measures.{addLine, measures, chart}
-use Rattle.definitions.specs.Beats.{beatsFrom}
+use Rattle.definitions.specs.Lists.{to_first}
+use Rattle.definitions.specs.Lines.{Row, line_kind, line_row}
+use Rattle.definitions.specs.Measures.{add_line, measures, chart}
+use Rattle.definitions.specs.Beats.{beats_from}
 use Rattle.definitions.specs.declared.LineKind.{LineKind}
 use Rattle.definitions.specs.declared.LineKind.TheVariants as line
 use Rattle.definitions.specs.Damage.{Standing, ended, over, after, ends, Struck, done, kept, out, Differ, SameBut}
@@ -75,7 +75,7 @@ but-map f none = none
 but-map f (other h) = other (but-map f h)
 but-map f (here e h) = here e (but-map f h)
 
-pub but-beats : {d k : ℕ} {s t : List (List Row)} → But d k s t → But d k (beatsFrom k s) (beatsFrom k t)
+pub but-beats : {d k : ℕ} {s t : List (List Row)} → But d k s t → But d k (beats_from k s) (beats_from k t)
 but-beats none = none
 but-beats (other h) = other (but-beats h)
 but-beats (here e h) = here e (but-beats h)
@@ -88,7 +88,7 @@ data Rel (d : ℕ) : Standing → List (List Row) → List (List Row) → Type 0
 data Filled : List (List Row) → Type 0 where
   full : {m : List Row} {ms : List (List Row)} → Filled (m ∷ ms)
 
-line-filled : (x : LineKind) (r : Row) {s : List (List Row)} → Filled s → Filled (addLine x r s)
+line-filled : (x : LineKind) (r : Row) {s : List (List Row)} → Filled s → Filled (add_line x r s)
 line-filled line.Passed r full = full
 line-filled line.Comma r full = full
 line-filled line.Semi r full = full
@@ -96,23 +96,23 @@ line-filled line.Row r full = full
 
 filled : (L : ℕ) (ls : List (List ℕ)) → Filled (measures L ls)
 filled L [] = full
-filled L (l ∷ ls) = line-filled (lineKind L l) (lineRow L l) (filled L ls)
+filled L (l ∷ ls) = line-filled (line_kind L l) (line_row L l) (filled L ls)
 
 rel-refl : {d : ℕ} (p : Standing) (s : List (List Row)) → Rel d p s s
 rel-refl (ended k) s = reading (but-refl k s)
 rel-refl over s = read
 
-both_first : {d k : ℕ} {s t : List (List Row)} (r : Row) → But d k s t → But d k (toFirst r s) (toFirst r t)
+both_first : {d k : ℕ} {s t : List (List Row)} (r : Row) → But d k s t → But d k (to_first r s) (to_first r t)
 both_first r none = other none
 both_first r (other h) = other h
 both_first r (here e h) = here e h
 
-one-first : {d k : ℕ} {s t : List (List Row)} (r : Row) → k ≡ d → Filled s → But d k s t → But d k (toFirst r s) t
+one-first : {d k : ℕ} {s t : List (List Row)} (r : Row) → k ≡ d → Filled s → But d k s t → But d k (to_first r s) t
 one-first r e full (other h) = here e h
 one-first r e full (here _ h) = here e h
 
 stays : {d : ℕ} (p : Standing) (x : LineKind) (r : Row) {s t : List (List Row)}
-    → Rel d (after p x) s t → Rel d p (addLine x r s) (addLine x r t)
+    → Rel d (after p x) s t → Rel d p (add_line x r s) (add_line x r t)
 stays (ended k) line.Passed r h = h
 stays (ended k) line.Comma r (reading h) = reading (other h)
 stays (ended k) line.Semi r h = reading (but-refl k ([] ∷ []))
@@ -120,7 +120,7 @@ stays (ended k) line.Row r (reading h) = reading (both_first r h)
 stays over x r h = read
 
 goes : {d : ℕ} (p : Standing) (x : LineKind) (r : Row) {s t : List (List Row)}
-    → p ≡ ended d → ends x ≡ false → Filled s → Rel d p s t → Rel d p (addLine x r s) t
+    → p ≡ ended d → ends x ≡ false → Filled s → Rel d p s t → Rel d p (add_line x r s) t
 goes p line.Passed r e n f h = h
 goes p line.Comma r e n f h = absurd (true≢false n)
 goes p line.Semi r e n f h = absurd (true≢false n)
@@ -129,13 +129,13 @@ goes over line.Row r e n f h = read
 
 struck : {L d : ℕ} {p : Standing} {xs ys : List (List ℕ)} → Struck L d p xs ys → Rel d p (measures L xs) (measures L ys)
 struck (done {p = p}) = rel-refl p ([] ∷ [])
-struck {L = L} (kept {p = p} {l = l} h) = stays p (lineKind L l) (lineRow L l) (struck h)
+struck {L = L} (kept {p = p} {l = l} h) = stays p (line_kind L l) (line_row L l) (struck h)
 struck {L = L} (out {p = p} {l = l} {xs = xs} i h) =
-    goes p (lineKind L l) (lineRow L l) i.standing i.inside (filled L xs) (struck h)
+    goes p (line_kind L l) (line_row L l) i.standing i.inside (filled L xs) (struck h)
 
 from_start : {d k : ℕ} {s t : List (List Row)} → Rel d (ended k) s t → But d k s t
 from_start (reading h) = h
 
 pub charts-but : {L d : ℕ} {old new : List ℕ} → Differ L d old new → But d 0 (chart L old) (chart L new)
 unfolding chart
-charts-but x = but-trans (from_start (struck x.fromOld)) (but-sym (from_start (struck x.fromNew)))
+charts-but x = but-trans (from_start (struck x.from_old)) (but-sym (from_start (struck x.from_new)))

@@ -7,20 +7,20 @@ use native.Mathlib.Omega.{arith}
 use borrow.Author.Tests.{eq-eqb}
 use lib.Dec.{eqb}
 use Rattle.definitions.specs.Lists.{among}
-use Rattle.definitions.specs.Lines.{Row, isBlank, isRow, kind_of, lineKind}
+use Rattle.definitions.specs.Lines.{Row, is_blank_byte, is_row_line, kind_of, line_kind}
 use Rattle.definitions.specs.Cells.{byte_at}
 use Rattle.definitions.specs.Measures.{chart}
-use Rattle.definitions.specs.Objects.{lastBeat}
+use Rattle.definitions.specs.Objects.{last_beat_of}
 use Rattle.definitions.specs.Examples.{bytes}
-use Rattle.definitions.specs.Damage.{DamageStays, allLater, object, HoldObject, ObjectFirst}
-use Rattle.definitions.specs.DamageExample.{old-text, new-text, they_differ}
+use Rattle.definitions.specs.Damage.{DamageStays, all_later, object, HoldObject, ObjectFirst}
+use Rattle.definitions.specs.DamageExample.{old_text, new_text, they_differ}
 use Rattle.definitions.proofs.Damage.Stays.{damage-stays}
 
-pub example-stays : DamageStays 4 1 old-text new-text
-example-stays = damage-stays 4 1 old-text new-text they_differ
+pub example-stays : DamageStays 4 1 old_text new_text
+example-stays = damage-stays 4 1 old_text new_text they_differ
 
-holds-object : HoldObject (allLater 4 1 old-text)
-unfolding HoldObject object old-text chart lineKind kind_of isRow isBlank
+holds-object : HoldObject (all_later 4 1 old_text)
+unfolding HoldObject object old_text chart line_kind kind_of is_row_line is_blank_byte
 holds-object = (1, (0, refl))
 
 -- a row that has no 3 has none in any column
@@ -34,8 +34,8 @@ no-three (b ∷ r) (suc c) n e = no-three r c (other (eqb 51 b) n) e
     other false h = h
 
 -- of the later rows 0100, 0200, 0300 and 1000 the third alone has a 3, in column 1, and the first has a 1 there
-object-first : ObjectFirst (allLater 4 1 old-text)
-unfolding ObjectFirst object old-text chart lineKind kind_of isRow isBlank
+object-first : ObjectFirst (all_later 4 1 old_text)
+unfolding ObjectFirst object old_text chart line_kind kind_of is_row_line is_blank_byte
 object-first c zero e = absurd (no-three (bytes "0100") c refl e)
 object-first c (suc zero) e = absurd (no-three (bytes "0200") c refl e)
 object-first zero (suc (suc zero)) e = absurd (omega (arith, e))
@@ -44,5 +44,5 @@ object-first (suc (suc c)) (suc (suc zero)) e = absurd (no-three (bytes "00") c 
 object-first c (suc (suc (suc zero))) e = absurd (no-three (bytes "1000") c refl e)
 object-first c (suc (suc (suc (suc i)))) e = absurd (no-three [] c refl e)
 
-pub example-last : lastBeat 4 old-text ≡ lastBeat 4 new-text
+pub example-last : last_beat_of 4 old_text ≡ last_beat_of 4 new_text
 example-last = example-stays.same-last holds-object object-first

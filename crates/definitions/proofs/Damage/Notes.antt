@@ -14,7 +14,7 @@ use lib.Seq.{drop-append-le}
 use Rattle.definitions.specs.Lists.{those}
 use Rattle.definitions.specs.Lines.{Row}
 use Rattle.definitions.specs.Cells.{byte_at}
-use Rattle.definitions.specs.Notes.{effectAt, meets, tailOf, heldNote, cellNotes, rowNotes, notesFrom}
+use Rattle.definitions.specs.Notes.{effect_at, meets, tail_row_of, held_note, cell_notes, row_notes, notes_from}
 use Rattle.definitions.specs.declared.Kind.{Kind}
 use Rattle.definitions.specs.declared.Tail.TheVariants as tail
 use Rattle.definitions.specs.declared.Note.{Note}
@@ -22,30 +22,30 @@ use Rattle.definitions.specs.declared.NoteEffect.{NoteEffect}
 use Rattle.definitions.specs.declared.NoteEffect.TheVariants.{Nothing, Closes, Single, Head}
 use Rattle.definitions.proofs.Bools.{and_left, and_right, and-false}
 use Rattle.definitions.proofs.Lists.{All, none as all_none, one as all_one, all_append, all_map, those-append, those-all, those-left, those-right}
-use Rattle.definitions.specs.Damage.{Each, end, next, without, with_tail, Shifted, isHead, headKind, untouched, byteIn, open_in, MissingOrLate}
+use Rattle.definitions.specs.Damage.{Each, end, next, without, with_tail, Shifted, is_head, head_kind, untouched, byte_in, open_in, MissingOrLate}
 use Rattle.definitions.proofs.Tails.{tail_within}
 use Rattle.definitions.proofs.Damage.Bytes.{stopping, heading, stops-is, head-is, head-kind}
 
 -- what is headed in rows numbered from i, with the rows q after them
 abbrev pub headed : ℕ → List Row → List Row → List Note
 headed i [] q = []
-headed i (r ∷ rs) q = rowNotes i 0 r (rs ++ q) ++ headed (suc i) rs q
+headed i (r ∷ rs) q = row_notes i 0 r (rs ++ q) ++ headed (suc i) rs q
 
-notes-append : (i : ℕ) (rs q : List Row) → notesFrom i (rs ++ q) ≡ headed i rs q ++ notesFrom (i + length rs) q
+notes-append : (i : ℕ) (rs q : List Row) → notes_from i (rs ++ q) ≡ headed i rs q ++ notes_from (i + length rs) q
 notes-append i [] q = rw add-zero
 notes-append i (r ∷ rs) q =
-    rw (append_assoc, add-suc, ← suc-add) (ap (λ l. rowNotes i 0 r (rs ++ q) ++ l) (notes-append (suc i) rs q))
+    rw (append_assoc, add-suc, ← suc-add) (ap (λ l. row_notes i 0 r (rs ++ q) ++ l) (notes-append (suc i) rs q))
 
 -- Rows and columns of notes.
 record At (i c : ℕ) (x : Note) : Type 0 where
   row : x.row ≡ i
   column : x.column ≡ c
 
-held_at : (i c : ℕ) (k : Kind) (t : Option ℕ) → All (At i c) (heldNote i c k t)
+held_at : (i c : ℕ) (k : Kind) (t : Option ℕ) → All (At i c) (held_note i c k t)
 held_at i c k none = all_none
 held_at i c k (some j) = all_one (record { row = refl; column = refl }) all_none
 
-cell_at : (x : NoteEffect) (i c : ℕ) (t : Option ℕ) → All (At i c) (cellNotes x i c t)
+cell_at : (x : NoteEffect) (i c : ℕ) (t : Option ℕ) → All (At i c) (cell_notes x i c t)
 cell_at Nothing i c t = all_none
 cell_at Closes i c t = all_none
 cell_at (Single k) i c t = all_one (record { row = refl; column = refl }) all_none
@@ -55,14 +55,14 @@ record From (i c : ℕ) (x : Note) : Type 0 where
   row : x.row ≡ i
   column : c ≤ x.column
 
-row_at : (i c : ℕ) (bs : Row) (rs : List Row) → All (From i c) (rowNotes i c bs rs)
+row_at : (i c : ℕ) (bs : Row) (rs : List Row) → All (From i c) (row_notes i c bs rs)
 row_at i c [] rs = all_none
 row_at i c (b ∷ bs) rs =
     all_append
-    (all_map (λ x h. record { row = h.row; column = omega arith }) (cell_at (effectAt b) i c (tailOf c (suc i) rs)))
+    (all_map (λ x h. record { row = h.row; column = omega arith }) (cell_at (effect_at b) i c (tail_row_of c (suc i) rs)))
     (all_map (λ x h. record { row = h.row; column = omega arith }) (row_at i (suc c) bs rs))
 
-notes-from : (i : ℕ) (rs : List Row) → All (λ x. i ≤ x.row) (notesFrom i rs)
+notes-from : (i : ℕ) (rs : List Row) → All (λ x. i ≤ x.row) (notes_from i rs)
 notes-from i [] = all_none
 notes-from i (r ∷ rs) =
     all_append (all_map (λ x h. omega arith) (row_at i 0 r rs)) (all_map (λ x h. omega arith) (notes-from (suc i) rs))
@@ -73,18 +73,18 @@ headed-below i (r ∷ rs) q =
     all_append (all_map (λ x h. omega arith) (row_at i 0 r (rs ++ q))) (all_map (λ x h. omega arith) (headed-below (suc i) rs q))
 
 -- Notes headed before q, and in q.
-pub before-part : (ps q : List Row) → those (λ x. ltb x.row (length ps)) (notesFrom 0 (ps ++ q)) ≡ headed 0 ps q
+pub before-part : (ps q : List Row) → those (λ x. ltb x.row (length ps)) (notes_from 0 (ps ++ q)) ≡ headed 0 ps q
 before-part ps q =
     let p : Note → Bool = λ x. ltb x.row (length ps) in
     ap (those p) (notes-append 0 ps q)
     ∙ those-left p (headed 0 ps q) (all_map (λ x h. le-ltb x.row (length ps) (omega arith)) (notes-from (0 + length ps) q))
     ∙ those-all p (all_map (λ x h. lt-ltb x.row (length ps) (omega arith)) (headed-below 0 ps q))
 
-pub after-part : (ps q : List Row) → those (λ x. leb (length ps) x.row) (notesFrom 0 (ps ++ q)) ≡ notesFrom (length ps) q
+pub after-part : (ps q : List Row) → those (λ x. leb (length ps) x.row) (notes_from 0 (ps ++ q)) ≡ notes_from (length ps) q
 after-part ps q =
     let p : Note → Bool = λ x. leb (length ps) x.row in
-    ap (those p) (notes-append 0 ps q ∙ ap (λ n. headed 0 ps q ++ notesFrom n q) (zero-add (length ps)))
-    ∙ those-right p (notesFrom (length ps) q) (all_map (λ x h. lt-leb (length ps) x.row (omega arith)) (headed-below 0 ps q))
+    ap (those p) (notes-append 0 ps q ∙ ap (λ n. headed 0 ps q ++ notes_from n q) (zero-add (length ps)))
+    ∙ those-right p (notes_from (length ps) q) (all_map (λ x h. lt-leb (length ps) x.row (omega arith)) (headed-below 0 ps q))
     ∙ those-all p (all_map (λ x h. le-leb (length ps) x.row (omega arith)) (notes-from (length ps) q))
 
 -- Later notes: the same rows under other numbers.
@@ -99,32 +99,32 @@ module _ (a b : ℕ) where
   meets-shift (Single k) i j e h = no_row
   meets-shift (Head k) i j e h = no_row
 
-  tail-shift : (c i j : ℕ) → j + a ≡ i + b → (rs : List Row) → ShiftedRow (tailOf c i rs) (tailOf c j rs)
+  tail-shift : (c i j : ℕ) → j + a ≡ i + b → (rs : List Row) → ShiftedRow (tail_row_of c i rs) (tail_row_of c j rs)
   tail-shift c i j e [] = no_row
-  tail-shift c i j e (r ∷ rs) = meets-shift (effectAt (byte_at c r)) i j e (tail-shift c (suc i) (suc j) (omega arith) rs)
+  tail-shift c i j e (r ∷ rs) = meets-shift (effect_at (byte_at c r)) i j e (tail-shift c (suc i) (suc j) (omega arith) rs)
 
   each_append : {R : Note → Note → Type 0} {s t u v : List Note} → Each R s t → Each R u v → Each R (s ++ u) (t ++ v)
   each_append end q = q
   each_append (next h p) q = next h (each_append p q)
 
   held-shift : (i j c : ℕ) → j + a ≡ i + b → (k : Kind) {t u : Option ℕ} → ShiftedRow t u
-      → Each (Shifted a b) (heldNote i c k t) (heldNote j c k u)
+      → Each (Shifted a b) (held_note i c k t) (held_note j c k u)
   held-shift i j c e k no_row = end
   held-shift i j c e k (row-to h) = next (record { row = e; tail = with_tail h; column = refl; kind = refl }) end
 
   cell-shift : (x : NoteEffect) (i j c : ℕ) → j + a ≡ i + b → {t u : Option ℕ} → ShiftedRow t u
-      → Each (Shifted a b) (cellNotes x i c t) (cellNotes x j c u)
+      → Each (Shifted a b) (cell_notes x i c t) (cell_notes x j c u)
   cell-shift Nothing i j c e h = end
   cell-shift Closes i j c e h = end
   cell-shift (Single k) i j c e h = next (record { row = e; tail = without; column = refl; kind = refl }) end
   cell-shift (Head k) i j c e h = held-shift i j c e k h
 
-  row-shift : (i j c : ℕ) → j + a ≡ i + b → (bs : Row) (rs : List Row) → Each (Shifted a b) (rowNotes i c bs rs) (rowNotes j c bs rs)
+  row-shift : (i j c : ℕ) → j + a ≡ i + b → (bs : Row) (rs : List Row) → Each (Shifted a b) (row_notes i c bs rs) (row_notes j c bs rs)
   row-shift i j c e [] rs = end
   row-shift i j c e (x ∷ bs) rs =
-      each_append (cell-shift (effectAt x) i j c e (tail-shift c (suc i) (suc j) (omega arith) rs)) (row-shift i j (suc c) e bs rs)
+      each_append (cell-shift (effect_at x) i j c e (tail-shift c (suc i) (suc j) (omega arith) rs)) (row-shift i j (suc c) e bs rs)
 
-  pub notes-shift : (i j : ℕ) → j + a ≡ i + b → (rs : List Row) → Each (Shifted a b) (notesFrom i rs) (notesFrom j rs)
+  pub notes-shift : (i j : ℕ) → j + a ≡ i + b → (rs : List Row) → Each (Shifted a b) (notes_from i rs) (notes_from j rs)
   notes-shift i j e [] = end
   notes-shift i j e (r ∷ rs) = each_append (row-shift i j 0 e r rs) (notes-shift (suc i) (suc j) (omega arith) rs)
 
@@ -135,46 +135,46 @@ met Closes i h = refl
 met (Single k) i h = refl
 met (Head k) i h = refl
 
-tail-fixed : (c i : ℕ) (rs q q' : List Row) → untouched c rs ≡ false → tailOf c i (rs ++ q) ≡ tailOf c i (rs ++ q')
+tail-fixed : (c i : ℕ) (rs q q' : List Row) → untouched c rs ≡ false → tail_row_of c i (rs ++ q) ≡ tail_row_of c i (rs ++ q')
 tail-fixed c i [] q q' h = absurd (true≢false h)
-tail-fixed c i (r ∷ rs) q q' h = met (effectAt (byte_at c r)) i (λ z. tail-fixed c (suc i) rs q q' (rw (stops-is (byte_at c r), z) at h))
+tail-fixed c i (r ∷ rs) q q' h = met (effect_at (byte_at c r)) i (λ z. tail-fixed c (suc i) rs q q' (rw (stops-is (byte_at c r), z) at h))
 
 module _ (P : ℕ → ℕ → Bool) where
   abbrev shut : Note → Bool
   shut x = not (P x.row x.column)
 
-  gone : (i c : ℕ) (k : Kind) (t : Option ℕ) → P i c ≡ true → those shut (heldNote i c k t) ≡ []
+  gone : (i c : ℕ) (k : Kind) (t : Option ℕ) → P i c ≡ true → those shut (held_note i c k t) ≡ []
   gone i c k none e = refl
   gone i c k (some j) e = rw e
 
   cell-left : (x : NoteEffect) (i c : ℕ) (rs q q' : List Row) (u : Bool) → untouched c rs ≡ u → P i c ≡ (heading x && u)
-      → those shut (cellNotes x i c (tailOf c (suc i) (rs ++ q))) ≡ those shut (cellNotes x i c (tailOf c (suc i) (rs ++ q')))
+      → those shut (cell_notes x i c (tail_row_of c (suc i) (rs ++ q))) ≡ those shut (cell_notes x i c (tail_row_of c (suc i) (rs ++ q')))
   cell-left Nothing i c rs q q' u h e = refl
   cell-left Closes i c rs q q' u h e = refl
   cell-left (Single k) i c rs q q' u h e = refl
-  cell-left (Head k) i c rs q q' true h e = gone i c k (tailOf c (suc i) (rs ++ q)) e ∙ sym (gone i c k (tailOf c (suc i) (rs ++ q')) e)
-  cell-left (Head k) i c rs q q' false h e = ap (λ t. those shut (heldNote i c k t)) (tail-fixed c (suc i) rs q q' h)
+  cell-left (Head k) i c rs q q' true h e = gone i c k (tail_row_of c (suc i) (rs ++ q)) e ∙ sym (gone i c k (tail_row_of c (suc i) (rs ++ q')) e)
+  cell-left (Head k) i c rs q q' false h e = ap (λ t. those shut (held_note i c k t)) (tail-fixed c (suc i) rs q q' h)
 
   -- a row's cells from column c on
   row-left : (i c : ℕ) (bs : Row) (rs q q' : List Row)
-      → ((e : ℕ) → P i (c + e) ≡ (isHead (byte_at e bs) && untouched (c + e) rs))
-      → those shut (rowNotes i c bs (rs ++ q)) ≡ those shut (rowNotes i c bs (rs ++ q'))
+      → ((e : ℕ) → P i (c + e) ≡ (is_head (byte_at e bs) && untouched (c + e) rs))
+      → those shut (row_notes i c bs (rs ++ q)) ≡ those shut (row_notes i c bs (rs ++ q'))
   row-left i c [] rs q q' h = refl
   row-left i c (b ∷ bs) rs q q' h =
-      those-append shut (cellNotes (effectAt b) i c (tailOf c (suc i) (rs ++ q))) (rowNotes i (suc c) bs (rs ++ q))
-      ∙ ap (λ l. l ++ those shut (rowNotes i (suc c) bs (rs ++ q))) (cell-left (effectAt b) i c rs q q' (untouched c rs) refl (rw (add-zero, head-is b) at (h 0)))
-      ∙ ap (λ l. those shut (cellNotes (effectAt b) i c (tailOf c (suc i) (rs ++ q'))) ++ l)
+      those-append shut (cell_notes (effect_at b) i c (tail_row_of c (suc i) (rs ++ q))) (row_notes i (suc c) bs (rs ++ q))
+      ∙ ap (λ l. l ++ those shut (row_notes i (suc c) bs (rs ++ q))) (cell-left (effect_at b) i c rs q q' (untouched c rs) refl (rw (add-zero, head-is b) at (h 0)))
+      ∙ ap (λ l. those shut (cell_notes (effect_at b) i c (tail_row_of c (suc i) (rs ++ q'))) ++ l)
       (row-left i (suc c) bs rs q q' (λ e. rw (suc-add, ← add-suc) (h (suc e))))
-      ∙ sym (those-append shut (cellNotes (effectAt b) i c (tailOf c (suc i) (rs ++ q'))) (rowNotes i (suc c) bs (rs ++ q')))
+      ∙ sym (those-append shut (cell_notes (effect_at b) i c (tail_row_of c (suc i) (rs ++ q'))) (row_notes i (suc c) bs (rs ++ q')))
 
   headed-left : (i : ℕ) (rs q q' : List Row) → ((j c : ℕ) → P (i + j) c ≡ open_in rs j c)
       → those shut (headed i rs q) ≡ those shut (headed i rs q')
   headed-left i [] q q' h = refl
   headed-left i (r ∷ rs) q q' h =
-      those-append shut (rowNotes i 0 r (rs ++ q)) (headed (suc i) rs q)
+      those-append shut (row_notes i 0 r (rs ++ q)) (headed (suc i) rs q)
       ∙ ap (λ l. l ++ those shut (headed (suc i) rs q)) (row-left i 0 r rs q q' (λ e. rw zero-add (rw add-zero at (h 0 e))))
-      ∙ ap (λ l. those shut (rowNotes i 0 r (rs ++ q')) ++ l) (headed-left (suc i) rs q q' (λ j c. rw (suc-add, ← add-suc) (h (suc j) c)))
-      ∙ sym (those-append shut (rowNotes i 0 r (rs ++ q')) (headed (suc i) rs q'))
+      ∙ ap (λ l. those shut (row_notes i 0 r (rs ++ q')) ++ l) (headed-left (suc i) rs q q' (λ j c. rw (suc-add, ← add-suc) (h (suc j) c)))
+      ∙ sym (those-append shut (row_notes i 0 r (rs ++ q')) (headed (suc i) rs q'))
 
 pub earlier-left : (ps q q' : List Row)
     → those (λ x. not (open_in ps x.row x.column)) (headed 0 ps q) ≡ those (λ x. not (open_in ps x.row x.column)) (headed 0 ps q')
@@ -194,46 +194,46 @@ module _ (i c : ℕ) where
   off-column : (x : Note) → (x.column ≡ c → ⊥) → here x ≡ false
   off-column x h = rw (ne_eqb x.column c h) (and-false (eqb x.row i))
 
-  abbrev headedBy : List Row → ℕ → List Note
-  headedBy rs b = cellNotes (effectAt b) i c (tailOf c (suc i) rs)
+  abbrev headed_by : List Row → ℕ → List Note
+  headed_by rs b = cell_notes (effect_at b) i c (tail_row_of c (suc i) rs)
 
   row_here : (e j : ℕ) → e + j ≡ c → (bs : Row) (rs : List Row)
-      → (those here (rowNotes i e bs rs) ≡ []) ⊎ (those here (rowNotes i e bs rs) ≡ headedBy rs (byte_at j bs))
+      → (those here (row_notes i e bs rs) ≡ []) ⊎ (those here (row_notes i e bs rs) ≡ headed_by rs (byte_at j bs))
   row_here e j p [] rs = inl refl
   row_here e zero p (b ∷ bs) rs =
       inr
       (rw (sym (add-zero e) ∙ p)
-      (those-left here (headedBy rs b) (all_map (λ x q. off-column x (λ w. omega arith)) (row_at i (suc c) bs rs))
-      ∙ those-all here (all_map is-here (cell_at (effectAt b) i c (tailOf c (suc i) rs)))))
+      (those-left here (headed_by rs b) (all_map (λ x q. off-column x (λ w. omega arith)) (row_at i (suc c) bs rs))
+      ∙ those-all here (all_map is-here (cell_at (effect_at b) i c (tail_row_of c (suc i) rs)))))
   row_here e (suc j) p (b ∷ bs) rs =
-      rw (those-right here (rowNotes i (suc e) bs rs) (all_map (λ x q. off-column x (λ w. omega arith)) (cell_at (effectAt b) i e (tailOf e (suc i) rs))))
+      rw (those-right here (row_notes i (suc e) bs rs) (all_map (λ x q. off-column x (λ w. omega arith)) (cell_at (effect_at b) i e (tail_row_of e (suc i) rs))))
       (row_here (suc e) j (omega arith) bs rs)
 
   notes-here : (k j : ℕ) → k + j ≡ i → (rs : List Row)
-      → (those here (notesFrom k rs) ≡ []) ⊎ (those here (notesFrom k rs) ≡ headedBy (drop (suc j) rs) (byte_at c (get_or rs j [])))
+      → (those here (notes_from k rs) ≡ []) ⊎ (those here (notes_from k rs) ≡ headed_by (drop (suc j) rs) (byte_at c (get_or rs j [])))
   notes-here k j p [] = inl refl
   notes-here k zero p (r ∷ rs) =
-      rw (sym (add-zero k) ∙ p, those-left here (rowNotes i 0 r rs) (all_map (λ x q. off-row x (λ w. omega arith)) (notes-from (suc i) rs)))
+      rw (sym (add-zero k) ∙ p, those-left here (row_notes i 0 r rs) (all_map (λ x q. off-row x (λ w. omega arith)) (notes-from (suc i) rs)))
       (row_here 0 c (zero-add c) r rs)
   notes-here k (suc j) p (r ∷ rs) =
-      rw (those-right here (notesFrom (suc k) rs) (all_map (λ x q. off-row x (λ w. omega arith)) (row_at k 0 r rs)))
+      rw (those-right here (notes_from (suc k) rs) (all_map (λ x q. off-row x (λ w. omega arith)) (row_at k 0 r rs)))
       (notes-here (suc k) j (omega arith) rs)
 
 -- A head that nothing stops has its tail after the rows that do not stop it, if it has one.
-past-untouched : (c i : ℕ) (rs q : List Row) → untouched c rs ≡ true → tailOf c i (rs ++ q) ≡ tailOf c (i + length rs) q
+past-untouched : (c i : ℕ) (rs q : List Row) → untouched c rs ≡ true → tail_row_of c i (rs ++ q) ≡ tail_row_of c (i + length rs) q
 past-untouched c i [] q h = rw add-zero
-past-untouched c i (r ∷ rs) q h = go (effectAt (byte_at c r)) refl (past-untouched c (suc i) rs q)
+past-untouched c i (r ∷ rs) q h = go (effect_at (byte_at c r)) refl (past-untouched c (suc i) rs q)
   where
-    go : (x : NoteEffect) → effectAt (byte_at c r) ≡ x → (untouched c rs ≡ true → tailOf c (suc i) (rs ++ q) ≡ tailOf c (suc i + length rs) q)
-        → tailOf c i (r ∷ rs ++ q) ≡ tailOf c (i + suc (length rs)) q
+    go : (x : NoteEffect) → effect_at (byte_at c r) ≡ x → (untouched c rs ≡ true → tail_row_of c (suc i) (rs ++ q) ≡ tail_row_of c (suc i + length rs) q)
+        → tail_row_of c i (r ∷ rs ++ q) ≡ tail_row_of c (i + suc (length rs)) q
     go Nothing p ih = rw (p, add-suc, ← suc-add) (ih (rw (stops-is (byte_at c r), p) at h))
     go Closes p ih = absurd (false≢true (rw (stops-is (byte_at c r), p) at h))
     go (Single k) p ih = absurd (false≢true (rw (stops-is (byte_at c r), p) at h))
     go (Head k) p ih = absurd (false≢true (rw (stops-is (byte_at c r), p) at h))
 
 -- a head stands in a row that is there
-head-there : (ps : List Row) (i c : ℕ) → isHead (byteIn ps i c) ≡ true → i < length ps
-unfolding isHead
+head-there : (ps : List Row) (i c : ℕ) → is_head (byte_in ps i c) ≡ true → i < length ps
+unfolding is_head
 head-there ps i c h = go (ltb i (length ps)) refl
   where
     go : (t : Bool) → ltb i (length ps) ≡ t → i < length ps
@@ -241,41 +241,41 @@ head-there ps i c h = go (ltb i (length ps)) refl
     go false p = absurd (false≢true (rw (get_or-eq_default ps [] (ltb-false i (length ps) p)) at h))
 
 pub open-head : (i c : ℕ) (ps q : List Row) → open_in ps i c ≡ true
-    → MissingOrLate (length ps) (length (ps ++ q)) i c (headKind (byteIn ps i c)) (notesFrom 0 (ps ++ q))
+    → MissingOrLate (length ps) (length (ps ++ q)) i c (head_kind (byte_in ps i c)) (notes_from 0 (ps ++ q))
 unfolding MissingOrLate
 open-head i c ps q h = go (notes-here i c 0 i (zero-add i) (ps ++ q))
   where
     k : Kind
-    k = headKind (byteIn ps i c)
+    k = head_kind (byte_in ps i c)
 
     free : untouched c (drop (suc i) ps) ≡ true
-    free = and_right (isHead (byteIn ps i c)) (untouched c (drop (suc i) ps)) h
+    free = and_right (is_head (byte_in ps i c)) (untouched c (drop (suc i) ps)) h
 
-    headed-here : isHead (byteIn ps i c) ≡ true
-    headed-here = and_left (isHead (byteIn ps i c)) (untouched c (drop (suc i) ps)) h
+    headed-here : is_head (byte_in ps i c) ≡ true
+    headed-here = and_left (is_head (byte_in ps i c)) (untouched c (drop (suc i) ps)) h
 
     inside : i < length ps
     inside = head-there ps i c headed-here
 
     ns : List Note
-    ns = those (here i c) (notesFrom 0 (ps ++ q))
+    ns = those (here i c) (notes_from 0 (ps ++ q))
 
-    there : headedBy i c (drop (suc i) (ps ++ q)) (byte_at c (get_or (ps ++ q) i [])) ≡ heldNote i c k (tailOf c (length ps) q)
+    there : headed_by i c (drop (suc i) (ps ++ q)) (byte_at c (get_or (ps ++ q) i [])) ≡ held_note i c k (tail_row_of c (length ps) q)
     there =
         rw (
           get_or-append ps q [] i inside,
           drop-append-le (suc i) ps q inside,
-          head-kind (byteIn ps i c) headed-here,
+          head-kind (byte_in ps i c) headed-here,
           past-untouched c (suc i) (drop (suc i) ps) q free,
         )
-        (ap (λ n. heldNote i c k (tailOf c n q)) (omega (arith, inside, length-drop (suc i) ps)))
+        (ap (λ n. held_note i c k (tail_row_of c n q)) (omega (arith, inside, length-drop (suc i) ps)))
 
     -- the tail of a head that nothing stops lies in q
-    last : (t : Option ℕ) → tailOf c (length ps) q ≡ t → ns ≡ heldNote i c k t → MissingOrLate (length ps) (length (ps ++ q)) i c k (notesFrom 0 (ps ++ q))
+    last : (t : Option ℕ) → tail_row_of c (length ps) q ≡ t → ns ≡ held_note i c k t → MissingOrLate (length ps) (length (ps ++ q)) i c k (notes_from 0 (ps ++ q))
     last none e p = inl p
     last (some j) e p = let w = tail_within c (length ps) q j e in inr (j, w.0, omega (arith, w.1, length-append ps q), p)
 
-    go : (ns ≡ []) ⊎ (ns ≡ headedBy i c (drop (suc i) (ps ++ q)) (byte_at c (get_or (ps ++ q) i [])))
-        → MissingOrLate (length ps) (length (ps ++ q)) i c k (notesFrom 0 (ps ++ q))
+    go : (ns ≡ []) ⊎ (ns ≡ headed_by i c (drop (suc i) (ps ++ q)) (byte_at c (get_or (ps ++ q) i [])))
+        → MissingOrLate (length ps) (length (ps ++ q)) i c k (notes_from 0 (ps ++ q))
     go (inl p) = inl p
-    go (inr p) = last (tailOf c (length ps) q) refl (p ∙ there)
+    go (inr p) = last (tail_row_of c (length ps) q) refl (p ∙ there)

@@ -7,48 +7,48 @@ use native.Mathlib.Nat.{zero-add}
 use native.Mathlib.Omega.{arith}
 use lib.Dec.{ltb, leb}
 use lib.ListN.{length, drop, length-append}
-use Rattle.definitions.specs.Lists.{oneIf, joined, those}
+use Rattle.definitions.specs.Lists.{number_of_bool, joined, those}
 use Rattle.definitions.specs.Lines.{Row}
 use Rattle.definitions.specs.Measures.{chart}
 use Rattle.definitions.specs.Reduction.{reduce, minimised}
 use Rattle.definitions.specs.Figures.{density, spacing, densities, spacings}
-use Rattle.definitions.specs.Beats.{measureBeats, rowToBeat}
-use Rattle.definitions.specs.Objects.{place48, lastObject, last48, lastBeat}
-use Rattle.definitions.specs.Notes.{notes, notesFrom}
-use Rattle.definitions.specs.Entries.{rowCount}
+use Rattle.definitions.specs.Beats.{measure_beats, row_to_beat}
+use Rattle.definitions.specs.Objects.{place48, last_object, last48, last_beat_of}
+use Rattle.definitions.specs.Notes.{notes, notes_from}
+use Rattle.definitions.specs.Entries.{row_count}
 use Rattle.definitions.proofs.Lists.{parts, parts-suc}
-use Rattle.definitions.specs.Damage.{Differ, DamageStays, Each, Shifted, rowsBefore, rows_of, rowsLater, allLater, earlier, later, byteIn, headKind, open_in, open_at, MissingOrLate, HoldObject, ObjectFirst}
+use Rattle.definitions.specs.Damage.{Differ, DamageStays, Each, Shifted, rows_above, rows_of, rows_later, all_later, earlier, later, byte_in, head_kind, open_in, open_at, MissingOrLate, HoldObject, ObjectFirst}
 use Rattle.definitions.proofs.Damage.But.{But, charts-but, but-map, but-beats, same-but, takes, drops}
 use Rattle.definitions.proofs.Damage.Notes.{headed, before-part, after-part, notes-shift, earlier-left, open-head}
 use Rattle.definitions.proofs.Damage.Objects.{Hold, First, last-later, hold-minimised, first-minimised}
 
 -- The notes of a text, parted at measure d.
-notes-parts : (L d : ℕ) (text : List ℕ) → notes L text ≡ notesFrom 0 (rowsBefore L d text ++ (rows_of L d text ++ rowsLater L d text))
+notes-parts : (L d : ℕ) (text : List ℕ) → notes L text ≡ notes_from 0 (rows_above L d text ++ (rows_of L d text ++ rows_later L d text))
 unfolding notes
-notes-parts L d text = ap (notesFrom 0) (parts d (minimised L text))
+notes-parts L d text = ap (notes_from 0) (parts d (minimised L text))
 
-earlier-is : (L d : ℕ) (text : List ℕ) → earlier L d text ≡ headed 0 (rowsBefore L d text) (rows_of L d text ++ rowsLater L d text)
+earlier-is : (L d : ℕ) (text : List ℕ) → earlier L d text ≡ headed 0 (rows_above L d text) (rows_of L d text ++ rows_later L d text)
 earlier-is L d text =
-    ap (those (λ x. ltb x.row (length (rowsBefore L d text)))) (notes-parts L d text)
-    ∙ before-part (rowsBefore L d text) (rows_of L d text ++ rowsLater L d text)
+    ap (those (λ x. ltb x.row (length (rows_above L d text)))) (notes-parts L d text)
+    ∙ before-part (rows_above L d text) (rows_of L d text ++ rows_later L d text)
 
-later-is : (L d : ℕ) (text : List ℕ) → later L d text ≡ notesFrom (length (rowsBefore L d text) + length (rows_of L d text)) (rowsLater L d text)
+later-is : (L d : ℕ) (text : List ℕ) → later L d text ≡ notes_from (length (rows_above L d text) + length (rows_of L d text)) (rows_later L d text)
 unfolding notes
 later-is L d text =
     let ms : List (List Row) = minimised L text in
-    let before : List Row = rowsBefore L (suc d) text in
-    let after : List Row = rowsLater L d text in
-    ap (λ rows. those (λ x. leb (length before) x.row) (notesFrom 0 rows))
-    (parts d ms ∙ sym (append_assoc (rowsBefore L d text) (rows_of L d text) after) ∙ ap (λ r. r ++ after) (sym (parts-suc d ms)))
+    let before : List Row = rows_above L (suc d) text in
+    let after : List Row = rows_later L d text in
+    ap (λ rows. those (λ x. leb (length before) x.row) (notes_from 0 rows))
+    (parts d ms ∙ sym (append_assoc (rows_above L d text) (rows_of L d text) after) ∙ ap (λ r. r ++ after) (sym (parts-suc d ms)))
     ∙ after-part before after
-    ∙ ap (λ n. notesFrom n after) (ap length (parts-suc d ms) ∙ length-append (rowsBefore L d text) (rows_of L d text))
+    ∙ ap (λ n. notes_from n after) (ap length (parts-suc d ms) ∙ length-append (rows_above L d text) (rows_of L d text))
 
 module _ (L d : ℕ) (old new : List ℕ) (x : Differ L d old new) where
   but : But d 0 (minimised L old) (minimised L new)
   unfolding minimised
   but = but-map reduce (charts-but x)
 
-  same-before : rowsBefore L d old ≡ rowsBefore L d new
+  same-before : rows_above L d old ≡ rows_above L d new
   same-before = ap joined (takes but d (zero-add d))
 
   same-later : drop (suc d) (minimised L old) ≡ drop (suc d) (minimised L new)
@@ -58,32 +58,32 @@ module _ (L d : ℕ) (old new : List ℕ) (x : Differ L d old new) where
   later-notes =
       let a : ℕ = length (rows_of L d old) in
       let b : ℕ = length (rows_of L d new) in
-      let s : ℕ = length (rowsBefore L d old) in
-      let t : ℕ = length (rowsBefore L d new) in
+      let s : ℕ = length (rows_above L d old) in
+      let t : ℕ = length (rows_above L d new) in
       let e : s ≡ t = ap length same-before in
-      subst₂ (Each (Shifted a b)) (sym (later-is L d old)) (ap (λ q. notesFrom (t + b) (joined q)) same-later ∙ sym (later-is L d new))
-      (notes-shift a b (s + a) (t + b) (omega arith) (rowsLater L d old))
+      subst₂ (Each (Shifted a b)) (sym (later-is L d old)) (ap (λ q. notes_from (t + b) (joined q)) same-later ∙ sym (later-is L d new))
+      (notes-shift a b (s + a) (t + b) (omega arith) (rows_later L d old))
 
   earlier-notes : those (λ x. not (open_at L d old x)) (earlier L d old) ≡ those (λ x. not (open_at L d new x)) (earlier L d new)
   earlier-notes =
-      let q : List Row = rows_of L d old ++ rowsLater L d old in
-      let q' : List Row = rows_of L d new ++ rowsLater L d new in
+      let q : List Row = rows_of L d old ++ rows_later L d old in
+      let q' : List Row = rows_of L d new ++ rows_later L d new in
       ap (those (λ x. not (open_at L d old x))) (earlier-is L d old)
-      ∙ earlier-left (rowsBefore L d old) q q'
+      ∙ earlier-left (rows_above L d old) q q'
       ∙ ap (λ ps. those (λ x. not (open_in ps x.row x.column)) (headed 0 ps q')) same-before
       ∙ ap (those (λ x. not (open_at L d new x))) (sym (earlier-is L d new))
 
-  open-heads : (text : List ℕ) → rowsBefore L d old ≡ rowsBefore L d text → (i c : ℕ) → open_in (rowsBefore L d old) i c ≡ true
-      → MissingOrLate (length (rowsBefore L d old)) (rowCount L text) i c (headKind (byteIn (rowsBefore L d old) i c)) (notes L text)
-  open-heads text e i c h = rw (notes-parts L d text, parts d (minimised L text), ← e) (open-head i c (rowsBefore L d old) (rows_of L d text ++ rowsLater L d text) h)
+  open-heads : (text : List ℕ) → rows_above L d old ≡ rows_above L d text → (i c : ℕ) → open_in (rows_above L d old) i c ≡ true
+      → MissingOrLate (length (rows_above L d old)) (row_count L text) i c (head_kind (byte_in (rows_above L d old) i c)) (notes L text)
+  open-heads text e i c h = rw (notes-parts L d text, parts d (minimised L text), ← e) (open-head i c (rows_above L d old) (rows_of L d text ++ rows_later L d text) h)
 
   later-reduced : (n : ℕ) (ms : List (List Row)) → drop n (map reduce ms) ≡ map reduce (drop n ms)
   later-reduced zero ms = refl
   later-reduced (suc n) [] = refl
   later-reduced (suc n) (m ∷ ms) = later-reduced n ms
 
-  same_object : HoldObject (allLater L d old) → ObjectFirst (allLater L d old) → lastObject L old ≡ lastObject L new
-  unfolding lastObject minimised
+  same_object : HoldObject (all_later L d old) → ObjectFirst (all_later L d old) → last_object L old ≡ last_object L new
+  unfolding last_object minimised
   same_object h f =
       let ms : List (List Row) = drop (suc d) (chart L old) in
       let e : map reduce ms ≡ drop (suc d) (minimised L old) = sym (later-reduced (suc d) (chart L old)) in
@@ -91,18 +91,18 @@ module _ (L d : ℕ) (old new : List ℕ) (x : Differ L d old new) where
       (subst (λ q. Hold (joined q)) e (hold-minimised ms h))
       (subst (λ q. (c : ℕ) → First c (joined q)) e (first-minimised ms f))
 
-  same-last : HoldObject (allLater L d old) → ObjectFirst (allLater L d old) → lastBeat L old ≡ lastBeat L new
-  unfolding lastBeat last48
-  same-last h f = ap (λ o. rowToBeat (place48 o)) (same_object h f)
+  same-last : HoldObject (all_later L d old) → ObjectFirst (all_later L d old) → last_beat_of L old ≡ last_beat_of L new
+  unfolding last_beat_of last48
+  same-last h f = ap (λ o. row_to_beat (place48 o)) (same_object h f)
 
   pub damage-stays : DamageStays L d old new
-  unfolding densities spacings measureBeats
+  unfolding densities spacings measure_beats
   damage-stays =
       record {
         same_rows = same-but but;
         same-beats = same-but (but-beats but);
         same-density = same-but (but-map density but);
-        same-spacing = same-but (but-map (λ (m : List Row). oneIf (spacing m)) but);
+        same-spacing = same-but (but-map (λ (m : List Row). number_of_bool (spacing m)) but);
         later-notes = later-notes;
         same-before = same-before;
         earlier-notes = earlier-notes;

@@ -2,7 +2,7 @@
 use mathlib.Core.Path.{◌≡◌}
 use mathlib.Core.List.{List}
 use Prim.Native.Nat.{ℕ}
-use Rattle.definitions.specs.Tracker.{Pair, holdAt}
+use Rattle.definitions.specs.Tracker.{Pair, hold_at}
 use Rattle.definitions.specs.declared.DepthEffect.{DepthEffect}
 use Rattle.holds.specs.Stacks.{TrackStepped}
 use Rattle.holds.specs.declared.Tracker.{Tracker}
@@ -10,8 +10,8 @@ use Rattle.holds.proofs.Stacks.{step-blocks}
 use Rattle.holds.proofs.track_cell.Goals as goal
 
 -- the arm's effect is the byte's
-known : (b : ℕ) {x e : DepthEffect} {row column : ℕ} {t t' : Tracker} {ps : List Pair} → x ≡ holdAt b → x ≡ e → TrackStepped e row column t t' ps
-    → TrackStepped (holdAt b) row column t t' ps
+known : (b : ℕ) {x e : DepthEffect} {row column : ℕ} {t t' : Tracker} {ps : List Pair} → x ≡ hold_at b → x ≡ e → TrackStepped e row column t t' ps
+    → TrackStepped (hold_at b) row column t t' ps
 known b p q s = rw (← p, q) s
 
 pub returns-in-Blocks : goal.returns-in-Blocks

@@ -7,8 +7,8 @@ use mathlib.Core.List.{List, [], ◌∷◌}
 use native.Mathlib.Omega.{arith}
 use lib.ListN.{length, get_or}
 use Rattle.definitions.specs.Lines.{Row}
-use Rattle.definitions.specs.Sizes.{countBound}
-use Rattle.definitions.specs.ReadBack.{readBack}
+use Rattle.definitions.specs.Sizes.{count_bound}
+use Rattle.definitions.specs.ReadBack.{rows_read_back}
 use Rattle.taps.proofs.Free.{free-told}
 use Rattle.taps.proofs.Masks.{fits-at}
 use Rattle.reader.proofs.BackReading.{back-trimmed}
@@ -24,8 +24,8 @@ come c =
 -- the row that has come: how wide it is, and its place among all
 record Here (L : ℕ) (text : List ℕ) (rows : List Row) (cells : Row) : Type 0 where
   wide : length cells ≡ L
-  here : get_or (readBack L text) (length rows) [] ≡ cells
-  inside : length rows < length (readBack L text)
+  here : get_or (rows_read_back L text) (length rows) [] ≡ cells
+  inside : length rows < length (rows_read_back L text)
 
 here : (L : ℕ) (text : List ℕ) (rows rest : List Row) → BackCome true L text rows rest → (cells : Row) (below : List Row) → rest ≡ cells ∷ below → Here L text rows cells
 here L text rows rest x cells below e =
@@ -47,7 +47,7 @@ entry-room c =
     let k = c.loop-cells.invariant _ c.requires.some_work_entries.timed in
     omega (arith, c.requires.data_len_bound.3, x.most, k.size, next-inside _ _ _ _ _ x _ _ c.in-Some.ensures.steps)
 
-few : (c : At-loop-cells) → 10 * length (came c.loop-cells.yielded) ≤ countBound
+few : (c : At-loop-cells) → 10 * length (came c.loop-cells.yielded) ≤ count_bound
 few c = omega (arith, (come c).few, c.requires.data_len_bound.0)
 
 pub loop-cells-init : goal.loop-cells-init

@@ -2,11 +2,11 @@
 -- rows are judged.
 use Prim.Native.Nat.{ℕ}
 use mathlib.Core.Bool.{Bool}
-use Rattle.definitions.specs.ReadBack.{readBack}
+use Rattle.definitions.specs.ReadBack.{rows_read_back}
 use Rattle.reader.proofs.BackLoops.{came}
 use Rattle.judged.specs.Timing.{WorkEntries}
 use Rattle.judged.proofs.Tallying.{Tallying}
 use Rattle.judged.proofs.tally_timing_rows.Given as goal
 
 abbrev pub invariant-loop-cells : goal.invariant-loop-cells
-invariant-loop-cells l = (J : ℕ → Bool) → WorkEntries J (readBack l.lanes l.data) l.work → Tallying J l.lanes (readBack l.lanes l.data) (came l.yielded) l.row l.t
+invariant-loop-cells l = (J : ℕ → Bool) → WorkEntries J (rows_read_back l.lanes l.data) l.work → Tallying J l.lanes (rows_read_back l.lanes l.data) (came l.yielded) l.row l.t

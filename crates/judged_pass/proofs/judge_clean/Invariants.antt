@@ -1,8 +1,8 @@
 -- `judged_pass::judge_clean` meets its contract. The loop's invariant: what the pass has is that of the rows that have come, and they were clean.
-use Rattle.definitions.specs.ReadBack.{readBack}
+use Rattle.definitions.specs.ReadBack.{rows_read_back}
 use Rattle.reader.proofs.BackLoops.{came}
 use Rattle.judged_pass.proofs.JudgedPass.{Passes}
 use Rattle.judged_pass.proofs.judge_clean.Given as goal
 
 abbrev pub invariant-loop-row : goal.invariant-loop-row
-invariant-loop-row l = Passes l.lanes (readBack l.lanes l.data) (came l.yielded) l.t
+invariant-loop-row l = Passes l.lanes (rows_read_back l.lanes l.data) (came l.yielded) l.t

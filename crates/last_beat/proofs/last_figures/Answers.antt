@@ -2,9 +2,9 @@
 use mathlib.Core.Path.{◌≡◌, ap, ◌∙◌}
 use Prim.Native.Nat.{ℕ}
 use lib.Ieee.{Float, binary64, to_bits}
-use Rattle.definitions.specs.Beats.{rowToBeat}
-use Rattle.definitions.specs.Objects.{lastBeat}
-use Rattle.definitions.specs.Entries.{lastFigures}
+use Rattle.definitions.specs.Beats.{row_to_beat}
+use Rattle.definitions.specs.Objects.{last_beat_of}
+use Rattle.definitions.specs.Entries.{figures_of_last}
 use Rattle.definitions.specs.declared.LastBeat.{LastBeat}
 use Rattle.last_beat.proofs.Looking.{looked-48}
 use Rattle.last_beat.proofs.last_figures.Goals as goal
@@ -13,10 +13,10 @@ made : {a b : Float} {c d e f : ℕ} → a ≡ b → c ≡ d → e ≡ f → ◌
 made p q r = cc
 
 pub returns : goal.returns
-unfolding lastFigures lastBeat
+unfolding figures_of_last last_beat_of
 returns c =
     let row = looked-48 c.args.lanes c.args.«data».now _ c.scan_last-last.ensures.0 c.scan_last-last.ensures.1 in
     made
-    (c.calc_last_beat.ensures ∙ ap rowToBeat row)
-    (c.last_beat_bits.ensures ∙ ap (λ n. to_bits binary64 (rowToBeat n)) row)
+    (c.calc_last_beat.ensures ∙ ap row_to_beat row)
+    (c.last_beat_bits.ensures ∙ ap (λ n. to_bits binary64 (row_to_beat n)) row)
     (c.last_note_row.ensures.0 ∙ row)

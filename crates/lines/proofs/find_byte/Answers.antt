@@ -1,7 +1,7 @@
 -- `lines::find_byte` meets its contract: what the search of the rest finds is what the search of the whole finds. Assumes nothing.
 use Rattle.std.proofs.Common.{◌≡◌, ℕ, ◌+◌, ◌/◌, ◌<◌, ◌≤◌, take, drop, sym, ap, ◌∙◌, arith}
 use lib.Count.{count_trailing_zeros, trailing_of_zero}
-use Rattle.lines.specs.Words.{firstIn}
+use Rattle.lines.specs.Words.{first_in}
 use Rattle.lines.specs.declared.Found.TheVariants.{At}
 use Rattle.lines.proofs.Search.{find-hit, find-miss, find-end}
 use Rattle.lines.proofs.Hits.{trailing_lt}
@@ -10,10 +10,10 @@ use Rattle.lines.proofs.find_byte.Goals as goal
 use Rattle.lines.proofs.find_byte.Goals.{After-byte_hits-hits}
 
 -- the place of the lowest bit is that of the first such byte
-first : (c : After-byte_hits-hits) → count_trailing_zeros 64 c.byte_hits-hits.result / 8 ≡ firstIn c.args.needle (take 8 (drop c.loop-i.i c.args.slice.now))
+first : (c : After-byte_hits-hits) → count_trailing_zeros 64 c.byte_hits-hits.result / 8 ≡ first_in c.args.needle (take 8 (drop c.loop-i.i c.args.slice.now))
 first c =
     of_word c.args.needle c.args.slice.now c.loop-i.i c.loop-i-test.true c.word_at.result
-    (λ xs. count_trailing_zeros 64 c.byte_hits-hits.result / 8 ≡ firstIn c.args.needle xs)
+    (λ xs. count_trailing_zeros 64 c.byte_hits-hits.result / 8 ≡ first_in c.args.needle xs)
     (λ k. (c.type_inv.slice k).fits) c.word_at.ensures c.byte_hits-hits.ensures
 
 pub returns-then-hits-ne0 : goal.returns-then-hits-ne0

@@ -3,10 +3,10 @@ use mathlib.Core.Path.{refl, ap, sym, ◌∙◌}
 use Prim.Native.Nat.{ℕ, ◌+◌, ◌*◌, ◌<◌}
 use native.Mathlib.Omega.{arith}
 use lib.ListN.{drop_of_length-le}
-use Rattle.definitions.specs.Sizes.{countBound, rowsBound}
+use Rattle.definitions.specs.Sizes.{count_bound, row_count_bound}
 use Rattle.definitions.specs.Lines.{Row}
-use Rattle.definitions.specs.Cells.{isArrow}
-use Rattle.definitions.specs.Tally.{addRow}
+use Rattle.definitions.specs.Cells.{is_arrow}
+use Rattle.definitions.specs.Tally.{tally_with_row}
 use Rattle.taps.proofs.Unlikes.{unlike-free}
 use Rattle.phantoms.specs.Phantoms.{Low}
 use Rattle.phantoms.specs.declared.Phantoms.{Phantoms}
@@ -18,8 +18,8 @@ use Rattle.measure_tally.proofs.count_line.Goals as goal
 use Rattle.measure_tally.proofs.count_line.Goals.{in-Empty, in_default}
 
 -- the counts are small
-low : (rows i : ℕ) (row : Row) (p₀ p : Phantoms) → rows < rowsBound → Low (10 * rows) p₀ → Passed row p₀ p i → Low (countBound + i) p
-low rows i row p₀ p h l s = s.low countBound (low-more (10 * rows) countBound p₀ (omega arith) l)
+low : (rows i : ℕ) (row : Row) (p₀ p : Phantoms) → rows < row_count_bound → Low (10 * rows) p₀ → Passed row p₀ p i → Low (count_bound + i) p
+low rows i row p₀ p h l s = s.low count_bound (low-more (10 * rows) count_bound p₀ (omega arith) l)
 
 pub loop-i-init : goal.loop-i-init
 loop-i-init c =
@@ -56,6 +56,6 @@ returns c =
     let left = c.loop-i-test.false in
     λ L done cur w v x.
     counted-row L _ done cur x _ w v _ _ _
-    (c.add_row_lent-stats.ensures ∙ ap (addRow c.args.c.stats) (summed-end isArrow _ _ _ _ (drop_of_length-le row left) c.loop-i.invariant.summed))
+    (c.add_row_lent-stats.ensures ∙ ap (tally_with_row c.args.c.stats) (summed-end is_arrow _ _ _ _ (drop_of_length-le row left) c.loop-i.invariant.summed))
     (λ L rows wide narrow counts. passed-end _ _ _ _ c.loop-i.invariant.passed left L rows wide narrow counts)
     (rw c.unlike-busy.ensures (unlike-free 0 _))

@@ -11,7 +11,7 @@ use Rattle.reduction.proofs.RowsAt.{rows-length}
 use Rattle.measure_tally.specs.Counted.{Counted}
 use Rattle.measure_notes.specs.Noted.{NotedRows}
 use Rattle.measure_run.specs.declared.Run.{Run}
-use Rattle.measure_run.specs.Held.{Rest, rest_of, countingOf, notingOf}
+use Rattle.measure_run.specs.Held.{Rest, rest_of, counting_of, noting_of}
 use Rattle.measure_run.proofs.Starts.{counted_start, noted-start}
 use Rattle.tap_walk.specs.Walked.{Walking}
 use Rattle.measure_tally.proofs.Places.{rows_of, part, row-wide, row_more}
@@ -67,7 +67,7 @@ number c = c.walk_taps-r.result.row - c.args.counting.rows
 -- what is walked
 walked : (c : After-walk_taps-r) →
     let t = c.walk_taps-r in
-    Walking c.args.lanes (countingOf (rest c) c.walk.m t.result) (notingOf c.args.counting.rows (rest c) c.walk.m t.result) t.new.slots (all c) (number c)
+    Walking c.args.lanes (counting_of (rest c) c.walk.m t.result) (noting_of c.args.counting.rows (rest c) c.walk.m t.result) t.new.slots (all c) (number c)
 walked c =
     let t = c.walk_taps-r in
     let v = c.walk.invariant in

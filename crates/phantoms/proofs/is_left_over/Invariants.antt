@@ -2,12 +2,12 @@
 use mathlib.Core.Path.{◌≡◌}
 use Prim.Native.Nat.{◌≤◌, ◌-◌}
 use lib.Dec.{ltb}
-use Rattle.definitions.specs.Lists.{someColumn}
-use Rattle.phantoms.specs.Phantoms.{phantomAt}
+use Rattle.definitions.specs.Lists.{some_column}
+use Rattle.phantoms.specs.Phantoms.{phantom_at}
 use Rattle.phantoms.proofs.is_left_over.Given as goal
 
 abbrev pub invariant-loop-i : goal.invariant-loop-i
-invariant-loop-i l = (l.i ≤ l.lanes) × (l.left ≡ someColumn l.i (λ c. ltb 0 (phantomAt l.p c)))
+invariant-loop-i l = (l.i ≤ l.lanes) × (l.left ≡ some_column l.i (λ c. ltb 0 (phantom_at l.p c)))
 
 abbrev pub decreases-loop-i : goal.decreases-loop-i
 decreases-loop-i l = l.lanes - l.i

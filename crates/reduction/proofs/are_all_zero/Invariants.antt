@@ -2,11 +2,11 @@
 use Prim.Native.Nat.{◌≤◌, ◌-◌}
 use mathlib.Core.Path.{◌≡◌}
 use lib.ListN.{length, drop}
-use Rattle.definitions.specs.Reduction.{allZero}
+use Rattle.definitions.specs.Reduction.{all_zero}
 use Rattle.reduction.proofs.are_all_zero.Given as goal
 
 abbrev pub invariant-loop-i : goal.invariant-loop-i
-invariant-loop-i l = (l.i ≤ length l.row) × (allZero l.row ≡ allZero (drop l.i l.row))
+invariant-loop-i l = (l.i ≤ length l.row) × (all_zero l.row ≡ all_zero (drop l.i l.row))
 
 abbrev pub decreases-loop-i : goal.decreases-loop-i
 decreases-loop-i l = length l.row - l.i

@@ -5,7 +5,7 @@ use mathlib.Core.List.{[], ◌++◌}
 use Prim.Native.Nat.{ℕ, ◌-◌, ◌≤◌, ◌<◌}
 use lib.Dec.{eqb}
 use lib.ListN.{length, get_or}
-use Rattle.definitions.specs.Reduction.{allZero}
+use Rattle.definitions.specs.Reduction.{all_zero}
 use Rattle.lines.proofs.RowWords.{eight, bytes_of, places, picks, thirds, thirds-below, thirds-all}
 use Rattle.reduction.proofs.ZeroRows.{zero_word, zero-picks, zero-half, zero-append, between}
 use Rattle.reduction.proofs.is_all_zero.Goals as goal
@@ -27,9 +27,9 @@ returns c =
     let A = picks c.args.row.now (places 0 []) in
     let B = picks c.args.row.now (places c.second_half-mid.result []) in
     let C = picks c.args.row.now (places (n - 4) []) in
-    let a : eqb c.half_at-2.result 808464432 ≡ allZero A = ap (λ (w : ℕ). eqb w 808464432) c.half_at-2.ensures.0 ∙ zero-half c.args.row.now fits 0 in
-    let b : eqb c.half_at-3.result 808464432 ≡ allZero B = ap (λ (w : ℕ). eqb w 808464432) c.half_at-3.ensures.0 ∙ zero-half c.args.row.now fits c.second_half-mid.result in
-    let d : eqb c.half_at-4.result 808464432 ≡ allZero C = ap (λ (w : ℕ). eqb w 808464432) c.half_at-4.ensures.0 ∙ zero-half c.args.row.now fits (n - 4) in
+    let a : eqb c.half_at-2.result 808464432 ≡ all_zero A = ap (λ (w : ℕ). eqb w 808464432) c.half_at-2.ensures.0 ∙ zero-half c.args.row.now fits 0 in
+    let b : eqb c.half_at-3.result 808464432 ≡ all_zero B = ap (λ (w : ℕ). eqb w 808464432) c.half_at-3.ensures.0 ∙ zero-half c.args.row.now fits c.second_half-mid.result in
+    let d : eqb c.half_at-4.result 808464432 ≡ all_zero C = ap (λ (w : ℕ). eqb w 808464432) c.half_at-4.ensures.0 ∙ zero-half c.args.row.now fits (n - 4) in
     let r = few c in
     ap₂ (λ (x y : Bool). x && y) (ap₂ (λ (x y : Bool). x && y) a b ∙ zero-append A B) d
     ∙ zero-append (A ++ B) C

@@ -8,7 +8,7 @@ use lib.ListN.{take, drop, get_or}
 use mathlib.Core.List.{List, []}
 use mathlib.Core.Bool.{Bool}
 use Rattle.definitions.proofs.Reduction.{below_power}
-use Rattle.definitions.specs.Reduction.{allZero}
+use Rattle.definitions.specs.Reduction.{all_zero}
 use Rattle.reduction.proofs.Strides.{shift_is, stride-small}
 use Rattle.reduction.specs.Rows.{rows_at}
 use Rattle.reduction.proofs.RowsAt.{rows-length, row-part}
@@ -25,9 +25,9 @@ twice c =
     twice-fits _ _ _ c.search.invariant.count c.search.invariant.some c.search-test.true
 
 -- what the all-zero test of a part of the text says of the row that stands there
-row_zero : (text : List ℕ) (start w L n k : ℕ) {z : Bool} → k < n → z ≡ allZero (take (start + k * w + L - (start + k * w)) (drop (start + k * w) text))
-    → allZero (get_or (rows_at w L n (drop start text)) k []) ≡ z
-row_zero text start w L n k h e = ap allZero (row-part text start w L n k h) ∙ sym e
+row_zero : (text : List ℕ) (start w L n k : ℕ) {z : Bool} → k < n → z ≡ all_zero (take (start + k * w + L - (start + k * w)) (drop (start + k * w) text))
+    → all_zero (get_or (rows_at w L n (drop start text)) k []) ≡ z
+row_zero text start w L n k h e = ap all_zero (row-part text start w L n k h) ∙ sym e
 
 pub returns-then-rows-lt2 : goal.returns-then-rows-lt2
 returns-then-rows-lt2 c =

@@ -1,17 +1,17 @@
 -- `row_tally::count_line_masked` meets its contract: the sum of the kept row, and the tally with it.
 use mathlib.Core.Path.{◌∙◌}
-use Rattle.definitions.specs.Tally.{rowSum}
-use Rattle.row_tally.specs.Kept.{keepMask}
+use Rattle.definitions.specs.Tally.{row_sum}
+use Rattle.row_tally.specs.Kept.{row_by_mask}
 use Rattle.row_tally.proofs.Bounds.{under-row}
 use Rattle.row_tally.proofs.Kept.{keep-length}
 use Rattle.row_tally.proofs.count_line_masked.Goals as goal
 
 pub add_row_lent-requires : goal.add_row_lent-requires
-unfolding rowSum
+unfolding row_sum
 add_row_lent-requires c =
-    let kept = keepMask c.args.heads 0 c.args.row.now in
+    let kept = row_by_mask c.args.heads 0 c.args.row.now in
     (c.requires.1, rw c.kept_sum-s.ensures (under-row 10 kept (rw keep-length c.requires.0)))
 
 pub returns : goal.returns
-unfolding rowSum
+unfolding row_sum
 returns c = c.add_row_lent.ensures ∙ rw c.kept_sum-s.ensures

@@ -4,24 +4,24 @@ use mathlib.Core.Bool.{true}
 use Prim.Native.Nat.{ℕ, ◌≤◌}
 use native.Mathlib.Omega.{arith}
 use lib.ListN.{length}
-use Rattle.definitions.specs.Judged.{judgedSum}
+use Rattle.definitions.specs.Judged.{judged_sum}
 use Rattle.definitions.specs.Lines.{Row}
-use Rattle.definitions.specs.Tally.{rowSumBy}
+use Rattle.definitions.specs.Tally.{row_sum_by}
 use Rattle.definitions.specs.declared.RowSum.{RowSum}
 use Rattle.row_tally.specs.Bounds.{Under}
-use Rattle.row_tally.specs.Kept.{keepMask}
-use Rattle.row_tally.specs.Sums.{arrowOf}
+use Rattle.row_tally.specs.Kept.{row_by_mask}
+use Rattle.row_tally.specs.Sums.{arrow_of}
 use Rattle.row_tally.proofs.Bounds.{under-judged}
 use Rattle.row_tally.proofs.Kept.{keep-length, unjudged}
 use Rattle.row_tally.proofs.judged_sum_masked.Goals as goal
 
 -- the counts of the judged sum
-kept_under : (s : RowSum) (heads : ℕ) (row : Row) → length row ≤ 10 → s ≡ rowSumBy (arrowOf true) (keepMask heads 0 row) → Under 10 s
-unfolding judgedSum
-kept_under s heads row h e = rw e (under-judged 10 true (keepMask heads 0 row) (rw keep-length h))
+kept_under : (s : RowSum) (heads : ℕ) (row : Row) → length row ≤ 10 → s ≡ row_sum_by (arrow_of true) (row_by_mask heads 0 row) → Under 10 s
+unfolding judged_sum
+kept_under s heads row h e = rw e (under-judged 10 true (row_by_mask heads 0 row) (rw keep-length h))
 
 pub returns-then-judged : goal.returns-then-judged
-unfolding judgedSum
+unfolding judged_sum
 returns-then-judged c = c.kept_sum-s.ensures ∙ rw c.if-judged.true
 
 pub overflow_add-s : goal.overflow_add-s
@@ -34,4 +34,4 @@ pub returns : goal.returns
 returns c =
     c.only_fakes.ensures
     ∙ rw (c.kept_sum-s.ensures, c.if-judged.false)
-    (unjudged (keepMask c.args.heads 0 c.args.row.now))
+    (unjudged (row_by_mask c.args.heads 0 c.args.row.now))

@@ -1,7 +1,7 @@
 -- `row_tally::judged_taps` meets its contract: the mask's counts are the sum of a row of taps, whose arrows are its only cells.
 use mathlib.Core.Path.{ap, ◌∙◌}
 use native.Mathlib.Omega.{arith}
-use Rattle.definitions.specs.Judged.{onlyFakes}
+use Rattle.definitions.specs.Judged.{sum_of_fakes}
 use Rattle.row_tally.specs.Bounds.{Under}
 use Rattle.row_tally.proofs.Taps.{mask_under, taps-judged, taps-unjudged}
 use Rattle.row_tally.proofs.judged_taps.Goals as goal
@@ -18,5 +18,5 @@ returns c =
       rw c.only_fakes.ensures (omega arith),
       λ row e.
           rw c.if-judged.false
-          (c.only_fakes.ensures ∙ ap (λ s. onlyFakes s.arrows) c.tap_sum-s.ensures ∙ taps-unjudged row _ e),
+          (c.only_fakes.ensures ∙ ap (λ s. sum_of_fakes s.arrows) c.tap_sum-s.ensures ∙ taps-unjudged row _ e),
     )

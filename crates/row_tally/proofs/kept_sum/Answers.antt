@@ -1,21 +1,21 @@
 -- `row_tally::kept_sum` meets its contract. The loop's invariant: the sum so far, with the kept cells from column `i` on, is that of the row.
 use mathlib.Core.Path.{ap}
 use lib.ListN.{drop_of_length-le}
-use Rattle.row_tally.specs.Kept.{keepMask}
-use Rattle.row_tally.specs.Sums.{arrowOf}
+use Rattle.row_tally.specs.Kept.{row_by_mask}
+use Rattle.row_tally.specs.Sums.{arrow_of}
 use Rattle.row_tally.proofs.Loops.{summed-start, summed-next, summed-end}
 use Rattle.row_tally.proofs.Kept.{keep-next}
 use Rattle.row_tally.proofs.kept_sum.Goals as goal
 
 pub loop-i-init : goal.loop-i-init
-loop-i-init c = summed-start (arrowOf c.args.judged) _ _ c.no_sum-s.ensures
+loop-i-init c = summed-start (arrow_of c.args.judged) _ _ c.no_sum-s.ensures
 
 pub loop-i-preserved : goal.loop-i-preserved
 loop-i-preserved c =
     let rest = keep-next c.args.heads c.args.row.now c.loop-i.i c.loop-i-test.true in
-    summed-next (arrowOf c.args.judged) _ _ _ c.loop-i.s _ c.loop-i.i _ rest c.kept_cell-s.ensures c.loop-i.invariant
+    summed-next (arrow_of c.args.judged) _ _ _ c.loop-i.s _ c.loop-i.i _ rest c.kept_cell-s.ensures c.loop-i.invariant
 
 pub returns : goal.returns
 returns c =
-    let none = ap (keepMask c.args.heads c.loop-i.i) (drop_of_length-le c.args.row.now c.loop-i-test.false) in
-    summed-end (arrowOf c.args.judged) _ _ _ _ none c.loop-i.invariant
+    let none = ap (row_by_mask c.args.heads c.loop-i.i) (drop_of_length-le c.args.row.now c.loop-i-test.false) in
+    summed-end (arrow_of c.args.judged) _ _ _ _ none c.loop-i.invariant

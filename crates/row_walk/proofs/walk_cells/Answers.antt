@@ -1,7 +1,7 @@
 -- `row_walk::walk_cells` meets its contract. The loop's invariant: the cells before column `i` are done.
 use Prim.Native.Nat.{◌<◌}
 use native.Mathlib.Omega.{arith}
-use Rattle.definitions.specs.Sizes.{countBound}
+use Rattle.definitions.specs.Sizes.{count_bound}
 use Rattle.phantoms.proofs.Loop.{one-head, one-tail}
 use Rattle.objects.proofs.Scan.{scan-depth}
 use Rattle.row_tally.proofs.Bounds.{under_more}
@@ -17,7 +17,7 @@ loop-i-init c =
 pub walk_cell-w-requires : goal.walk_cell-w-requires
 walk_cell-w-requires c =
     let m : c.loop-i.i < 10 = omega (arith, c.requires.room.narrow) in
-    let few = c.loop-i.invariant.passed.low countBound c.requires.phantoms in
+    let few = c.loop-i.invariant.passed.low count_bound c.requires.phantoms in
     let R = mid-ready _ _ _ _ _ _ c.loop-i.invariant.mid c.requires.room c.loop-i-test.true in
     record {
       depth = omega (arith, few.depths c.loop-i.i m, m);
@@ -29,7 +29,7 @@ pub with_cell-s-requires : goal.with_cell-s-requires
 with_cell-s-requires c =
     let m : c.loop-i.i < 10 = omega (arith, c.requires.room.narrow) in
     let w = counted-cell _ _ _ _ _ c.walk_cell-w.ensures in
-    let few = c.loop-i.invariant.passed.low countBound c.requires.phantoms in
+    let few = c.loop-i.invariant.passed.low count_bound c.requires.phantoms in
     record {
       column_bound = (m, under_more c.loop-i.i 10 _ (omega (arith, m)) c.loop-i.invariant.summed.under, one-tail _ _ _ w);
       heads_bound = (omega (arith, m, few.heads, one-head _ _ _ w), omega (arith, m, few.tails, one-tail _ _ _ w));

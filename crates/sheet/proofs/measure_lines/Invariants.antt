@@ -1,7 +1,7 @@
 -- The lines so far are on the page.
-use Rattle.sheet.specs.Sheet.{measureLines}
+use Rattle.sheet.specs.Sheet.{lines_of_measures}
 use Rattle.sheet.specs.Page.{Appends}
 use Rattle.sheet.proofs.measure_lines.Given as goal
 
 abbrev pub invariant-loop-k : goal.invariant-loop-k
-invariant-loop-k l = Appends l.initial.page (measureLines l.densities l.spacing l.k) l.page
+invariant-loop-k l = Appends l.initial.page (lines_of_measures l.densities l.spacing l.k) l.page

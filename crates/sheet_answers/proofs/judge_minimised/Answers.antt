@@ -2,10 +2,10 @@
 use mathlib.Core.Path.{ap, ◌∙◌}
 use Prim.Native.Nat.{ℕ}
 use lib.ListN.{take}
-use Rattle.definitions.specs.Judged.{judgedTally}
+use Rattle.definitions.specs.Judged.{judged_tally}
 use Rattle.sheet_answers.proofs.judge_minimised.Goals as goal
 
 pub returns-clause-value : goal.returns-clause-value
-unfolding judgedTally
+unfolding judged_tally
 returns-clause-value c =
-    c.judge_accepted.ensures.value ∙ ap (λ (n : ℕ). judgedTally c.args.lanes (take n c.args.minimised.now)) c.one_less-end.ensures
+    c.judge_accepted.ensures.value ∙ ap (λ (n : ℕ). judged_tally c.args.lanes (take n c.args.minimised.now)) c.one_less-end.ensures

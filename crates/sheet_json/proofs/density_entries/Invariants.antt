@@ -1,7 +1,7 @@
 -- The entries so far are on the page.
-use Rattle.sheet_json.specs.Json.{densityEntries}
+use Rattle.sheet_json.specs.Json.{entries_of_densities}
 use Rattle.sheet.specs.Page.{Appends}
 use Rattle.sheet_json.proofs.density_entries.Given as goal
 
 abbrev pub invariant-loop-k : goal.invariant-loop-k
-invariant-loop-k l = Appends l.initial.page (densityEntries l.densities l.k) l.page
+invariant-loop-k l = Appends l.initial.page (entries_of_densities l.densities l.k) l.page

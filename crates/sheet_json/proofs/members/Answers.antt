@@ -1,6 +1,6 @@
 -- Where an entry has no room, all entries have none.
 use Rattle.std.proofs.Common.{ℕ, arith, rules}
-use Rattle.sheet.specs.Sheet.{fieldAt}
+use Rattle.sheet.specs.Sheet.{field_at}
 use Rattle.sheet.proofs.Listing.{listed_next}
 use Rattle.sheet_json.specs.Json.{member, members}
 use Rattle.sheet_json.proofs.members.Goals as goal
@@ -8,4 +8,4 @@ use Rattle.sheet_json.proofs.members.Goals as goal
 pub returns-in_err-member : goal.returns-in_err-member
 unfolding members
 returns-in_err-member c =
-    search (rules, arith, listed_next (λ (i : ℕ). member i (fieldAt c.args.stats.now i).0 (fieldAt c.args.stats.now i).1) c.loop-i.i 14)
+    search (rules, arith, listed_next (λ (i : ℕ). member i (field_at c.args.stats.now i).0 (field_at c.args.stats.now i).1) c.loop-i.i 14)

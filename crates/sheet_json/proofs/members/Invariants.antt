@@ -1,7 +1,7 @@
 -- The entries so far are on the page.
-use Rattle.sheet_json.specs.Json.{firstMembers}
+use Rattle.sheet_json.specs.Json.{first_members}
 use Rattle.sheet.specs.Page.{Appends}
 use Rattle.sheet_json.proofs.members.Given as goal
 
 abbrev pub invariant-loop-i : goal.invariant-loop-i
-invariant-loop-i l = Appends l.initial.page (firstMembers l.stats l.i) l.page
+invariant-loop-i l = Appends l.initial.page (first_members l.stats l.i) l.page

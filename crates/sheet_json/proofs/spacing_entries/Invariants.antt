@@ -1,7 +1,7 @@
 -- The entries so far are on the page.
-use Rattle.sheet_json.specs.Json.{spacingEntries}
+use Rattle.sheet_json.specs.Json.{entries_of_spacings}
 use Rattle.sheet.specs.Page.{Appends}
 use Rattle.sheet_json.proofs.spacing_entries.Given as goal
 
 abbrev pub invariant-loop-k : goal.invariant-loop-k
-invariant-loop-k l = Appends l.initial.page (spacingEntries l.spacing l.k) l.page
+invariant-loop-k l = Appends l.initial.page (entries_of_spacings l.spacing l.k) l.page

@@ -1,7 +1,7 @@
 -- The lines so far are on the page.
-use Rattle.sheet_print.specs.Print.{firstFields}
+use Rattle.sheet_print.specs.Print.{first_fields}
 use Rattle.sheet.specs.Page.{Appends}
 use Rattle.sheet_print.proofs.tally_lines.Given as goal
 
 abbrev pub invariant-loop-i : goal.invariant-loop-i
-invariant-loop-i l = Appends l.initial.page (firstFields l.figures l.i) l.page
+invariant-loop-i l = Appends l.initial.page (first_fields l.figures l.i) l.page

@@ -8,7 +8,7 @@ use Rattle.definitions.specs.Lists.{padded}
 use Rattle.spacing.specs.Spaces.{Spaces}
 use Rattle.reader.proofs.ChartLoops.{Come, holds-start, holds-row, holds-comma, holds-over}
 use Rattle.scans.proofs.Filling.{Filled, filling-start, filling-row, filling-comma, filling-over, filled-count, filled-slice}
-use Rattle.spacing.proofs.Spaces.{spacedIn, spacings-raw, spaces-few}
+use Rattle.spacing.proofs.Spaces.{spaced_in, spacings-raw, spaces-few}
 use Rattle.spacing.proofs.fill_spacing.Goals.{At-loop-line}
 use Rattle.spacing.proofs.fill_spacing.Goals as goal
 
@@ -17,7 +17,7 @@ come c =
     record { lanes = c.requires.le_lanes.0; start = _; from = c.into_iter-line-iterator.ensures.into_iter_gives ∙ c.chart_lines-line-items.ensures; by = c.loop-line.yielded_by }
 
 pub loop-line-init : goal.loop-line-init
-loop-line-init c = holds-start _ _ c.requires.le_lanes.0 (filling-start spacedIn (Spaces _) _ c.no_spacing-s.ensures)
+loop-line-init c = holds-start _ _ c.requires.le_lanes.0 (filling-start spaced_in (Spaces _) _ c.no_spacing-s.ensures)
 
 -- the open measure's rows are few enough for their counts
 pub spacing_row-s-requires : goal.spacing_row-s-requires
@@ -29,24 +29,24 @@ spacing_row-s-requires c =
 pub loop-line-preserved-in-Row : goal.loop-line-preserved-in-Row
 loop-line-preserved-in-Row c =
     holds-row _ _ (come (goal.at.loop-line-preserved-in-Row c).At-loop-line) _ _ c.next.ensures.steps c.in-Some.is _ c.in-Row.is
-    (filling-row spacedIn (Spaces _) (Spaces _) _ _ _ c.spacing_row-s.ensures)
+    (filling-row spaced_in (Spaces _) (Spaces _) _ _ _ c.spacing_row-s.ensures)
     c.loop-line.invariant
 
 pub loop-line-preserved : goal.loop-line-preserved
 loop-line-preserved c =
     let room : c.loop-line.m < length c.loop-line.spacing = omega arith in
     holds-comma _ _ (come (goal.at.loop-line-preserved c).At-loop-line) _ _ c.next.ensures.steps c.in-Some.is c.in-Comma.is
-    (filling-comma spacedIn (Spaces _) (Spaces _) _ _ _ room c.is_spaced.ensures c.no_spacing-s-in-Comma.ensures)
+    (filling-comma spaced_in (Spaces _) (Spaces _) _ _ _ room c.is_spaced.ensures c.no_spacing-s-in-Comma.ensures)
     c.loop-line.invariant
 
 pub returns : goal.returns
 returns c =
-    let last : Filled spacedIn c.args.lanes c.args.«data».now c.loop-line.m c.is_spaced-2.result c.loop-line.spacing
-    = filling-over spacedIn (Spaces _) _ _ _ _ _ c.is_spaced-2.ensures
+    let last : Filled spaced_in c.args.lanes c.args.«data».now c.loop-line.m c.is_spaced-2.result c.loop-line.spacing
+    = filling-over spaced_in (Spaces _) _ _ _ _ _ c.is_spaced-2.ensures
     (holds-over _ _ (come (goal.at.returns c).At-loop-line) _ _ c.next.ensures.steps c.in-None.is c.loop-line.invariant) in
     let room : c.loop-line.m < length c.loop-line.spacing = omega (arith, last.room) in
     let raw = spacings-raw c.args.lanes c.args.«data».now in
     record {
-      value = filled-count spacedIn _ _ _ _ _ room last ∙ sym (ap length raw);
-      spacing_after = c.zero_past.ensures ∙ filled-slice spacedIn _ _ _ _ _ room last _ c.loop-line.auto.spacing ∙ ap (padded 0 (length c.args.spacing.now)) (sym raw);
+      value = filled-count spaced_in _ _ _ _ _ room last ∙ sym (ap length raw);
+      spacing_after = c.zero_past.ensures ∙ filled-slice spaced_in _ _ _ _ _ room last _ c.loop-line.auto.spacing ∙ ap (padded 0 (length c.args.spacing.now)) (sym raw);
     }

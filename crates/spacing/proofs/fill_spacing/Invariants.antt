@@ -2,8 +2,8 @@
 use Rattle.spacing.specs.Spaces.{Spaces}
 use Rattle.reader.proofs.ChartLoops.{Holds}
 use Rattle.scans.proofs.Filling.{Filling}
-use Rattle.spacing.proofs.Spaces.{spacedIn}
+use Rattle.spacing.proofs.Spaces.{spaced_in}
 use Rattle.spacing.proofs.fill_spacing.Given as goal
 
 abbrev pub invariant-loop-line : goal.invariant-loop-line
-invariant-loop-line l = Holds l.lanes l.data (Filling spacedIn (Spaces l.s) l.m l.spacing) l.yielded
+invariant-loop-line l = Holds l.lanes l.data (Filling spaced_in (Spaces l.s) l.m l.spacing) l.yielded

@@ -5,7 +5,7 @@ use mathlib.Core.List.{List}
 use Prim.Native.Nat.{ℕ, ◌+◌, ◌-◌, ◌*◌, ◌≤◌, ◌<◌}
 use native.Mathlib.Omega.{arith}
 use lib.ListN.{length, take}
-use Rattle.definitions.specs.Sizes.{rowsBound}
+use Rattle.definitions.specs.Sizes.{row_count_bound}
 use Rattle.definitions.specs.Lines.{Row}
 use Rattle.taps.proofs.Masks.{fits-at}
 use Rattle.taps.proofs.Free.{free-told}
@@ -15,7 +15,7 @@ use Rattle.row_walk.specs.declared.Marks.{Marks}
 use Rattle.measure_tally.specs.Counted.{Counted}
 use Rattle.measure_notes.specs.Noted.{NotedRows}
 use Rattle.measure_run.specs.declared.Run.{Run}
-use Rattle.measure_run.specs.Held.{countingOf, notingOf}
+use Rattle.measure_run.specs.Held.{counting_of, noting_of}
 use Rattle.tap_walk.specs.Walked.{Running, Walking}
 use Rattle.measure_tally.proofs.Places.{rows_of, part, row-wide, row_more}
 use Rattle.tap_walk.proofs.Walks.{walked_on, count-few, note-ready}
@@ -25,7 +25,7 @@ use Rattle.tap_walk.proofs.walk_taps.Goals.{In-Mask}
 
 -- the rows are numbers
 few : {lanes first rows : ℕ} {m : Marks} {old : Run} {slots : List ℕ} {ms : List Row} → first ≤ old.row → old.row ≤ first + rows → length ms ≡ rows
-    → Running lanes first m old slots ms → first + rows < rowsBound
+    → Running lanes first m old slots ms → first + rows < row_count_bound
 few below above size W = omega (arith, run-few _ _ W.rest _ _ _ _ W.walking below (omega arith))
 
 pub overflow_cast-stop : goal.overflow_cast-stop
@@ -52,7 +52,7 @@ wide c = row-wide c.args.lanes c.args.rows c.args.text.now c.args.start c.requir
 -- what is walked so far
 walked : (c : In-Mask) →
     let q = c.requires.running.rest in
-    Walking c.args.lanes (countingOf q c.args.m c.loop-r.r) (notingOf c.args.first q c.args.m c.loop-r.r) c.loop-r.slots (all c) (number c)
+    Walking c.args.lanes (counting_of q c.args.m c.loop-r.r) (noting_of c.args.first q c.args.m c.loop-r.r) c.loop-r.slots (all c) (number c)
 walked c =
     let q = c.requires.running.rest in
     walked_on c.args.lanes _ _ _ _ _ _ _ _ _ c.requires.running.walking c.loop-r.invariant.3 (c.loop-r.invariant.4 q) (c.loop-r.invariant.5 q)
@@ -72,7 +72,7 @@ add_taps-r-requires c =
         rows = counted.0;
         fits = rw c.is_wide.ensures (fits-at _ _ _ (wide k) free.mask);
         some = record {
-          scratch = (notingOf c.args.first c.requires.running.rest c.args.m c.loop-r.r).scratch;
+          scratch = (noting_of c.args.first c.requires.running.rest c.args.m c.loop-r.r).scratch;
           cells = part c.args.lanes c.args.text.now c.loop-r.at;
           fits = record {
             row = refl;

@@ -3,7 +3,7 @@ use native.Mathlib.Omega.{arith}
 use lib.ListN.{take, drop, length-take}
 use Rattle.lines.specs.Words.{word_of}
 use Rattle.lines.proofs.RowWords.{bytes_of}
-use Rattle.taps.specs.Taps.{tapMask}
+use Rattle.taps.specs.Taps.{tap_mask}
 use Rattle.taps.proofs.Masks.{mask-small}
 use Rattle.taps.proofs.Numbers.{number-le}
 use Rattle.taps.proofs.Words.{bytes_drop, rest_of, two-word, last-placed}
@@ -11,7 +11,7 @@ use Rattle.taps.proofs.number10.Goals as goal
 
 pub with_rest-requires : goal.with_rest-requires
 with_rest-requires c =
-    let h = number-le (tapMask (take 8 c.args.row.now)) _ (mask-small (take 8 c.args.row.now) (omega (arith, length-take 8 c.args.row.now))) c.number8-eight.ensures in
+    let h = number-le (tap_mask (take 8 c.args.row.now)) _ (mask-small (take 8 c.args.row.now) (omega (arith, length-take 8 c.args.row.now))) c.number8-eight.ensures in
     (h, omega (arith, c.wide.ensures, c.wide-2.ensures), omega arith, omega arith)
 
 pub returns : goal.returns

@@ -4,7 +4,7 @@ use native.Mathlib.Omega.{arith}
 use lib.ListN.{take, drop, length-take}
 use Rattle.lines.specs.Words.{word_of}
 use Rattle.lines.proofs.RowWords.{bytes_of}
-use Rattle.taps.specs.Taps.{tapMask}
+use Rattle.taps.specs.Taps.{tap_mask}
 use Rattle.taps.proofs.Masks.{mask-small}
 use Rattle.taps.proofs.Numbers.{number-le}
 use Rattle.taps.proofs.Words.{bytes_drop, rest_of, one_word, fifth-placed}
@@ -12,7 +12,7 @@ use Rattle.taps.proofs.number5.Goals as goal
 
 pub with_rest-requires : goal.with_rest-requires
 with_rest-requires c =
-    let h = number-le (tapMask (take 4 c.args.row.now)) _ (mask-small (take 4 c.args.row.now) (omega (arith, length-take 4 c.args.row.now))) c.requires.1 in
+    let h = number-le (tap_mask (take 4 c.args.row.now)) _ (mask-small (take 4 c.args.row.now) (omega (arith, length-take 4 c.args.row.now))) c.requires.1 in
     (h, omega arith, omega arith, omega arith)
 
 pub returns : goal.returns

@@ -4,12 +4,12 @@ use mathlib.Core.List.{List}
 use Prim.Native.Nat.{ℕ, ◌<◌, ◌-◌}
 use native.Mathlib.Omega.{arith}
 use lib.Pow.{pow-lt}
-use Rattle.taps.specs.Taps.{unlikeFrom, unlikeMask}
+use Rattle.taps.specs.Taps.{unlike_from, unlike_mask}
 use Rattle.taps.proofs.Unlikes.{from-lt}
 use Rattle.taps.proofs.unlike.Goals as goal
 
 -- at most ten bits stand in the mask before the next is added
-few : (n : ℕ) (numbers : List ℕ) (c mask : ℕ) → mask ≡ unlikeFrom n numbers c (10 - c) → mask < 2048
+few : (n : ℕ) (numbers : List ℕ) (c mask : ℕ) → mask ≡ unlike_from n numbers c (10 - c) → mask < 2048
 few n numbers c mask e =
     let inside : 10 - c < 11 = omega arith in
     omega (arith, from-lt n numbers c (10 - c), pow-lt {j = 11} inside)
@@ -21,7 +21,7 @@ pub overflow_add-mask : goal.overflow_add-mask
 overflow_add-mask c = omega (arith, few c.args.n c.args.numbers.now c.loop-c.c c.loop-c.mask c.loop-c.invariant.1)
 
 pub returns : goal.returns
-unfolding unlikeMask
+unfolding unlike_mask
 returns c =
     let end : c.loop-c.c ≡ 0 = omega arith in
-    c.loop-c.invariant.1 ∙ ap (λ p. unlikeFrom c.args.n c.args.numbers.now p (10 - p)) end
+    c.loop-c.invariant.1 ∙ ap (λ p. unlike_from c.args.n c.args.numbers.now p (10 - p)) end

@@ -3,7 +3,7 @@ use mathlib.Core.Bool.{Bool}
 use mathlib.Core.Path.{◌≡◌, ◌∙◌}
 use Prim.Native.Nat.{ℕ}
 use lib.Ieee.{of_bits, of_int}
-use Rattle.definitions.specs.Entries.{timingFigures}
+use Rattle.definitions.specs.Entries.{figures_of_timing}
 use Rattle.definitions.specs.declared.TimingFigures.{TimingFigures}
 use Rattle.timing.proofs.Keeping.{all-bytes, all-text, all-beats}
 use Rattle.timing.proofs.timing_figures.Goals as goal
@@ -13,7 +13,7 @@ made : {a b c d : ℕ} {s t : Bool} → a ≡ b → c ≡ d → s ≡ t
 made p q r = cc
 
 pub returns : goal.returns
-unfolding timingFigures of_bits of_int
+unfolding figures_of_timing of_bits of_int
 returns c =
     let x = c.pass_chart-p.ensures in
     record {

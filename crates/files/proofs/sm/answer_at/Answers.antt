@@ -2,24 +2,24 @@
 use mathlib.Core.Path.{◌≡◌, sym, ap, ◌∙◌}
 use native.Mathlib.Omega.{arith}
 use lib.ListN.{drop, length-drop}
-use Rattle.definitions.specs.SmFile.{type_of, typeLanes}
+use Rattle.definitions.specs.SmFile.{type_of, lanes_of_type}
 use Rattle.definitions.proofs.Lists.{through-short}
 use Rattle.lines.specs.declared.Found.TheVariants.{At}
 use Rattle.lines.proofs.Trims.{part-all}
-use Rattle.files.specs.Sm.{fieldsEnd}
+use Rattle.files.specs.Sm.{end_of_fields}
 use Rattle.files.proofs.Answers.{answer-few, answer-other, answer-chart, place-within}
 use Rattle.files.proofs.sm.answer_at.Goals as goal
 use Rattle.files.proofs.sm.answer_at.Goals.{After-type_lanes-lanes}
 
 -- where the fields end in what follows the tag
 fields_at : (c : After-type_lanes-lanes) →
-    fieldsEnd (drop c.args.end c.args.file.now) ≡ At c.in-At.fields
+    end_of_fields (drop c.args.end c.args.file.now) ≡ At c.in-At.fields
 fields_at c = rw part-all at (sym c.fields_end.ensures ∙ c.in-At.is)
 
 -- the lane count
 named : (c : After-type_lanes-lanes) →
-    c.type_lanes-lanes.result ≡ typeLanes (type_of (drop c.args.end c.args.file.now))
-named c = c.type_lanes-lanes.ensures ∙ ap typeLanes (rw part-all at c.type_name.ensures)
+    c.type_lanes-lanes.result ≡ lanes_of_type (type_of (drop c.args.end c.args.file.now))
+named c = c.type_lanes-lanes.ensures ∙ ap lanes_of_type (rw part-all at c.type_name.ensures)
 
 pub returns-then-lanes-eq0 : goal.returns-then-lanes-eq0
 returns-then-lanes-eq0 c =

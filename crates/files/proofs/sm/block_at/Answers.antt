@@ -1,9 +1,9 @@
 -- `files::sm::block_at` meets its contract: the blocks after `passed` of them are those from the line at `off` on. Assumes nothing.
 use mathlib.Core.Path.{◌≡◌, sym, ap, ◌∙◌}
 use native.Mathlib.Omega.{arith}
-use Rattle.definitions.specs.SmFile.{notesTag}
+use Rattle.definitions.specs.SmFile.{notes_tag}
 use Rattle.lines.specs.Lines.{lines_from}
-use Rattle.files.specs.Tags.{firstTag}
+use Rattle.files.specs.Tags.{first_tag}
 use Rattle.files.specs.declared.FoundTag.TheVariants.{At}
 use Rattle.files.proofs.Blocks.{from, BlockMet, block-met}
 use Rattle.files.proofs.Answers.{at_none, at_next, at_first, at_last}
@@ -11,8 +11,8 @@ use Rattle.files.proofs.sm.block_at.Goals as goal
 use Rattle.files.proofs.sm.block_at.Goals.{In-At}
 
 -- the tag that was found
-tag-found : (c : In-At) → firstTag notesTag c.loop-passed.off (lines_from c.args.file.now c.loop-passed.off) ≡ At c.in-At.tag
-unfolding notesTag
+tag-found : (c : In-At) → first_tag notes_tag c.loop-passed.off (lines_from c.args.file.now c.loop-passed.off) ≡ At c.in-At.tag
+unfolding notes_tag
 tag-found c = sym c.next_tag.ensures ∙ c.in-At.is
 
 met : (c : In-At) → BlockMet c.args.file.now c.loop-passed.off c.in-At.tag
@@ -22,7 +22,7 @@ pub loop-passed-init : goal.loop-passed-init
 loop-passed-init c = (omega arith, at_first c.args.file.now)
 
 pub returns-in-Nothing : goal.returns-in-Nothing
-unfolding notesTag
+unfolding notes_tag
 returns-in-Nothing c =
     at_none c.args.file.now c.loop-passed.off c.loop-passed.passed c.args.k c.loop-passed.invariant.1 (omega arith) (sym c.next_tag.ensures ∙ c.in-Nothing.is)
 
@@ -38,6 +38,6 @@ loop-passed-preserved c =
     )
 
 pub returns : goal.returns
-unfolding notesTag
+unfolding notes_tag
 returns c =
     at_last c.args.file.now c.loop-passed.off c.loop-passed.passed c.args.k c.loop-passed.invariant.1 (omega arith) c.next_tag-2.result (sym c.next_tag-2.ensures)

@@ -1,7 +1,7 @@
 -- `files::sm::sm_chart` meets its contract, by the block that is found. Assumes nothing.
 use mathlib.Core.Path.{◌≡◌, sym, ◌∙◌}
 use native.Mathlib.Omega.{arith}
-use Rattle.files.specs.Sm.{blockAt}
+use Rattle.files.specs.Sm.{tag_of_block}
 use Rattle.files.specs.declared.FoundTag.TheVariants.{At}
 use Rattle.files.proofs.Answers.{sm-none, sm-block, tag-within}
 use Rattle.files.proofs.sm.sm_chart.Goals as goal
@@ -9,7 +9,7 @@ use Rattle.files.proofs.sm.sm_chart.Goals.{In-At}
 
 -- the tag that was found
 tag-found : (c : In-At) →
-    blockAt c.args.file.now c.args.k ≡ At c.in-At.tag
+    tag_of_block c.args.file.now c.args.k ≡ At c.in-At.tag
 tag-found c = sym c.block_at.ensures ∙ c.in-At.is
 
 pub answer_at-requires : goal.answer_at-requires

@@ -2,7 +2,7 @@
 use mathlib.Core.Path.{refl, sym, ◌∙◌}
 use lib.ListN.{drop}
 use Rattle.reduction.proofs.Compaction.{shifted_one}
-use Rattle.leaves.specs.Answers.{strideNumber}
+use Rattle.leaves.specs.Answers.{stride_number}
 use Rattle.leaves.proofs.Taken.{passed, failed, rows-stand, stride-fits}
 use Rattle.leaves.proofs.measure.leaves_stride.Goals as goal
 
@@ -14,11 +14,11 @@ overflow_shl-result c =
     stride-fits _ c.args.width c.args.lanes c.args.rows (drop c.args.start c.args.text.now) c.ranges.rows.fits c.measure_reduce_shift.ensures.result_value c.measure_reduce_shift.ensures.result_value_2
 
 pub returns-then-rows_stand : goal.returns-then-rows_stand
-unfolding strideNumber
+unfolding stride_number
 returns-then-rows_stand c =
     passed _ (sym c.rows_stand.ensures ∙ c.if-rows_stand.true)
     (shifted_one _ (overflow_shl-result c) ∙ c.measure_reduce_shift.ensures.result_value)
 
 pub returns : goal.returns
-unfolding strideNumber
+unfolding stride_number
 returns c = failed _ (sym c.rows_stand.ensures ∙ c.if-rows_stand.false) refl

@@ -3,17 +3,17 @@ use Rattle.std.proofs.Common.{◌≡◌, ℕ, Bool, ◌&&◌, not, ◌<◌, List
 use lib.Seq.{length-take-le}
 use Rattle.std.proofs.lemmas.List.{nil_from_length}
 use Rattle.definitions.specs.Lists.{only_if, after}
-use Rattle.definitions.specs.Lines.{isRow}
-use Rattle.definitions.specs.ReadBack.{beginsMark}
-use Rattle.lines.specs.Lines.{firstLine}
-use Rattle.reader.specs.BackReading.{trimmedBy, rowsBack}
+use Rattle.definitions.specs.Lines.{is_row_line}
+use Rattle.definitions.specs.ReadBack.{begins_mark}
+use Rattle.lines.specs.Lines.{first_line}
+use Rattle.reader.specs.BackReading.{trimmed_by, rows_back}
 use Rattle.reader.proofs.Cuts.{after-less}
 use Rattle.reader.proofs.BackLoops.{rows-first, rows-none, row-long}
 use Rattle.reader.proofs.back.look_ahead.Goals as goal
 
-turn : (trim : Bool) (L : ℕ) (text rest line bare below : List ℕ) (t : Bool) → 0 < L → rowsBack trim L text ≡ rowsBack trim L rest
-    → line ≡ firstLine rest → below ≡ after 10 rest → bare ≡ trimmedBy trim line → t ≡ (isRow L bare && not (beginsMark bare))
-    → rowsBack trim L text ≡ only_if t (take L bare ∷ []) ++ rowsBack trim L below
+turn : (trim : Bool) (L : ℕ) (text rest line bare below : List ℕ) (t : Bool) → 0 < L → rows_back trim L text ≡ rows_back trim L rest
+    → line ≡ first_line rest → below ≡ after 10 rest → bare ≡ trimmed_by trim line → t ≡ (is_row_line L bare && not (begins_mark bare))
+    → rows_back trim L text ≡ only_if t (take L bare ∷ []) ++ rows_back trim L below
 turn trim L text rest line bare below t some h el eb et ek = h ∙ rows-first trim L rest some ∙ rw (ek, et, el, eb)
 
 pub slice_bounds-result-end : goal.slice_bounds-result-end
@@ -33,5 +33,5 @@ loop-rest-preserved c =
 pub returns : goal.returns
 returns c =
     let ended = nil_from_length c.loop-rest.rest.now (search rules) in
-    let none = ap (rowsBack c.args.trim c.args.lanes) ended ∙ rows-none c.args.trim c.args.lanes c.requires in
+    let none = ap (rows_back c.args.trim c.args.lanes) ended ∙ rows-none c.args.trim c.args.lanes c.requires in
     (c.loop-rest.invariant ∙ none, none)

@@ -3,19 +3,19 @@ use Rattle.std.proofs.Common.{◌≡◌, ℕ, List, take, sym, ap, ◌∙◌, ru
 use lib.Seq.{length-take-le}
 use Rattle.std.proofs.lemmas.List.{nil_from_length}
 use Rattle.definitions.specs.Lists.{after}
-use Rattle.definitions.specs.Lines.{trim, kind_of, lineKind}
+use Rattle.definitions.specs.Lines.{trim, kind_of, line_kind}
 use Rattle.definitions.specs.declared.LineKind.{LineKind}
-use Rattle.lines.specs.Lines.{firstLine}
-use Rattle.reader.specs.Marks.{addMark, chart_marks}
+use Rattle.lines.specs.Lines.{first_line}
+use Rattle.reader.specs.Marks.{add_mark, chart_marks}
 use Rattle.reader.proofs.Cuts.{after-less}
 use Rattle.reader.proofs.LineKinds.{row-length}
 use Rattle.reader.proofs.Marks.{marks-first, marks-none}
 use Rattle.reader.proofs.charts.look_ahead.Goals as goal
 
 turn : (L : ℕ) (text rest line bare below : List ℕ) (k : LineKind) → chart_marks L text ≡ chart_marks L rest
-    → line ≡ firstLine rest → below ≡ after 10 rest → bare ≡ trim line → k ≡ kind_of L bare
-    → chart_marks L text ≡ addMark k (take L bare) (chart_marks L below)
-unfolding lineKind
+    → line ≡ first_line rest → below ≡ after 10 rest → bare ≡ trim line → k ≡ kind_of L bare
+    → chart_marks L text ≡ add_mark k (take L bare) (chart_marks L below)
+unfolding line_kind
 turn L text rest line bare below k h el eb et ek = h ∙ marks-first L rest ∙ rw (ek, et, el, eb)
 
 pub returns-in-Comma : goal.returns-in-Comma

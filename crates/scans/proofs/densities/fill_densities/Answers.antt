@@ -4,7 +4,7 @@ use Prim.Native.Nat.{◌<◌, ◌+◌}
 use mathlib.Core.Path.{sym, ap, ◌∙◌}
 use native.Mathlib.Omega.{arith}
 use lib.ListN.{length}
-use Rattle.definitions.specs.Lists.{oneIf, padded}
+use Rattle.definitions.specs.Lists.{number_of_bool, padded}
 use Rattle.definitions.specs.Figures.{density}
 use Rattle.reader.proofs.ChartLoops.{Come, holds-start, holds-row, holds-comma, holds-over}
 use Rattle.scans.proofs.Raw.{densities-raw}
@@ -29,7 +29,7 @@ overflow_add-steps c =
 pub loop-line-preserved-in-Row : goal.loop-line-preserved-in-Row
 loop-line-preserved-in-Row c =
     holds-row _ _ (come (goal.at.loop-line-preserved-in-Row c).At-loop-line) _ _ c.next.ensures.steps c.in-Some.is _ c.in-Row.is
-    (filling-row density (Steps _) (Steps _) _ _ _ (steps-more _ _ _ (c.one_if-steps.ensures.0 ∙ ap oneIf c.row_has_note.ensures)))
+    (filling-row density (Steps _) (Steps _) _ _ _ (steps-more _ _ _ (c.one_if-steps.ensures.0 ∙ ap number_of_bool c.row_has_note.ensures)))
     c.loop-line.invariant
 
 pub loop-line-preserved : goal.loop-line-preserved
