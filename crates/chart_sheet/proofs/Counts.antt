@@ -20,7 +20,7 @@ use Rattle.definitions.specs.declared.Kind.{Kind}
 use Rattle.definitions.specs.declared.Kind.TheVariants.{Tap, Hold, Roll, Mine, Lift, Fake}
 use Rattle.definitions.specs.declared.Tail.TheVariants as tail
 use Rattle.definitions.specs.declared.Note.{Note}
-use Rattle.definitions.proofs.Lanes.{lanes-at-least, lanes-at-most}
+use Rattle.definitions.proofs.LaneBounds.{lanes-at-least, lanes-at-most}
 use Rattle.definitions.proofs.Counts.{measures-few, rows_few, density-few, spacing-few, notes-few}
 use Rattle.definitions.proofs.ReadBack.{records-length}
 use Rattle.definitions.proofs.WriterMakes.{writer-makes}

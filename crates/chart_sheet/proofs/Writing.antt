@@ -13,7 +13,7 @@ use Rattle.definitions.specs.Figures.{densities, spacings}
 use Rattle.definitions.specs.Notes.{notes}
 use Rattle.definitions.specs.Records.{records}
 use Rattle.definitions.specs.Entries.{figures_of_chart, row_count}
-use Rattle.definitions.proofs.Lanes.{lanes-at-least, lanes-at-most}
+use Rattle.definitions.proofs.LaneBounds.{lanes-at-least, lanes-at-most}
 use Rattle.definitions.proofs.Counts.{rows_few, notes-few}
 use Rattle.definitions.proofs.ReadBack.{records-length}
 use Rattle.definitions.specs.declared.ChartFigures.{ChartFigures}

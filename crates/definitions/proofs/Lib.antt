@@ -6,7 +6,7 @@ pub mod Columns
 pub mod Reduction
 pub mod Thinned
 pub mod Shorter
-pub mod Lanes
+pub mod LaneBounds
 pub mod ChartRows
 pub mod Counts
 pub mod Tails

@@ -28,7 +28,7 @@ use Rattle.definitions.specs.declared.Refusal.{Refusal}
 use Rattle.definitions.specs.declared.NoteEffect.{NoteEffect}
 use Rattle.definitions.specs.declared.NoteEffect.TheVariants.{Nothing, Closes, Single, Head}
 use Rattle.definitions.proofs.Lists.{All, none as no_more, one, all_append, all_map, all-joined}
-use Rattle.definitions.proofs.Lanes.{lanes-at-least, lanes-at-most}
+use Rattle.definitions.proofs.LaneBounds.{lanes-at-least, lanes-at-most}
 use Rattle.definitions.proofs.ChartRows.{minimised-rows, minimised-rows-few}
 use Rattle.definitions.proofs.Tails.{tail_within}
 use Rattle.definitions.proofs.ReadBack.{all-at, read_back}

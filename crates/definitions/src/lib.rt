@@ -1,8 +1,12 @@
 // The types that documents 01 and 02 speak of. The definitions over them are in specs/, in document 01's order, and their laws in proofs/.
 #![tactic(auto)]
 
+mod lane_count;
+
 ghost use Rattle.std.specs.Prelude.{◌≡◌};
 ghost use Rattle.definitions.specs.Refusals.{number_of};
+
+pub use lane_count::Lanes;
 
 // The longest text that is accepted, in bytes.
 pub const MOST_BYTES: usize = 16777215;

@@ -4,7 +4,7 @@ use mathlib.Core.Bool.{Bool}
 use Prim.Native.Nat.{ℕ, ◌+◌, ◌/◌}
 use lib.Dec.{ltb}
 use Rattle.definitions.specs.Lanes.{most_rows_in}
-pub use Rattle.definitions.proofs.Lanes.{lanes-at-least, lanes-at-most}
+pub use Rattle.definitions.proofs.LaneBounds.{lanes-at-least, lanes-at-most}
 
 -- a test against the most rows of a text, worked out of the lane count in force
 pub of-lanes : (room len : ℕ) {l k : ℕ} {t : Bool} → l ≡ k → ltb room ((len + 1) / (l + 1)) ≡ t → ltb room (most_rows_in k len) ≡ t

@@ -362,14 +362,29 @@ sides w (Mask lo) (Mask hi) m e = let same : lo + 2 ^ w * hi ≡ m = cc in recor
 sides w (Mask lo) Other m e = not-other m e
 sides w Other u m e = not-other m e
 
-pub and-15 : (n : ℕ) → bit_and n 15 ≡ n % 16
-and-15 n = and_mask n 4
+pub and_15 : (n : ℕ) → bit_and n 15 ≡ n % 16
+and_15 n = and_mask n 4
 
-pub and-3 : (n : ℕ) → bit_and n 3 ≡ n % 4
-and-3 n = and_mask n 2
+pub and_3 : (n : ℕ) → bit_and n 3 ≡ n % 4
+and_3 n = and_mask n 2
 
 pub mask-small : (r : Row) → length r ≤ 10 → Small (tap_mask r)
 mask-small r h m e = omega (arith, mask-few 10 r m h e)
 
 pub line_small : (r : Row) → Small (mask_of_line r)
 line_small r m e = omega (arith, (line-fits r m e).0)
+
+-- a mask of up to ten columns, and of up to eight where the table has it whole
+pub mask-below : (L m : ℕ) → L ≤ 10 → m < 2 ^ L → m < 1024
+mask-below L m h k = omega (arith, pow-le-pow_right {n = 2} (omega arith) h)
+
+pub mask-below_eight : (L m : ℕ) → wide_row L ≡ false → m < 2 ^ L → m < 256
+mask-below_eight L m w k = go (eqb L 4) (eqb L 8) (eqb-true L 4) (eqb-true L 8) w
+  where
+    few : L ≤ 8 → m < 256
+    few h = omega (arith, pow-le-pow_right {n = 2} (omega arith) h)
+
+    go : (p q : Bool) → (p ≡ true → L ≡ 4) → (q ≡ true → L ≡ 8) → not (p || q) ≡ false → m < 256
+    go true q a b f = few (omega (arith, a refl))
+    go false true a b f = few (omega (arith, b refl))
+    go false false a b f = let z : ◌≡◌ {A = ℕ} 0 1 = cc in absurd (omega arith)

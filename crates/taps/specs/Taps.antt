@@ -1,5 +1,5 @@
 -- Document 01, `TAP_MASK_COUNTS`: the mask of a row of `0` and `1` alone, and the counts that the table has for it.
-use Rattle.std.specs.Prelude.{Bool, true, false, cond, ◌||◌, not, ◌≡◌, List, [], ◌∷◌, ℕ, zero, suc, ◌+◌, ◌*◌, ◌/◌, ◌%◌, ◌^◌, ◌<◌, ◌≤◌, eqb, length, get_or, replicate}
+use Rattle.std.specs.Prelude.{Bool, true, false, cond, ◌||◌, not, ◌≡◌, List, [], ◌∷◌, ℕ, zero, suc, ◌+◌, ◌*◌, ◌/◌, ◌%◌, ◌^◌, ◌<◌, ◌≤◌, eqb, length, get_or, slice_index, if◌then◌else◌, replicate}
 use Rattle.std.specs.Int.Bits.{bit_and}
 use Rattle.definitions.specs.Lists.{sum_columns, number_of_bool}
 use Rattle.definitions.specs.Lines.{Row}
@@ -105,6 +105,14 @@ mask_counts m =
 abbrev pub TapCounts : Bool → List ℕ → Type 0
 TapCounts false l = (m : ℕ) → m < 256 → get_or l m 0 ≡ mask_counts m
 TapCounts true l = (m : ℕ) → m < 32 → (get_or l m 0 ≡ mask_counts m) × (get_or l (32 + m) 0 ≡ mask_counts (32 * m))
+
+-- a mask's counts by such a list
+abbrev pub counts_in : Bool → List ℕ → ℕ → ℕ
+counts_in wide l m = if wide then slice_index l (m % 32) + slice_index l (32 + m / 32) else slice_index l m
+
+-- a list that tells what each mask of so many columns counts up to
+abbrev pub CountsMasks : Bool → ℕ → List ℕ → Type 0
+CountsMasks wide lanes l = (m : ℕ) → m < 2 ^ lanes → counts_in wide l m ≡ mask_counts m
 
 -- the row's sum that the counts stand for
 unfoldable pub unpack : ℕ → RowSum

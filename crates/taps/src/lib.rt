@@ -3,6 +3,7 @@
 
 mod counts;
 mod five_counts;
+mod table;
 
 ghost use Rattle.std.specs.Prelude.{◌≡◌, ◌++◌, ℕ, ◌+◌, ◌*◌, ◌≤◌, ◌<◌, length, get_or, take, drop};
 ghost use Rattle.definitions.specs.Lines.{Row};
@@ -14,6 +15,7 @@ use counts::TAP_MASK_COUNTS;
 use definitions::RowSum;
 use five_counts::FIVE_COUNTS;
 use lines::words;
+pub use table::TapTable;
 
 // A row of `0` and `1` alone as a mask, its first column in the lowest bit, or another row.
 #[derive(Clone, Copy)]

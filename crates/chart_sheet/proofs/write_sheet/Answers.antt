@@ -10,7 +10,7 @@ use Rattle.definitions.specs.Lanes.{lanes_of, most_rows_in}
 use Rattle.definitions.specs.Figures.{densities, spacings}
 use Rattle.definitions.specs.Notes.{notes}
 use Rattle.definitions.specs.Records.{records}
-use Rattle.definitions.proofs.Lanes.{lanes-at-least, lanes-at-most}
+use Rattle.definitions.proofs.LaneBounds.{lanes-at-least, lanes-at-most}
 use Rattle.definitions.specs.Entries.{figures_of_chart, places_of_chart}
 use Rattle.sheet_answers.specs.Answers.{sheet_figures}
 use Rattle.slices.proofs.Zeroed.{zeroed-answer}

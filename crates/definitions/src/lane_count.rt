@@ -1,0 +1,24 @@
+ghost use Rattle.std.specs.Prelude.{◌≡◌, ◌≤◌};
+
+/// The lane count in force: how many columns a row has.
+#[derive(Clone, Copy)]
+pub struct Lanes {
+    pub count: usize,
+    pub ghost within: { (4 ≤ count) × (count ≤ 10) },
+}
+
+impl Lanes {
+    ghost use Rattle.definitions.specs.Lanes.{lanes_of};
+
+    /// 5, 8 or 10 where the caller gives that number, otherwise 4.
+    #[tactic(auto, unfolding(crate::specs::Lanes::lanes_of))]
+    pub fn in_force(given: usize) -> Lanes
+        ensures { result.count ≡ lanes_of given }
+    {
+        let count = match given {
+            5 | 8 | 10 => given,
+            _ => 4,
+        };
+        Lanes { count }
+    }
+}
