@@ -11,7 +11,7 @@ ghost use Rattle.definitions.specs.Notes.{notes as notes_of};
 ghost use Rattle.definitions.specs.Records.{records};
 ghost use Rattle.definitions.specs.Entries.{figures_of_chart, main_answer, main_text, main_densities, main_beats, main_work, main_notes};
 
-use definitions::{ChartFigures, Refusal};
+use definitions::{ChartFigures, Lanes, Refusal};
 
 // The main call where it is accepted: the pass, the tally corrected over the minimised text read back, and zeros past each answer.
 pub fn chart_figures(
@@ -87,9 +87,9 @@ pub fn minimize_chart_count_rows_notes(
     refusals::text_fits(len)?;
     refusals::room_for_text(len, text.len())?;
     refusals::room_for_measures(len, densities.len())?;
-    let columns = reader::lanes_of(lanes);
+    let columns = Lanes::in_force(lanes);
     refusals::room_for_beats(columns, len, beats.len())?;
     refusals::room_for_work(columns, len, work.len())?;
     refusals::room_for_notes(columns, len, slots.len())?;
-    Ok(chart_figures(data, columns, text, densities, beats, work, slots))
+    Ok(chart_figures(data, columns.count, text, densities, beats, work, slots))
 }

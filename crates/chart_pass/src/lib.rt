@@ -6,13 +6,14 @@ ghost use Rattle.std.specs.Prelude.{◌≡◌, List, [], ◌∷◌, ◌++◌, �
 ghost use Rattle.definitions.specs.Sizes.{measures_bound, most_bytes, row_count_bound};
 ghost use Rattle.definitions.specs.Lanes.{most_rows_in};
 ghost use Rattle.definitions.specs.Lines.{Row};
-ghost use Rattle.taps.specs.Taps.{wide_row, TapCounts};
 ghost use Rattle.definitions.specs.Reduction.{reduce};
 ghost use Rattle.chart_pass.specs.ChartPass.{Charted, SomeCharted, ChartEnded, ChartAll};
 
+use definitions::Lanes;
 use kept_pass::KeptPass;
 use measure_notes::Noting;
 use reader::charts::ChartLine;
+use taps::TapTable;
 
 // What the pass has written and counted, and the notes and the last object row of the measures that have ended.
 #[derive(Clone, Copy)]
@@ -49,9 +50,9 @@ fn end_measure(
     beats: &mut [f32],
     slots: &mut [u8],
     lanes: usize,
-    counts: &[u16; 256],
+    table: &TapTable,
 ) -> ChartPass
-    requires lanes_nonzero { (0 < lanes) × (lanes ≤ 10) × (p.pass.out ≤ length text.old) × SomeCharted lanes p text.old densities.old beats.old slots.old × TapCounts (wide_row lanes) counts.now }
+    requires lanes_nonzero { (0 < lanes) × (lanes ≤ 10) × (p.pass.out ≤ length text.old) × SomeCharted lanes p text.old densities.old beats.old slots.old × (table.now.lanes.count ≡ lanes) }
     requires midx_in_bounds { (p.pass.midx < length densities.old) × (p.pass.midx ≤ measures_bound) × (p.pass.counting.rows + p.pass.rows < row_count_bound) }
     requires rows_in_bounds { (p.pass.counting.rows + p.pass.rows ≤ length beats.old) × ((p.pass.counting.rows + p.pass.rows) * lanes * 10 ≤ length slots.old) }
     ensures chart_ended { (done : List (List Row)) (cur : List Row) → Charted lanes p text.old densities.old beats.old slots.old done cur → ChartEnded lanes result text.new densities.new beats.new slots.new done (reduce cur) }
@@ -65,7 +66,7 @@ fn end_measure(
     let midx = p.pass.midx;
     let kept = reduction::reduce_output_measure(text, start, rows, lanes);
     beats::append_row_beats(beats, before as usize, midx as u32, kept as u32);
-    let w = measure_walk::walk_rows(counting, old, text, start, kept, lanes, slots, counts);
+    let w = measure_walk::walk_rows(counting, old, text, start, kept, lanes, slots, table);
     let counted = w.counting;
     let noting = w.noting;
     densities[midx] = measure_tally::density(counted);
@@ -87,15 +88,15 @@ fn chart_comma(
     beats: &mut [f32],
     slots: &mut [u8],
     lanes: usize,
-    counts: &[u16; 256],
+    table: &TapTable,
 ) -> ChartPass
-    requires lanes_nonzero { (0 < lanes) × (lanes ≤ 10) × (p.pass.out + 2 ≤ length text.old) × SomeCharted lanes p text.old densities.old beats.old slots.old × TapCounts (wide_row lanes) counts.now }
+    requires lanes_nonzero { (0 < lanes) × (lanes ≤ 10) × (p.pass.out + 2 ≤ length text.old) × SomeCharted lanes p text.old densities.old beats.old slots.old × (table.now.lanes.count ≡ lanes) }
     requires midx_in_bounds { (p.pass.midx < length densities.old) × (p.pass.midx ≤ measures_bound) × (p.pass.counting.rows + p.pass.rows < row_count_bound) }
     requires rows_in_bounds { (p.pass.counting.rows + p.pass.rows ≤ length beats.old) × ((p.pass.counting.rows + p.pass.rows) * lanes * 10 ≤ length slots.old) }
     ensures charted { (done : List (List Row)) (cur : List Row) → Charted lanes p text.old densities.old beats.old slots.old done cur → Charted lanes result text.new densities.new beats.new slots.new (done ++ (reduce cur ∷ [])) [] }
     ensures out_bound { result.pass.out ≤ p.pass.out + 2 }
 {
-    let e = end_measure(p, text, densities, beats, slots, lanes, counts);
+    let e = end_measure(p, text, densities, beats, slots, lanes, table);
     let noting = e.noting;
     let pass = kept_pass::begin_measure(e.pass, text);
     ChartPass { pass, noting }
@@ -109,24 +110,24 @@ fn read_lines(
     densities: &mut [u32],
     beats: &mut [f32],
     slots: &mut [u8],
-    counts: &[u16; 256],
+    table: &TapTable,
 ) -> ChartPass
     requires le_lanes { (4 ≤ lanes) × (lanes ≤ 10) × (length «data».now ≤ most_bytes) }
-    requires data_in_bounds { (length «data».now + 1 ≤ length text.old) × ((length «data».now + 1) / 2 + 1 ≤ length densities.old) × (most_rows_in lanes (length «data».now) ≤ length beats.old) × (10 * lanes * most_rows_in lanes (length «data».now) ≤ length slots.old) × TapCounts (wide_row lanes) counts.now }
+    requires data_in_bounds { (length «data».now + 1 ≤ length text.old) × ((length «data».now + 1) / 2 + 1 ≤ length densities.old) × (most_rows_in lanes (length «data».now) ≤ length beats.old) × (10 * lanes * most_rows_in lanes (length «data».now) ≤ length slots.old) × (table.now.lanes.count ≡ lanes) }
     ensures { ChartAll lanes «data».now result text.new densities.new beats.new slots.new }
 {
     let mut p = no_chart();
-    for line in reader::charts::chart_lines(data, lanes) {
+    for line in reader::charts::chart_lines(data, Lanes { count: lanes }) {
         match line {
             ChartLine::Row(row) => {
                 p = chart_row(p, text, row);
             }
             ChartLine::Comma => {
-                p = chart_comma(p, text, densities, beats, slots, lanes, counts);
+                p = chart_comma(p, text, densities, beats, slots, lanes, table);
             }
         }
     }
-    end_measure(p, text, densities, beats, slots, lanes, counts)
+    end_measure(p, text, densities, beats, slots, lanes, table)
 }
 
 // The whole text, its last measure too.
@@ -142,6 +143,6 @@ pub fn read_chart(
     requires data_in_bounds { (length «data».now + 1 ≤ length text.old) × ((length «data».now + 1) / 2 + 1 ≤ length densities.old) × (most_rows_in lanes (length «data».now) ≤ length beats.old) × (10 * lanes * most_rows_in lanes (length «data».now) ≤ length slots.old) }
     ensures { ChartAll lanes «data».now result text.new densities.new beats.new slots.new }
 {
-    let counts = taps::tap_mask_counts(lanes);
-    read_lines(data, lanes, text, densities, beats, slots, &counts)
+    let table = TapTable::for_lanes(Lanes { count: lanes });
+    read_lines(data, lanes, text, densities, beats, slots, &table)
 }

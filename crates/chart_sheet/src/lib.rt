@@ -13,7 +13,7 @@ ghost use Rattle.sheet.specs.Page.{Prints};
 ghost use Rattle.chart_sheet.specs.Forms.{form_of, sheet_in_form};
 ghost use Rattle.chart_sheet.specs.Entry.{short_sheet, other_form, places_of_sheet, sheet_answer, sheet_text, sheet_densities, sheet_spacings, sheet_beats, sheet_work, sheet_notes, sheet_left};
 
-use definitions::Refusal;
+use definitions::{Lanes, Refusal};
 use figures::chart_places;
 use sheet::{Full, Page, SheetFigures, print_card};
 use sheet_answers::sheet_answers;
@@ -88,8 +88,17 @@ fn write_sheet(
     ensures notes_after { notes.new ≡ padded 0 (length notes.old) (records_of (notes_of (lanes_of lanes) «data».now)) }
     ensures sheet_after { sheet.new ≡ padded 0 (length sheet.old) (sheet_in_form form (lanes_of lanes) «data».now) }
 {
-    let columns = reader::lanes_of(lanes);
-    let figures = sheet_answers(data, columns, text, densities, spacing, beats, work, notes);
+    let columns = Lanes::in_force(lanes);
+    let figures = sheet_answers(
+        data,
+        columns.count,
+        text,
+        densities,
+        spacing,
+        beats,
+        work,
+        notes,
+    );
     let measures = figures.chart.measures;
     let end = figures.chart.notes * 10;
     let bytes = put_form(
@@ -159,7 +168,7 @@ pub fn chart_sheet(
     refusals::room_for_text(len, text.len())?;
     refusals::room_for_measures(len, densities.len())?;
     refusals::room_for_measures(len, spacing.len())?;
-    let columns = reader::lanes_of(lanes);
+    let columns = Lanes::in_force(lanes);
     refusals::room_for_beats(columns, len, beats.len())?;
     refusals::room_for_work(columns, len, work.len())?;
     refusals::room_for_notes(columns, len, notes.len())?;

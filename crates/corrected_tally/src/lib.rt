@@ -6,16 +6,15 @@ ghost use Rattle.definitions.specs.Sizes.{count_bound};
 ghost use Rattle.definitions.specs.Tally.{row_sum, tally_with_row, tally};
 ghost use Rattle.definitions.specs.Lines.{Row};
 ghost use Rattle.definitions.specs.Correction.{paired_only, corrected};
-ghost use Rattle.taps.specs.Taps.{wide_row, TapCounts};
 ghost use Rattle.row_tally.specs.Bounds.{Below};
 ghost use Rattle.row_tally.specs.Kept.{row_by_mask};
 ghost use Rattle.phantoms.specs.Phantoms.{Counts};
 ghost use Rattle.reader.specs.BackReading.{rows_back};
 ghost use Rattle.corrected_tally.specs.Heads.{Room, Heads};
 
-use definitions::ArrowStats;
+use definitions::{ArrowStats, Lanes};
 use phantoms::Phantoms;
-use taps::Taps;
+use taps::{TapTable, Taps};
 
 // Marks in each row's entry of the work slice, which is all 0, the heads that the tracker pairs. `busy` has the columns with an open head: a
 // row of taps in other columns leaves the tracker as it is.
@@ -26,7 +25,7 @@ fn mark_heads(text: &[u8], lanes: usize, trim: bool, work: &mut [u16])
     let mut t = holds::no_tracker();
     let mut busy: u32 = 0;
     let mut row: u32 = 0;
-    for cells in reader::back::back_rows(text, lanes, trim) {
+    for cells in reader::back::back_rows(text, Lanes { count: lanes }, trim) {
         match taps::free_taps(cells, busy) {
             Taps::Mask(_) => holds::pass_row(row, false, &mut *work),
             Taps::Other => {
@@ -39,12 +38,12 @@ fn mark_heads(text: &[u8], lanes: usize, trim: bool, work: &mut [u16])
 }
 
 // The tally with one row more, of which only the heads of a mask count: a row of taps alone by the table, and an all-zero row adds nothing.
-fn count_row(t: ArrowStats, row: &[u8], heads: u16, counts: &[u16; 256]) -> ArrowStats
-    requires { (length row.now ≤ 10) × TapCounts (wide_row (length row.now)) counts.now × Below count_bound t }
+fn count_row(t: ArrowStats, row: &[u8], heads: u16, table: &TapTable) -> ArrowStats
+    requires { (length row.now ≤ 10) × (table.now.lanes.count ≡ length row.now) × Below count_bound t }
     ensures { result ≡ tally_with_row t (row_sum (row_by_mask heads 0 row.now)) }
 {
     match taps::tap_line_mask(row) {
-        Taps::Mask(mask) => row_tally::count_taps(t, mask, taps::is_wide(row.len()), counts),
+        Taps::Mask(mask) => row_tally::count_taps(t, mask, table),
         Taps::Other => {
             if reduction::is_all_zero(row) {
                 t
@@ -60,11 +59,11 @@ fn count_kept(text: &[u8], lanes: usize, trim: bool, work: &[u16]) -> ArrowStats
     requires { Room trim lanes text.now work.now × Heads (rows_back trim lanes text.now) work.now }
     ensures { result ≡ tally (paired_only (rows_back trim lanes text.now)) }
 {
-    let counts = taps::tap_mask_counts(lanes);
+    let table = TapTable::for_lanes(Lanes { count: lanes });
     let mut stats = row_tally::no_stats();
     let mut i = 0;
-    for cells in reader::back::back_rows(text, lanes, trim) {
-        stats = count_row(stats, cells, work[i], &counts);
+    for cells in reader::back::back_rows(text, Lanes { count: lanes }, trim) {
+        stats = count_row(stats, cells, work[i], &table);
         i += 1;
     }
     stats
@@ -97,7 +96,7 @@ pub fn corrected_stats(
     ensures work_after { work.new ≡ replicate (length work.old) 0 }
 {
     let steps = stats.total_steps;
-    if phantoms::is_corrected(p, lanes) {
+    if phantoms::is_corrected(p, Lanes { count: lanes }) {
         let anew = recalc_phantom_stats(text, lanes, trim, work);
         row_tally::with_steps(anew, steps)
     } else {

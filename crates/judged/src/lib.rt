@@ -1,7 +1,7 @@
 // Judged tallies, over rows read by `parse_minimized_rows`. One definition serves both calls: which rows are judged is a test.
 #![tactic(auto)]
 
-ghost use Rattle.std.specs.Prelude.{◌≡◌, Bool, [], ℕ, ◌+◌, ◌≤◌, length};
+ghost use Rattle.std.specs.Prelude.{◌≡◌, Bool, [], ℕ, ◌+◌, ◌≤◌, ◌<◌, ◌^◌, length};
 ghost use Rattle.definitions.specs.Sizes.{count_bound, most_bytes};
 ghost use Rattle.definitions.specs.Lists.{padded};
 ghost use Rattle.definitions.specs.Lanes.{lanes_of, most_rows_in};
@@ -9,14 +9,14 @@ ghost use Rattle.definitions.specs.ReadBack.{rows_read_back};
 ghost use Rattle.definitions.specs.Judged.{judged_rows};
 ghost use Rattle.definitions.specs.Entries.{judged_checked, judged_answer, flagged_answer, judged_work};
 ghost use Rattle.definitions.specs.Lines.{Row};
-ghost use Rattle.taps.specs.Taps.{mask_of_line, Fits, TapCounts};
+ghost use Rattle.taps.specs.Taps.{mask_of_line};
 ghost use Rattle.taps.specs.declared.Taps.TheVariants.{Mask};
 ghost use Rattle.row_tally.specs.Bounds.{Below};
 ghost use Rattle.judged.specs.Timing.{judged_by, ends_of, new_holds, empty_timing, timing_row, timing_taps, WorkEntries, SomeWorkEntries};
 
-use definitions::{ArrowStats, Refusal};
+use definitions::{ArrowStats, Lanes, Refusal};
 use judged_pass::CleanTally;
-use taps::Taps;
+use taps::{TapTable, Taps};
 
 // The judged tally of the rows so far, and the holds open before the next one.
 #[derive(Clone, Copy)]
@@ -48,7 +48,7 @@ fn track_timing_rows(data: &[u8], lanes: usize, all: bool, flags: &[u8], work: &
     let mut t = holds::no_tracker();
     let mut busy: u32 = 0;
     let mut row: u32 = 0;
-    for cells in reader::back::back_rows(data, lanes, true) {
+    for cells in reader::back::back_rows(data, Lanes { count: lanes }, true) {
         let judged = is_judged(all, flags, row as usize);
         match taps::free_taps(cells, busy) {
             Taps::Mask(_) => holds::pass_row(row, judged, &mut *work),
@@ -87,19 +87,13 @@ fn process_timing_row(t: TimingStats, cells: &[u8], entry: u16) -> TimingStats
 }
 
 // One row of taps alone more, by its entry: no hold begins or ends there.
-fn process_timing_taps(
-    t: TimingStats,
-    mask: u16,
-    wide: bool,
-    entry: u16,
-    counts: &[u16; 256],
-) -> TimingStats
-    requires { TapCounts wide counts.now × Below count_bound t.stats × (t.active ≤ count_bound) × Fits wide mask }
+fn process_timing_taps(t: TimingStats, mask: u16, entry: u16, table: &TapTable) -> TimingStats
+    requires { (mask < 2 ^ table.now.lanes.count) × Below count_bound t.stats × (t.active ≤ count_bound) }
     ensures { (row : Row) → mask_of_line row ≡ Mask mask → result ≡ timing_taps t entry row }
 {
     let judged = entry / 16384 == 1;
     let old = t.stats;
-    let stats = row_tally::judge_taps(old, judged, t.active, mask, wide, counts);
+    let stats = row_tally::judge_taps(old, judged, t.active, mask, table);
     TimingStats {
         stats,
         active: t.active,
@@ -112,15 +106,13 @@ fn tally_timing_rows(data: &[u8], lanes: usize, work: &[u16]) -> ArrowStats
     requires some_work_entries { SomeWorkEntries (rows_read_back lanes «data».now) work.now }
     ensures { (J : ℕ → Bool) → WorkEntries J (rows_read_back lanes «data».now) work.now → result ≡ judged_rows lanes J (rows_read_back lanes «data».now) }
 {
-    let counts = taps::tap_mask_counts(lanes);
+    let table = TapTable::for_lanes(Lanes { count: lanes });
     let mut t = no_timing();
     let mut row = 0;
-    for cells in reader::back::back_rows(data, lanes, true) {
+    for cells in reader::back::back_rows(data, Lanes { count: lanes }, true) {
         let entry = work[row];
         match taps::free_taps(cells, 0) {
-            Taps::Mask(mask) => {
-                t = process_timing_taps(t, mask, taps::is_wide(lanes), entry, &counts)
-            }
+            Taps::Mask(mask) => { t = process_timing_taps(t, mask, entry, &table) }
             Taps::Other => t = process_timing_row(t, cells, entry),
         }
         row += 1;
@@ -179,9 +171,9 @@ fn judge(
 {
     let len = data.len();
     refusals::text_fits(len)?;
-    let columns = reader::lanes_of(lanes);
+    let columns = Lanes::in_force(lanes);
     refusals::room_for_work(columns, len, work.len())?;
-    Ok(judge_accepted(data, columns, all, flags, work))
+    Ok(judge_accepted(data, columns.count, all, flags, work))
 }
 
 // The tally with every row judged.

@@ -2,19 +2,19 @@
 // row are the open heads of the columns.
 #![tactic(auto)]
 
-ghost use Rattle.std.specs.Prelude.{◌≡◌, true, ℕ, ◌≤◌, ◌<◌, length, get_or};
+ghost use Rattle.std.specs.Prelude.{◌≡◌, true, ℕ, ◌≤◌, ◌<◌, ◌^◌, length, get_or};
 ghost use Rattle.definitions.specs.Sizes.{count_bound, most_bytes};
 ghost use Rattle.definitions.specs.Tally.{empty_stats};
 ghost use Rattle.definitions.specs.ReadBack.{rows_read_back};
 ghost use Rattle.definitions.specs.Judged.{judged_sum};
 ghost use Rattle.definitions.specs.Lines.{Row};
-ghost use Rattle.taps.specs.Taps.{FreeTaps, wide_row, Fits, TapCounts};
+ghost use Rattle.taps.specs.Taps.{FreeTaps};
 ghost use Rattle.row_tally.specs.Bounds.{Below};
 ghost use Rattle.judged_pass.specs.Clean.{clean_answer};
 ghost use Rattle.judged_pass.specs.JudgedPass.{CellPassed, CellsPassed, open_head_count, Ready, RowPassed};
 
-use definitions::{ArrowStats, Cell, DepthEffect, RowSum};
-use taps::Taps;
+use definitions::{ArrowStats, Cell, DepthEffect, Lanes, RowSum};
+use taps::{TapTable, Taps};
 
 // What the pass has of the rows so far: the tally, the open heads of each column, of up to ten, the holds open before the next row, the columns
 // that have one as a mask, and whether the rows were clean.
@@ -154,24 +154,24 @@ fn count_cells(t: CleanRows, row: &[u8]) -> CleanRows
 }
 
 // One row more of taps alone, none in a column with an open head: it leaves the depths as they are.
-fn count_taps(t: CleanRows, mask: u16, wide: bool, counts: &[u16; 256]) -> CleanRows
-    requires { TapCounts wide counts.now × Ready t × Below count_bound t.stats × Fits wide mask }
+fn count_taps(t: CleanRows, mask: u16, table: &TapTable) -> CleanRows
+    requires { (mask < 2 ^ table.now.lanes.count) × Ready t × Below count_bound t.stats }
     ensures { (row : Row) → FreeTaps t.busy mask row → RowPassed row t result }
 {
     let old = t.stats;
-    let stats = row_tally::judge_taps(old, true, t.active, mask, wide, counts);
+    let stats = row_tally::judge_taps(old, true, t.active, mask, table);
     let mut r = t;
     r.stats = stats;
     r
 }
 
 // One row more.
-fn count_row(t: CleanRows, row: &[u8], counts: &[u16; 256]) -> CleanRows
-    requires { (length row.now ≤ 10) × TapCounts (wide_row (length row.now)) counts.now × Ready t × Below count_bound t.stats }
+fn count_row(t: CleanRows, row: &[u8], table: &TapTable) -> CleanRows
+    requires { (length row.now ≤ 10) × (table.now.lanes.count ≡ length row.now) × Ready t × Below count_bound t.stats }
     ensures { RowPassed row.now t result }
 {
     match taps::free_taps(row, t.busy) {
-        Taps::Mask(mask) => count_taps(t, mask, taps::is_wide(row.len()), counts),
+        Taps::Mask(mask) => count_taps(t, mask, table),
         Taps::Other => count_cells(t, row),
     }
 }
@@ -181,10 +181,10 @@ pub fn judge_clean(data: &[u8], lanes: usize) -> CleanTally
     requires { (length «data».now ≤ most_bytes) × (4 ≤ lanes) × (lanes ≤ 10) }
     ensures { result ≡ clean_answer lanes (rows_read_back lanes «data».now) }
 {
-    let counts = taps::tap_mask_counts(lanes);
+    let table = TapTable::for_lanes(Lanes { count: lanes });
     let mut t = no_rows();
-    for row in reader::back::back_rows(data, lanes, true) {
-        t = count_row(t, row, &counts);
+    for row in reader::back::back_rows(data, Lanes { count: lanes }, true) {
+        t = count_row(t, row, &table);
         let clean = t.clean;
         if !clean {
             return CleanTally::NotClean;

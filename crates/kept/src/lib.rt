@@ -8,7 +8,7 @@ ghost use Rattle.definitions.specs.Lanes.{most_rows_in};
 ghost use Rattle.definitions.specs.Figures.{minimised_text, densities as densities_of};
 ghost use Rattle.definitions.specs.Entries.{figures_of_kept, kept_answer, kept_text, kept_densities, kept_work};
 
-use definitions::{KeptFigures, Refusal};
+use definitions::{KeptFigures, Lanes, Refusal};
 
 // The kept-row call where it is accepted: the pass, the tally corrected over its own rows, and zeros past each answer.
 pub fn keep_figures(
@@ -67,7 +67,7 @@ pub fn process_chart_kept(
     refusals::text_fits(len)?;
     refusals::room_for_text(len, text.len())?;
     refusals::room_for_measures(len, densities.len())?;
-    let columns = reader::lanes_of(lanes);
+    let columns = Lanes::in_force(lanes);
     refusals::room_for_work(columns, len, work.len())?;
-    Ok(keep_figures(data, columns, text, densities, work))
+    Ok(keep_figures(data, columns.count, text, densities, work))
 }

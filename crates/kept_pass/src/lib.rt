@@ -6,11 +6,12 @@ ghost use Rattle.std.specs.Prelude.{◌≡◌, List, [], ◌∷◌, ◌++◌, �
 ghost use Rattle.definitions.specs.Sizes.{measures_bound, most_bytes, row_count_bound};
 ghost use Rattle.definitions.specs.Lines.{Row};
 ghost use Rattle.definitions.specs.Reduction.{reduce};
-ghost use Rattle.taps.specs.Taps.{wide_row, TapCounts};
 ghost use Rattle.kept_pass.specs.KeptPass.{Open, Closed, SomeOpen, Kept, MeasureEnded, KeptAll};
 
+use definitions::Lanes;
 use measure_tally::Counting;
 use reader::charts::ChartLine;
+use taps::TapTable;
 
 // What is counted so far, where the open measure begins, how many bytes are written, and the open measure's rows and number.
 #[derive(Clone, Copy)]
@@ -54,8 +55,8 @@ pub fn pass_row(p: KeptPass, text: &mut [u8], row: &[u8]) -> KeptPass
 }
 
 // The open measure's rows minimised in place and counted.
-fn end_rows(p: KeptPass, text: &mut [u8], lanes: usize, counts: &[u16; 256]) -> KeptPass
-    requires { (0 < lanes) × (lanes ≤ 10) × (p.out ≤ length text.old) × (p.counting.rows + p.rows < row_count_bound) × SomeOpen lanes p text.old × TapCounts (wide_row lanes) counts.now }
+fn end_rows(p: KeptPass, text: &mut [u8], lanes: usize, table: &TapTable) -> KeptPass
+    requires { (0 < lanes) × (lanes ≤ 10) × (p.out ≤ length text.old) × (p.counting.rows + p.rows < row_count_bound) × SomeOpen lanes p text.old × (table.now.lanes.count ≡ lanes) }
     ensures closed { (done : List (List Row)) (cur : List Row) → Open lanes p text.old done cur → Closed lanes result text.new done (reduce cur) }
     ensures out_le_out { (result.out ≤ p.out) × (result.midx ≡ p.midx) }
 {
@@ -63,7 +64,7 @@ fn end_rows(p: KeptPass, text: &mut [u8], lanes: usize, counts: &[u16; 256]) -> 
     let start = p.start;
     let rows = p.rows;
     let kept = reduction::reduce_output_measure(text, start, rows, lanes);
-    let counted = measure_tally::count_rows(counting, text, start, kept, lanes, counts);
+    let counted = measure_tally::count_rows(counting, text, start, kept, lanes, table);
     KeptPass {
         counting: counted,
         start,
@@ -79,14 +80,14 @@ pub fn end_measure(
     text: &mut [u8],
     densities: &mut [u32],
     lanes: usize,
-    counts: &[u16; 256],
+    table: &TapTable,
 ) -> KeptPass
-    requires lanes_nonzero { (0 < lanes) × (lanes ≤ 10) × (p.out ≤ length text.old) × (p.counting.rows + p.rows < row_count_bound) × SomeOpen lanes p text.old × TapCounts (wide_row lanes) counts.now }
+    requires lanes_nonzero { (0 < lanes) × (lanes ≤ 10) × (p.out ≤ length text.old) × (p.counting.rows + p.rows < row_count_bound) × SomeOpen lanes p text.old × (table.now.lanes.count ≡ lanes) }
     requires midx_in_bounds { p.midx < length densities.old }
     ensures measure_ended { (done : List (List Row)) (cur : List Row) → Kept lanes p text.old densities.old done cur → MeasureEnded lanes result text.new densities.new done (reduce cur) }
     ensures out_le_out { (result.out ≤ p.out) × (result.midx ≡ p.midx) }
 {
-    let e = end_rows(p, text, lanes, counts);
+    let e = end_rows(p, text, lanes, table);
     let m = e.midx;
     densities[m] = measure_tally::density(e.counting);
     e
@@ -117,14 +118,14 @@ fn pass_comma(
     text: &mut [u8],
     densities: &mut [u32],
     lanes: usize,
-    counts: &[u16; 256],
+    table: &TapTable,
 ) -> KeptPass
-    requires lanes_nonzero { (0 < lanes) × (lanes ≤ 10) × (p.out + 2 ≤ length text.old) × (p.counting.rows + p.rows < row_count_bound) × SomeOpen lanes p text.old × TapCounts (wide_row lanes) counts.now }
+    requires lanes_nonzero { (0 < lanes) × (lanes ≤ 10) × (p.out + 2 ≤ length text.old) × (p.counting.rows + p.rows < row_count_bound) × SomeOpen lanes p text.old × (table.now.lanes.count ≡ lanes) }
     requires midx_in_bounds { (p.midx < length densities.old) × (p.midx ≤ measures_bound) }
     ensures kept { (done : List (List Row)) (cur : List Row) → Kept lanes p text.old densities.old done cur → Kept lanes result text.new densities.new (done ++ (reduce cur ∷ [])) [] }
     ensures out_bound { (result.out ≤ p.out + 2) × (result.midx ≡ p.midx + 1) }
 {
-    let e = end_measure(p, text, densities, lanes, counts);
+    let e = end_measure(p, text, densities, lanes, table);
     begin_measure(e, text)
 }
 
@@ -134,24 +135,24 @@ fn keep_lines(
     lanes: usize,
     text: &mut [u8],
     densities: &mut [u32],
-    counts: &[u16; 256],
+    table: &TapTable,
 ) -> KeptPass
     requires le_lanes { (4 ≤ lanes) × (lanes ≤ 10) × (length «data».now ≤ most_bytes) }
-    requires data_in_bounds { (length «data».now + 1 ≤ length text.old) × ((length «data».now + 1) / 2 + 1 ≤ length densities.old) × TapCounts (wide_row lanes) counts.now }
+    requires data_in_bounds { (length «data».now + 1 ≤ length text.old) × ((length «data».now + 1) / 2 + 1 ≤ length densities.old) × (table.now.lanes.count ≡ lanes) }
     ensures { KeptAll lanes «data».now result text.new densities.new }
 {
     let mut p = no_pass();
-    for line in reader::charts::chart_lines(data, lanes) {
+    for line in reader::charts::chart_lines(data, Lanes { count: lanes }) {
         match line {
             ChartLine::Row(row) => {
                 p = pass_row(p, text, row);
             }
             ChartLine::Comma => {
-                p = pass_comma(p, text, densities, lanes, counts);
+                p = pass_comma(p, text, densities, lanes, table);
             }
         }
     }
-    end_measure(p, text, densities, lanes, counts)
+    end_measure(p, text, densities, lanes, table)
 }
 
 // The whole text: what is counted in the end, and how much is written; the last measure's density is stored too.
@@ -160,6 +161,6 @@ pub fn keep_chart(data: &[u8], lanes: usize, text: &mut [u8], densities: &mut [u
     requires data_in_bounds { (length «data».now + 1 ≤ length text.old) × ((length «data».now + 1) / 2 + 1 ≤ length densities.old) }
     ensures { KeptAll lanes «data».now result text.new densities.new }
 {
-    let counts = taps::tap_mask_counts(lanes);
-    keep_lines(data, lanes, text, densities, &counts)
+    let table = TapTable::for_lanes(Lanes { count: lanes });
+    keep_lines(data, lanes, text, densities, &table)
 }

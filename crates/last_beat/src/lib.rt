@@ -12,7 +12,7 @@ ghost use Rattle.objects.specs.LastKept.{LastKept};
 ghost use Rattle.definitions.specs.Entries.{figures_of_last, last_answer};
 
 use beats::LastObject;
-use definitions::{LastBeat, Refusal};
+use definitions::{Lanes, LastBeat, Refusal};
 use objects::LastScan;
 use reader::charts::ChartLine;
 use taps::Taps;
@@ -42,9 +42,9 @@ fn last_row(s: LastScan, cells: &[u8]) -> LastScan
 }
 
 // The last object row of an accepted text, among its raw rows.
-fn scan_last(data: &[u8], lanes: usize) -> LastObject
-    requires { (length «data».now ≤ most_bytes) × (4 ≤ lanes) × (lanes ≤ 10) }
-    ensures { (Placed result) × (place_of result ≡ last_of (objects_from (λ c. 0) 0 (chart lanes «data».now))) }
+fn scan_last(data: &[u8], lanes: Lanes) -> LastObject
+    requires { length «data».now ≤ most_bytes }
+    ensures { (Placed result) × (place_of result ≡ last_of (objects_from (λ c. 0) 0 (chart lanes.count «data».now))) }
 {
     let mut s = objects::no_last();
     for line in reader::charts::chart_lines(data, lanes) {
@@ -62,9 +62,9 @@ fn scan_last(data: &[u8], lanes: usize) -> LastObject
 }
 
 // The beat of the last object row of an accepted text, 0 where there is none.
-fn last_figures(data: &[u8], lanes: usize) -> LastBeat
-    requires { (length «data».now ≤ most_bytes) × (4 ≤ lanes) × (lanes ≤ 10) }
-    ensures { result ≡ figures_of_last lanes «data».now }
+fn last_figures(data: &[u8], lanes: Lanes) -> LastBeat
+    requires { length «data».now ≤ most_bytes }
+    ensures { result ≡ figures_of_last lanes.count «data».now }
 {
     let last = scan_last(data, lanes);
     LastBeat {
@@ -80,5 +80,5 @@ pub fn chart_last_beat_impl(data: &[u8], lanes: usize) -> Result<LastBeat, Refus
     ensures { result ≡ last_answer lanes «data».now }
 {
     refusals::text_fits(data.len())?;
-    Ok(last_figures(data, reader::lanes_of(lanes)))
+    Ok(last_figures(data, Lanes::in_force(lanes)))
 }

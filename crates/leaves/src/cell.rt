@@ -7,8 +7,8 @@ ghost use Rattle.definitions.specs.Tracker.{hold_at};
 ghost use Rattle.taps.specs.Taps.{mask_counts, unpack};
 ghost use Rattle.leaves.specs.Answers.{number_of_cell, number_of_effect, number_of_taps, mask_number, sum_numbers};
 
-use definitions::{Cell, DepthEffect};
-use taps::Taps;
+use definitions::{Cell, DepthEffect, Lanes};
+use taps::{TapTable, Taps};
 
 // The number of the variant.
 fn cell_number(cell: Cell) -> u32
@@ -107,8 +107,7 @@ pub extern "C" fn leaves_tap_mask8(row: &[u8]) -> u32
 pub extern "C" fn leaves_tap_sum(mask: u8, sum: &mut [u32; 11])
     ensures { sum.new ≡ sum_numbers (unpack (mask_counts mask)) }
 {
-    let counts = taps::tap_mask_counts(8);
-    let s = taps::tap_sum(mask as u16, false, &counts);
+    let s = TapTable::for_lanes(Lanes { count: 8 }).sum(mask as u16);
     *sum = [
         s.arrows, s.left, s.down, s.up, s.right, s.holds, s.rolls, s.tails, s.mines, s.lifts,
         s.fakes,

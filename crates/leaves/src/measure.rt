@@ -4,6 +4,8 @@ ghost use Rattle.definitions.specs.Lanes.{lanes_of};
 ghost use Rattle.definitions.specs.Reduction.{all_zero};
 ghost use Rattle.leaves.specs.Answers.{rows_in_bounds, stride_number, blocks_in_bounds, compacted_number, compacted_text};
 
+use definitions::Lanes;
+
 #[unsafe(no_mangle)]
 pub extern "C" fn leaves_is_all_zero(row: &[u8]) -> bool
     ensures { result ≡ all_zero row.now }
@@ -15,7 +17,7 @@ pub extern "C" fn leaves_is_all_zero(row: &[u8]) -> bool
 pub extern "C" fn leaves_lanes_of(lanes: usize) -> usize
     ensures { result ≡ lanes_of lanes }
 {
-    reader::lanes_of(lanes)
+    Lanes::in_force(lanes).count
 }
 
 // Whether so many rows of `lanes` bytes stand `width` bytes apart in `len` bytes from `start` on.

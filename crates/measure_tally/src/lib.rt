@@ -1,17 +1,17 @@
 // What a whole-chart pass counts of the minimised rows, one row after the other: the tally, the phantom depths and the open measure's density.
 #![tactic(auto)]
 
-ghost use Rattle.std.specs.Prelude.{◌≡◌, List, [], ◌∷◌, ◌++◌, ℕ, ◌+◌, ◌-◌, ◌*◌, ◌≤◌, ◌<◌, length, take, drop};
+ghost use Rattle.std.specs.Prelude.{◌≡◌, List, [], ◌∷◌, ◌++◌, ℕ, ◌+◌, ◌-◌, ◌*◌, ◌^◌, ◌≤◌, ◌<◌, length, take, drop};
 ghost use Rattle.definitions.specs.Sizes.{row_count_bound};
 ghost use Rattle.definitions.specs.Lines.{Row};
 ghost use Rattle.definitions.specs.Figures.{density as density_of};
-ghost use Rattle.taps.specs.Taps.{FreeTaps, wide_row, Fits, TapCounts};
+ghost use Rattle.taps.specs.Taps.{FreeTaps};
 ghost use Rattle.reduction.specs.Rows.{rows_at};
 ghost use Rattle.measure_tally.specs.Counted.{Few, Counted, SomeCounted};
 
 use definitions::{ArrowStats, Cell};
 use phantoms::Phantoms;
-use taps::Taps;
+use taps::{TapTable, Taps};
 
 // `rows` counts all minimised rows so far, `before` the steps of the measures that have ended: those of the open one are its density.
 // A column without its bit in `busy` has the phantom depth 0.
@@ -39,11 +39,11 @@ pub fn no_counting() -> Counting
 }
 
 // One row of taps more, all in columns of the phantom depth 0: it leaves the depths, and no turn of a loop branches on its cells.
-pub fn count_taps(c: Counting, mask: u16, wide: bool, counts: &[u16; 256]) -> Counting
-    requires { (c.rows < row_count_bound) × Few c × TapCounts wide counts.now × Fits wide mask }
+pub fn count_taps(c: Counting, mask: u16, table: &TapTable) -> Counting
+    requires { (c.rows < row_count_bound) × Few c × (mask < 2 ^ table.now.lanes.count) }
     ensures { (row : Row) → FreeTaps c.busy mask row → (L : ℕ) (done : List (List Row)) (cur : List Row) → length row ≤ L → L ≤ 10 → Counted L c done cur → Counted L result done (cur ++ (row ∷ [])) }
 {
-    let stats = row_tally::count_taps(c.stats, mask, wide, counts);
+    let stats = row_tally::count_taps(c.stats, mask, table);
     let phantoms = c.phantoms;
     Counting {
         stats,
@@ -155,9 +155,9 @@ fn count_ordinary(
     first: usize,
     rows: usize,
     lanes: usize,
-    counts: &[u16; 256],
+    table: &TapTable,
 ) -> CountedTo
-    requires lanes_bound { (lanes ≤ 10) × (start + rows * (lanes + 1) ≤ length text.now) × (first ≤ rows) × TapCounts (wide_row lanes) counts.now }
+    requires lanes_bound { (lanes ≤ 10) × (start + rows * (lanes + 1) ≤ length text.now) × (first ≤ rows) × (table.now.lanes.count ≡ lanes) }
     requires first_bound { (old.rows + (rows - first) < row_count_bound) × SomeCounted lanes old (take first (rows_at (lanes + 1) lanes rows (drop start text.now))) }
     ensures first_le_row { (first ≤ result.row) × (result.row ≤ rows) }
     ensures counted { (done : List (List Row)) → Counted lanes old done (take first (rows_at (lanes + 1) lanes rows (drop start text.now))) → Counted lanes result.counting done (take result.row (rows_at (lanes + 1) lanes rows (drop start text.now))) }
@@ -168,7 +168,7 @@ fn count_ordinary(
     while i < rows {
         let end = at + lanes;
         match taps::free_taps(&text[at..end], c.busy) {
-            Taps::Mask(mask) => c = count_taps(c, mask, taps::is_wide(lanes), counts),
+            Taps::Mask(mask) => c = count_taps(c, mask, table),
             Taps::Other => {
                 return CountedTo {
                     counting: c,
@@ -192,16 +192,16 @@ pub fn count_rows(
     start: usize,
     rows: usize,
     lanes: usize,
-    counts: &[u16; 256],
+    table: &TapTable,
 ) -> Counting
-    requires lanes_nonzero { (0 < lanes) × (lanes ≤ 10) × (start + rows * (lanes + 1) ≤ length text.now) × TapCounts (wide_row lanes) counts.now }
+    requires lanes_nonzero { (0 < lanes) × (lanes ≤ 10) × (start + rows * (lanes + 1) ≤ length text.now) × (table.now.lanes.count ≡ lanes) }
     requires rows_bound { (old.rows + rows < row_count_bound) × SomeCounted lanes old [] }
     ensures { (done : List (List Row)) → Counted lanes old done [] → Counted lanes result done (rows_at (lanes + 1) lanes rows (drop start text.now)) }
 {
     let mut c = old;
     let mut i = 0;
     loop {
-        let t = count_ordinary(c, text, start, i, rows, lanes, counts);
+        let t = count_ordinary(c, text, start, i, rows, lanes, table);
         let k = t.row;
         let counted = t.counting;
         if rows <= k {

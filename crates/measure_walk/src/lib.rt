@@ -1,10 +1,9 @@
 // A measure's minimised rows gone over once: each row is counted and noted, an ordinary one by its mask, any other by its cells.
 #![tactic(auto)]
 
-ghost use Rattle.std.specs.Prelude.{List, [], ◌∷◌, ◌++◌, ◌+◌, ◌*◌, ◌≤◌, ◌<◌, length, drop};
+ghost use Rattle.std.specs.Prelude.{◌≡◌, List, [], ◌∷◌, ◌++◌, ◌+◌, ◌*◌, ◌≤◌, ◌<◌, length, drop};
 ghost use Rattle.definitions.specs.Lines.{Row};
 ghost use Rattle.reduction.specs.Rows.{rows_at};
-ghost use Rattle.taps.specs.Taps.{wide_row, TapCounts};
 ghost use Rattle.measure_tally.specs.Counted.{Counted};
 ghost use Rattle.measure_notes.specs.Noted.{Noted};
 ghost use Rattle.tap_walk.specs.Walked.{Walking};
@@ -12,6 +11,7 @@ ghost use Rattle.tap_walk.specs.Walked.{Walking};
 use measure_notes::Noting;
 use measure_run::Walk;
 use measure_tally::Counting;
+use taps::TapTable;
 
 // The rows of a measure that stand in a text from `start` on, each with a newline byte after it; for the notes the measure then ends.
 pub fn walk_rows(
@@ -22,9 +22,9 @@ pub fn walk_rows(
     rows: usize,
     lanes: usize,
     slots: &mut [u8],
-    counts: &[u16; 256],
+    table: &TapTable,
 ) -> Walk
-    requires lanes_nonzero { (0 < lanes) × (lanes ≤ 10) × (start + rows * (lanes + 1) ≤ length text.now) × TapCounts (wide_row lanes) counts.now }
+    requires lanes_nonzero { (0 < lanes) × (lanes ≤ 10) × (start + rows * (lanes + 1) ≤ length text.now) × (table.now.lanes.count ≡ lanes) }
     requires walking { Walking lanes counting noting slots.old (rows_at (lanes + 1) lanes rows (drop start text.now)) 0 }
     ensures counted { (done : List (List Row)) → Counted lanes counting done [] → Counted lanes result.counting done (rows_at (lanes + 1) lanes rows (drop start text.now)) }
     ensures noted { (done : List (List Row)) → Noted lanes noting slots.old done → Noted lanes result.noting slots.new (done ++ (rows_at (lanes + 1) lanes rows (drop start text.now) ∷ [])) }
@@ -36,7 +36,7 @@ pub fn walk_rows(
     let mut m = measure_run::first_marks(counting, noting);
     let mut r = measure_run::first_run(counting, noting);
     'walk: loop {
-        r = tap_walk::walk_taps(r, m, first, text, start, rows, lanes, slots, counts);
+        r = tap_walk::walk_taps(r, m, first, text, start, rows, lanes, slots, table);
         let i = (r.row - first) as usize;
         if rows <= i {
             return measure_run::end_walk(counting, noting, r, m, depths, low, hold_heads);

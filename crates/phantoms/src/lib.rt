@@ -7,7 +7,7 @@ ghost use Rattle.definitions.specs.Lines.{Row};
 ghost use Rattle.definitions.specs.Correction.{corrects};
 ghost use Rattle.phantoms.specs.Phantoms.{phantom_at, Counts, CellCounted};
 
-use definitions::DepthEffect;
+use definitions::{DepthEffect, Lanes};
 
 // The phantom depth of each column, of up to ten; the heads and tails so far; and whether a 1, M, L or F met a phantom depth.
 #[derive(Clone, Copy)]
@@ -87,13 +87,12 @@ pub fn phantom_depths(p: Phantoms) -> [u32; 10]
 }
 
 // Whether a phantom depth of the first columns is left over.
-fn is_left_over(p: Phantoms, lanes: usize) -> bool
-    requires { lanes ≤ 10 }
-    ensures { result ≡ some_column lanes (λ c. ltb 0 (phantom_at p c)) }
+fn is_left_over(p: Phantoms, lanes: Lanes) -> bool
+    ensures { result ≡ some_column lanes.count (λ c. ltb 0 (phantom_at p c)) }
 {
     let mut left = false;
     let mut i = 0;
-    while i < lanes {
+    while i < lanes.count {
         left = left | (0 < p.depths[i]);
         i += 1;
     }
@@ -101,9 +100,8 @@ fn is_left_over(p: Phantoms, lanes: usize) -> bool
 }
 
 // Whether the tally of the rows that were counted, of so many lanes, is counted anew.
-pub fn is_corrected(p: Phantoms, lanes: usize) -> bool
-    requires { lanes ≤ 10 }
-    ensures { (rows : List Row) → Counts lanes rows p → result ≡ corrects lanes rows }
+pub fn is_corrected(p: Phantoms, lanes: Lanes) -> bool
+    ensures { (rows : List Row) → Counts lanes.count rows p → result ≡ corrects lanes.count rows }
 {
     if p.heads == 0 {
         return false;

@@ -6,53 +6,50 @@ ghost use Rattle.reader.specs.Reading.{LineWidth};
 ghost use Rattle.std.specs.Iterator.{YieldsFirstRef};
 ghost use Rattle.reader.specs.BackReading.{trimmed_by, rows_back, plain_row_back};
 
+use definitions::Lanes;
 use std::marker::Model;
 
 // Whether a line is long enough and begins with no `,` or `;`.
 fn is_back_row(line: &[u8], lanes: usize) -> bool
     ensures { result ≡ (is_row_line lanes line.now && not (begins_mark line.now)) }
 {
-    if line.len() == 0 {
-        return crate::is_row(line, lanes);
-    }
-    match line[0] {
-        44 => false,
-        59 => false,
+    match line {
+        [b',' | b';', ..] => false,
         _ => crate::is_row(line, lanes),
     }
 }
 
 // Whether a text that goes on as `part` does begins with a row of `width` bytes, as `is_near_row` tells it, whose last cell is no byte 13.
-fn is_plain_row(part: &[u8], lanes: usize, width: usize) -> bool
-    requires { (4 ≤ lanes) × (lanes ≤ 10) × LineWidth lanes width }
-    ensures { result ≡ plain_row_back lanes width part.now }
+fn is_plain_row(part: &[u8], lanes: Lanes, width: usize) -> bool
+    requires { LineWidth lanes.count width }
+    ensures { result ≡ plain_row_back lanes.count width part.now }
 {
     if part.len() < 12 {
         return false;
     }
-    crate::is_just_row(part, width) & (part[lanes - 1] != 13)
+    crate::is_just_row(part, width) & (part[lanes.count - 1] != 13)
 }
 
 // The rows of minimised text that is left to read back, each as a part of it. Clauses see the list of them.
 #[derive(Drop)]
 pub struct BackRows<'a> {
     rest: &'a [u8],
-    lanes: usize,
+    lanes: Lanes,
     width: usize,
     trim: bool,
 }
 
 impl<'a> Model for BackRows<'a> {
-    ghost use Rattle.std.specs.Prelude.{List, ◌≤◌};
+    ghost use Rattle.std.specs.Prelude.{List};
     ghost use Rattle.definitions.specs.Lines.{Row};
     ghost use Rattle.reader.specs.Reading.{LineWidth};
     ghost use Rattle.reader.specs.BackReading.{rows_back};
 
     ghost Value = { List Row };
 
-    ghost view = { λ it. rows_back it.trim it.lanes it.rest.now };
+    ghost view = { λ it. rows_back it.trim it.lanes.count it.rest.now };
 
-    ghost invariant = { λ it. (4 ≤ it.lanes) × (it.lanes ≤ 10) × LineWidth it.lanes it.width };
+    ghost invariant = { λ it. LineWidth it.lanes.count it.width };
 }
 
 // The first row, if any, and what of the text follows its line.
@@ -105,18 +102,17 @@ impl<'a> Iterator for BackRows<'a> {
         let text = self.rest;
         if is_plain_row(text, self.lanes, self.width) {
             self.rest = &text[self.width + 1..];
-            return Some(&text[..self.lanes]);
+            return Some(&text[..self.lanes.count]);
         }
-        let ahead = look_ahead(text, self.lanes, self.trim);
+        let ahead = look_ahead(text, self.lanes.count, self.trim);
         self.rest = ahead.rest;
         ahead.row
     }
 }
 
 // The rows of minimised text.
-pub fn back_rows(text: &[u8], lanes: usize, trim: bool) -> BackRows<'_>
-    requires { (4 ≤ lanes) × (lanes ≤ 10) }
-    ensures { result ≡ rows_back trim lanes text.now }
+pub fn back_rows(text: &[u8], lanes: Lanes, trim: bool) -> BackRows<'_>
+    ensures { result ≡ rows_back trim lanes.count text.now }
 {
     BackRows {
         rest: text,

@@ -1,10 +1,10 @@
 // The rows of a chart's text and the ends of its measures, one after the other, each row as a part of that text.
-ghost use Rattle.std.specs.Prelude.{◌≡◌, ◌≤◌};
+ghost use Rattle.std.specs.Prelude.{◌≡◌};
 ghost use Rattle.std.specs.Iterator.{YieldsFirstBy};
 ghost use Rattle.reader.specs.Marks.{chart_marks};
 ghost use Rattle.reader.specs.ChartLines.{mark_of};
 
-use definitions::LineKind;
+use definitions::{Lanes, LineKind};
 use std::marker::Model;
 
 // A line that counts: a row's cells, or the end of a measure.
@@ -18,21 +18,21 @@ pub enum ChartLine<'a> {
 #[derive(Drop)]
 pub struct ChartLines<'a> {
     rest: &'a [u8],
-    lanes: usize,
+    lanes: Lanes,
     width: usize,
 }
 
 impl<'a> Model for ChartLines<'a> {
-    ghost use Rattle.std.specs.Prelude.{List, Option, ◌≤◌};
+    ghost use Rattle.std.specs.Prelude.{List, Option};
     ghost use Rattle.definitions.specs.Lines.{Row};
     ghost use Rattle.reader.specs.Reading.{LineWidth};
     ghost use Rattle.reader.specs.Marks.{chart_marks};
 
     ghost Value = { List (Option Row) };
 
-    ghost view = { λ it. chart_marks it.lanes it.rest.now };
+    ghost view = { λ it. chart_marks it.lanes.count it.rest.now };
 
-    ghost invariant = { λ it. (4 ≤ it.lanes) × (it.lanes ≤ 10) × LineWidth it.lanes it.width };
+    ghost invariant = { λ it. LineWidth it.lanes.count it.width };
 }
 
 // The first line that counts, if any, and what of the text follows it.
@@ -93,18 +93,17 @@ impl<'a> Iterator for ChartLines<'a> {
         let text = self.rest;
         if crate::is_near_row(text, self.width) {
             self.rest = &text[self.width + 1..];
-            return Some(ChartLine::Row(&text[..self.lanes]));
+            return Some(ChartLine::Row(&text[..self.lanes.count]));
         }
-        let ahead = look_ahead(text, self.lanes);
+        let ahead = look_ahead(text, self.lanes.count);
         self.rest = ahead.rest;
         ahead.line
     }
 }
 
 // The lines of a chart's text that count.
-pub fn chart_lines(data: &[u8], lanes: usize) -> ChartLines<'_>
-    requires { (4 ≤ lanes) × (lanes ≤ 10) }
-    ensures { result ≡ chart_marks lanes «data».now }
+pub fn chart_lines(data: &[u8], lanes: Lanes) -> ChartLines<'_>
+    ensures { result ≡ chart_marks lanes.count «data».now }
 {
     ChartLines {
         rest: data,

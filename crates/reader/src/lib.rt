@@ -6,33 +6,10 @@ pub mod back;
 pub mod charts;
 
 ghost use Rattle.std.specs.Prelude.{◌≡◌, ◌+◌, ◌-◌, ◌≤◌, length};
-ghost use Rattle.definitions.specs.Lanes.{lanes_of};
 ghost use Rattle.definitions.specs.Lines.{is_row_line, kind_of};
-ghost use Rattle.definitions.specs.Lists.{number_of_bool};
 ghost use Rattle.reader.specs.Reading.{LineWidth, just_row, near_row};
 
-use definitions::LineKind;
-
-// 1 where the test holds, else 0.
-fn one_if(test: bool) -> usize
-    ensures { (result ≡ number_of_bool test) × (result ≤ 1) }
-{
-    if test { 1 } else { 0 }
-}
-
-// The lane count in force.
-#[tactic(auto, unfolding(definitions::specs::Lanes::lanes_of))]
-pub fn lanes_of(lanes: usize) -> usize
-    ensures value { result ≡ lanes_of lanes }
-    ensures within { (4 ≤ result) × (result ≤ 10) }
-{
-    match lanes {
-        5 => 5,
-        8 => 8,
-        10 => 10,
-        _ => 4,
-    }
-}
+use definitions::{Lanes, LineKind};
 
 // Whether a line that is nothing else is a row.
 pub fn is_row(line: &[u8], lanes: usize) -> bool
@@ -45,7 +22,7 @@ pub fn is_row(line: &[u8], lanes: usize) -> bool
 pub fn line_kind(line: &[u8], lanes: usize) -> LineKind
     ensures { result ≡ kind_of lanes line.now }
 {
-    if line.len() == 0 {
+    if line.is_empty() {
         return LineKind::Passed;
     }
     match line[0] {
@@ -62,21 +39,15 @@ pub fn line_kind(line: &[u8], lanes: usize) -> LineKind
     }
 }
 
-// Where eight bytes begin that have all of a line of up to seven bytes, or the last seven of a longer one, and the newline after it.
-fn look_from(width: usize) -> usize
-    ensures { result ≡ width - 7 }
-{
-    if width < 7 { 0 } else { width - 7 }
-}
-
 // Whether a text that goes on as `part` does begins with a row of `width` bytes, with nothing before it and byte 10 right after it. `width` is
-// that of the row's cells, or one more where a byte 13 follows them. Of the eight bytes from `look_from` on that byte 10 is the first newline,
-// and before them are at most four bytes, none of which is one. The tests are joined without a branch.
+// that of the row's cells, or one more where a byte 13 follows them. Eight bytes from `from` on have all of a line of up to seven bytes, or the
+// last seven of a longer one, and the newline after it: that byte 10 is the first in them, and before them are at most four bytes, none of which
+// is one. The tests are joined without a branch.
 fn is_just_row(part: &[u8], width: usize) -> bool
     requires { (12 ≤ length part.now) × (4 ≤ width) × (width ≤ 11) }
     ensures { result ≡ just_row width part.now }
 {
-    let from = look_from(width);
+    let from = width.saturating_sub(7);
     let first = part[0];
     (lines::near_newline(part, from) == width - from)
         & (part[1] != 10)
@@ -99,13 +70,11 @@ fn is_near_row(part: &[u8], width: usize) -> bool
 
 // How many bytes the line of a row has, as the first line of the text tells it: one more than its cells where byte 13 is its last. Where other
 // lines end otherwise, reading them takes longer, and nothing else changes.
-fn line_width(text: &[u8], lanes: usize) -> usize
-    requires { lanes ≤ 10 }
-    ensures { LineWidth lanes result }
+fn line_width(text: &[u8], lanes: Lanes) -> usize
+    ensures { LineWidth lanes.count result }
 {
-    let line = lines::next_line(text, 0);
-    if line.len() == 0 {
-        return lanes;
+    match lines::next_line(text, 0) {
+        [.., 13] => lanes.count + 1,
+        _ => lanes.count,
     }
-    lanes + one_if(line[line.len() - 1] == 13)
 }

@@ -9,6 +9,7 @@ ghost use Rattle.definitions.specs.Figures.{row_text};
 ghost use Rattle.definitions.specs.Reduction.{all_zero, stride, reduce};
 ghost use Rattle.reduction.specs.Rows.{rows_at, compacted, RowsStand, Reduced};
 
+use definitions::Lanes;
 use lines::words;
 
 // Whether every byte of a row is `0`, byte by byte.
@@ -183,10 +184,9 @@ pub fn reduce_output_measure(text: &mut [u8], start: usize, rows: usize, lanes: 
 }
 
 // A measure minimised whose rows stand back to back.
-pub fn reduce_rows(text: &mut [u8], start: usize, rows: usize, lanes: usize) -> usize
-    requires lanes_nonzero { 0 < lanes }
-    requires lanes_in_bounds { start + rows * lanes ≤ length text.old }
-    ensures { (rs : List Row) → RowsStand joined lanes rows start rs text.old → Reduced joined start rs text.old result text.new }
+pub fn reduce_rows(text: &mut [u8], start: usize, rows: usize, lanes: Lanes) -> usize
+    requires { start + rows * lanes.count ≤ length text.old }
+    ensures { (rs : List Row) → RowsStand joined lanes.count rows start rs text.old → Reduced joined start rs text.old result text.new }
 {
-    reduce_measure(text, start, rows, lanes, lanes)
+    reduce_measure(text, start, rows, lanes.count, lanes.count)
 }

@@ -6,7 +6,7 @@ ghost use Rattle.definitions.specs.Sizes.{most_bytes};
 ghost use Rattle.definitions.specs.Lanes.{most_rows_in};
 ghost use Rattle.definitions.specs.Refusals.{long_text, short_text, short_measures, short_beats, short_work, short_notes};
 
-use definitions::Refusal;
+use definitions::{Lanes, Refusal};
 
 // The text is not too long.
 #[tactic(auto, unfolding(definitions::specs::Refusals::long_text))]
@@ -48,20 +48,20 @@ pub fn room_for_measures(len: usize, room: usize) -> Result<(), Refusal>
 
 // The most rows of such a text at so many lanes.
 #[tactic(auto, unfolding(definitions::specs::Lanes::most_rows_in))]
-pub fn most_rows(lanes: usize, len: usize) -> usize
-    requires { (lanes ≤ 10) × (len ≤ most_bytes) }
-    ensures value { result ≡ most_rows_in lanes len }
+pub fn most_rows(lanes: Lanes, len: usize) -> usize
+    requires { len ≤ most_bytes }
+    ensures value { result ≡ most_rows_in lanes.count len }
     ensures few { result ≤ len + 1 }
 {
-    (len + 1) / (lanes + 1)
+    (len + 1) / (lanes.count + 1)
 }
 
 // The beat slice has room for the beats of such a text's rows.
 #[tactic(auto, unfolding(definitions::specs::Refusals::short_beats))]
-pub fn room_for_beats(lanes: usize, len: usize, room: usize) -> Result<(), Refusal>
-    requires { (lanes ≤ 10) × (len ≤ most_bytes) }
-    ensures value { result ≡ short_beats lanes len room }
-    ensures ok { OnOk result (most_rows_in lanes len ≤ room) }
+pub fn room_for_beats(lanes: Lanes, len: usize, room: usize) -> Result<(), Refusal>
+    requires { len ≤ most_bytes }
+    ensures value { result ≡ short_beats lanes.count len room }
+    ensures ok { OnOk result (most_rows_in lanes.count len ≤ room) }
 {
     if room < most_rows(lanes, len) {
         return Err(Refusal::ShortBeats);
@@ -71,10 +71,10 @@ pub fn room_for_beats(lanes: usize, len: usize, room: usize) -> Result<(), Refus
 
 // The work slice has room for its rows.
 #[tactic(auto, unfolding(definitions::specs::Refusals::short_work))]
-pub fn room_for_work(lanes: usize, len: usize, room: usize) -> Result<(), Refusal>
-    requires { (lanes ≤ 10) × (len ≤ most_bytes) }
-    ensures value { result ≡ short_work lanes len room }
-    ensures ok { OnOk result (most_rows_in lanes len ≤ room) }
+pub fn room_for_work(lanes: Lanes, len: usize, room: usize) -> Result<(), Refusal>
+    requires { len ≤ most_bytes }
+    ensures value { result ≡ short_work lanes.count len room }
+    ensures ok { OnOk result (most_rows_in lanes.count len ≤ room) }
 {
     if room < most_rows(lanes, len) {
         return Err(Refusal::ShortWork);
@@ -84,12 +84,12 @@ pub fn room_for_work(lanes: usize, len: usize, room: usize) -> Result<(), Refusa
 
 // The note slice has room for a note in each cell of its rows.
 #[tactic(auto, unfolding(definitions::specs::Refusals::short_notes))]
-pub fn room_for_notes(lanes: usize, len: usize, room: usize) -> Result<(), Refusal>
-    requires { (lanes ≤ 10) × (len ≤ most_bytes) }
-    ensures value { result ≡ short_notes lanes len room }
-    ensures ok { OnOk result (10 * lanes * most_rows_in lanes len ≤ room) }
+pub fn room_for_notes(lanes: Lanes, len: usize, room: usize) -> Result<(), Refusal>
+    requires { len ≤ most_bytes }
+    ensures value { result ≡ short_notes lanes.count len room }
+    ensures ok { OnOk result (10 * lanes.count * most_rows_in lanes.count len ≤ room) }
 {
-    if room < 10 * lanes * most_rows(lanes, len) {
+    if room < 10 * lanes.count * most_rows(lanes, len) {
         return Err(Refusal::ShortNotes);
     }
     Ok(())

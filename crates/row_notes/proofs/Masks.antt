@@ -20,7 +20,7 @@ use Rattle.definitions.specs.Records.{fields}
 use Rattle.definitions.proofs.Lists.{any-default}
 use Rattle.taps.specs.Taps.{bit, mask_of_line}
 use Rattle.taps.specs.declared.Taps.TheVariants.{Mask}
-use Rattle.taps.proofs.Masks.{line-taps, line-width, line-fits}
+use Rattle.taps.proofs.Masks.{line-taps, line-width, line-below, mask-below}
 use Rattle.taps.proofs.Free.{tap-cell, free-byte}
 use Rattle.taps.proofs.Tables.{up_from, same_at}
 use Rattle.row_notes.specs.Masks.{LowOf}
@@ -211,7 +211,7 @@ module _ (l : List ℕ) (s : ChartNotesScratch) (row : Row) (mask : ℕ) (R : Re
 -- the same where the struct's numbers are told apart from it
 module _ (i n mask : ℕ) (l : List ℕ) (s : ChartNotesScratch) (row : Row) (F : MaskFits i n mask l s row) where
   pub mask-small : mask < 1024
-  mask-small = (line-fits row mask F.mask).0
+  mask-small = mask-below (length row) mask (line-width row mask F.mask).1 (line-below row mask F.mask)
 
   pub mask_start : Taken l s row mask l n mask
   mask_start = subst (λ k. Taken l s row mask l k mask) F.count (taken_start l s row mask F.room F.heads F.mask mask-small)

@@ -1,14 +1,14 @@
 // Row sums and tallies: what a row adds up to, the tally with one row more, and the same of rows with only paired heads and of judged rows.
 #![tactic(auto)]
 
-ghost use Rattle.std.specs.Prelude.{◌≡◌, true, ◌+◌, ◌-◌, ◌≤◌, ◌<◌, length};
+ghost use Rattle.std.specs.Prelude.{◌≡◌, true, ◌+◌, ◌-◌, ◌^◌, ◌≤◌, ◌<◌, length};
 ghost use Rattle.definitions.specs.Sizes.{count_bound};
 ghost use Rattle.definitions.specs.Cells.{cell_of, is_arrow};
 ghost use Rattle.definitions.specs.Tracker.{hold_at};
 ghost use Rattle.definitions.specs.Tally.{empty_stats, row_sum, row_sum_by, tally_with_sum, tally_with_row};
 ghost use Rattle.definitions.specs.Correction.{head_if_paired, tally_with_steps};
 ghost use Rattle.definitions.specs.Judged.{is_judged_arrow, sum_of_fakes, judged_sum, judge_row};
-ghost use Rattle.taps.specs.Taps.{mask_of_line, Fits, TapCounts};
+ghost use Rattle.taps.specs.Taps.{mask_of_line};
 ghost use Rattle.taps.specs.declared.Taps.TheVariants.{Mask};
 ghost use Rattle.definitions.specs.Lines.{Row};
 ghost use Rattle.definitions.specs.declared.Cell.TheVariants.{Lift};
@@ -17,6 +17,7 @@ ghost use Rattle.row_tally.specs.Kept.{bit_is_set, cell_by_mask, row_by_mask};
 ghost use Rattle.row_tally.specs.Sums.{empty_sum, add_arrow, add_counted, sum_with_cell, arrow_of};
 
 use definitions::{ArrowStats, Cell, DepthEffect, RowSum};
+use taps::TapTable;
 
 // The sum of no cells.
 pub fn no_sum() -> RowSum
@@ -178,8 +179,7 @@ fn held_after(holding: u32, heads: u32, tails: u32) -> u32
     requires { holding + heads ≤ 4294967295 }
     ensures { result ≡ holding + heads - tails }
 {
-    let held = holding + heads;
-    if tails <= held { held - tails } else { 0 }
+    (holding + heads).saturating_sub(tails)
 }
 
 // The tally with one row more, by value. A hand is a step whose arrows plus the holds before the row make 3 or more.
@@ -198,9 +198,7 @@ fn add_row_into(stats: &mut ArrowStats, s: RowSum)
     requires { Below count_bound stats.old × Under 10 s }
     ensures { stats.new ≡ tally_with_row stats.old s }
 {
-    let t = *stats;
-    let r = add_row(t, s);
-    *stats = r;
+    *stats = add_row(*stats, s);
 }
 
 // The tally with one row more: it is lent to the row count, and handed back.
@@ -228,12 +226,11 @@ pub fn add_judged_row(t: ArrowStats, judged: bool, held: u32, s: RowSum) -> Arro
 }
 
 // The tally with one row of taps alone more.
-pub fn count_taps(t: ArrowStats, mask: u16, wide: bool, counts: &[u16; 256]) -> ArrowStats
-    requires { TapCounts wide counts.now × Below count_bound t × Fits wide mask }
+pub fn count_taps(t: ArrowStats, mask: u16, table: &TapTable) -> ArrowStats
+    requires { (mask < 2 ^ table.now.lanes.count) × Below count_bound t }
     ensures { (row : Row) → mask_of_line row ≡ Mask mask → result ≡ tally_with_row t (row_sum row) }
 {
-    let s = taps::tap_sum(mask, wide, counts);
-    add_row_lent(t, s)
+    add_row_lent(t, table.sum(mask))
 }
 
 // Whether the mask has the bit of a column.
@@ -284,8 +281,7 @@ pub fn count_line_masked(t: ArrowStats, row: &[u8], heads: u16) -> ArrowStats
     requires { (length row.now ≤ 10) × Below count_bound t }
     ensures { result ≡ tally_with_row t (row_sum (row_by_mask heads 0 row.now)) }
 {
-    let s = kept_sum(row, heads, false);
-    add_row_lent(t, s)
+    add_row_lent(t, kept_sum(row, heads, false))
 }
 
 // A sum of fakes alone.
@@ -310,11 +306,11 @@ pub fn judged_sum_masked(judged: bool, row: &[u8], heads: u16) -> RowSum
 }
 
 // What a row of taps alone adds up to, judged or not. On an unjudged row each tap is one fake.
-fn judged_taps(judged: bool, mask: u16, wide: bool, counts: &[u16; 256]) -> RowSum
-    requires { TapCounts wide counts.now × Fits wide mask }
+fn judged_taps(judged: bool, mask: u16, table: &TapTable) -> RowSum
+    requires { mask < 2 ^ table.now.lanes.count }
     ensures { Under 10 result × ((row : Row) → mask_of_line row ≡ Mask mask → result ≡ judged_sum judged row) }
 {
-    let s = taps::tap_sum(mask, wide, counts);
+    let s = table.sum(mask);
     if judged {
         return s;
     }
@@ -322,18 +318,11 @@ fn judged_taps(judged: bool, mask: u16, wide: bool, counts: &[u16; 256]) -> RowS
 }
 
 // The judged tally with one row of taps alone more, before which `held` holds are open.
-pub fn judge_taps(
-    t: ArrowStats,
-    judged: bool,
-    held: u32,
-    mask: u16,
-    wide: bool,
-    counts: &[u16; 256],
-) -> ArrowStats
-    requires { TapCounts wide counts.now × Below count_bound t × (held ≤ count_bound) × Fits wide mask }
+pub fn judge_taps(t: ArrowStats, judged: bool, held: u32, mask: u16, table: &TapTable) -> ArrowStats
+    requires { (mask < 2 ^ table.now.lanes.count) × Below count_bound t × (held ≤ count_bound) }
     ensures { (row : Row) → mask_of_line row ≡ Mask mask → result ≡ judge_row t judged held (judged_sum judged row) }
 {
-    let s = judged_taps(judged, mask, wide, counts);
+    let s = judged_taps(judged, mask, table);
     add_judged_row(t, judged, held, s)
 }
 

@@ -5,16 +5,15 @@ ghost use Rattle.definitions.specs.Lists.{padded};
 ghost use Rattle.definitions.specs.Figures.{densities as densities_of};
 ghost use Rattle.definitions.specs.Entries.{measures_answer, densities_left};
 
-use definitions::Refusal;
+use definitions::{Lanes, Refusal};
 use reader::charts::ChartLine;
 
 // The densities of an accepted text, with zeros after them.
-fn fill_densities(data: &[u8], lanes: usize, densities: &mut [u32]) -> usize
+fn fill_densities(data: &[u8], lanes: Lanes, densities: &mut [u32]) -> usize
     requires data_len_bound { length «data».now ≤ most_bytes }
     requires data_in_bounds { (length «data».now + 1) / 2 + 1 ≤ length densities.old }
-    requires le_lanes { (4 ≤ lanes) × (lanes ≤ 10) }
-    ensures value { result ≡ length (densities_of lanes «data».now) }
-    ensures densities_after { densities.new ≡ padded 0 (length densities.old) (densities_of lanes «data».now) }
+    ensures value { result ≡ length (densities_of lanes.count «data».now) }
+    ensures densities_after { densities.new ≡ padded 0 (length densities.old) (densities_of lanes.count «data».now) }
 {
     let mut m = 0;
     let mut steps: u32 = 0;
@@ -45,5 +44,5 @@ pub fn measure_densities(data: &[u8], lanes: usize, densities: &mut [u32]) -> Re
     let len = data.len();
     refusals::text_fits(len)?;
     refusals::room_for_measures(len, densities.len())?;
-    Ok(fill_densities(data, reader::lanes_of(lanes), densities))
+    Ok(fill_densities(data, Lanes::in_force(lanes), densities))
 }

@@ -13,7 +13,7 @@ ghost use Rattle.definitions.specs.Records.{records};
 ghost use Rattle.sheet_answers.specs.Answers.{sheet_figures};
 ghost use Rattle.definitions.specs.Judged.{judged_tally};
 
-use definitions::ArrowStats;
+use definitions::{ArrowStats, Lanes};
 use sheet::SheetFigures;
 
 fn one_less(n: usize) -> usize
@@ -63,7 +63,7 @@ pub fn sheet_answers(
     let kept = kept::keep_figures(data, lanes, text, densities, work);
     let bytes = kept.bytes;
     let judged = judge_minimised(&text[..bytes], lanes, work);
-    spacing::fill_spacing(data, lanes, spacing);
+    spacing::fill_spacing(data, Lanes { count: lanes }, spacing);
     SheetFigures {
         chart,
         kept,

@@ -10,7 +10,7 @@ ghost use Rattle.definitions.specs.Figures.{spacing as spacing_of, spacings};
 ghost use Rattle.definitions.specs.Entries.{measures_answer, spacings_left};
 ghost use Rattle.spacing.specs.Spaces.{Spaces};
 
-use definitions::Refusal;
+use definitions::{Lanes, Refusal};
 use reader::charts::ChartLine;
 
 // What the spacing scan keeps of the open measure: its rows, those with a 1, 2 or 4, and how many times its stride may be doubled as far as
@@ -85,12 +85,11 @@ fn is_spaced(s: MeasureSpacing) -> u8
 }
 
 // The spacing of an accepted text, with zeros after it.
-pub fn fill_spacing(data: &[u8], lanes: usize, spacing: &mut [u8]) -> usize
+pub fn fill_spacing(data: &[u8], lanes: Lanes, spacing: &mut [u8]) -> usize
     requires data_len_bound { length «data».now ≤ most_bytes }
     requires data_in_bounds { (length «data».now + 1) / 2 + 1 ≤ length spacing.old }
-    requires le_lanes { (4 ≤ lanes) × (lanes ≤ 10) }
-    ensures value { result ≡ length (spacings lanes «data».now) }
-    ensures spacing_after { spacing.new ≡ padded 0 (length spacing.old) (spacings lanes «data».now) }
+    ensures value { result ≡ length (spacings lanes.count «data».now) }
+    ensures spacing_after { spacing.new ≡ padded 0 (length spacing.old) (spacings lanes.count «data».now) }
 {
     let mut m = 0;
     let mut s = no_spacing();
@@ -121,5 +120,5 @@ pub fn equally_spaced_impl(data: &[u8], lanes: usize, spacing: &mut [u8]) -> Res
     let len = data.len();
     refusals::text_fits(len)?;
     refusals::room_for_measures(len, spacing.len())?;
-    Ok(fill_spacing(data, reader::lanes_of(lanes), spacing))
+    Ok(fill_spacing(data, Lanes::in_force(lanes), spacing))
 }

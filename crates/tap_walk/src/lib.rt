@@ -1,9 +1,8 @@
 // Ordinary rows of a measure, which the main call counts and notes by their masks.
 #![tactic(auto)]
 
-ghost use Rattle.std.specs.Prelude.{List, ◌+◌, ◌-◌, ◌*◌, ◌≤◌, ◌<◌, length, take, drop};
+ghost use Rattle.std.specs.Prelude.{◌≡◌, List, ◌+◌, ◌-◌, ◌*◌, ◌≤◌, ◌<◌, length, take, drop};
 ghost use Rattle.definitions.specs.Lines.{Row};
-ghost use Rattle.taps.specs.Taps.{wide_row, TapCounts};
 ghost use Rattle.reduction.specs.Rows.{rows_at};
 ghost use Rattle.measure_tally.specs.Counted.{Counted};
 ghost use Rattle.measure_notes.specs.Noted.{NotedRows};
@@ -12,14 +11,14 @@ ghost use Rattle.tap_walk.specs.Walked.{TapsReady, TapsAdded, Running};
 
 use measure_run::Run;
 use row_walk::Marks;
-use taps::Taps;
+use taps::{TapTable, Taps};
 
 // One row of taps more, all in columns that are not busy.
-fn add_taps(r: Run, mask: u16, wide: bool, slots: &mut [u8], counts: &[u16; 256]) -> Run
-    requires { TapsReady r mask wide slots.old × TapCounts wide counts.now }
+fn add_taps(r: Run, mask: u16, slots: &mut [u8], table: &TapTable) -> Run
+    requires { TapsReady r mask table.now.lanes.count slots.old }
     ensures { TapsAdded r mask slots.old slots.new result }
 {
-    let stats = row_tally::count_taps(r.stats, mask, wide, counts);
+    let stats = row_tally::count_taps(r.stats, mask, table);
     let count = row_notes::push_mask(r.row, r.count, mask, slots);
     let row = r.row + 1;
     let last = if mask != 0 { row } else { r.last };
@@ -41,9 +40,9 @@ pub fn walk_taps(
     rows: usize,
     lanes: usize,
     slots: &mut [u8],
-    counts: &[u16; 256],
+    table: &TapTable,
 ) -> Run
-    requires lanes_nonzero { (0 < lanes) × (lanes ≤ 10) × (start + rows * (lanes + 1) ≤ length text.now) × (first ≤ old.row) × (old.row ≤ first + rows) × TapCounts (wide_row lanes) counts.now }
+    requires lanes_nonzero { (0 < lanes) × (lanes ≤ 10) × (start + rows * (lanes + 1) ≤ length text.now) × (first ≤ old.row) × (old.row ≤ first + rows) × (table.now.lanes.count ≡ lanes) }
     requires running { Running lanes first m old slots.old (rows_at (lanes + 1) lanes rows (drop start text.now)) }
     ensures row_le_row { (old.row ≤ result.row) × (result.row ≤ first + rows) }
     ensures counted { (q : Rest) (done : List (List Row)) → Counted lanes (counting_of q m old) done (take (old.row - first) (rows_at (lanes + 1) lanes rows (drop start text.now))) → Counted lanes (counting_of q m result) done (take (result.row - first) (rows_at (lanes + 1) lanes rows (drop start text.now))) }
@@ -56,7 +55,7 @@ pub fn walk_taps(
         let end = at + lanes;
         match taps::free_taps(&text[at..end], m.busy) {
             Taps::Mask(mask) => {
-                r = add_taps(r, mask, taps::is_wide(lanes), slots, counts);
+                r = add_taps(r, mask, slots, table);
             }
             Taps::Other => {
                 return r;

@@ -18,7 +18,7 @@ use Rattle.definitions.specs.declared.Cell.{Cell}
 use Rattle.definitions.specs.declared.Cell.TheVariants.{Empty, Tap}
 use Rattle.definitions.specs.Tally.{row_sum, row_sum_by, count_from, direction}
 use Rattle.definitions.specs.declared.RowSum.{RowSum}
-use Rattle.taps.specs.Taps.{Small, with_bit, tap_mask, has_mask, mask_of_line, wide_row, Fits, bit, towards, mask_counts, unpack}
+use Rattle.taps.specs.Taps.{Small, with_bit, tap_mask, has_mask, mask_of_line, wide_row, bit, towards, mask_counts, unpack}
 use Rattle.taps.specs.declared.Taps.{Taps}
 use Rattle.taps.specs.declared.Taps.TheVariants.{Mask, Other}
 
@@ -297,20 +297,11 @@ module _ (r : Row) where
     pub tap-line-sum : row_sum r ≡ unpack (mask_counts m)
     tap-line-sum = tap-row-sum r m line-width.1 line-taps
 
-    -- the table has the masks of rows of four and eight
-    pub line-fits : Fits (wide_row (length r)) m
-    line-fits = (mask-few 10 r m line-width.1 line-taps, λ w. mask-few 8 r m (short w) line-taps)
-      where
-        short : wide_row (length r) ≡ false → length r ≤ 8
-        short w = go (eqb (length r) 4) (eqb (length r) 8) (eqb-true (length r) 4) (eqb-true (length r) 8) w
-          where
-            go : (p q : Bool) → (p ≡ true → length r ≡ 4) → (q ≡ true → length r ≡ 8) → not (p || q) ≡ false → length r ≤ 8
-            go true q a b f = omega (arith, a refl)
-            go false true a b f = omega (arith, b refl)
-            go false false a b f = let z : ◌≡◌ {A = ℕ} 0 1 = cc in absurd (omega arith)
+    pub line-below : m < 2 ^ length r
+    line-below = mask_lt r m line-taps
 
-pub fits-at : (r : Row) (m L : ℕ) → length r ≡ L → mask_of_line r ≡ Mask m → Fits (wide_row L) m
-fits-at r m L h e = subst (λ n. Fits (wide_row n) m) h (line-fits r m e)
+pub below-at : (r : Row) (m L : ℕ) → length r ≡ L → mask_of_line r ≡ Mask m → m < 2 ^ L
+below-at r m L h e = subst (λ n. m < 2 ^ n) h (line-below r m e)
 
 -- ---- Two rows of taps, one after the other
 abbrev pub beside : ℕ → Taps → Taps → Taps
@@ -372,7 +363,7 @@ pub mask-small : (r : Row) → length r ≤ 10 → Small (tap_mask r)
 mask-small r h m e = omega (arith, mask-few 10 r m h e)
 
 pub line_small : (r : Row) → Small (mask_of_line r)
-line_small r m e = omega (arith, (line-fits r m e).0)
+line_small r m e = omega (arith, mask-few 10 r m (line-width r m e).1 (line-taps r m e))
 
 -- a mask of up to ten columns, and of up to eight where the table has it whole
 pub mask-below : (L m : ℕ) → L ≤ 10 → m < 2 ^ L → m < 1024

@@ -42,10 +42,6 @@ mask_of_line r = cond (has_mask (length r)) (tap_mask r) Other
 abbrev pub wide_row : ℕ → Bool
 wide_row n = not (eqb n 4 || eqb n 8)
 
--- A mask of up to ten columns, and of up to eight where the table is used.
-abbrev pub Fits : Bool → ℕ → Type 0
-Fits wide m = (m < 1024) × (wide ≡ false → m < 256)
-
 -- n cells `0`
 abbrev pub zero_cells : ℕ → Row
 zero_cells n = replicate n 48
@@ -101,12 +97,7 @@ mask_counts m =
     sum_columns 10 (λ c. bit c m)
     + (2 ^ 4 * towards 0 m + 2 ^ 6 * towards 1 m + 2 ^ 8 * towards 2 m + 2 ^ 10 * towards 3 m)
 
--- a list that has each mask's counts at its number; for wide rows those of the first five columns, and from 32 on those of the next five
-abbrev pub TapCounts : Bool → List ℕ → Type 0
-TapCounts false l = (m : ℕ) → m < 256 → get_or l m 0 ≡ mask_counts m
-TapCounts true l = (m : ℕ) → m < 32 → (get_or l m 0 ≡ mask_counts m) × (get_or l (32 + m) 0 ≡ mask_counts (32 * m))
-
--- a mask's counts by such a list
+-- A mask's counts by a list: its entry, or for wide rows those of its first five columns and, from 32 on, of its next five.
 abbrev pub counts_in : Bool → List ℕ → ℕ → ℕ
 counts_in wide l m = if wide then slice_index l (m % 32) + slice_index l (32 + m / 32) else slice_index l m
 

@@ -1,4 +1,4 @@
-// Rows of taps alone: their masks, the table of what a mask counts, and which of ten columns differ from a number.
+// Rows of taps alone: their masks, the table of what a mask counts (`table`), and which of ten columns differ from a number.
 #![tactic(auto)]
 
 mod counts;
@@ -8,12 +8,9 @@ mod table;
 ghost use Rattle.std.specs.Prelude.{◌≡◌, ◌++◌, ℕ, ◌+◌, ◌*◌, ◌≤◌, ◌<◌, length, get_or, take, drop};
 ghost use Rattle.definitions.specs.Lines.{Row};
 ghost use Rattle.lines.specs.Words.{half_word_at, word_of, Bytes};
-ghost use Rattle.taps.specs.Taps.{number_of, Small, Tells, BitsPlaced, tap_mask, mask_of_line, taps_if_free, spread, zero_cells, unlike_mask, wide_row, Fits, mask_counts, TapCounts, unpack};
+ghost use Rattle.taps.specs.Taps.{number_of, Small, Tells, BitsPlaced, tap_mask, mask_of_line, taps_if_free, spread, zero_cells, unlike_mask};
 ghost use Rattle.taps.specs.declared.Taps;
 
-use counts::TAP_MASK_COUNTS;
-use definitions::RowSum;
-use five_counts::FIVE_COUNTS;
 use lines::words;
 pub use table::TapTable;
 
@@ -22,13 +19,6 @@ pub use table::TapTable;
 pub enum Taps {
     Mask(u16),
     Other,
-}
-
-// A u8 as a u64.
-fn wide(x: u8) -> u64
-    ensures { (result ≡ x) × (result < 256) }
-{
-    x as u64
 }
 
 // Eight bits beside each other, out of four bytes with one of the first four in their lowest bit and one of the last four in their fifth: the
@@ -91,7 +81,7 @@ fn number5(row: &[u8], four: u32) -> u32
     requires { (length row.now ≡ 5) × (four ≡ number_of (tap_mask (take 4 row.now))) }
     ensures { Tells result (tap_mask row.now) }
 {
-    with_rest(four, wide(row[4]), 0x30, 16, 0x10)
+    with_rest(four, u64::from(row[4]), 0x30, 16, 0x10)
 }
 
 // The mask of ten cells, by that of the first eight.
@@ -102,7 +92,7 @@ fn number10(row: &[u8]) -> u32
     let eight = number8(row);
     with_rest(
         eight,
-        wide(row[8]) + wide(row[9]) * 0x100,
+        u64::from(row[8]) + u64::from(row[9]) * 0x100,
         0x3030,
         0x102,
         0x300,
@@ -191,55 +181,4 @@ pub fn unlike(numbers: &[u32; 10], n: u32) -> u32
         }
     }
     mask
-}
-
-// Whether rows of so many cells are counted without `TAP_MASK_COUNTS`: "Only 4 and 8 lanes use it."
-pub fn is_wide(columns: usize) -> bool
-    ensures { result ≡ wide_row columns }
-{
-    (columns != 4) & (columns != 8)
-}
-
-// The table for rows of so many cells, to be lent: a look into a constant itself would write out all its entries each time.
-pub fn tap_mask_counts(columns: usize) -> [u16; 256]
-    ensures { TapCounts (wide_row columns) result }
-{
-    if is_wide(columns) {
-        FIVE_COUNTS
-    } else {
-        TAP_MASK_COUNTS
-    }
-}
-
-// A mask's counts: the table's entry, or the sum of two where the table is of five columns and five.
-fn tap_counts(mask: u16, wide: bool, counts: &[u16; 256]) -> u16
-    requires { TapCounts wide counts.now × Fits wide mask }
-    ensures { result ≡ mask_counts mask }
-{
-    let m = mask as usize;
-    if wide {
-        return counts[m % 32] + counts[32 + m / 32];
-    }
-    counts[m]
-}
-
-// What a row of taps alone adds up to.
-pub fn tap_sum(mask: u16, wide: bool, counts: &[u16; 256]) -> RowSum
-    requires { TapCounts wide counts.now × Fits wide mask }
-    ensures { result ≡ unpack (mask_counts mask) }
-{
-    let n = tap_counts(mask, wide, counts) as u32;
-    RowSum {
-        arrows: n & 15,
-        left: (n >> 4) & 3,
-        down: (n >> 6) & 3,
-        up: (n >> 8) & 3,
-        right: (n >> 10) & 3,
-        holds: 0,
-        rolls: 0,
-        tails: 0,
-        mines: 0,
-        lifts: 0,
-        fakes: 0,
-    }
 }

@@ -5,6 +5,13 @@ use crate::counts::TAP_MASK_COUNTS;
 use crate::five_counts::FIVE_COUNTS;
 use definitions::{Lanes, RowSum};
 
+// Whether rows of so many cells are counted without `TAP_MASK_COUNTS`: "Only 4 and 8 lanes use it."
+fn is_wide(columns: usize) -> bool
+    ensures { result ≡ wide_row columns }
+{
+    (columns != 4) & (columns != 8)
+}
+
 /// What each mask of taps counts up to at a lane count. A pass makes one for its text and lends it: a look into a constant itself
 /// would write out all its entries each time.
 #[derive(Drop)]
@@ -17,11 +24,11 @@ pub struct TapTable {
 }
 
 impl TapTable {
-    /// "Only 4 and 8 lanes use it": rows of other widths have the table of five columns and five.
+    /// `TAP_MASK_COUNTS`, or for wide rows the table of five columns and five.
     pub fn for_lanes(lanes: Lanes) -> TapTable
-        ensures { result.lanes ≡ lanes }
+        ensures { result.lanes.count ≡ lanes.count }
     {
-        if crate::is_wide(lanes.count) {
+        if is_wide(lanes.count) {
             return TapTable {
                 lanes,
                 wide: true,

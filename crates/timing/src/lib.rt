@@ -15,7 +15,7 @@ ghost use Rattle.definitions.specs.TimingRows.{has_some_head, timing_rows};
 ghost use Rattle.definitions.specs.Entries.{figures_of_timing, timing_answer, timing_text, timing_beats};
 ghost use Rattle.timing.specs.TimingPass.{Timed, SomeTimed, TimedAll};
 
-use definitions::{Refusal, TimingFigures};
+use definitions::{Lanes, Refusal, TimingFigures};
 use reader::charts::ChartLine;
 
 // Where the open measure begins, how many bytes are written, the rows of the measures that have ended, those of the open one and its number,
@@ -87,10 +87,10 @@ fn pass_row(p: TimingPass, text: &mut [u8], row: &[u8]) -> TimingPass
 }
 
 // The open measure ends: its rows are minimised in place, and the beats of those that are kept are written.
-fn finish_timing_rows(p: TimingPass, text: &mut [u8], beats: &mut [f32], lanes: usize) -> TimingPass
-    requires lanes_nonzero { (0 < lanes) × (p.out ≤ length text.old) × (p.rows < row_count_bound) × (p.midx ≤ measures_bound) × SomeTimed lanes p text.old beats.old }
+fn finish_timing_rows(p: TimingPass, text: &mut [u8], beats: &mut [f32], lanes: Lanes) -> TimingPass
+    requires room { (p.out ≤ length text.old) × (p.rows < row_count_bound) × (p.midx ≤ measures_bound) × SomeTimed lanes.count p text.old beats.old }
     requires rows_in_bounds { p.kept + p.rows ≤ length beats.old }
-    ensures timed { (done : List (List Row)) (cur : List Row) → Timed lanes p text.old beats.old done cur → Timed lanes result text.new beats.new (done ++ (reduce cur ∷ [])) [] }
+    ensures timed { (done : List (List Row)) (cur : List Row) → Timed lanes.count p text.old beats.old done cur → Timed lanes.count result text.new beats.new (done ++ (reduce cur ∷ [])) [] }
     ensures out_le_out { (result.out ≤ p.out) × (result.kept ≤ p.kept + p.rows) }
 {
     let start = p.start;
@@ -98,7 +98,7 @@ fn finish_timing_rows(p: TimingPass, text: &mut [u8], beats: &mut [f32], lanes: 
     let at = p.kept;
     let midx = p.midx;
     let kept = reduction::reduce_rows(text, start, rows, lanes);
-    let end = start + kept * lanes;
+    let end = start + kept * lanes.count;
     beats::append_row_beats(beats, at, midx, kept as u32);
     let found = has_head(&text[start..end]);
     TimingPass {
@@ -112,10 +112,10 @@ fn finish_timing_rows(p: TimingPass, text: &mut [u8], beats: &mut [f32], lanes: 
 }
 
 // The whole text, its last measure too.
-fn pass_chart(data: &[u8], lanes: usize, text: &mut [u8], beats: &mut [f32]) -> TimingPass
-    requires le_lanes { (4 ≤ lanes) × (length «data».now ≤ most_bytes) × (lanes ≤ 10) }
-    requires data_in_bounds { (length «data».now + 1 ≤ length text.old) × (most_rows_in lanes (length «data».now) ≤ length beats.old) }
-    ensures { TimedAll lanes «data».now result text.new beats.new }
+fn pass_chart(data: &[u8], lanes: Lanes, text: &mut [u8], beats: &mut [f32]) -> TimingPass
+    requires accepted { length «data».now ≤ most_bytes }
+    requires data_in_bounds { (length «data».now + 1 ≤ length text.old) × (most_rows_in lanes.count (length «data».now) ≤ length beats.old) }
+    ensures { TimedAll lanes.count «data».now result text.new beats.new }
 {
     let mut p = no_pass();
     for line in reader::charts::chart_lines(data, lanes) {
@@ -132,12 +132,12 @@ fn pass_chart(data: &[u8], lanes: usize, text: &mut [u8], beats: &mut [f32]) -> 
 }
 
 // The call where it is accepted: the pass, and zeros past each answer.
-fn timing_figures(data: &[u8], lanes: usize, text: &mut [u8], beats: &mut [f32]) -> TimingFigures
-    requires le_lanes { (4 ≤ lanes) × (length «data».now ≤ most_bytes) × (lanes ≤ 10) }
-    requires data_in_bounds { (length «data».now + 1 ≤ length text.old) × (most_rows_in lanes (length «data».now) ≤ length beats.old) }
-    ensures value { result ≡ figures_of_timing lanes «data».now }
-    ensures text_after { text.new ≡ padded 0 (length text.old) (timing_rows lanes «data».now) }
-    ensures beats_after { beats.new ≡ padded (f32 0) (length beats.old) (beats_of lanes «data».now) }
+fn timing_figures(data: &[u8], lanes: Lanes, text: &mut [u8], beats: &mut [f32]) -> TimingFigures
+    requires accepted { length «data».now ≤ most_bytes }
+    requires data_in_bounds { (length «data».now + 1 ≤ length text.old) × (most_rows_in lanes.count (length «data».now) ≤ length beats.old) }
+    ensures value { result ≡ figures_of_timing lanes.count «data».now }
+    ensures text_after { text.new ≡ padded 0 (length text.old) (timing_rows lanes.count «data».now) }
+    ensures beats_after { beats.new ≡ padded (f32 0) (length beats.old) (beats_of lanes.count «data».now) }
 {
     let p = pass_chart(data, lanes, text, beats);
     let bytes = p.out;
@@ -166,7 +166,7 @@ pub fn minimize_timing_rows(
     let len = data.len();
     refusals::text_fits(len)?;
     refusals::room_for_text(len, text.len())?;
-    let columns = reader::lanes_of(lanes);
+    let columns = Lanes::in_force(lanes);
     refusals::room_for_beats(columns, len, beats.len())?;
     Ok(timing_figures(data, columns, text, beats))
 }

@@ -32,7 +32,7 @@ gathered : (c : After-sheet_answers-figures) → Gathered
     c.sheet_answers-figures.result
 gathered c =
     let text = c.args.data.now in
-    let l = c.lanes_of-columns.ensures.value in
+    let l = c.in_force-columns.ensures in
     let x = c.sheet_answers-figures in
     record {
       short = c.requires.data_len_bound;
@@ -47,7 +47,7 @@ gathered c =
 
 pub sheet_answers-figures-requires : goal.sheet_answers-figures-requires
 sheet_answers-figures-requires c =
-    let l = c.lanes_of-columns.ensures.value in
+    let l = c.in_force-columns.ensures in
     let rows = ap (λ (L : ℕ). most_rows_in L (length c.args.data.now)) l in
     let bytes = ap (λ (L : ℕ). 10 * L * most_rows_in L (length c.args.data.now)) l in
     record {

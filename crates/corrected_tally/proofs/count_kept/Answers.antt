@@ -1,6 +1,6 @@
 -- `corrected_tally::count_kept` meets its contract. The loop's invariant: the tally is that of the rows that have come, with only their paired heads.
 use Prim.Native.Nat.{◌*◌, ◌≤◌}
-use mathlib.Core.Path.{◌∙◌}
+use mathlib.Core.Path.{sym, ◌∙◌}
 use native.Mathlib.Omega.{arith}
 use Rattle.definitions.specs.Sizes.{count_bound}
 use Rattle.row_tally.proofs.Bounds.{below_more}
@@ -29,7 +29,7 @@ count_row-stats-requires c =
     let x = come (goal.at.count_row-stats-requires c).At-loop-cells in
     let wide = next-wide _ _ _ _ _ x _ _ c.in-Some.ensures.steps in
     let small : 10 * c.loop-cells.i ≤ count_bound = omega (arith, c.loop-cells.invariant.size, x.few, c.requires.0.short) in
-    (omega (arith, c.requires.0.most, wide), rw wide c.tap_mask_counts-counts.ensures, below_more _ _ _ small c.loop-cells.invariant.low)
+    (omega (arith, c.requires.0.most, wide), c.for_lanes-table.ensures ∙ sym wide, below_more _ _ _ small c.loop-cells.invariant.low)
 
 pub overflow_add-i : goal.overflow_add-i
 overflow_add-i c = omega (arith, c.loop-cells.invariant.size, (come (goal.at.overflow_add-i c).At-loop-cells).few, c.requires.0.short)

@@ -10,7 +10,7 @@ use Rattle.definitions.specs.Lines.{Row}
 use Rattle.definitions.specs.Sizes.{count_bound}
 use Rattle.definitions.specs.ReadBack.{rows_read_back}
 use Rattle.taps.proofs.Free.{free-told}
-use Rattle.taps.proofs.Masks.{fits-at}
+use Rattle.taps.proofs.Masks.{below-at}
 use Rattle.reader.proofs.BackReading.{back-trimmed}
 use Rattle.reader.proofs.BackLoops.{BackCome, came, came-more, back-come, next-inside, next-here, next-wide, all-came, short-back}
 use Rattle.judged.proofs.Tallying.{tallying-start, tallying-few, tallying-enough, tallying-row, tallying-taps, tallying-end}
@@ -63,10 +63,9 @@ pub process_timing_taps-t-requires : goal.process_timing_taps-t-requires
 process_timing_taps-t-requires c =
     let k = tallying-few _ _ _ _ _ _ (c.loop-cells.invariant _ c.requires.some_work_entries.timed) (few (goal.at.process_timing_taps-t-requires c).At-loop-cells) c.requires.data_len_bound.2 (short-back _ _) in
     let long = (row-here (goal.at.process_timing_taps-t-requires c).In-Some).wide in (
-      rw c.is_wide.ensures c.tap_mask_counts-counts.ensures,
+      rw c.for_lanes-table.ensures (below-at _ _ _ long (free-told c.free_taps.ensures c.in-Mask.is).mask),
       k.0,
       k.1,
-      rw c.is_wide.ensures (fits-at _ _ _ long (free-told c.free_taps.ensures c.in-Mask.is).mask),
     )
 
 pub process_timing_row-t-requires : goal.process_timing_row-t-requires

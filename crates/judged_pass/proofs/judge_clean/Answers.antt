@@ -22,7 +22,7 @@ pub count_row-t-requires : goal.count_row-t-requires
 count_row-t-requires c =
     let x = come (goal.at.count_row-t-requires c).At-loop-row in
     let wide = next-wide _ _ _ _ _ x _ _ c.in-Some.ensures.steps in
-    (omega (arith, wide), rw wide c.tap_mask_counts-counts.ensures, c.loop-row.invariant.ready, passes-few _ _ _ _ c.loop-row.invariant (omega (arith, x.few)))
+    (omega (arith, wide), c.for_lanes-table.ensures ∙ sym wide, c.loop-row.invariant.ready, passes-few _ _ _ _ c.loop-row.invariant (omega (arith, x.few)))
 
 pub returns-then-not-clean : goal.returns-then-not-clean
 returns-then-not-clean c =

@@ -7,12 +7,12 @@ use Rattle.last_beat.proofs.Looking.{looked-last}
 use Rattle.last_beat.proofs.scan_last.Goals.{At-loop-line}
 use Rattle.last_beat.proofs.scan_last.Goals as goal
 
-come : (c : At-loop-line) → Come c.args.lanes c.args.«data».now c.loop-line.yielded c.loop-line.line-iterator
+come : (c : At-loop-line) → Come c.args.lanes.count c.args.«data».now c.loop-line.yielded c.loop-line.line-iterator
 come c =
-    record { lanes = c.requires.1; start = _; from = c.into_iter-line-iterator.ensures.into_iter_gives ∙ c.chart_lines-line-items.ensures; by = c.loop-line.yielded_by }
+    record { lanes = c.args.lanes.within.0; start = _; from = c.into_iter-line-iterator.ensures.into_iter_gives ∙ c.chart_lines-line-items.ensures; by = c.loop-line.yielded_by }
 
 pub loop-line-init : goal.loop-line-init
-loop-line-init c = holds-start _ _ c.requires.1 c.no_last-s.ensures
+loop-line-init c = holds-start _ _ c.args.lanes.within.0 c.no_last-s.ensures
 
 pub last_row-s-requires : goal.last_row-s-requires
 last_row-s-requires c =

@@ -2,7 +2,7 @@
 use mathlib.Core.Path.{sym, subst}
 use native.Mathlib.Omega.{arith}
 use lib.ListN.{take}
-use Rattle.taps.proofs.Masks.{fits-at}
+use Rattle.taps.proofs.Masks.{below-at}
 use Rattle.taps.proofs.Free.{free-told}
 use Rattle.reduction.proofs.RowsAt.{rows-length}
 use Rattle.reduction.proofs.Powers.{next-at}
@@ -22,8 +22,7 @@ count_taps-c-requires c =
     let wide = row-wide a.lanes a.rows a.text.now a.start c.requires.lanes_bound.1 c.loop-i.i c.loop-i.at c.loop-i-test.true c.loop-i.invariant.2 in (
       omega (arith, grown, c.requires.first_bound.0, c.loop-i.invariant.0, c.loop-i-test.true),
       x.few,
-      rw c.is_wide.ensures c.requires.lanes_bound.3,
-      rw c.is_wide.ensures (fits-at _ _ _ wide free.mask),
+      rw c.requires.lanes_bound.3 (below-at _ _ _ wide free.mask),
     )
 
 pub loop-i-preserved : goal.loop-i-preserved

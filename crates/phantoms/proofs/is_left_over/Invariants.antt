@@ -7,7 +7,7 @@ use Rattle.phantoms.specs.Phantoms.{phantom_at}
 use Rattle.phantoms.proofs.is_left_over.Given as goal
 
 abbrev pub invariant-loop-i : goal.invariant-loop-i
-invariant-loop-i l = (l.i ≤ l.lanes) × (l.left ≡ some_column l.i (λ c. ltb 0 (phantom_at l.p c)))
+invariant-loop-i l = (l.i ≤ l.lanes.count) × (l.left ≡ some_column l.i (λ c. ltb 0 (phantom_at l.p c)))
 
 abbrev pub decreases-loop-i : goal.decreases-loop-i
-decreases-loop-i l = l.lanes - l.i
+decreases-loop-i l = l.lanes.count - l.i

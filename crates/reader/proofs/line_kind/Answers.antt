@@ -1,4 +1,5 @@
 -- `reader::line_kind` meets its contract, arm by arm. Assumes nothing.
+use borrow.Author.Rules.{rules}
 use Prim.Native.Nat.{ℕ}
 use mathlib.Core.Path.{◌≡◌, sym, ap, ◌∙◌}
 use borrow.Author.Tests.{ne_eqb}
@@ -11,34 +12,34 @@ use Rattle.reader.proofs.line_kind.Goals as goal
 first : (c : goal.In-47)
     → kind_of c.args.lanes c.args.line.now
     ≡ kind_by (get_or c.args.line.now 0 0) (is_row_line c.args.lanes c.args.line.now)
-first c = kind-first _ _ c.if-line-eq0.false
+first c = kind-first _ _ (search rules)
 
 -- `reader::line_kind` meets its contract, arm by arm. Assumes nothing.
 first-2 : (c : goal.In-44)
     → kind_of c.args.lanes c.args.line.now
     ≡ kind_by (get_or c.args.line.now 0 0) (is_row_line c.args.lanes c.args.line.now)
-first-2 c = kind-first _ _ c.if-line-eq0.false
+first-2 c = kind-first _ _ (search rules)
 
 -- `reader::line_kind` meets its contract, arm by arm. Assumes nothing.
 first-3 : (c : goal.In-59)
     → kind_of c.args.lanes c.args.line.now
     ≡ kind_by (get_or c.args.line.now 0 0) (is_row_line c.args.lanes c.args.line.now)
-first-3 c = kind-first _ _ c.if-line-eq0.false
+first-3 c = kind-first _ _ (search rules)
 
 -- `reader::line_kind` meets its contract, arm by arm. Assumes nothing.
 first-4 : (c : goal.Then-is_row)
     → kind_of c.args.lanes c.args.line.now
     ≡ kind_by (get_or c.args.line.now 0 0) (is_row_line c.args.lanes c.args.line.now)
-first-4 c = kind-first _ _ c.if-line-eq0.false
+first-4 c = kind-first _ _ (search rules)
 
 -- `reader::line_kind` meets its contract, arm by arm. Assumes nothing.
 first-5 : (c : goal.Else-is_row)
     → kind_of c.args.lanes c.args.line.now
     ≡ kind_by (get_or c.args.line.now 0 0) (is_row_line c.args.lanes c.args.line.now)
-first-5 c = kind-first _ _ c.if-line-eq0.false
+first-5 c = kind-first _ _ (search rules)
 
-pub returns-then-line-eq0 : goal.returns-then-line-eq0
-returns-then-line-eq0 c = sym (kind-none _ _ c.if-line-eq0.true)
+pub returns-then-is_empty : goal.returns-then-is_empty
+returns-then-is_empty c = sym (kind-none _ _ (search rules))
 
 pub returns-in-47 : goal.returns-in-47
 returns-in-47 c =

@@ -3,4 +3,4 @@ use Rattle.reduction.proofs.Forms.{back-to-back, form-reduced}
 use Rattle.reduction.proofs.reduce_rows.Goals as goal
 
 pub returns : goal.returns
-returns c rs h = form-reduced (back-to-back c.args.lanes) h (c.reduce_measure.ensures.value, c.reduce_measure.ensures.text_after)
+returns c rs h = form-reduced (back-to-back c.args.lanes.count) h (c.reduce_measure.ensures.value, c.reduce_measure.ensures.text_after)

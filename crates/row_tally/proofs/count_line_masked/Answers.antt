@@ -10,8 +10,8 @@ pub add_row_lent-requires : goal.add_row_lent-requires
 unfolding row_sum
 add_row_lent-requires c =
     let kept = row_by_mask c.args.heads 0 c.args.row.now in
-    (c.requires.1, rw c.kept_sum-s.ensures (under-row 10 kept (rw keep-length c.requires.0)))
+    (c.requires.1, rw c.kept_sum.ensures (under-row 10 kept (rw keep-length c.requires.0)))
 
 pub returns : goal.returns
 unfolding row_sum
-returns c = c.add_row_lent.ensures ∙ rw c.kept_sum-s.ensures
+returns c = c.add_row_lent.ensures ∙ rw c.kept_sum.ensures

@@ -12,12 +12,12 @@ use Rattle.spacing.proofs.Spaces.{spaced_in, spacings-raw, spaces-few}
 use Rattle.spacing.proofs.fill_spacing.Goals.{At-loop-line}
 use Rattle.spacing.proofs.fill_spacing.Goals as goal
 
-come : (c : At-loop-line) → Come c.args.lanes c.args.«data».now c.loop-line.yielded c.loop-line.line-iterator
+come : (c : At-loop-line) → Come c.args.lanes.count c.args.«data».now c.loop-line.yielded c.loop-line.line-iterator
 come c =
-    record { lanes = c.requires.le_lanes.0; start = _; from = c.into_iter-line-iterator.ensures.into_iter_gives ∙ c.chart_lines-line-items.ensures; by = c.loop-line.yielded_by }
+    record { lanes = c.args.lanes.within.0; start = _; from = c.into_iter-line-iterator.ensures.into_iter_gives ∙ c.chart_lines-line-items.ensures; by = c.loop-line.yielded_by }
 
 pub loop-line-init : goal.loop-line-init
-loop-line-init c = holds-start _ _ c.requires.le_lanes.0 (filling-start spaced_in (Spaces _) _ c.no_spacing-s.ensures)
+loop-line-init c = holds-start _ _ c.args.lanes.within.0 (filling-start spaced_in (Spaces _) _ c.no_spacing-s.ensures)
 
 -- the open measure's rows are few enough for their counts
 pub spacing_row-s-requires : goal.spacing_row-s-requires
@@ -41,11 +41,11 @@ loop-line-preserved c =
 
 pub returns : goal.returns
 returns c =
-    let last : Filled spaced_in c.args.lanes c.args.«data».now c.loop-line.m c.is_spaced-2.result c.loop-line.spacing
+    let last : Filled spaced_in c.args.lanes.count c.args.«data».now c.loop-line.m c.is_spaced-2.result c.loop-line.spacing
     = filling-over spaced_in (Spaces _) _ _ _ _ _ c.is_spaced-2.ensures
     (holds-over _ _ (come (goal.at.returns c).At-loop-line) _ _ c.next.ensures.steps c.in-None.is c.loop-line.invariant) in
     let room : c.loop-line.m < length c.loop-line.spacing = omega (arith, last.room) in
-    let raw = spacings-raw c.args.lanes c.args.«data».now in
+    let raw = spacings-raw c.args.lanes.count c.args.«data».now in
     record {
       value = filled-count spaced_in _ _ _ _ _ room last ∙ sym (ap length raw);
       spacing_after = c.zero_past.ensures ∙ filled-slice spaced_in _ _ _ _ _ room last _ c.loop-line.auto.spacing ∙ ap (padded 0 (length c.args.spacing.now)) (sym raw);

@@ -7,7 +7,7 @@ use native.Mathlib.Omega.{arith}
 use lib.ListN.{length, take}
 use Rattle.definitions.specs.Sizes.{row_count_bound}
 use Rattle.definitions.specs.Lines.{Row}
-use Rattle.taps.proofs.Masks.{fits-at}
+use Rattle.taps.proofs.Masks.{below-at}
 use Rattle.taps.proofs.Free.{free-told}
 use Rattle.reduction.proofs.RowsAt.{rows-length}
 use Rattle.reduction.proofs.Powers.{next-at}
@@ -66,25 +66,23 @@ add_taps-r-requires c =
     let k = (goal.at.add_taps-r-requires c).In-Mask in
     let counted = count-few _ _ _ _ _ _ (walked k) (within k) in
     let noted = note-ready _ _ _ _ _ _ (walked k) (within k) _ (wide k) c.requires.lanes_nonzero.1 in
-    let free = free-told c.free_taps.ensures c.in-Mask.is in (
-      record {
-        few = stats-few c.requires.running.rest c.args.m c.loop-r.r counted.0 counted.1;
-        rows = counted.0;
-        fits = rw c.is_wide.ensures (fits-at _ _ _ (wide k) free.mask);
-        some = record {
-          scratch = (noting_of c.args.first c.requires.running.rest c.args.m c.loop-r.r).scratch;
-          cells = part c.args.lanes c.args.text.now c.loop-r.at;
-          fits = record {
-            row = refl;
-            count = refl;
-            room = noted.room;
-            heads = record { busy = c.args.m.busy; mask = c.in-Mask.mask; taps = free; free = noted.free };
-            mask = free.mask;
-          };
+    let free = free-told c.free_taps.ensures c.in-Mask.is in
+    record {
+      few = stats-few c.requires.running.rest c.args.m c.loop-r.r counted.0 counted.1;
+      rows = counted.0;
+      fits = rw c.requires.lanes_nonzero.5 (below-at _ _ _ (wide k) free.mask);
+      some = record {
+        scratch = (noting_of c.args.first c.requires.running.rest c.args.m c.loop-r.r).scratch;
+        cells = part c.args.lanes c.args.text.now c.loop-r.at;
+        fits = record {
+          row = refl;
+          count = refl;
+          room = noted.room;
+          heads = record { busy = c.args.m.busy; mask = c.in-Mask.mask; taps = free; free = noted.free };
+          mask = free.mask;
         };
-      },
-      rw c.is_wide.ensures c.requires.lanes_nonzero.5,
-    )
+      };
+    }
 
 pub loop-r-preserved : goal.loop-r-preserved
 loop-r-preserved c =

@@ -12,7 +12,7 @@ use Rattle.taps.proofs.number10.Goals as goal
 pub with_rest-requires : goal.with_rest-requires
 with_rest-requires c =
     let h = number-le (tap_mask (take 8 c.args.row.now)) _ (mask-small (take 8 c.args.row.now) (omega (arith, length-take 8 c.args.row.now))) c.number8-eight.ensures in
-    (h, omega (arith, c.wide.ensures, c.wide-2.ensures), omega arith, omega arith)
+    (h, omega (arith, c.from.ensures, c.from-2.ensures), omega arith, omega arith)
 
 pub returns : goal.returns
 unfolding word_of
@@ -20,4 +20,4 @@ returns c =
     let bytes = bytes_of c.args.row.now (λ k. (c.type_inv.row k).fits) in
     rest_of c.args.row.now 8 2 c.requires (omega arith) 258 768 _ last-placed
     (λ few placed ez. c.with_rest.ensures (take 8 c.args.row.now) (drop 8 c.args.row.now) (bytes_drop 8 c.args.row.now bytes) few c.number8-eight.ensures
-    (omega (arith, c.wide.ensures.0, c.wide-2.ensures.0, two-word c.args.row.now 8 c.requires)) ez placed)
+    (omega (arith, c.from.ensures, c.from-2.ensures, two-word c.args.row.now 8 c.requires)) ez placed)

@@ -20,4 +20,4 @@ unfolding word_of
 returns c =
     let bytes = bytes_of c.args.row.now (λ k. (c.type_inv.row k).fits) in
     rest_of c.args.row.now 4 1 c.requires.0 (omega arith) 16 16 _ fifth-placed
-    (λ few placed ez. c.with_rest.ensures (take 4 c.args.row.now) (drop 4 c.args.row.now) (bytes_drop 4 c.args.row.now bytes) few c.requires.1 (c.wide.ensures.0 ∙ one_word c.args.row.now 4 c.requires.0) ez placed)
+    (λ few placed ez. c.with_rest.ensures (take 4 c.args.row.now) (drop 4 c.args.row.now) (bytes_drop 4 c.args.row.now bytes) few c.requires.1 (c.from.ensures ∙ one_word c.args.row.now 4 c.requires.0) ez placed)

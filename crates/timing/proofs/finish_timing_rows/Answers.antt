@@ -7,38 +7,38 @@ use Rattle.timing.proofs.finish_timing_rows.Goals as goal
 
 pub overflow_mul-end : goal.overflow_mul-end
 overflow_mul-end c =
-    let s = c.requires.lanes_nonzero in
-    omega (arith, (timed-few _ _ _ _ _ _ s.1 c.reduce_rows-kept.ensures s.4).1, s.1)
+    let s = c.requires.room in
+    omega (arith, (timed-few _ _ _ _ _ _ s.0 c.reduce_rows-kept.ensures s.3).1, s.0)
 
 pub overflow_add-end : goal.overflow_add-end
 overflow_add-end c =
-    let s = c.requires.lanes_nonzero in
-    omega (arith, (timed-few _ _ _ _ _ _ s.1 c.reduce_rows-kept.ensures s.4).1, s.1)
+    let s = c.requires.room in
+    omega (arith, (timed-few _ _ _ _ _ _ s.0 c.reduce_rows-kept.ensures s.3).1, s.0)
 
 pub overflow_cast-kept : goal.overflow_cast-kept
 overflow_cast-kept c =
-    let s = c.requires.lanes_nonzero in
-    omega (arith, (timed-few _ _ _ _ _ _ s.1 c.reduce_rows-kept.ensures s.4).0, s.2)
+    let s = c.requires.room in
+    omega (arith, (timed-few _ _ _ _ _ _ s.0 c.reduce_rows-kept.ensures s.3).0, s.1)
 
 pub append_row_beats-requires : goal.append_row_beats-requires
 append_row_beats-requires c =
-    let s = c.requires.lanes_nonzero in
-    let few = (timed-few _ _ _ _ _ _ s.1 c.reduce_rows-kept.ensures s.4).0 in
-    (omega (arith, few, c.requires.rows_in_bounds), omega (arith, few, s.2), s.3)
+    let s = c.requires.room in
+    let few = (timed-few _ _ _ _ _ _ s.0 c.reduce_rows-kept.ensures s.3).0 in
+    (omega (arith, few, c.requires.rows_in_bounds), omega (arith, few, s.1), s.2)
 
 pub slice_bounds-has_head-end : goal.slice_bounds-has_head-end
 slice_bounds-has_head-end c =
-    let s = c.requires.lanes_nonzero in
-    omega (arith, (timed-few _ _ _ _ _ _ s.1 c.reduce_rows-kept.ensures s.4).1, s.1)
+    let s = c.requires.room in
+    omega (arith, (timed-few _ _ _ _ _ _ s.0 c.reduce_rows-kept.ensures s.3).1, s.0)
 
 pub returns : goal.returns
 returns c =
-    let s = c.requires.lanes_nonzero in
-    let few = timed-few _ _ _ _ _ _ s.1 c.reduce_rows-kept.ensures s.4 in
-    let end : c.args.p.start + c.reduce_rows-kept.result * c.args.lanes ≤ length c.reduce_rows-kept.new.text = omega (arith, few.1, s.1) in
+    let s = c.requires.room in
+    let few = timed-few _ _ _ _ _ _ s.0 c.reduce_rows-kept.ensures s.3 in
+    let end : c.args.p.start + c.reduce_rows-kept.result * c.args.lanes.count ≤ length c.reduce_rows-kept.new.text = omega (arith, few.1, s.0) in
     let room : c.args.p.kept ≤ length c.args.beats.now = omega (arith, c.requires.rows_in_bounds) in
     record {
       timed =
-          λ done cur x. timed-measure _ _ _ _ _ _ s.1 c.reduce_rows-kept.ensures done cur x end room _ _ c.append_row_beats.ensures c.has_head-found.ensures;
+          λ done cur x. timed-measure _ _ _ _ _ _ s.0 c.reduce_rows-kept.ensures done cur x end room _ _ c.append_row_beats.ensures c.has_head-found.ensures;
       out_le_out = (few.1, omega (arith, few.0));
     }

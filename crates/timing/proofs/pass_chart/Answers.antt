@@ -9,16 +9,16 @@ use Rattle.timing.proofs.Keeping.{Small, timed-small, timed-more, timed-all}
 use Rattle.timing.proofs.pass_chart.Goals.{At-loop-line}
 use Rattle.timing.proofs.pass_chart.Goals as goal
 
-come : (c : At-loop-line) → Come c.args.lanes c.args.«data».now c.loop-line.yielded c.loop-line.line-iterator
+come : (c : At-loop-line) → Come c.args.lanes.count c.args.«data».now c.loop-line.yielded c.loop-line.line-iterator
 come c =
-    record { lanes = c.requires.le_lanes.0; start = _; from = c.into_iter-line-iterator.ensures.into_iter_gives ∙ c.chart_lines-line-items.ensures; by = c.loop-line.yielded_by }
+    record { lanes = c.args.lanes.within.0; start = _; from = c.into_iter-line-iterator.ensures.into_iter_gives ∙ c.chart_lines-line-items.ensures; by = c.loop-line.yielded_by }
 
-small : (c : At-loop-line) → Small c.args.lanes c.loop-line.p (length c.args.«data».now)
+small : (c : At-loop-line) → Small c.args.lanes.count c.loop-line.p (length c.args.«data».now)
 small c = timed-small _ _ _ _ _ _ _ c.loop-line.invariant.few c.loop-line.invariant.pass.held
 
 pub loop-line-init : goal.loop-line-init
 loop-line-init c =
-    minimising-start c.args.lanes c.args.«data».now c.requires.le_lanes.0 _ c.no_pass-p.ensures.1 (c.no_pass-p.ensures.0 c.args.lanes c.args.text.now c.args.beats.now)
+    minimising-start c.args.lanes.count c.args.«data».now c.args.lanes.within.0 _ c.no_pass-p.ensures.1 (c.no_pass-p.ensures.0 c.args.lanes.count c.args.text.now c.args.beats.now)
 
 pub pass_row-p-requires : goal.pass_row-p-requires
 pass_row-p-requires c =
@@ -32,7 +32,7 @@ pub finish_timing_rows-p-requires : goal.finish_timing_rows-p-requires
 finish_timing_rows-p-requires c =
     let w = small (goal.at.finish_timing_rows-p-requires c).At-loop-line in
     record {
-      lanes_nonzero = (omega arith, omega arith, omega arith, omega arith, record { done = _; cur = _; timed = c.loop-line.invariant.pass.held });
+      room = (omega arith, omega arith, omega arith, record { done = _; cur = _; timed = c.loop-line.invariant.pass.held });
       rows_in_bounds = omega arith;
     }
 
@@ -52,7 +52,7 @@ pub finish_timing_rows-requires : goal.finish_timing_rows-requires
 finish_timing_rows-requires c =
     let w = small (goal.at.finish_timing_rows-requires c).At-loop-line in
     record {
-      lanes_nonzero = (omega arith, omega arith, omega arith, omega arith, record { done = _; cur = _; timed = c.loop-line.invariant.pass.held });
+      room = (omega arith, omega arith, omega arith, record { done = _; cur = _; timed = c.loop-line.invariant.pass.held });
       rows_in_bounds = omega arith;
     }
 

@@ -13,12 +13,12 @@ use Rattle.scans.proofs.Steps.{Steps, steps-start, steps-more, steps-few}
 use Rattle.scans.proofs.densities.fill_densities.Goals.{At-loop-line}
 use Rattle.scans.proofs.densities.fill_densities.Goals as goal
 
-come : (c : At-loop-line) → Come c.args.lanes c.args.«data».now c.loop-line.yielded c.loop-line.line-iterator
+come : (c : At-loop-line) → Come c.args.lanes.count c.args.«data».now c.loop-line.yielded c.loop-line.line-iterator
 come c =
-    record { lanes = c.requires.le_lanes.0; start = _; from = c.into_iter-line-iterator.ensures.into_iter_gives ∙ c.chart_lines-line-items.ensures; by = c.loop-line.yielded_by }
+    record { lanes = c.args.lanes.within.0; start = _; from = c.into_iter-line-iterator.ensures.into_iter_gives ∙ c.chart_lines-line-items.ensures; by = c.loop-line.yielded_by }
 
 pub loop-line-init : goal.loop-line-init
-loop-line-init c = holds-start _ _ c.requires.le_lanes.0 (filling-start density (Steps 0) _ steps-start)
+loop-line-init c = holds-start _ _ c.args.lanes.within.0 (filling-start density (Steps 0) _ steps-start)
 
 -- the open measure's rows are few enough for their count
 pub overflow_add-steps : goal.overflow_add-steps
@@ -42,11 +42,11 @@ loop-line-preserved c =
 
 pub returns : goal.returns
 returns c =
-    let last : Filled density c.args.lanes c.args.«data».now c.loop-line.m c.loop-line.steps c.loop-line.densities =
+    let last : Filled density c.args.lanes.count c.args.«data».now c.loop-line.m c.loop-line.steps c.loop-line.densities =
     filling-over density (Steps _) _ _ _ _ _ (λ cur h. h)
     (holds-over _ _ (come (goal.at.returns c).At-loop-line) _ _ c.next.ensures.steps c.in-None.is c.loop-line.invariant) in
     let room : c.loop-line.m < length c.loop-line.densities = omega (arith, last.room) in
-    let raw = densities-raw c.args.lanes c.args.«data».now in record {
+    let raw = densities-raw c.args.lanes.count c.args.«data».now in record {
       value = filled-count density _ _ _ _ _ room last ∙ sym (ap length raw);
       densities_after =
           c.zero_past.ensures

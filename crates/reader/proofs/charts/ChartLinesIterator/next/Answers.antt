@@ -7,10 +7,12 @@ use Rattle.reader.proofs.charts.ChartLinesIterator.next.Goals as goal
 pub returns-then-is_near_row-clause-steps : goal.returns-then-is_near_row-clause-steps
 returns-then-is_near_row-clause-steps c =
     let i = c.self.invariant in
-    rw part-all (sym c.self.view_is ∙ marks-near _ _ _ i.2.0 i.0 (omega (arith, i)) (sym c.is_near_row.ensures ∙ c.if-is_near_row.true))
+    let w = c.self.inside.lanes.within in
+    rw part-all (sym c.self.view_is ∙ marks-near _ _ _ i.0 w.0 (omega (arith, w, i)) (sym c.is_near_row.ensures ∙ c.if-is_near_row.true))
 
 pub returns-then-is_near_row-clause-goes : goal.returns-then-is_near_row-clause-goes
 returns-then-is_near_row-clause-goes c =
     let i = c.self.invariant in
-    let shorter = ap length (sym c.self.view_is ∙ marks-near _ _ _ i.2.0 i.0 (omega (arith, i)) (sym c.is_near_row.ensures ∙ c.if-is_near_row.true)) in
+    let w = c.self.inside.lanes.within in
+    let shorter = ap length (sym c.self.view_is ∙ marks-near _ _ _ i.0 w.0 (omega (arith, w, i)) (sym c.is_near_row.ensures ∙ c.if-is_near_row.true)) in
     rw part-all (search rules)
