@@ -19,7 +19,7 @@ use Rattle.definitions.specs.declared.Tail.TheVariants.{Without, Row}
 use Rattle.definitions.specs.declared.Note.{Note}
 use Rattle.definitions.specs.declared.ArrowStats.{ArrowStats}
 use Rattle.definitions.specs.declared.ChartFigures.{ChartFigures}
-use Rattle.sheet.specs.Sheet.{field_at}
+use Rattle.sheet.specs.Sheet.{field_count, field_at}
 use Rattle.sheet.specs.declared.SheetFigures.{SheetFigures}
 use Rattle.sheet.proofs.Numbers.{number-length}
 use Rattle.sheet.proofs.Names.{field-name}
@@ -71,9 +71,9 @@ unfolding member
 member-length i name count h = rw length-append (omega (arith, separator-length i, named-length name count 12 h))
 
 members-length : (t : ArrowStats) → length (members t) ≤ 504
-unfolding members
+unfolding members field_count
 members-length t =
-    listed-most (λ (i : ℕ). member i (field_at t i).0 (field_at t i).1) 14 36 (λ i h. member-length i (field_at t i).0 (field_at t i).1 (field-name t i))
+    listed-most (λ (i : ℕ). member i (field_at t i).0 (field_at t i).1) field_count 36 (λ i h. member-length i (field_at t i).0 (field_at t i).1 (field-name t i))
 
 json-tallies : (f : SheetFigures) → length (json_tallies f) ≤ 1544
 unfolding json_tallies

@@ -16,7 +16,7 @@ use Rattle.definitions.specs.declared.Kind.{Kind}
 use Rattle.definitions.specs.declared.Tail.{Tail}
 use Rattle.definitions.specs.declared.Tail.TheVariants.{Without, Row}
 use Rattle.definitions.specs.declared.Note.{Note}
-use Rattle.sheet.specs.Sheet.{aligned, aligned_left, field_at}
+use Rattle.sheet.specs.Sheet.{aligned, aligned_left, field_count, field_at}
 use Rattle.sheet.proofs.Numbers.{number-length}
 use Rattle.sheet.proofs.Names.{field-name}
 use Rattle.sheet.specs.declared.SheetFigures.{SheetFigures}
@@ -61,10 +61,10 @@ unfolding line_of_tally
 tally-line name main kept judged h = rw length-append (omega (arith, name-columns name h, three-length main kept judged))
 
 tally-lines : (f : SheetFigures) → length (lines_of_tally f) ≤ 1400
-unfolding lines_of_tally
+unfolding lines_of_tally field_count
 tally-lines f =
     let t = f.chart.stats in
-    listed-most (λ (i : ℕ). line_of_tally (field_at t i).0 (field_at t i).1 (field_at f.kept.stats i).1 (field_at f.judged i).1) 14 100
+    listed-most (λ (i : ℕ). line_of_tally (field_at t i).0 (field_at t i).1 (field_at f.kept.stats i).1 (field_at f.judged i).1) field_count 100
     (λ i h. tally-line (field_at t i).0 (field_at t i).1 (field_at f.kept.stats i).1 (field_at f.judged i).1 (field-name t i))
 
 print-tallies : (f : SheetFigures) → length (print_tallies f) ≤ 1441

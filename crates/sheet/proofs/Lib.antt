@@ -4,3 +4,4 @@ pub mod Numbers
 pub mod Listing
 pub mod ExampleFigures
 pub mod Names
+pub mod Pages

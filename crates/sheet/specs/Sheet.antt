@@ -54,6 +54,10 @@ named_fields t =
     ∷ (codes "holding", t.holding)
     ∷ []
 
+-- how many they are
+unfoldable pub field_count : ℕ
+field_count = 14
+
 -- one of them
 abbrev pub field_at : ArrowStats → ℕ → List ℕ × ℕ
 field_at t i = get_or (named_fields t) i ([], 0)

@@ -5,6 +5,9 @@ ghost use Rattle.sheet.specs.Sheet.{named_fields};
 use definitions::ArrowStats;
 use std::marker::Model;
 
+// How many fields a tally has.
+pub const FIELD_COUNT: usize = 14;
+
 // A field of a tally: its name and its count.
 #[derive(Drop)]
 pub struct Field {
@@ -35,8 +38,8 @@ impl Field {
 }
 
 // One field of a tally.
-pub fn field_at(fields: &[Field; 14], i: usize) -> &Field
-    requires { i < 14 }
+pub fn field_at(fields: &[Field; FIELD_COUNT], i: usize) -> &Field
+    requires { i < FIELD_COUNT }
     ensures { result.now ≡ get_or fields.now i ([], 0) }
 {
     &fields[i]
@@ -44,7 +47,7 @@ pub fn field_at(fields: &[Field; 14], i: usize) -> &Field
 
 // The fields of a tally in their order.
 #[tactic(auto, unfolding(crate::specs::Sheet::named_fields))]
-pub fn fields_of(stats: &ArrowStats) -> [Field; 14]
+pub fn fields_of(stats: &ArrowStats) -> [Field; FIELD_COUNT]
     ensures { result ≡ named_fields stats.now }
 {
     [

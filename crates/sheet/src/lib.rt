@@ -10,7 +10,7 @@ mod fields;
 mod writing;
 
 use definitions::{ArrowStats, ChartFigures, KeptFigures, Note, Tail};
-pub use fields::{Field, field_at, fields_of};
+pub use fields::{FIELD_COUNT, Field, field_at, fields_of};
 use note_records::{kind_number, read_note};
 pub use writing::{Full, Page};
 

@@ -7,7 +7,7 @@ use Rattle.definitions.specs.declared.Note.{Note}
 use Rattle.definitions.specs.declared.Refusal.{Refusal}
 use Rattle.definitions.specs.declared.ArrowStats.{ArrowStats}
 use Rattle.definitions.specs.declared.ChartFigures.{ChartFigures}
-use Rattle.sheet.specs.Sheet.{number, number_field, listed, field_at}
+use Rattle.sheet.specs.Sheet.{number, number_field, listed, field_count, field_at}
 use Rattle.sheet.specs.declared.SheetFigures.{SheetFigures}
 
 -- between two entries
@@ -41,9 +41,9 @@ member i name count = separator i ++ named name count
 abbrev pub first_members : ArrowStats → ℕ → List ℕ
 first_members t n = listed (λ (i : ℕ). member i (field_at t i).0 (field_at t i).1) n
 
--- the fourteen fields
+-- all fields
 unfoldable pub members : ArrowStats → List ℕ
-members t = first_members t 14
+members t = first_members t field_count
 
 -- those of the three tallies, each after what stands before it
 unfoldable pub json_tallies : SheetFigures → List ℕ

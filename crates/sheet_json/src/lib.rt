@@ -8,7 +8,7 @@ ghost use Rattle.sheet_json.specs.Json.{separator, named, figure, last_beat_of, 
 
 use definitions::{ArrowStats, ChartFigures, Note, Tail};
 use note_records::{kind_number, read_note};
-use sheet::{Full, Page, SheetFigures, field_at, fields_of};
+use sheet::{FIELD_COUNT, Full, Page, SheetFigures, field_at, fields_of};
 
 // Between two entries.
 fn separator(page: &mut Page, k: usize) -> Result<(), Full>
@@ -77,12 +77,12 @@ fn member(page: &mut Page, i: usize, name: &str, count: u64) -> Result<(), Full>
     Ok(())
 }
 
-#[tactic(auto, unfolding(crate::specs::Json::members))]
+#[tactic(auto, unfolding(crate::specs::Json::members, sheet::specs::Sheet::field_count))]
 fn members(page: &mut Page, stats: &ArrowStats) -> Result<(), Full>
     ensures { Prints page.old (members stats.now) page.new result }
 {
     let fields = fields_of(stats);
-    for i in 0..14 {
+    for i in 0..FIELD_COUNT {
         let field = field_at(&fields, i);
         member(page, i, field.name(), field.count())?;
     }

@@ -7,7 +7,7 @@ use Rattle.definitions.specs.declared.Tail.TheVariants.{Without, Row}
 use Rattle.definitions.specs.declared.Note.{Note}
 use Rattle.definitions.specs.declared.Refusal.{Refusal}
 use Rattle.definitions.specs.declared.ChartFigures.{ChartFigures}
-use Rattle.sheet.specs.Sheet.{number, aligned, aligned_left, listed, field_at}
+use Rattle.sheet.specs.Sheet.{number, aligned, aligned_left, listed, field_count, field_at}
 use Rattle.sheet.specs.declared.SheetFigures.{SheetFigures}
 
 -- a name and a number in nine columns
@@ -44,9 +44,9 @@ first_fields f n =
 unfoldable pub head_of_tally : List ℕ
 head_of_tally = (10 ∷ []) ++ (codes "                 main     kept   judged" ++ (10 ∷ []))
 
--- the fourteen fields
+-- all fields
 unfoldable pub lines_of_tally : SheetFigures → List ℕ
-lines_of_tally f = first_fields f 14
+lines_of_tally f = first_fields f field_count
 
 unfoldable pub print_tallies : SheetFigures → List ℕ
 print_tallies f = head_of_tally ++ lines_of_tally f

@@ -8,7 +8,7 @@ ghost use Rattle.sheet_print.specs.Print.{line_of_count, three, line_of_last_bea
 
 use definitions::{ChartFigures, Kind, Note, Tail};
 use note_records::{kind_number, read_note};
-use sheet::{Full, Page, SheetFigures, field_at, fields_of};
+use sheet::{FIELD_COUNT, Full, Page, SheetFigures, field_at, fields_of};
 
 // A name and a number in nine columns.
 #[tactic(auto, unfolding(crate::specs::Print::line_of_count))]
@@ -68,14 +68,14 @@ fn tally_line(page: &mut Page, name: &str, main: u64, kept: u64, judged: u64) ->
     Ok(())
 }
 
-#[tactic(auto, unfolding(crate::specs::Print::lines_of_tally))]
+#[tactic(auto, unfolding(crate::specs::Print::lines_of_tally, sheet::specs::Sheet::field_count))]
 fn tally_lines(page: &mut Page, figures: &SheetFigures) -> Result<(), Full>
     ensures { Prints page.old (lines_of_tally figures.now) page.new result }
 {
     let main = fields_of(&figures.chart.stats);
     let kept = fields_of(&figures.kept.stats);
     let judged = fields_of(&figures.judged);
-    for i in 0..14 {
+    for i in 0..FIELD_COUNT {
         let field = field_at(&main, i);
         tally_line(
             page,
