@@ -1,7 +1,7 @@
 // A tally counted anew with only tracker-paired heads, over rows that are read back out of minimised text.
 #![tactic(auto)]
 
-ghost use Rattle.std.specs.Prelude.{◌≡◌, ℕ, ◌≤◌, length, get_or, replicate, List};
+ghost use Rattle.std.specs.Prelude.{◌≡◌, ℕ, ◌≤◌, length, slice_index, replicate, List};
 ghost use Rattle.definitions.specs.Sizes.{count_bound};
 ghost use Rattle.definitions.specs.Tally.{row_sum, tally_with_row, tally};
 ghost use Rattle.definitions.specs.Lines.{Row};
@@ -13,26 +13,19 @@ ghost use Rattle.reader.specs.BackReading.{rows_back};
 ghost use Rattle.corrected_tally.specs.Heads.{Room, Heads};
 
 use definitions::{ArrowStats, Lanes};
+use holds::{Tracker, entry};
 use phantoms::Phantoms;
 use taps::{TapTable, Taps};
 
-// Marks in each row's entry of the work slice, which is all 0, the heads that the tracker pairs. `busy` has the columns with an open head: a
-// row of taps in other columns leaves the tracker as it is.
+// Marks in each row's entry of the work slice, which is all 0, the heads that the tracker pairs.
 fn mark_heads(text: &[u8], lanes: usize, trim: bool, work: &mut [u16])
-    requires { Room trim lanes text.now work.old × ((i : ℕ) → get_or work.old i 0 ≡ 0) }
+    requires { Room trim lanes text.now work.old × ((i : ℕ) → slice_index work.old i ≡ 0) }
     ensures { Heads (rows_back trim lanes text.now) work.new }
 {
-    let mut t = holds::no_tracker();
-    let mut busy: u32 = 0;
+    let mut tracker = Tracker::new();
     let mut row: u32 = 0;
     for cells in reader::back::back_rows(text, Lanes { count: lanes }, trim) {
-        match taps::free_taps(cells, busy) {
-            Taps::Mask(_) => holds::pass_row(row, false, &mut *work),
-            Taps::Other => {
-                t = holds::track_row(t, row, cells, &mut *work);
-                busy = taps::unlike(&t.depths, 0);
-            }
-        }
+        tracker.track_row(row, cells, false, &mut *work);
         row += 1;
     }
 }
@@ -63,7 +56,7 @@ fn count_kept(text: &[u8], lanes: usize, trim: bool, work: &[u16]) -> ArrowStats
     let mut stats = row_tally::no_stats();
     let mut i = 0;
     for cells in reader::back::back_rows(text, Lanes { count: lanes }, trim) {
-        stats = count_row(stats, cells, work[i], &table);
+        stats = count_row(stats, cells, entry::heads(work[i]), &table);
         i += 1;
     }
     stats

@@ -1,6 +1,6 @@
 -- The parts of a row's entry: the columns' bits 0 to 9, the count from bit 10 on, and bit 14.
 use mathlib.Core.Path.{◌≡◌, sym, ap, ◌∙◌}
-use mathlib.Core.Bool.{true}
+use mathlib.Core.Bool.{Bool, true, false}
 use Prim.Native.Nat.{ℕ, ◌+◌, ◌*◌, ◌-◌, ◌/◌, ◌%◌, ◌^◌, ◌≤◌, ◌<◌}
 use native.Mathlib.Decide.{dec_lt}
 use native.Mathlib.Nat.{div_self, zero-div, div-eq_of_lt, mul-mod_left, mul_assoc, mul_comm, one-mul, mod-eq_of_lt}
@@ -8,8 +8,10 @@ use native.Mathlib.Omega.{arith}
 use borrow.Author.Tests.{eq-eqb}
 use lib.Dec.{eqb}
 use lib.Bits.{bit_or, or_shr, or_zero_r}
-use lib.Pow.{pow_pos, pow-lt, pow-add, field}
+use lib.Pow.{pow_pos, pow-lt, pow-add, field, mod-mod-pow}
+use Rattle.definitions.specs.Lists.{number_of_bool}
 use Rattle.taps.specs.Taps.{bit}
+use Rattle.holds.specs.Entry.{heads_of, is_judged}
 use Rattle.taps.proofs.Free.{bit-or}
 
 -- the bit of a column, as the program makes it
@@ -62,9 +64,21 @@ entry-bit c j e h = let q : 16384 * j + 1024 * e ≡ 1024 * (16 * j + e) = omega
 pub entry-ends : (j e : ℕ) → e ≤ 10 → (16384 * j + 1024 * e) / 1024 % 16 ≡ e
 entry-ends j e h = omega arith
 
-pub entry-judged : (j e : ℕ) → e ≤ 10 → (16384 * j + 1024 * e) / 16384 ≡ j
-entry-judged j e h = omega arith
+pub entry-judged : (judged : Bool) (e : ℕ) → e ≤ 10 → is_judged (16384 * number_of_bool judged + 1024 * e) ≡ judged
+entry-judged true e h = let q : (16384 * 1 + 1024 * e) / 16384 ≡ 1 = omega arith in rw q
+entry-judged false e h = let q : (16384 * 0 + 1024 * e) / 16384 ≡ 0 = omega arith in rw q
 
 -- bit 14 is the lowest that stands above the count
-pub high_part : (m : ℕ) → m / 16384 ≡ m / 1024 / 16
+high_part : (m : ℕ) → m / 16384 ≡ m / 1024 / 16
 high_part m = omega arith
+
+pub judged-same : (m n : ℕ) → m / 1024 ≡ n / 1024 → is_judged m ≡ is_judged n
+judged-same m n e = ap (λ x. eqb x 1) (high_part m ∙ ap (λ x. x / 16) e ∙ sym (high_part n))
+
+-- the columns' bits of an entry are those of its paired heads
+pub low_bit : (c m : ℕ) → c < 10 → bit c (heads_of m) ≡ bit c m
+low_bit c m h =
+    let e : 10 ≡ (10 - (1 + c)) + (1 + c) = omega arith in
+    sym (field (m % 1024) 1 c)
+    ∙ ap (λ n. n / 2 ^ c) (ap (λ k. m % 2 ^ k % 2 ^ (1 + c)) e ∙ mod-mod-pow m (10 - (1 + c)) (1 + c))
+    ∙ field m 1 c

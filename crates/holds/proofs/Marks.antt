@@ -10,22 +10,22 @@ use lib.Dec.{eqb}
 use lib.Bits.{bit_or}
 use lib.ListN.{length, get_or, length-set}
 use lib.Seq.{get_or-set_same, get_or-set_other}
+use Rattle.std.specs.Prelude.{Option, Some, None}
 use Rattle.definitions.specs.Lists.{number_of_bool}
 use Rattle.definitions.specs.Tracker.{Pair, paired, is_head_of}
 use Rattle.definitions.specs.declared.DepthEffect.{DepthEffect}
 use Rattle.definitions.specs.declared.DepthEffect.TheVariants as effect
 use Rattle.definitions.proofs.Lists.{All, none, one}
 use Rattle.taps.specs.Taps.{bit}
+use Rattle.holds.specs.Entry.{is_judged}
 use Rattle.holds.specs.Stacks.{ended_at}
 use Rattle.holds.specs.Tracks.{ends_in, marked, judged_head}
-use Rattle.holds.specs.declared.Ended.{Ended}
-use Rattle.holds.specs.declared.Ended.TheVariants.{Nothing, Head}
 use Rattle.holds.proofs.Bits.{or_same, or-other, or-high}
 use Rattle.holds.proofs.Pairs.{Stacked}
 
 -- the head, where there is one, is before row n
-abbrev pub Below : ℕ → Ended → Type 0
-Below n ended = (h : ℕ) → ended ≡ Head h → h < n
+abbrev pub Below : ℕ → Option ℕ → Type 0
+Below n ended = (h : ℕ) → ended ≡ Some h → h < n
 
 head-before : (e : DepthEffect) (row i : ℕ) (st : List ℕ) → All (λ h. h < i) st → All (λ p. p.head < i) (paired e row st)
 head-before effect.Nothing row i st a = none
@@ -35,19 +35,19 @@ head-before effect.Closes row i [] a = none
 head-before effect.Closes row i (h ∷ st) (one l a) = one l none
 
 -- what a cell pairs with was open
-pub ended-below : (e : DepthEffect) (row i : ℕ) (st : List ℕ) (ended : Ended) → ended_at row ended ≡ paired e row st → Stacked i st → Below i ended
-ended-below e row i st Nothing p s h q = let z : ◌≡◌ {A = ℕ} 0 1 = cc in absurd (omega arith)
-ended-below e row i st (Head x) p s h q = let same : x ≡ h = cc in rw (← same) (go (rw (← p) at (head-before e row i st s.before)))
+pub ended-below : (e : DepthEffect) (row i : ℕ) (st : List ℕ) (ended : Option ℕ) → ended_at row ended ≡ paired e row st → Stacked i st → Below i ended
+ended-below e row i st None p s h q = let z : ◌≡◌ {A = ℕ} 0 1 = cc in absurd (omega arith)
+ended-below e row i st (Some x) p s h q = let same : x ≡ h = cc in rw (← same) (go (rw (← p) at (head-before e row i st s.before)))
   where
     go : All (λ (p : Pair). p.head < i) (record { head = x; tail = row } ∷ []) → x < i
     go (one l a) = l
 
 module _ (work : List ℕ) (k : ℕ) (i : ℕ) where
   -- bit k is that of the entry, or of the head
-  pub marked-same : (ended : Ended) (row : ℕ) → Below (length work) ended
+  pub marked-same : (ended : Option ℕ) (row : ℕ) → Below (length work) ended
       → eqb (bit k (get_or (marked ended k work) i 0)) 1 ≡ (eqb (bit k (get_or work i 0)) 1 || is_head_of i (ended_at row ended))
-  marked-same Nothing row b = sym (or-false (eqb (bit k (get_or work i 0)) 1))
-  marked-same (Head h) row b =
+  marked-same None row b = sym (or-false (eqb (bit k (get_or work i 0)) 1))
+  marked-same (Some h) row b =
       elim (ℕ_discrete i h) [
         | yes e ↦
             rw e
@@ -63,45 +63,45 @@ module _ (work : List ℕ) (k : ℕ) (i : ℕ) where
       or-true false = refl
 
   -- whatever an or with bit k leaves is that of the entry
-  kept : {A : Type 0} (f : ℕ → A) → ((w : ℕ) → f (bit_or w (2 ^ k)) ≡ f w) → (ended : Ended) → Below (length work) ended
+  kept : {A : Type 0} (f : ℕ → A) → ((w : ℕ) → f (bit_or w (2 ^ k)) ≡ f w) → (ended : Option ℕ) → Below (length work) ended
       → f (get_or (marked ended k work) i 0) ≡ f (get_or work i 0)
-  kept f same Nothing b = refl
-  kept f same (Head h) b =
+  kept f same None b = refl
+  kept f same (Some h) b =
       elim (ℕ_discrete i h) [
         | yes e ↦ rw e (ap f (get_or-set_same work h (bit_or (get_or work h 0) (2 ^ k)) 0 (b h refl)) ∙ same (get_or work h 0))
         | no n ↦ ap f (get_or-set_other work h i (bit_or (get_or work h 0) (2 ^ k)) 0 n)
       ]
 
-  pub marked_other : (d : ℕ) → (d ≡ k → ⊥) → (ended : Ended) → Below (length work) ended
+  pub marked_other : (d : ℕ) → (d ≡ k → ⊥) → (ended : Option ℕ) → Below (length work) ended
       → bit d (get_or (marked ended k work) i 0) ≡ bit d (get_or work i 0)
   marked_other d n = kept (bit d) (λ w. or-other w k d n)
 
-  pub marked-high : k < 10 → (ended : Ended) → Below (length work) ended → get_or (marked ended k work) i 0 / 1024 ≡ get_or work i 0 / 1024
+  pub marked-high : k < 10 → (ended : Option ℕ) → Below (length work) ended → get_or (marked ended k work) i 0 / 1024 ≡ get_or work i 0 / 1024
   marked-high h = kept (λ w. w / 1024) (λ w. or-high w k h)
 
   -- past the head nothing changes
-  pub marked-later : (n : ℕ) → n ≤ i → (ended : Ended) → Below n ended → get_or (marked ended k work) i 0 ≡ get_or work i 0
-  marked-later n h Nothing b = refl
-  marked-later n h (Head x) b = get_or-set_other work x i (bit_or (get_or work x 0) (2 ^ k)) 0 (λ e. omega (arith, b x refl))
+  pub marked-later : (n : ℕ) → n ≤ i → (ended : Option ℕ) → Below n ended → get_or (marked ended k work) i 0 ≡ get_or work i 0
+  marked-later n h None b = refl
+  marked-later n h (Some x) b = get_or-set_other work x i (bit_or (get_or work x 0) (2 ^ k)) 0 (λ e. omega (arith, b x refl))
 
-pub marked-length : (ended : Ended) (k : ℕ) (work : List ℕ) → length (marked ended k work) ≡ length work
-marked-length Nothing k work = refl
-marked-length (Head h) k work = length-set work h (bit_or (get_or work h 0) (2 ^ k))
+pub marked-length : (ended : Option ℕ) (k : ℕ) (work : List ℕ) → length (marked ended k work) ≡ length work
+marked-length None k work = refl
+marked-length (Some h) k work = length-set work h (bit_or (get_or work h 0) (2 ^ k))
 
 -- the count of a judged head is that of the pair that ends
-pub judged-ends : (J : ℕ → Bool) (work : List ℕ) (row : ℕ) (ended : Ended) → Below row ended
-    → ((i : ℕ) → i < row → get_or work i 0 / 16384 ≡ number_of_bool (J i))
+pub judged-ends : (J : ℕ → Bool) (work : List ℕ) (row : ℕ) (ended : Option ℕ) → Below row ended
+    → ((i : ℕ) → i < row → is_judged (get_or work i 0) ≡ J i)
     → judged_head ended work ≡ ends_in J row (ended_at row ended)
-judged-ends J work row Nothing b judged = refl
-judged-ends J work row (Head h) b judged =
-    judged h (b h refl) ∙ sym (ap (λ x. number_of_bool (x && J h) + 0) (eq-eqb row row refl) ∙ plus (number_of_bool (J h)))
+judged-ends J work row None b judged = refl
+judged-ends J work row (Some h) b judged =
+    ap number_of_bool (judged h (b h refl)) ∙ sym (ap (λ x. number_of_bool (x && J h) + 0) (eq-eqb row row refl) ∙ plus (number_of_bool (J h)))
   where
     plus : (n : ℕ) → n + 0 ≡ n
     plus n = omega arith
 
-pub judged-one : (J : ℕ → Bool) (row : ℕ) (ended : Ended) → ends_in J row (ended_at row ended) ≤ 1
-judged-one J row Nothing = omega arith
-judged-one J row (Head h) = go (eqb row row && J h)
+pub judged-one : (J : ℕ → Bool) (row : ℕ) (ended : Option ℕ) → ends_in J row (ended_at row ended) ≤ 1
+judged-one J row None = omega arith
+judged-one J row (Some h) = go (eqb row row && J h)
   where
     go : (b : Bool) → number_of_bool b + 0 ≤ 1
     go true = omega arith

@@ -12,15 +12,15 @@ use Rattle.definitions.specs.Correction.{is_opening, is_closing}
 use Rattle.definitions.specs.declared.DepthEffect.{DepthEffect}
 use Rattle.taps.specs.Taps.{bit, FreeTaps, FreeAre}
 use Rattle.taps.proofs.Free.{Free, zero-cell, tap-there, free-cell}
-use Rattle.holds.specs.Stacks.{tracker, stack_of}
-use Rattle.holds.specs.Tracks.{ends_in, ends_at, TracksJudged, CellsDone, Leaves}
+use Rattle.holds.specs.Stacks.{stack_of}
+use Rattle.holds.specs.Tracks.{ends_in, ends_at, Tracks, CellsDone}
 use Rattle.holds.specs.declared.Tracker.{Tracker}
 use Rattle.holds.proofs.Pairs.{stack_snoc, pairs-snoc}
 use Rattle.holds.proofs.Ends.{sum_same, ends-late}
 
-no-depth : (heads depths : List ℕ) (c : ℕ) → get_or depths c 0 ≡ 0 → stack_of (tracker heads depths) c ≡ []
+no-depth : (t : Tracker) (c : ℕ) → get_or t.depths c 0 ≡ 0 → stack_of t c ≡ []
 unfolding stack_of
-no-depth heads depths c z = rw z
+no-depth t c z = rw z
 
 -- a cell of such a row: a `0`, or a `1` in a column without an open head
 module _ (busy c i : ℕ) (st : List ℕ) (z : bit c busy ≡ 0 → st ≡ []) where
@@ -34,11 +34,16 @@ module _ (busy c i : ℕ) (st : List ℕ) (z : bit c busy ≡ 0 → st ≡ []) w
   free-pairs (zero-cell e) = rw e
   free-pairs (tap-there e f) = rw e
 
-pub free-leaves : (busy m : ℕ) (heads depths : List ℕ) (r : Row) → FreeTaps busy m r → FreeAre busy 0 depths → Leaves (tracker heads depths) r
-free-leaves busy m heads depths r f a =
+-- The row leaves the tracker as it is: in no column does its cell, at whatever row, change the open heads or pair with one.
+record Leaves (t : Tracker) (cells : Row) : Type 0 where
+  stack : (c i : ℕ) → c < 10 → next_stack (hold_at (byte_at c cells)) i (stack_of t c) ≡ stack_of t c
+  pairs : (c i : ℕ) → c < 10 → paired (hold_at (byte_at c cells)) i (stack_of t c) ≡ []
+
+free-leaves : (m : ℕ) (t : Tracker) (r : Row) → FreeTaps t.busy m r → FreeAre t.busy 0 t.depths → Leaves t r
+free-leaves m t r f a =
     record {
-      stack = λ c i h. free-stack busy c i _ (λ e. no-depth heads depths c (a c h e)) (free-cell busy m r f c);
-      pairs = λ c i h. free-pairs busy c i _ (λ e. no-depth heads depths c (a c h e)) (free-cell busy m r f c);
+      stack = λ c i h. free-stack t.busy c i _ (λ e. no-depth t c (a c h e)) (free-cell t.busy m r f c);
+      pairs = λ c i h. free-pairs t.busy c i _ (λ e. no-depth t c (a c h e)) (free-cell t.busy m r f c);
     }
 
 -- neither opens nor closes
@@ -55,11 +60,12 @@ free-keeps busy m r f c = go (free-cell busy m r f c)
     go (tap-there e z) = rw e
 
 -- The work slice after such a row's columns is as it was before them.
-pub leaves-done : (J : ℕ → Bool) (rows : List Row) (cells : Row) (t : Tracker) (work : List ℕ) → Leaves t cells → TracksJudged J rows t work
+pub free-done : (J : ℕ → Bool) (rows : List Row) (cells : Row) (t : Tracker) (work : List ℕ) (m : ℕ) → FreeTaps t.busy m cells → Tracks J rows t work
     → CellsDone J rows cells work t work 0
 unfolding ends_at
-leaves-done J rows cells t work l s =
+free-done J rows cells t work m f s =
     record {
+      busy = s.busy;
       columns =
           λ c h.
           record {
@@ -74,6 +80,9 @@ leaves-done J rows cells t work l s =
       few = omega arith;
     }
   where
+    l : Leaves t cells
+    l = free-leaves m t cells f s.busy
+
     same : (c : ℕ) → c < 10 → pairs (rows ++ (cells ∷ [])) c ≡ pairs rows c
     same c h =
         pairs-snoc rows cells c

@@ -12,10 +12,12 @@ use Rattle.definitions.specs.Lists.{number_of_bool}
 use Rattle.definitions.specs.Lines.{Row}
 use Rattle.definitions.specs.Tracker.{pairs, is_head_of}
 use Rattle.taps.specs.Taps.{bit}
+use Rattle.holds.specs.Entry.{is_judged}
 use Rattle.holds.specs.Stacks.{stack_of}
-use Rattle.holds.specs.Tracks.{stack_after, ends_at, Column, TracksJudged, CellsDone}
+use Rattle.holds.specs.Tracks.{stack_after, ends_at, Column, Tracks, CellsDone}
 use Rattle.holds.specs.declared.Tracker.{Tracker}
-use Rattle.holds.proofs.Bits.{high_bit, entry-bit, entry-ends, entry-judged, high_part}
+use Rattle.holds.proofs.Stacks.{stack-length}
+use Rattle.holds.proofs.Bits.{high_bit, entry-bit, entry-ends, entry-judged, judged-same}
 use Rattle.holds.proofs.Ends.{ends-old, ends-none}
 
 zero_bit : (c : ℕ) → c < 10 → bit c 0 ≡ 0
@@ -29,7 +31,7 @@ module _
     (work work' : List ℕ)
     (n row : ℕ)
     (judged : Bool)
-    (s : TracksJudged J rows t work)
+    (s : Tracks J rows t work)
     (d : CellsDone J rows cells work t' work' n)
     (size : length rows ≡ row)
     (here : J row ≡ judged)
@@ -58,21 +60,20 @@ module _
               (λ i e. q.marks i);
         }
 
-    pub row_done : TracksJudged J (rows ++ (cells ∷ [])) t' (set work' row (16384 * number_of_bool judged + 1024 * n))
+    pub row_done : Tracks J (rows ++ (cells ∷ [])) t' (set work' row (16384 * number_of_bool judged + 1024 * n))
     unfolding entry
     row_done =
         record {
           columns = column;
+          busy = d.busy;
           ends =
               by_place (λ i w. w / 1024 % 16 ≡ ends_at J (rows ++ (cells ∷ [])) i)
               (entry-ends (number_of_bool judged) n d.few ∙ d.ends ∙ ap (ends_at J (rows ++ (cells ∷ []))) size)
               (λ i e. ap (λ x. x % 16) (d.high i) ∙ s.ends i ∙ sym (ends-old J rows cells i (λ q. e (q ∙ size))));
           judged =
-              by_place (λ i w. i < length (rows ++ (cells ∷ [])) → w / 16384 ≡ number_of_bool (J i))
-              (λ l. entry-judged (number_of_bool judged) n d.few ∙ ap number_of_bool (sym here))
-              (λ i e l.
-              let longer = length-append rows (cells ∷ []) in
-              high_part (get_or work' i 0) ∙ ap (λ x. x / 16) (d.high i) ∙ sym (high_part (get_or work i 0)) ∙ s.judged i (omega arith));
+              by_place (λ i w. i < length (rows ++ (cells ∷ [])) → is_judged w ≡ J i)
+              (λ l. entry-judged judged n d.few ∙ sym here)
+              (λ i e l. let longer = length-append rows (cells ∷ []) in judged-same (get_or work' i 0) (get_or work i 0) (d.high i) ∙ s.judged i (omega arith));
           later =
               by_place (λ i w. length (rows ++ (cells ∷ [])) ≤ i → w ≡ 0)
               (λ l. let longer = length-append rows (cells ∷ []) in absurd (omega arith))
@@ -81,10 +82,11 @@ module _
 
 -- before the first row
 pub tracks-start : (J : ℕ → Bool) (t : Tracker) (work : List ℕ) → ((c : ℕ) → c < 10 → stack_of t c ≡ []) → ((i : ℕ) → get_or work i 0 ≡ 0)
-    → TracksJudged J [] t work
+    → Tracks J [] t work
 unfolding stack_after pairs
 tracks-start J t work h z =
     record {
+      busy = λ c l e. sym (stack-length t c) ∙ ap length (h c l);
       columns = λ c l. record { stack = h c l; marks = λ i. ap (λ x. eqb x 1) (ap (bit c) (z i) ∙ zero_bit c l) };
       ends = λ i. ap (λ x. x / 1024 % 16) (z i) ∙ sym (ends-none J i);
       judged = λ i l. absurd (omega arith);

@@ -9,17 +9,19 @@ use native.Mathlib.Nat.{le_of_suc-le-suc, not-suc-le-zero}
 use native.Mathlib.Omega.{arith}
 use lib.Dec.{eqb}
 use lib.ListN.{length, get_or}
-use Rattle.definitions.specs.Lists.{number_of_bool, sum_columns}
+use Rattle.std.specs.Prelude.{Option}
+use Rattle.definitions.specs.Lists.{sum_columns}
 use Rattle.definitions.specs.Lines.{Row}
 use Rattle.definitions.specs.Cells.{byte_at}
 use Rattle.definitions.specs.Tracker.{next_stack, paired, hold_at, pairs, is_head_of}
-use Rattle.holds.specs.Stacks.{Sized, TrackReady, TrackStepped, ended_at}
-use Rattle.holds.specs.Tracks.{stack_after, ends_in, ends_at, Column, TracksJudged, Reached, CellsDone, marked, judged_head}
+use Rattle.holds.specs.Entry.{is_judged}
+use Rattle.taps.specs.Taps.{FreeAre}
+use Rattle.holds.specs.Stacks.{stack_of, Sized, TrackReady, TrackStepped, ended_at}
+use Rattle.holds.specs.Tracks.{stack_after, ends_in, ends_at, Column, Tracks, Reached, CellsDone, marked, judged_head}
 use Rattle.holds.specs.declared.Tracker.{Tracker}
-use Rattle.holds.specs.declared.Ended.{Ended}
 use Rattle.holds.proofs.Stacks.{stack-length}
 use Rattle.holds.proofs.Pairs.{stack_snoc, pairs-snoc, stack-beyond, pairs-beyond, heads-append, stacked}
-use Rattle.holds.proofs.Bits.{high_part}
+use Rattle.holds.proofs.Bits.{judged-same}
 use Rattle.holds.proofs.Ends.{sum-beyond, ends-late, ends-new}
 use Rattle.holds.proofs.Marks.{Below, ended-below, marked-same, marked_other, marked-high, marked-later, marked-length, judged-ends, judged-one}
 
@@ -29,11 +31,11 @@ pub record Swept (J : ℕ → Bool) (rows : List Row) (cells : Row) (k : ℕ) (w
   pub left : (c : ℕ) → k ≤ c → c < 10 → Column rows c t work
   pub high : (i : ℕ) → get_or work i 0 / 1024 ≡ get_or work₀ i 0 / 1024
   pub later : (i : ℕ) → length rows ≤ i → get_or work i 0 ≡ 0
-  pub judged : (i : ℕ) → i < length rows → get_or work i 0 / 16384 ≡ number_of_bool (J i)
+  pub judged : (i : ℕ) → i < length rows → is_judged (get_or work i 0) ≡ J i
   pub ends : n ≡ sum_columns k (λ c. ends_in J (length rows) (pairs (rows ++ (cells ∷ [])) c))
   pub few : n ≤ k
 
-pub sweep-start : (J : ℕ → Bool) (rows : List Row) (cells : Row) (t : Tracker) (work : List ℕ) → TracksJudged J rows t work
+pub sweep-start : (J : ℕ → Bool) (rows : List Row) (cells : Row) (t : Tracker) (work : List ℕ) → Tracks J rows t work
     → Swept J rows cells 0 work t work 0
 sweep-start J rows cells t work s =
     record {
@@ -59,7 +61,7 @@ column-low {rows} {c} {t} s =
     omega (arith, (stacked rows c).few)
 
 -- Another column: nothing of it changes.
-column-other : {e : _} {row k c : ℕ} {t t' : Tracker} {ps : List _} {rows : List Row} {work : List ℕ} (ended : Ended) → TrackStepped e row k t t' ps
+column-other : {e : _} {row k c : ℕ} {t t' : Tracker} {ps : List _} {rows : List Row} {work : List ℕ} (ended : Option ℕ) → TrackStepped e row k t t' ps
     → Below (length work) ended → c < 10 → (c ≡ k → ⊥) → Column rows c t work → Column rows c t' (marked ended k work)
 column-other {k = k} {c = c} {work = work} ended s b h n q =
     record {
@@ -89,7 +91,7 @@ module _
 
     module _
         (t' : Tracker)
-        (ended : Ended)
+        (ended : Option ℕ)
         (row : ℕ)
         (size : length rows ≡ row)
         (more : k < length cells)
@@ -144,21 +146,27 @@ module _
                 later = λ i h. marked-later work k i (length rows) h ended sweep-below ∙ s.later i h;
                 judged =
                     λ i h.
-                    high_part (get_or (marked ended k work) i 0)
-                    ∙ ap (λ x. x / 16) (marked-high work k i inside ended in-work)
-                    ∙ sym (high_part (get_or work i 0))
-                    ∙ s.judged i h;
+                    judged-same (get_or (marked ended k work) i 0) (get_or work i 0) (marked-high work k i inside ended in-work) ∙ s.judged i h;
                 ends = rw (add-one k, ← judged-here, ← s.ends);
                 few = omega (arith, s.few, sweep-one);
               }
 
+-- which columns are busy is no part of a column
+column-busy : {rows : List Row} {c : ℕ} {t : Tracker} {work : List ℕ} (busy : ℕ) → Column rows c t work → Column rows c (record t { busy = busy }) work
+unfolding stack_of
+column-busy busy q = record { stack = q.stack; marks = q.marks }
+
 -- past the row's last cell
 pub sweep-end : (J : ℕ → Bool) (rows : List Row) (cells : Row) (k : ℕ) (work₀ : List ℕ) (t : Tracker) (work : List ℕ) (n : ℕ)
-    → Swept J rows cells k work₀ t work n → length cells ≤ k → k ≤ 10 → CellsDone J rows cells work₀ t work n
+    → Swept J rows cells k work₀ t work n → length cells ≤ k → k ≤ 10 → (busy : ℕ) → FreeAre busy 0 t.depths
+    → CellsDone J rows cells work₀ (record t { busy = busy }) work n
 unfolding ends_at
-sweep-end J rows cells k work₀ t work n s h l =
+sweep-end J rows cells k work₀ t work n s h l busy f =
     record {
-      columns = λ c m. elim (dec_lt c k) [ yes q ↦ s.done c q m | no q ↦ beyond c (omega arith) (s.left c (omega arith) m) ];
+      columns =
+          λ c m.
+          column-busy busy (elim (dec_lt c k) [ yes q ↦ s.done c q m | no q ↦ beyond c (omega arith) (s.left c (omega arith) m) ]);
+      busy = f;
       high = s.high;
       later = s.later;
       ends =
@@ -180,7 +188,7 @@ pub record Sweeping (row : ℕ) (cells : Row) (work₀ : List ℕ) (t₀ t : Tra
   pub within : k ≤ length cells
   pub sized : Sized t
   pub long : length work ≡ length work₀
-  pub swept : (J : ℕ → Bool) (rows : List Row) → length rows ≡ row → TracksJudged J rows t₀ work₀ → Swept J rows cells k work₀ t work n
+  pub swept : (J : ℕ → Bool) (rows : List Row) → length rows ≡ row → Tracks J rows t₀ work₀ → Swept J rows cells k work₀ t work n
 
 pub sweeping-start : (row : ℕ) (cells : Row) (t : Tracker) (work : List ℕ) → Sized t → Sweeping row cells work t t work 0 0
 sweeping-start row cells t work h =
@@ -200,15 +208,18 @@ module _
     swept : Swept from.judging from.rows cells k work₀ t work n
     swept = s.swept from.judging from.rows from.size from.tracks
 
-    pub sweeping-end : length cells ≤ k → (J : ℕ → Bool) (rows : List Row) → length rows ≡ row → TracksJudged J rows t₀ work₀
-        → CellsDone J rows cells work₀ t work n
+    pub sweeping-end : length cells ≤ k → (J : ℕ → Bool) (rows : List Row) → length rows ≡ row → Tracks J rows t₀ work₀
+        → (busy : ℕ) → FreeAre busy 0 t.depths → CellsDone J rows cells work₀ (record t { busy = busy }) work n
     sweeping-end h J rows e tracks = let in_row = s.within in sweep-end J rows cells k work₀ t work n (s.swept J rows e tracks) h (omega arith)
+
+    pub sweeping-few : n ≤ k
+    sweeping-few = swept.few
 
     module _ (more : k < length cells) where
       pub sweeping-ready : TrackReady k t
       sweeping-ready = sweep-ready from.judging from.rows cells k work₀ t work n swept (omega arith) s.sized
 
-      module _ (t' : Tracker) (ended : Ended) (m : TrackStepped (hold_at (get_or cells k 0)) row k t t' (ended_at row ended)) (room : row < length work₀) where
+      module _ (t' : Tracker) (ended : Option ℕ) (m : TrackStepped (hold_at (get_or cells k 0)) row k t t' (ended_at row ended)) (room : row < length work₀) where
         in-room : row < length work
         in-room = let e = s.long in omega arith
 

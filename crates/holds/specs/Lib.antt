@@ -1,3 +1,4 @@
 -- What the contracts of the hold tracker cite, beside the definitions.
+pub mod Entry
 pub mod Stacks
 pub mod Tracks

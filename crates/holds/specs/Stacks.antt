@@ -1,26 +1,21 @@
 -- The stacks of open heads in the tracker's flat arrays.
-use Rattle.std.specs.Prelude.{◌≡◌, List, [], ◌∷◌, ℕ, zero, suc, ◌+◌, ◌*◌, ◌≤◌, ◌<◌, length, get_or}
+use Rattle.std.specs.Prelude.{◌≡◌, Option, Some, None, List, [], ◌∷◌, ℕ, zero, suc, ◌+◌, ◌*◌, ◌≤◌, ◌<◌, length, slice_index}
 use Rattle.definitions.specs.Tracker.{Pair, next_stack, paired}
 use Rattle.definitions.specs.declared.DepthEffect.{DepthEffect}
 use Rattle.holds.specs.declared.Tracker.{Tracker}
-use Rattle.holds.specs.declared.Ended.{Ended}
-use Rattle.holds.specs.declared.Ended.TheVariants.{Nothing, Head}
-
-abbrev pub tracker : List ℕ → List ℕ → Tracker
-tracker hs ds = record { heads = hs; depths = ds }
 
 -- the first d heads at column c's places, newest first
 abbrev pub stack_at : List ℕ → ℕ → ℕ → List ℕ
-stack_at hs c zero = []
-stack_at hs c (suc d) = get_or hs (8 * c + d) 0 ∷ stack_at hs c d
+stack_at heads c zero = []
+stack_at heads c (suc d) = slice_index heads (8 * c + d) ∷ stack_at heads c d
 
 -- the open heads of a column, newest first
 unfoldable pub stack_of : Tracker → ℕ → List ℕ
-stack_of t c = stack_at t.heads c (get_or t.depths c 0)
+stack_of t c = stack_at t.heads c (slice_index t.depths c)
 
 -- no column has more than eight open heads
 abbrev pub Shallow : List ℕ → Type 0
-Shallow ds = (c : ℕ) → c < 10 → get_or ds c 0 ≤ 8
+Shallow depths = (c : ℕ) → c < 10 → slice_index depths c ≤ 8
 
 -- the arrays have their sizes
 pub record Sized (t : Tracker) : Type 0 where
@@ -34,9 +29,9 @@ pub record TrackReady (c : ℕ) (t : Tracker) : Type 0 where
   pub low : Shallow t.depths
 
 -- the pair of a tail at this row
-abbrev pub ended_at : ℕ → Ended → List Pair
-ended_at row Nothing = []
-ended_at row (Head h) = record { head = h; tail = row } ∷ []
+abbrev pub ended_at : ℕ → Option ℕ → List Pair
+ended_at row None = []
+ended_at row (Some h) = record { head = h; tail = row } ∷ []
 
 -- What a cell of a row does in column c: its stack, the pairs that it makes, and that the other columns stay.
 pub record TrackStepped (e : DepthEffect) (row c : ℕ) (t t' : Tracker) (ps : List Pair) : Type 0 where

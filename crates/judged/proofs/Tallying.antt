@@ -2,14 +2,12 @@
 use mathlib.Core.Path.{◌≡◌, refl, ap, ap₂, sym, ◌∙◌}
 use mathlib.Core.Bool.{Bool, true, false, cond, true≢false}
 use mathlib.Core.List.{List, [], ◌∷◌, ◌++◌}
-use Prim.Native.Nat.{ℕ, ◌+◌, ◌*◌, ◌-◌, ◌/◌, ◌%◌, ◌^◌, ◌≤◌, ◌<◌}
+use Prim.Native.Nat.{ℕ, ◌+◌, ◌*◌, ◌≤◌, ◌<◌}
 use native.Mathlib.Nat.{zero-add, add-zero, sub-zero, le_trans, mul-le-mul_right}
 use native.Mathlib.Omega.{arith}
 use lib.Dec.{eqb}
 use lib.ListN.{length, get_or, length-append}
-use lib.Pow.{field, mod-mod-pow}
 use Rattle.definitions.specs.Sizes.{count_bound}
-use Rattle.definitions.specs.Lists.{number_of_bool}
 use Rattle.definitions.specs.Lines.{Row}
 use Rattle.definitions.proofs.Lists.{All}
 use Rattle.definitions.specs.Cells.{byte_at}
@@ -17,8 +15,9 @@ use Rattle.definitions.specs.Tracker.{pairs, hold_at}
 use Rattle.definitions.specs.Tally.{empty_stats, row_sum_by}
 use Rattle.definitions.specs.Correction.{keep_row}
 use Rattle.definitions.specs.Judged.{judged_sum, judge_row, open_before, judge_from, judged_rows}
-use Rattle.taps.specs.Taps.{bit}
+use Rattle.holds.specs.Entry.{heads_of, ends_of, is_judged}
 use Rattle.holds.specs.Tracks.{paired_heads}
+use Rattle.holds.proofs.Bits.{low_bit}
 use Rattle.holds.proofs.Opens.{opens, opens-start, opens-most}
 use Rattle.holds.proofs.Heads.{kept-heads}
 use Rattle.holds.proofs.Tails.{none-ends}
@@ -31,7 +30,7 @@ use Rattle.row_tally.proofs.Bounds.{below_more, below_none, below-judged-line}
 use Rattle.row_tally.proofs.Kept.{keep_mask, keep-length, keep-whole}
 use Rattle.row_tally.proofs.Rows.{judge-snoc}
 use Rattle.judged.specs.declared.TimingStats.{TimingStats}
-use Rattle.judged.specs.Timing.{heads_of, ends_of, is_judged, timing_sum, new_holds, empty_timing, timing_row, timing_taps, WorkEntries}
+use Rattle.judged.specs.Timing.{timing_sum, new_holds, empty_timing, timing_row, timing_taps, WorkEntries}
 
 -- J says which rows are judged. `all` are the rows of the text, and `rows` those that have come.
 pub record Tallying (J : ℕ → Bool) (L : ℕ) (all rows : List Row) (row : ℕ) (t : TimingStats) : Type 0 where
@@ -42,18 +41,6 @@ pub record Tallying (J : ℕ → Bool) (L : ℕ) (all rows : List Row) (row : �
 
 pub tallying-start : (J : ℕ → Bool) (L : ℕ) (all : List Row) (t : TimingStats) → t ≡ empty_timing → Tallying J L all [] 0 t
 tallying-start J L all t e = rw e (record { size = refl; stats = refl; active = sym (opens-start L J all); below = below_none })
-
--- the columns' bits of an entry
-low_bit : (c m : ℕ) → c < 10 → bit c (m % 1024) ≡ bit c m
-low_bit c m h =
-    let e : 10 ≡ (10 - (1 + c)) + (1 + c) = omega arith in
-    sym (field (m % 1024) 1 c)
-    ∙ ap (λ n. n / 2 ^ c) (ap (λ k. m % 2 ^ k % 2 ^ (1 + c)) e ∙ mod-mod-pow m (10 - (1 + c)) (1 + c))
-    ∙ field m 1 c
-
-one-is : (b : Bool) → eqb (number_of_bool b) 1 ≡ b
-one-is true = refl
-one-is false = refl
 
 module _ (J : ℕ → Bool) (L : ℕ) (all rows : List Row) (row : ℕ) (t : TimingStats) (x : Tallying J L all rows row t) where
   -- the tally so far may have a row more, and at most ten holds are opened in a row
@@ -77,7 +64,7 @@ module _ (J : ℕ → Bool) (L : ℕ) (all rows : List Row) (row : ℕ) (t : Tim
 
     -- the row's entry by its parts
     judged-is : is_judged entry ≡ J row
-    judged-is = ap (λ n. eqb n 1) (w.tracks.judged row (rw (← x.size) inside)) ∙ one-is (J row)
+    judged-is = w.tracks.judged row (rw (← x.size) inside)
 
     kept-is : row_by_mask (heads_of entry) 0 cells ≡ keep_row (pairs all) row 0 cells
     kept-is =

@@ -8,7 +8,7 @@ use lib.ListN.{length, get_or, length-append}
 use Rattle.slices.proofs.Zeroed.{zeros-none}
 use Rattle.definitions.specs.Lines.{Row}
 use Rattle.holds.specs.Stacks.{stack_of}
-use Rattle.holds.specs.Tracks.{TracksJudged, Reached, RowTracked}
+use Rattle.holds.specs.Tracks.{Tracks, Reached, RowTracked}
 use Rattle.holds.specs.declared.Tracker.{Tracker}
 use Rattle.holds.proofs.Rows.{tracks-start}
 use Rattle.slices.specs.Zeroed.{zeroed}
@@ -17,7 +17,7 @@ use Rattle.judged.specs.Timing.{WorkEntries}
 -- J says which rows are judged.
 pub record Tracking (J : ℕ → Bool) (rows : List Row) (row : ℕ) (t : Tracker) (work : List ℕ) : Type 0 where
   pub size : length rows ≡ row
-  pub tracks : TracksJudged J rows t work
+  pub tracks : Tracks J rows t work
 
 pub tracking-start : (J : ℕ → Bool) (t : Tracker) (old work : List ℕ) → ((c : ℕ) → c < 10 → stack_of t c ≡ []) → work ≡ zeroed 0 0 old → Tracking J [] 0 t work
 tracking-start J t old work h z = record { size = refl; tracks = tracks-start J t work h (λ i. ap (λ l. get_or l i 0) z ∙ zeros-none (length old - 0) i) }

@@ -1,10 +1,11 @@
 -- What the private functions of the judged tallies work with: the rows' entries in the work slice, and the tally by them.
-use Rattle.std.specs.Prelude.{Bool, true, false, List, ℕ, ◌+◌, ◌-◌, ◌/◌, ◌%◌, eqb}
+use Rattle.std.specs.Prelude.{Bool, true, false, List, ℕ, ◌+◌, ◌-◌}
 use Rattle.definitions.specs.Lines.{Row}
 use Rattle.definitions.specs.Tally.{empty_stats}
 use Rattle.definitions.specs.Judged.{judged_at, judged_sum, judge_row}
 use Rattle.definitions.specs.declared.RowSum.{RowSum}
-use Rattle.holds.specs.Tracks.{TracksJudged}
+use Rattle.holds.specs.Entry.{heads_of, ends_of, is_judged}
+use Rattle.holds.specs.Tracks.{Tracks}
 use Rattle.holds.specs.declared.Tracker.{Tracker}
 use Rattle.row_tally.specs.Kept.{row_by_mask}
 use Rattle.judged.specs.declared.TimingStats.{TimingStats}
@@ -13,16 +14,6 @@ use Rattle.judged.specs.declared.TimingStats.{TimingStats}
 abbrev pub judged_by : Bool → List ℕ → ℕ → Bool
 judged_by true flags i = true
 judged_by false flags i = judged_at flags i
-
--- the parts of a row's entry: its paired heads, the holds that end there, and whether it is judged
-abbrev pub heads_of : ℕ → ℕ
-heads_of entry = entry % 1024
-
-abbrev pub ends_of : ℕ → ℕ
-ends_of entry = entry / 1024 % 16
-
-abbrev pub is_judged : ℕ → Bool
-is_judged entry = eqb (entry / 16384) 1
 
 -- what a row adds up to by its entry, and the holds that it opens
 unfoldable pub timing_sum : ℕ → Row → RowSum
@@ -53,7 +44,7 @@ timing_taps t entry cells =
 -- The work slice has the entries of these rows, where J says which are judged.
 pub record WorkEntries (J : ℕ → Bool) (rows : List Row) (work : List ℕ) : Type 0 where
   pub tracker : Tracker
-  pub tracks : TracksJudged J rows tracker work
+  pub tracks : Tracks J rows tracker work
 
 -- whichever rows are judged
 pub record SomeWorkEntries (rows : List Row) (work : List ℕ) : Type 0 where

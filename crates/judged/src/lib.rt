@@ -12,10 +12,11 @@ ghost use Rattle.definitions.specs.Lines.{Row};
 ghost use Rattle.taps.specs.Taps.{mask_of_line};
 ghost use Rattle.taps.specs.declared.Taps.TheVariants.{Mask};
 ghost use Rattle.row_tally.specs.Bounds.{Below};
-ghost use Rattle.judged.specs.Timing.{judged_by, ends_of, new_holds, empty_timing, timing_row, timing_taps, WorkEntries, SomeWorkEntries};
+ghost use Rattle.holds.specs.Entry.{ends_of};
+ghost use Rattle.judged.specs.Timing.{judged_by, new_holds, empty_timing, timing_row, timing_taps, WorkEntries, SomeWorkEntries};
 
 use definitions::{ArrowStats, Lanes, Refusal};
-use judged_pass::CleanTally;
+use holds::{Tracker, entry};
 use taps::{TapTable, Taps};
 
 // The judged tally of the rows so far, and the holds open before the next one.
@@ -23,6 +24,40 @@ use taps::{TapTable, Taps};
 pub struct TimingStats {
     pub stats: ArrowStats,
     pub active: u32,
+}
+
+impl TimingStats {
+    // Before the first row.
+    fn new() -> Self
+        ensures { result ≡ empty_timing }
+    {
+        TimingStats {
+            stats: row_tally::no_stats(),
+            active: 0,
+        }
+    }
+
+    // One row more, by its entry. A tail's hold is open through the tail's row; an unjudged row's sum has no head.
+    fn add_row(&mut self, cells: &[u8], entry: u16)
+        requires tally_room { (length cells.now ≤ 10) × Below count_bound self.old.stats × (self.old.active ≤ count_bound) }
+        requires ends_open { ends_of entry ≤ self.old.active + new_holds entry cells.now }
+        ensures { self.new ≡ timing_row self.old entry cells.now }
+    {
+        let judged = entry::is_judged(entry);
+        let sum = row_tally::judged_sum_masked(judged, cells, entry::heads(entry));
+        self.stats = row_tally::add_judged_row(self.stats, judged, self.active, sum);
+        self.active += sum.holds + sum.rolls;
+        self.active -= entry::ends(entry);
+    }
+
+    // One row of taps alone more, by its entry: no hold begins or ends there.
+    fn add_taps(&mut self, mask: u16, entry: u16, table: &TapTable)
+        requires { (mask < 2 ^ table.now.lanes.count) × Below count_bound self.old.stats × (self.old.active ≤ count_bound) }
+        ensures { (row : Row) → mask_of_line row ≡ Mask mask → self.new ≡ timing_taps self.old entry row }
+    {
+        let judged = entry::is_judged(entry);
+        self.stats = row_tally::judge_taps(self.stats, judged, self.active, mask, table);
+    }
 }
 
 // Whether row i is judged: every row where all are, else by its flag. A row past the flags is judged.
@@ -39,85 +74,39 @@ fn is_judged(all: bool, flags: &[u8], i: usize) -> bool
 }
 
 // The entry of each row in the work slice, as the Rust's `TimingRow`: its paired heads, how many holds of judged heads end there, and whether
-// it is judged. `busy` has the columns with an open head: a row of taps in other columns leaves the tracker as it is.
+// it is judged.
 fn track_timing_rows(data: &[u8], lanes: usize, all: bool, flags: &[u8], work: &mut [u16])
     requires { (length «data».now ≤ most_bytes) × (4 ≤ lanes) × (lanes ≤ 10) × (most_rows_in lanes (length «data».now) ≤ length work.old) }
     ensures { WorkEntries (judged_by all flags.now) (rows_read_back lanes «data».now) work.new }
 {
     slices::zero_past(&mut *work, 0, 0);
-    let mut t = holds::no_tracker();
-    let mut busy: u32 = 0;
+    let mut tracker = Tracker::new();
     let mut row: u32 = 0;
     for cells in reader::back::back_rows(data, Lanes { count: lanes }, true) {
         let judged = is_judged(all, flags, row as usize);
-        match taps::free_taps(cells, busy) {
-            Taps::Mask(_) => holds::pass_row(row, judged, &mut *work),
-            Taps::Other => {
-                t = holds::track_judged_row(t, row, cells, judged, &mut *work);
-                busy = taps::unlike(&t.depths, 0);
-            }
-        }
+        tracker.track_row(row, cells, judged, &mut *work);
         row += 1;
-    }
-}
-
-// Before the first row.
-fn no_timing() -> TimingStats
-    ensures { result ≡ empty_timing }
-{
-    let stats = row_tally::no_stats();
-    TimingStats { stats, active: 0 }
-}
-
-// One row more, by its entry. A tail's hold is open through the tail's row; an unjudged row's sum has no head.
-fn process_timing_row(t: TimingStats, cells: &[u8], entry: u16) -> TimingStats
-    requires cells_len_bound { (length cells.now ≤ 10) × Below count_bound t.stats × (t.active ≤ count_bound) }
-    requires bound { ends_of entry ≤ t.active + new_holds entry cells.now }
-    ensures { result ≡ timing_row t entry cells.now }
-{
-    let judged = entry / 16384 == 1;
-    let ends = (entry / 1024 % 16) as u32;
-    let sum = row_tally::judged_sum_masked(judged, cells, entry % 1024);
-    let old = t.stats;
-    let stats = row_tally::add_judged_row(old, judged, t.active, sum);
-    TimingStats {
-        stats,
-        active: t.active + (sum.holds + sum.rolls) - ends,
-    }
-}
-
-// One row of taps alone more, by its entry: no hold begins or ends there.
-fn process_timing_taps(t: TimingStats, mask: u16, entry: u16, table: &TapTable) -> TimingStats
-    requires { (mask < 2 ^ table.now.lanes.count) × Below count_bound t.stats × (t.active ≤ count_bound) }
-    ensures { (row : Row) → mask_of_line row ≡ Mask mask → result ≡ timing_taps t entry row }
-{
-    let judged = entry / 16384 == 1;
-    let old = t.stats;
-    let stats = row_tally::judge_taps(old, judged, t.active, mask, table);
-    TimingStats {
-        stats,
-        active: t.active,
     }
 }
 
 // The rows again, each with its entry.
 fn tally_timing_rows(data: &[u8], lanes: usize, work: &[u16]) -> ArrowStats
-    requires data_len_bound { (length «data».now ≤ most_bytes) × (4 ≤ lanes) × (lanes ≤ 10) × (most_rows_in lanes (length «data».now) ≤ length work.now) }
-    requires some_work_entries { SomeWorkEntries (rows_read_back lanes «data».now) work.now }
+    requires in_bounds { (length «data».now ≤ most_bytes) × (4 ≤ lanes) × (lanes ≤ 10) × (most_rows_in lanes (length «data».now) ≤ length work.now) }
+    requires entries { SomeWorkEntries (rows_read_back lanes «data».now) work.now }
     ensures { (J : ℕ → Bool) → WorkEntries J (rows_read_back lanes «data».now) work.now → result ≡ judged_rows lanes J (rows_read_back lanes «data».now) }
 {
     let table = TapTable::for_lanes(Lanes { count: lanes });
-    let mut t = no_timing();
+    let mut tally = TimingStats::new();
     let mut row = 0;
     for cells in reader::back::back_rows(data, Lanes { count: lanes }, true) {
         let entry = work[row];
         match taps::free_taps(cells, 0) {
-            Taps::Mask(mask) => { t = process_timing_taps(t, mask, entry, &table) }
-            Taps::Other => t = process_timing_row(t, cells, entry),
+            Taps::Mask(mask) => tally.add_taps(mask, entry, &table),
+            Taps::Other => tally.add_row(cells, entry),
         }
         row += 1;
     }
-    t.stats
+    tally.stats
 }
 
 // The judged tally of an accepted text by the two loops, through the work slice, which is left 0 throughout.
@@ -145,14 +134,9 @@ pub fn judge_accepted(
     ensures value { result ≡ judged_rows lanes (judged_by all flags.now) (rows_read_back lanes «data».now) }
     ensures work_after { work.new ≡ padded 0 (length work.old) [] }
 {
-    if all {
-        match judged_pass::judge_clean(data, lanes) {
-            CleanTally::Tally(stats) => {
-                slices::zero_past(&mut *work, 0, 0);
-                return stats;
-            }
-            CleanTally::NotClean => {}
-        }
+    if all && let Some(stats) = judged_pass::judge_clean(data, lanes) {
+        slices::zero_past(work, 0, 0);
+        return stats;
     }
     judge_rows(data, lanes, all, flags, work)
 }

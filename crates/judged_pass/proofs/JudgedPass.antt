@@ -6,9 +6,10 @@ use Prim.Native.Nat.{ℕ, zero, suc, ◌+◌, ◌*◌, ◌≤◌, ◌<◌}
 use native.Mathlib.Decide.{dec_lt}
 use native.Mathlib.Nat.{zero-add, not-suc-le-zero, le_of_eq}
 use native.Mathlib.Omega.{arith}
-use borrow.Author.Tests.{not-false, lt-ltb}
+use borrow.Author.Tests.{lt-ltb}
 use lib.Dec.{ltb}
 use lib.ListN.{length, get_or, length-append}
+use Rattle.std.specs.Prelude.{Option, Some, None}
 use Rattle.definitions.specs.Sizes.{count_bound, row_numbers_bound}
 use Rattle.definitions.specs.Lists.{some_column, sum_columns}
 use Rattle.definitions.specs.Lines.{Row}
@@ -26,10 +27,8 @@ use Rattle.row_tally.specs.Bounds.{Below}
 use Rattle.row_tally.proofs.Bounds.{below_more, below_none, below-judged-line}
 use Rattle.row_tally.proofs.Rows.{judge-snoc}
 use Rattle.judged_pass.specs.Clean.{unpairs, unpairs_from, is_clean, every, clean_answer}
-use Rattle.judged_pass.specs.JudgedPass.{Ready, RowPassed}
+use Rattle.judged_pass.specs.JudgedPass.{row_unpairs, Ready, RowPassed}
 use Rattle.judged_pass.specs.declared.CleanRows.{CleanRows}
-use Rattle.judged_pass.specs.declared.CleanTally.{CleanTally}
-use Rattle.judged_pass.specs.declared.CleanTally.TheVariants.{Tally, NotClean}
 use Rattle.judged_pass.proofs.Paired.{AllClean, clean-kept, clean-active}
 use Rattle.judged_pass.proofs.Rows.{none-unpairs}
 
@@ -56,25 +55,22 @@ unclean-rows : (rows : List Row) → some_column 10 (λ c. unpairs_from c 0 rows
 unfolding is_clean
 unclean-rows rows e = ap not e
 
-answer-clean : (L : ℕ) (rows : List Row) → is_clean rows ≡ true → Tally (judged_rows L every rows) ≡ clean_answer L rows
+answer-clean : (L : ℕ) (rows : List Row) → is_clean rows ≡ true → Some (judged_rows L every rows) ≡ clean_answer L rows
 unfolding clean_answer
 answer-clean L rows e = rw e
 
-answer-none : (L : ℕ) (rows : List Row) → is_clean rows ≡ false → NotClean ≡ clean_answer L rows
+answer-none : (L : ℕ) (rows : List Row) → is_clean rows ≡ false → None ≡ clean_answer L rows
 unfolding clean_answer
 answer-none L rows e = rw e
 
 -- an answer that is a tally
-pub answer-told : (r : CleanTally) (L : ℕ) (rows : List Row) (s : ArrowStats) → r ≡ clean_answer L rows → r ≡ Tally s → s ≡ judged_rows L every rows
+pub answer-told : (r : Option ArrowStats) (L : ℕ) (rows : List Row) (s : ArrowStats) → r ≡ clean_answer L rows → r ≡ Some s → s ≡ judged_rows L every rows
 unfolding clean_answer
 answer-told r L rows s e f = go (is_clean rows) refl
   where
     go : (t : Bool) → is_clean rows ≡ t → s ≡ judged_rows L every rows
-    go true q = let h : Tally s ≡ Tally (judged_rows L every rows) = sym f ∙ e ∙ rw q refl in cc
-    go false q =
-        let h : Tally s ≡ NotClean = sym f ∙ e ∙ rw q refl in
-        let z : ◌≡◌ {A = ℕ} 0 1 = cc in
-        absurd (omega arith)
+    go true q = let h : Some s ≡ Some (judged_rows L every rows) = sym f ∙ e ∙ rw q refl in cc
+    go false q = let h : Some s ≡ None = sym f ∙ e ∙ rw q refl in cc
 
 -- a sum of zeros
 sum-none : (n : ℕ) (f : ℕ → ℕ) → sum_columns n f ≡ 0 → (c : ℕ) → c < n → f c ≡ 0
@@ -132,15 +128,15 @@ module _ (L : ℕ) (all rows : List Row) (t : CleanRows) (x : Passes L all rows 
     all-clean : t.active ≡ 0 → AllClean all
     all-clean z = rw e (λ c k. record { whole = x.whole c k; closed = sum-none 10 (λ c. phantom_after c 0 rows) (sym held ∙ z) c k })
 
-    pub passes-end : t.active ≡ 0 → Tally t.stats ≡ clean_answer L all
+    pub passes-end : t.active ≡ 0 → Some t.stats ≡ clean_answer L all
     unfolding judged_rows
     passes-end z =
         let k = all-clean z in
-        ap Tally (x.stats k ∙ ap (judge_from L every (pairs all) empty_stats 0) (sym e))
+        ap Some (x.stats k ∙ ap (judge_from L every (pairs all) empty_stats 0) (sym e))
         ∙ answer-clean L all (clean-rows all k)
 
     -- with one
-    pub passes-open : (t.active ≡ 0 → ⊥) → NotClean ≡ clean_answer L all
+    pub passes-open : (t.active ≡ 0 → ⊥) → None ≡ clean_answer L all
     passes-open z =
         answer-none L all
         (unclean-rows all
@@ -149,7 +145,7 @@ module _ (L : ℕ) (all rows : List Row) (t : CleanRows) (x : Passes L all rows 
         (λ c k e. rw e (or-true (unpairs_from c 0 rows)))
         (sum-some 10 (λ c. phantom_after c 0 rows) (λ e. z (held ∙ e))))))
 
-  module _ (row : Row) (rest : List Row) (e : all ≡ rows ++ (row ∷ rest)) (t' : CleanRows) (p : RowPassed row t t') where
+  module _ (row : Row) (rest : List Row) (e : all ≡ rows ++ (row ∷ rest)) where
     -- the row leaves a head unpaired in this column
     here : (c : ℕ) → c < 10 → unpairs (hold_at (byte_at c row)) (get_or t.depths c 0) ≡ true
         → (unpairs_from c 0 (rows ++ (row ∷ rest)) || ltb 0 (phantom_after c 0 (rows ++ (row ∷ rest)))) ≡ true
@@ -157,21 +153,23 @@ module _ (L : ℕ) (all rows : List Row) (t : CleanRows) (x : Passes L all rows 
         let met : unpairs (hold_at (byte_at c row)) (phantom_after c 0 rows) ≡ true = ap (unpairs (hold_at (byte_at c row))) (sym (x.depths c n)) ∙ u in
         rw (unpairs-append c 0 rows (row ∷ rest), met, or-true (unpairs_from c 0 rows))
 
-    pub passes-unclean : t'.clean ≡ false → NotClean ≡ clean_answer L all
+    pub passes-unclean : row_unpairs row t.depths ≡ true → None ≡ clean_answer L all
+    unfolding row_unpairs
     passes-unclean k =
         answer-none L all
         (unclean-rows all
         (rw e
-        (column-more 10 (λ c. unpairs (hold_at (byte_at c row)) (get_or t.depths c 0)) _ here (not-false _ (sym p.cells.clean ∙ k)))))
+        (column-more 10 (λ c. unpairs (hold_at (byte_at c row)) (get_or t.depths c 0)) _ here k)))
 
-    pub passes-row : L ≤ 10 → length row ≡ L → All (λ (r : Row). length r ≡ L) all → t'.clean ≡ true → Passes L all (rows ++ (row ∷ [])) t'
-    passes-row m w wide k =
+    pub passes-row : L ≤ 10 → length row ≡ L → All (λ (r : Row). length r ≡ L) all → row_unpairs row t.depths ≡ false → (t' : CleanRows) → RowPassed row t t'
+        → Passes L all (rows ++ (row ∷ [])) t'
+    passes-row m w wide k t' p =
         let narrow : length row ≤ 10 = omega arith in
         record {
-          ready = p.ready k;
+          ready = p.ready;
           depths =
               λ c n.
-              p.cells.depths c n
+              p.depths c n
               ∙ ap (phantom_step (hold_at (byte_at c row))) (x.depths c n)
               ∙ sym (after-snoc c 0 rows row);
           whole =
@@ -180,7 +178,7 @@ module _ (L : ℕ) (all rows : List Row) (t : CleanRows) (x : Passes L all rows 
               ∙ ap₂ (λ (a b : Bool). a || b) (x.whole c n)
               (or-false (unpairs (hold_at (byte_at c row)) (phantom_after c 0 rows))
               ∙ ap (unpairs (hold_at (byte_at c row))) (sym (x.depths c n))
-              ∙ none-unpairs row t.depths t'.clean p.cells.clean k c n);
+              ∙ none-unpairs row t.depths k c n);
           stats =
               λ q.
               p.stats

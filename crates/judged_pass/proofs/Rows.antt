@@ -1,13 +1,12 @@
 -- One row more of the pass: what is left is ready for the next row, and a row of free taps leaves the depths as they are.
 use mathlib.Core.Path.{◌≡◌, ap, sym, ◌∙◌}
-use mathlib.Core.Bool.{Bool, true, false, not}
+use mathlib.Core.Bool.{true, false, not}
 use mathlib.Core.List.{List}
 use Prim.Native.Nat.{ℕ, zero, suc, ◌*◌, ◌≤◌, ◌<◌}
 use native.Mathlib.Nat.{suc-mul}
 use native.Mathlib.Omega.{arith}
-use borrow.Author.Tests.{not-true}
 use lib.ListN.{get_or}
-use Rattle.definitions.specs.Lists.{some_column, sum_columns}
+use Rattle.definitions.specs.Lists.{sum_columns}
 use Rattle.definitions.specs.Lines.{Row}
 use Rattle.definitions.specs.Cells.{cell_of, byte_at}
 use Rattle.definitions.specs.Tracker.{hold_at}
@@ -16,7 +15,7 @@ use Rattle.phantoms.proofs.Columns.{column-same, column-none, column-each}
 use Rattle.taps.specs.Taps.{bit, FreeTaps, FreeAre}
 use Rattle.taps.proofs.Free.{Free, zero-cell, tap-there, free-cell}
 use Rattle.judged_pass.specs.Clean.{unpairs}
-use Rattle.judged_pass.specs.JudgedPass.{CellsPassed, open_head_count, Ready}
+use Rattle.judged_pass.specs.JudgedPass.{row_unpairs, DepthsPassed, open_head_count, Ready}
 use Rattle.judged_pass.specs.declared.CleanRows.{CleanRows}
 use Rattle.judged_pass.proofs.Columns.{depth_low}
 
@@ -31,17 +30,16 @@ sum-most k (suc n) f h =
 pub active-few : (t : CleanRows) → Ready t → t.active ≤ 80
 active-few t r = rw r.active (sum-most 8 10 (λ c. get_or t.depths c 0) r.low)
 
--- where the cells left every column clean, each did
-pub none-unpairs : (row : Row) (ds : List ℕ) (kept : Bool) → kept ≡ not (some_column 10 (λ c. unpairs (hold_at (byte_at c row)) (get_or ds c 0))) → kept ≡ true
-    → (c : ℕ) → c < 10 → unpairs (hold_at (byte_at c row)) (get_or ds c 0) ≡ false
-none-unpairs row ds kept e k c h = column-each 10 (λ c. unpairs (hold_at (byte_at c row)) (get_or ds c 0)) (not-true _ (sym e ∙ k)) c h
+-- where no cell leaves a head unpaired, each column's does not
+pub none-unpairs : (row : Row) (depths : List ℕ) → row_unpairs row depths ≡ false → (c : ℕ) → c < 10 → unpairs (hold_at (byte_at c row)) (get_or depths c 0) ≡ false
+unfolding row_unpairs
+none-unpairs row depths k c h = column-each 10 (λ c. unpairs (hold_at (byte_at c row)) (get_or depths c 0)) k c h
 
-pub cells-ready : (row : Row) (t r : CleanRows) → Ready t → CellsPassed row t.depths r.depths r.clean → r.active ≡ open_head_count r.depths
-    → FreeAre r.busy 0 r.depths → r.clean ≡ true → Ready r
-cells-ready row t r x p a b e =
+pub cells-ready : (row : Row) (t r : CleanRows) → Ready t → row_unpairs row t.depths ≡ false → DepthsPassed row t.depths r.depths
+    → r.active ≡ open_head_count r.depths → FreeAre r.busy 0 r.depths → Ready r
+cells-ready row t r x e p a b =
     record {
-      clean = e;
-      low = λ c h. rw (p.depths c h) (depth_low (hold_at (byte_at c row)) (get_or t.depths c 0) (x.low c h) (none-unpairs row t.depths r.clean p.clean e c h));
+      low = λ c h. rw (p c h) (depth_low (hold_at (byte_at c row)) (get_or t.depths c 0) (x.low c h) (none-unpairs row t.depths e c h));
       active = a;
       busy = b;
     }
@@ -59,12 +57,11 @@ module _ (busy c d : ℕ) (z : bit c busy ≡ 0 → d ≡ 0) where
   free-clean (zero-cell e) = rw e
   free-clean (tap-there e f) = rw (e, z f)
 
-pub free-passed : (t : CleanRows) (m : ℕ) (row : Row) → Ready t → FreeTaps t.busy m row → CellsPassed row t.depths t.depths t.clean
-free-passed t m row r f =
-    record {
-      depths = λ c h. free-depth t.busy c (get_or t.depths c 0) (r.busy c h) (free-cell t.busy m row f c);
-      clean =
-          r.clean
-          ∙ sym
-          (ap not (column-same 10 _ _ (λ c h. free-clean t.busy c (get_or t.depths c 0) (r.busy c h) (free-cell t.busy m row f c)) ∙ column-none 10));
-    }
+module _ (t : CleanRows) (m : ℕ) (row : Row) (r : Ready t) (f : FreeTaps t.busy m row) where
+  pub free-passed : DepthsPassed row t.depths t.depths
+  free-passed c h = free-depth t.busy c (get_or t.depths c 0) (r.busy c h) (free-cell t.busy m row f c)
+
+  pub free-whole : true ≡ not (row_unpairs row t.depths)
+  unfolding row_unpairs
+  free-whole =
+      sym (ap not (column-same 10 _ _ (λ c h. free-clean t.busy c (get_or t.depths c 0) (r.busy c h) (free-cell t.busy m row f c)) ∙ column-none 10))

@@ -2,125 +2,122 @@
 // row are the open heads of the columns.
 #![tactic(auto)]
 
-ghost use Rattle.std.specs.Prelude.{◌≡◌, true, ℕ, ◌≤◌, ◌<◌, ◌^◌, length, get_or};
+ghost use Rattle.std.specs.Prelude.{◌≡◌, true, not, ℕ, ◌≤◌, ◌<◌, ◌^◌, length, slice_index, is_some, OnSome, IfSome};
 ghost use Rattle.definitions.specs.Sizes.{count_bound, most_bytes};
 ghost use Rattle.definitions.specs.Tally.{empty_stats};
 ghost use Rattle.definitions.specs.ReadBack.{rows_read_back};
+ghost use Rattle.definitions.specs.Tracker.{hold_at};
 ghost use Rattle.definitions.specs.Judged.{judged_sum};
 ghost use Rattle.definitions.specs.Lines.{Row};
 ghost use Rattle.taps.specs.Taps.{FreeTaps};
 ghost use Rattle.row_tally.specs.Bounds.{Below};
 ghost use Rattle.judged_pass.specs.Clean.{clean_answer};
-ghost use Rattle.judged_pass.specs.JudgedPass.{CellPassed, CellsPassed, open_head_count, Ready, RowPassed};
+ghost use Rattle.judged_pass.specs.JudgedPass.{clean_depth, row_unpairs, DepthsPassed, open_head_count, Ready, RowPassed};
 
 use definitions::{ArrowStats, Cell, DepthEffect, Lanes, RowSum};
 use taps::{TapTable, Taps};
 
-// What the pass has of the rows so far: the tally, the open heads of each column, of up to ten, the holds open before the next row, the columns
-// that have one as a mask, and whether the rows were clean.
-#[derive(Clone, Copy)]
+// What the pass has of the rows so far: the tally, the open heads of each column, of up to ten, the holds open before the next row, and the
+// columns that have one as a mask.
+#[derive(Drop)]
 pub struct CleanRows {
     pub stats: ArrowStats,
     pub depths: [u32; 10],
     pub active: u32,
     pub busy: u32,
-    pub clean: bool,
 }
 
-// The tally of clean rows, or no answer.
-#[derive(Clone, Copy)]
-pub enum CleanTally {
-    Tally(ArrowStats),
-    NotClean,
-}
-
-// What a cell leaves of its column's depth, and whether it leaves the column clean.
-#[derive(Clone, Copy)]
-pub struct CleanCell {
-    pub depth: u32,
-    pub clean: bool,
-}
-
-// What a row's cells add up to, and whether they leave every column clean.
-#[derive(Clone, Copy)]
-struct CleanCells {
-    sum: RowSum,
-    clean: bool,
-}
-
-// Before the first row.
-fn no_rows() -> CleanRows
-    ensures { Ready result × (result.stats ≡ empty_stats) × ((c : ℕ) → c < 10 → get_or result.depths c 0 ≡ 0) }
-{
-    let stats = row_tally::no_stats();
-    CleanRows {
-        stats,
-        depths: [0; 10],
-        active: 0,
-        busy: 0,
-        clean: true,
+impl CleanRows {
+    // Before the first row.
+    fn new() -> Self
+        ensures { Ready result × (result.stats ≡ empty_stats) × ((c : ℕ) → c < 10 → slice_index result.depths c ≡ 0) }
+    {
+        CleanRows {
+            stats: row_tally::no_stats(),
+            depths: [0; 10],
+            active: 0,
+            busy: 0,
+        }
     }
-}
 
-// One cell of a row, in a column of that depth: no 1, M, L or F may meet an open head, and a ninth head would not be pushed.
-fn clean_cell(b: u8, depth: u32) -> CleanCell
-    requires { depth ≤ 8 }
-    ensures { CellPassed b depth result }
-{
-    match cells::hold_effect(b) {
-        DepthEffect::Nothing => CleanCell { depth, clean: true },
-        DepthEffect::Blocks => CleanCell {
-            depth,
-            clean: depth == 0,
-        },
-        DepthEffect::Opens => CleanCell {
-            depth: depth + 1,
-            clean: depth < 8,
-        },
-        DepthEffect::Closes => {
-            if 0 < depth {
-                CleanCell {
-                    depth: depth - 1,
-                    clean: true,
-                }
-            } else {
-                CleanCell {
-                    depth: 0,
-                    clean: true,
-                }
+    // One row more, cell by cell.
+    fn add_cells(&mut self, row: &[u8]) -> Option<()>
+        requires { (length row.now ≤ 10) × Ready self.old × Below count_bound self.old.stats }
+        ensures clean { is_some result ≡ not (row_unpairs row.now self.old.depths) }
+        ensures passed { OnSome result (RowPassed row.now self.old self.new) }
+    {
+        let sum = clean_cells(&mut self.depths, row)?;
+        self.stats = row_tally::add_judged_row(self.stats, true, self.active, sum);
+        self.active = open_heads(&self.depths);
+        self.busy = taps::unlike(&self.depths, 0);
+        Some(())
+    }
+
+    // One row more of taps alone, none in a column with an open head: it leaves the depths as they are.
+    fn add_taps(&mut self, mask: u16, table: &TapTable)
+        requires { (mask < 2 ^ table.now.lanes.count) × Ready self.old × Below count_bound self.old.stats }
+        ensures { (row : Row) → FreeTaps self.old.busy mask row → RowPassed row self.old self.new }
+    {
+        self.stats = row_tally::judge_taps(self.stats, true, self.active, mask, table);
+    }
+
+    // One row more, unless it leaves a head unpaired.
+    fn add_row(&mut self, row: &[u8], table: &TapTable) -> Option<()>
+        requires { (length row.now ≤ 10) × (table.now.lanes.count ≡ length row.now) × Ready self.old × Below count_bound self.old.stats }
+        ensures clean { is_some result ≡ not (row_unpairs row.now self.old.depths) }
+        ensures passed { OnSome result (RowPassed row.now self.old self.new) }
+    {
+        match taps::free_taps(row, self.busy) {
+            Taps::Mask(mask) => {
+                self.add_taps(mask, table);
+                Some(())
             }
+            Taps::Other => self.add_cells(row),
         }
     }
 }
 
-// The cells of a row, one column after the other: what they add up to on a judged row, and whether they leave every column clean. Most are
-// empty, which change nothing.
-fn clean_cells(depths: &mut [u32; 10], row: &[u8]) -> CleanCells
-    requires { (length row.now ≤ 10) × (length depths.old ≡ 10) × ((c : ℕ) → c < 10 → get_or depths.old c 0 ≤ 8) }
-    ensures { CellsPassed row.now depths.old depths.new result.clean × (result.sum ≡ judged_sum true row.now) }
+// The depth of a column after a cell, unless the cell leaves a head unpaired: no 1, M, L or F may meet an open head, and a ninth head would not
+// be pushed.
+fn depth_after(b: u8, depth: u32) -> Option<u32>
+    requires { depth ≤ 8 }
+    ensures { result ≡ clean_depth (hold_at b) depth }
+{
+    match cells::hold_effect(b) {
+        DepthEffect::Nothing => Some(depth),
+        DepthEffect::Blocks => { if depth == 0 { Some(0) } else { None } }
+        DepthEffect::Opens => { if depth < 8 { Some(depth + 1) } else { None } }
+        DepthEffect::Closes => Some(depth.saturating_sub(1)),
+    }
+}
+
+// The cells of a row, one column after the other: what they add up to on a judged row, unless one leaves a head unpaired. Most are empty, which
+// change nothing.
+fn clean_cells(depths: &mut [u32; 10], row: &[u8]) -> Option<RowSum>
+    requires { (length row.now ≤ 10) × (length depths.old ≡ 10) × ((c : ℕ) → c < 10 → slice_index depths.old c ≤ 8) }
+    ensures clean { is_some result ≡ not (row_unpairs row.now depths.old) }
+    ensures sum { IfSome result (λ sum. sum ≡ judged_sum true row.now) }
+    ensures depths_after { OnSome result (DepthsPassed row.now depths.old depths.new) }
 {
     let mut sum = row_tally::no_sum();
-    let mut clean = true;
     let mut i = 0;
     while i < row.len() {
         let b = row[i];
         match cells::cell_of(b) {
             Cell::Empty => {}
             _ => {
-                let cell = clean_cell(b, depths[i]);
-                depths[i] = cell.depth;
-                clean = clean & cell.clean;
+                depths[i] = depth_after(b, depths[i])?;
                 sum = row_tally::judged_cell(sum, i, b);
             }
         }
         i += 1;
     }
-    CleanCells { sum, clean }
+    Some(sum)
 }
 
 // The open heads of ten columns.
 fn open_heads(depths: &[u32; 10]) -> u32
-    requires { (c : ℕ) → c < 10 → get_or depths.now c 0 ≤ 9 }
+    requires { (c : ℕ) → c < 10 → slice_index depths.now c ≤ 9 }
     ensures { result ≡ open_head_count depths.now }
 {
     let mut sum: u32 = 0;
@@ -132,67 +129,19 @@ fn open_heads(depths: &[u32; 10]) -> u32
     sum
 }
 
-// One row more, cell by cell.
-fn count_cells(t: CleanRows, row: &[u8]) -> CleanRows
-    requires { (length row.now ≤ 10) × Ready t × Below count_bound t.stats }
-    ensures { RowPassed row.now t result }
-{
-    let mut depths = t.depths;
-    let row_cells = clean_cells(&mut depths, row);
-    let sum = row_cells.sum;
-    let old = t.stats;
-    let stats = row_tally::add_judged_row(old, true, t.active, sum);
-    let active = open_heads(&depths);
-    let busy = taps::unlike(&depths, 0);
-    CleanRows {
-        stats,
-        depths,
-        active,
-        busy,
-        clean: row_cells.clean,
-    }
-}
-
-// One row more of taps alone, none in a column with an open head: it leaves the depths as they are.
-fn count_taps(t: CleanRows, mask: u16, table: &TapTable) -> CleanRows
-    requires { (mask < 2 ^ table.now.lanes.count) × Ready t × Below count_bound t.stats }
-    ensures { (row : Row) → FreeTaps t.busy mask row → RowPassed row t result }
-{
-    let old = t.stats;
-    let stats = row_tally::judge_taps(old, true, t.active, mask, table);
-    let mut r = t;
-    r.stats = stats;
-    r
-}
-
-// One row more.
-fn count_row(t: CleanRows, row: &[u8], table: &TapTable) -> CleanRows
-    requires { (length row.now ≤ 10) × (table.now.lanes.count ≡ length row.now) × Ready t × Below count_bound t.stats }
-    ensures { RowPassed row.now t result }
-{
-    match taps::free_taps(row, t.busy) {
-        Taps::Mask(mask) => count_taps(t, mask, table),
-        Taps::Other => count_cells(t, row),
-    }
-}
-
 // The judged tally of a text's rows, every row judged: an answer is given exactly where they are clean.
-pub fn judge_clean(data: &[u8], lanes: usize) -> CleanTally
+pub fn judge_clean(data: &[u8], lanes: usize) -> Option<ArrowStats>
     requires { (length «data».now ≤ most_bytes) × (4 ≤ lanes) × (lanes ≤ 10) }
     ensures { result ≡ clean_answer lanes (rows_read_back lanes «data».now) }
 {
     let table = TapTable::for_lanes(Lanes { count: lanes });
-    let mut t = no_rows();
+    let mut rows = CleanRows::new();
     for row in reader::back::back_rows(data, Lanes { count: lanes }, true) {
-        t = count_row(t, row, &table);
-        let clean = t.clean;
-        if !clean {
-            return CleanTally::NotClean;
-        }
+        rows.add_row(row, &table)?;
     }
-    if t.active != 0 {
-        return CleanTally::NotClean;
+    let heads_are_open = rows.active != 0;
+    if heads_are_open {
+        return None;
     }
-    let stats = t.stats;
-    CleanTally::Tally(stats)
+    Some(rows.stats)
 }

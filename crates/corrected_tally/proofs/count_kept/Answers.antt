@@ -39,7 +39,7 @@ loop-cells-preserved c =
     rw came-more
     (counting-row _ _ _ _ c.loop-cells.invariant c.args.work.now c.requires.1 _
     (omega (arith, c.requires.0.most, next-wide _ _ _ _ _ (come (goal.at.loop-cells-preserved c).At-loop-cells) _ _ c.in-Some.ensures.steps))
-    _ c.count_row-stats.ensures)
+    _ (rw c.heads.ensures at c.count_row-stats.ensures))
 
 pub returns : goal.returns
 returns c =

@@ -1,8 +1,7 @@
 -- `corrected_tally::mark_heads` meets its contract. The loop's invariant: the tracker and the work slice are what the rows that have come have left.
-use Rattle.taps.specs.Taps.{FreeAre}
 use Rattle.reader.proofs.BackLoops.{came}
 use Rattle.corrected_tally.proofs.Marking.{Marking}
 use Rattle.corrected_tally.proofs.mark_heads.Given as goal
 
 abbrev pub invariant-loop-cells : goal.invariant-loop-cells
-invariant-loop-cells l = Marking (came l.yielded) l.row l.t l.work × FreeAre l.busy 0 l.t.depths
+invariant-loop-cells l = Marking (came l.yielded) l.row l.tracker l.work

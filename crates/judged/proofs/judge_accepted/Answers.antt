@@ -2,5 +2,5 @@
 use Rattle.judged_pass.proofs.JudgedPass.{answer-told}
 use Rattle.judged.proofs.judge_accepted.Goals as goal
 
-pub returns-in-Tally-clause-value : goal.returns-in-Tally-clause-value
-returns-in-Tally-clause-value c = rw c.if-all.true (answer-told _ _ _ _ c.judge_clean.ensures c.in-Tally.is)
+pub returns-clause-value : goal.returns-clause-value
+returns-clause-value c = rw c.if-all.true (answer-told _ _ _ _ c.judge_clean.ensures c.in-Some.is)

@@ -1,9 +1,8 @@
 -- `judged::track_timing_rows` meets its contract. The loop's invariant: the tracker and the work slice are those of the rows that have come.
-use Rattle.taps.specs.Taps.{FreeAre}
 use Rattle.judged.specs.Timing.{judged_by}
 use Rattle.reader.proofs.BackLoops.{came}
 use Rattle.judged.proofs.Tracking.{Tracking}
 use Rattle.judged.proofs.track_timing_rows.Given as goal
 
 abbrev pub invariant-loop-cells : goal.invariant-loop-cells
-invariant-loop-cells l = Tracking (judged_by l.all l.flags) (came l.yielded) l.row l.t l.work × FreeAre l.busy 0 l.t.depths
+invariant-loop-cells l = Tracking (judged_by l.all l.flags) (came l.yielded) l.row l.tracker l.work

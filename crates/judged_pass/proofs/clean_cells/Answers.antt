@@ -2,27 +2,37 @@
 use mathlib.Core.Path.{sym}
 use Prim.Native.Nat.{◌<◌}
 use native.Mathlib.Omega.{arith}
-use Rattle.judged_pass.proofs.Columns.{passing-start, passing-next, passing-empty, passing-end, passing-sum, passing-moved}
+use Rattle.judged_pass.proofs.Columns.{passing-start, passing-none, passing-next, passing-empty, passing-clean, passing-end, passing-sum, passing-moved}
 use Rattle.judged_pass.proofs.clean_cells.Goals as goal
-use Rattle.judged_pass.proofs.clean_cells.Goals.{in-Empty, in_default}
-
--- `i` is one of the ten columns
-inside : (c : goal.Joined-cell_of) → c.loop-i.i < 10
-inside c = omega (arith, c.requires.0)
+use Rattle.judged_pass.proofs.clean_cells.Goals.{in-Empty, in_default+in_ok-depths-in_default}
 
 pub loop-i-init : goal.loop-i-init
 loop-i-init c = passing-start _ _ _ c.requires.1 c.no_sum-sum.ensures
 
+pub returns-in_err-depths-in_default : goal.returns-in_err-depths-in_default
+returns-in_err-depths-in_default c =
+    let inside : c.loop-i.i < 10 = omega (arith, c.requires.0) in
+    rw c.from_residual.ensures
+    (record {
+      clean = passing-none _ _ _ _ _ c.loop-i.invariant c.loop-i-test.true inside (sym c.in_err-depths-in_default.ensures);
+      sum = tt;
+      depths_after = tt;
+    })
+
 pub loop-i-preserved : goal.loop-i-preserved
 loop-i-preserved c =
-    let m = inside c in
+    let inside : c.loop-i.i < 10 = omega (arith, c.requires.0) in
     elim c.match-cell_of.branch [
-      | in-Empty w ↦ passing-moved w.depths-is w.clean-is w.sum-is (passing-empty _ _ _ _ _ _ c.loop-i.invariant c.loop-i-test.true m (sym w.in-Empty.ensures))
-      | in_default w ↦
-          passing-moved w.depths-is w.clean-is w.sum-is
-          (passing-next _ _ _ _ _ _ c.loop-i.invariant c.loop-i-test.true m _ w.clean_cell-cell.ensures _ w.judged_cell-sum.ensures)
+      | in-Empty w ↦ passing-moved w.depths-is w.sum-is (passing-empty _ _ _ _ _ c.loop-i.invariant c.loop-i-test.true inside (sym w.in-Empty.ensures))
+      | in_default+in_ok-depths-in_default w ↦
+          passing-moved w.depths-is w.sum-is
+          (passing-next _ _ _ _ _ c.loop-i.invariant c.loop-i-test.true inside _ (sym w.in_ok-depths-in_default.ensures) _ w.judged_cell-sum.ensures)
     ]
 
 pub returns : goal.returns
 returns c =
-    (passing-end _ _ _ _ _ _ c.loop-i.invariant c.loop-i-test.false c.requires.0, passing-sum _ _ _ _ _ _ c.loop-i.invariant c.loop-i-test.false)
+    record {
+      clean = passing-clean _ _ _ _ _ c.loop-i.invariant c.loop-i-test.false c.requires.0;
+      sum = passing-sum _ _ _ _ _ c.loop-i.invariant c.loop-i-test.false;
+      depths_after = passing-end _ _ _ _ _ c.loop-i.invariant c.loop-i-test.false;
+    }

@@ -5,7 +5,7 @@ use Rattle.judged_pass.proofs.Columns.{Passing}
 use Rattle.judged_pass.proofs.clean_cells.Given as goal
 
 abbrev pub invariant-loop-i : goal.invariant-loop-i
-invariant-loop-i l = Passing l.row l.initial.depths l.depths l.clean l.sum l.i
+invariant-loop-i l = Passing l.row l.initial.depths l.depths l.sum l.i
 
 abbrev pub decreases-loop-i : goal.decreases-loop-i
 decreases-loop-i l = length l.row - l.i

@@ -2,6 +2,7 @@
 use mathlib.Core.Path.{◌≡◌, sym, subst, ◌∙◌}
 use mathlib.Core.Bool.{true}
 use native.Mathlib.Omega.{arith}
+use borrow.Author.Tests.{not-true, not-false}
 use lib.ListN.{length}
 use Rattle.definitions.specs.Lines.{Row}
 use Rattle.definitions.proofs.Lists.{All}
@@ -16,35 +17,36 @@ come c =
     back-come _ _ _ _ (c.into_iter-row-iterator.ensures.into_iter_gives ∙ c.back_rows-row-items.ensures) _ _ c.loop-row.yielded_by c.requires.1
 
 pub loop-row-init : goal.loop-row-init
-loop-row-init c = passes-start _ _ _ c.no_rows-t.ensures.0 c.no_rows-t.ensures.1 c.no_rows-t.ensures.2
+loop-row-init c = passes-start _ _ _ c.new-rows.ensures.0 c.new-rows.ensures.1 c.new-rows.ensures.2
 
-pub count_row-t-requires : goal.count_row-t-requires
-count_row-t-requires c =
-    let x = come (goal.at.count_row-t-requires c).At-loop-row in
+pub add_row-requires : goal.add_row-requires
+add_row-requires c =
+    let x = come (goal.at.add_row-requires c).At-loop-row in
     let wide = next-wide _ _ _ _ _ x _ _ c.in-Some.ensures.steps in
     (omega (arith, wide), c.for_lanes-table.ensures ∙ sym wide, c.loop-row.invariant.ready, passes-few _ _ _ _ c.loop-row.invariant (omega (arith, x.few)))
 
-pub returns-then-not-clean : goal.returns-then-not-clean
-returns-then-not-clean c =
-    let x = come (goal.at.returns-then-not-clean c).At-loop-row in
-    passes-unclean _ _ _ _ c.loop-row.invariant _ _ (sym (back-trimmed _ _) ∙ next-all _ _ _ _ _ x _ _ c.in-Some.ensures.steps) _ c.count_row-t.ensures c.if-not-clean.true
+pub returns-in_err-add_row : goal.returns-in_err-add_row
+returns-in_err-add_row c =
+    let x = come (goal.at.returns-in_err-add_row c).At-loop-row in
+    c.from_residual.ensures
+    ∙ passes-unclean _ _ _ _ c.loop-row.invariant _ _ (sym (back-trimmed _ _) ∙ next-all _ _ _ _ _ x _ _ c.in-Some.ensures.steps) (not-false _ (sym c.in_err-add_row.ensures.clean))
 
 pub loop-row-preserved : goal.loop-row-preserved
 loop-row-preserved c =
     let x = come (goal.at.loop-row-preserved c).At-loop-row in
     let e = c.in-Some.ensures.steps in
     rw came-more
-    (passes-row _ _ _ _ c.loop-row.invariant _ _ (sym (back-trimmed _ _) ∙ next-all _ _ _ _ _ x _ _ e) _ c.count_row-t.ensures c.requires.2
+    (passes-row _ _ _ _ c.loop-row.invariant _ _ (sym (back-trimmed _ _) ∙ next-all _ _ _ _ _ x _ _ e) c.requires.2
     (next-wide _ _ _ _ _ x _ _ e)
     (subst (λ rs. All (λ (r : Row). length r ≡ c.args.lanes) rs) (back-trimmed _ _) (rows-wide _ _ _))
-    c.if-not-clean.false)
+    (not-true _ (sym c.in_ok-add_row.ensures.clean)) _ c.in_ok-add_row.ensures.passed)
 
-pub returns-then-t-ne0 : goal.returns-then-t-ne0
-returns-then-t-ne0 c =
-    let x = come (goal.at.returns-then-t-ne0 c).At-loop-row in
-    passes-open _ _ _ _ c.loop-row.invariant (sym (back-trimmed _ _) ∙ all-came _ _ _ _ _ x c.in-None.ensures.steps.0) c.if-t-ne0.true
+pub returns-then-heads_are_open : goal.returns-then-heads_are_open
+returns-then-heads_are_open c =
+    let x = come (goal.at.returns-then-heads_are_open c).At-loop-row in
+    passes-open _ _ _ _ c.loop-row.invariant (sym (back-trimmed _ _) ∙ all-came _ _ _ _ _ x c.in-None.ensures.steps.0) c.if-heads_are_open.true
 
 pub returns : goal.returns
 returns c =
     let x = come (goal.at.returns c).At-loop-row in
-    passes-end _ _ _ _ c.loop-row.invariant (sym (back-trimmed _ _) ∙ all-came _ _ _ _ _ x c.in-None.ensures.steps.0) c.if-t-ne0.false
+    passes-end _ _ _ _ c.loop-row.invariant (sym (back-trimmed _ _) ∙ all-came _ _ _ _ _ x c.in-None.ensures.steps.0) c.if-heads_are_open.false

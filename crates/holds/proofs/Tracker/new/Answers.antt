@@ -1,8 +1,8 @@
--- `holds::no_tracker` meets its contract: every depth is 0.
+-- `holds::Tracker::new` meets its contract: every depth is 0.
 use mathlib.Core.Path.{ap}
 use lib.ListN.{get_or-replicate, replicate}
 use Rattle.holds.specs.Stacks.{stack_at, stack_of}
-use Rattle.holds.proofs.no_tracker.Goals as goal
+use Rattle.holds.proofs.Tracker.new.Goals as goal
 
 pub returns : goal.returns
 unfolding stack_of
