@@ -75,14 +75,15 @@ fn is_judged(all: bool, flags: &[u8], i: usize) -> bool
 
 // The entry of each row in the work slice, as the Rust's `TimingRow`: its paired heads, how many holds of judged heads end there, and whether
 // it is judged.
-fn track_timing_rows(data: &[u8], lanes: usize, all: bool, flags: &[u8], work: &mut [u16])
-    requires { (length «data».now ≤ most_bytes) × (4 ≤ lanes) × (lanes ≤ 10) × (most_rows_in lanes (length «data».now) ≤ length work.old) }
-    ensures { WorkEntries (judged_by all flags.now) (rows_read_back lanes «data».now) work.new }
+fn track_timing_rows(data: &[u8], lanes: Lanes, all: bool, flags: &[u8], work: &mut [u16])
+    requires text_length { length «data».now ≤ most_bytes }
+    requires work_room { most_rows_in lanes.count (length «data».now) ≤ length work.old }
+    ensures { WorkEntries (judged_by all flags.now) (rows_read_back lanes.count «data».now) work.new }
 {
     slices::zero_past(&mut *work, 0, 0);
     let mut tracker = Tracker::new();
     let mut row: u32 = 0;
-    for cells in reader::back::back_rows(data, Lanes { count: lanes }, true) {
+    for cells in reader::back::back_rows(data, lanes, true) {
         let judged = is_judged(all, flags, row as usize);
         tracker.track_row(row, cells, judged, &mut *work);
         row += 1;
@@ -90,15 +91,16 @@ fn track_timing_rows(data: &[u8], lanes: usize, all: bool, flags: &[u8], work: &
 }
 
 // The rows again, each with its entry.
-fn tally_timing_rows(data: &[u8], lanes: usize, work: &[u16]) -> ArrowStats
-    requires in_bounds { (length «data».now ≤ most_bytes) × (4 ≤ lanes) × (lanes ≤ 10) × (most_rows_in lanes (length «data».now) ≤ length work.now) }
-    requires entries { SomeWorkEntries (rows_read_back lanes «data».now) work.now }
-    ensures { (J : ℕ → Bool) → WorkEntries J (rows_read_back lanes «data».now) work.now → result ≡ judged_rows lanes J (rows_read_back lanes «data».now) }
+fn tally_timing_rows(data: &[u8], lanes: Lanes, work: &[u16]) -> ArrowStats
+    requires text_length { length «data».now ≤ most_bytes }
+    requires work_room { most_rows_in lanes.count (length «data».now) ≤ length work.now }
+    requires entries { SomeWorkEntries (rows_read_back lanes.count «data».now) work.now }
+    ensures { (J : ℕ → Bool) → WorkEntries J (rows_read_back lanes.count «data».now) work.now → result ≡ judged_rows lanes.count J (rows_read_back lanes.count «data».now) }
 {
-    let table = TapTable::for_lanes(Lanes { count: lanes });
+    let table = TapTable::for_lanes(lanes);
     let mut tally = TimingStats::new();
     let mut row = 0;
-    for cells in reader::back::back_rows(data, Lanes { count: lanes }, true) {
+    for cells in reader::back::back_rows(data, lanes, true) {
         let entry = work[row];
         match taps::free_taps(cells, 0) {
             Taps::Mask(mask) => tally.add_taps(mask, entry, &table),
@@ -110,9 +112,10 @@ fn tally_timing_rows(data: &[u8], lanes: usize, work: &[u16]) -> ArrowStats
 }
 
 // The judged tally of an accepted text by the two loops, through the work slice, which is left 0 throughout.
-fn judge_rows(data: &[u8], lanes: usize, all: bool, flags: &[u8], work: &mut [u16]) -> ArrowStats
-    requires { (length «data».now ≤ most_bytes) × (4 ≤ lanes) × (lanes ≤ 10) × (most_rows_in lanes (length «data».now) ≤ length work.old) }
-    ensures value { result ≡ judged_rows lanes (judged_by all flags.now) (rows_read_back lanes «data».now) }
+fn judge_rows(data: &[u8], lanes: Lanes, all: bool, flags: &[u8], work: &mut [u16]) -> ArrowStats
+    requires text_length { length «data».now ≤ most_bytes }
+    requires work_room { most_rows_in lanes.count (length «data».now) ≤ length work.old }
+    ensures value { result ≡ judged_rows lanes.count (judged_by all flags.now) (rows_read_back lanes.count «data».now) }
     ensures work_after { work.new ≡ padded 0 (length work.old) [] }
 {
     track_timing_rows(data, lanes, all, flags, &mut *work);
@@ -125,13 +128,14 @@ fn judge_rows(data: &[u8], lanes: usize, all: bool, flags: &[u8], work: &mut [u1
 // `recalc_judgable_stats` does.
 pub fn judge_accepted(
     data: &[u8],
-    lanes: usize,
+    lanes: Lanes,
     all: bool,
     flags: &[u8],
     work: &mut [u16],
 ) -> ArrowStats
-    requires { (length «data».now ≤ most_bytes) × (4 ≤ lanes) × (lanes ≤ 10) × (most_rows_in lanes (length «data».now) ≤ length work.old) }
-    ensures value { result ≡ judged_rows lanes (judged_by all flags.now) (rows_read_back lanes «data».now) }
+    requires text_length { length «data».now ≤ most_bytes }
+    requires work_room { most_rows_in lanes.count (length «data».now) ≤ length work.old }
+    ensures value { result ≡ judged_rows lanes.count (judged_by all flags.now) (rows_read_back lanes.count «data».now) }
     ensures work_after { work.new ≡ padded 0 (length work.old) [] }
 {
     if all && let Some(stats) = judged_pass::judge_clean(data, lanes) {
@@ -157,7 +161,7 @@ fn judge(
     refusals::text_fits(len)?;
     let columns = Lanes::in_force(lanes);
     refusals::room_for_work(columns, len, work.len())?;
-    Ok(judge_accepted(data, columns.count, all, flags, work))
+    Ok(judge_accepted(data, columns, all, flags, work))
 }
 
 // The tally with every row judged.

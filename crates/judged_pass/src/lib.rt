@@ -130,13 +130,13 @@ fn open_heads(depths: &[u32; 10]) -> u32
 }
 
 // The judged tally of a text's rows, every row judged: an answer is given exactly where they are clean.
-pub fn judge_clean(data: &[u8], lanes: usize) -> Option<ArrowStats>
-    requires { (length «data».now ≤ most_bytes) × (4 ≤ lanes) × (lanes ≤ 10) }
-    ensures { result ≡ clean_answer lanes (rows_read_back lanes «data».now) }
+pub fn judge_clean(data: &[u8], lanes: Lanes) -> Option<ArrowStats>
+    requires { length «data».now ≤ most_bytes }
+    ensures { result ≡ clean_answer lanes.count (rows_read_back lanes.count «data».now) }
 {
-    let table = TapTable::for_lanes(Lanes { count: lanes });
+    let table = TapTable::for_lanes(lanes);
     let mut rows = CleanRows::new();
-    for row in reader::back::back_rows(data, Lanes { count: lanes }, true) {
+    for row in reader::back::back_rows(data, lanes, true) {
         rows.add_row(row, &table)?;
     }
     let heads_are_open = rows.active != 0;

@@ -34,7 +34,7 @@ fn judge_minimised(minimised: &[u8], lanes: usize, work: &mut [u16]) -> ArrowSta
     ensures work_after { work.new ≡ padded 0 (length work.old) [] }
 {
     let end = one_less(minimised.len());
-    judged::judge_accepted(&minimised[..end], lanes, true, b"", work)
+    judged::judge_accepted(&minimised[..end], Lanes { count: lanes }, true, b"", work)
 }
 
 // All answers of an accepted text, and zeros past each in the lent slices.

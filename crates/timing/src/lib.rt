@@ -20,7 +20,7 @@ use reader::charts::ChartLine;
 
 // Where the open measure begins, how many bytes are written, the rows of the measures that have ended, those of the open one and its number,
 // and whether a measure that has ended has a 2 or 4.
-#[derive(Clone, Copy)]
+#[derive(Drop)]
 pub struct TimingPass {
     pub start: usize,
     pub out: usize,
@@ -28,6 +28,52 @@ pub struct TimingPass {
     pub rows: usize,
     pub midx: u32,
     pub heads: bool,
+}
+
+impl TimingPass {
+    // Before the first line.
+    fn new() -> Self
+        ensures before { (L : ℕ) (text : List ℕ) (beats : List Float) → Timed L result text beats [] [] }
+        ensures nothing_written { result.out ≡ 0 }
+    {
+        TimingPass {
+            start: 0,
+            out: 0,
+            kept: 0,
+            rows: 0,
+            midx: 0,
+            heads: false,
+        }
+    }
+
+    // One row more of the open measure.
+    fn add_row(&mut self, text: &mut [u8], row: &[u8])
+        requires { (self.old.out + length row.now ≤ length text.old) × (self.old.rows < row_count_bound) }
+        ensures timed { (beats : List Float) (done : List (List Row)) (cur : List Row) → Timed (length row.now) self.old text.old beats done cur → Timed (length row.now) self.new text.new beats done (cur ++ (row.now ∷ [])) }
+        ensures out_after { self.new.out ≡ self.old.out + length row.now }
+    {
+        output::put_row(text, self.out, row);
+        self.out += row.len();
+        self.rows += 1;
+    }
+
+    // The open measure ends: its rows are minimised in place, and the beats of those that are kept are written.
+    fn end_measure(&mut self, text: &mut [u8], beats: &mut [f32], lanes: Lanes)
+        requires room { (self.old.out ≤ length text.old) × (self.old.rows < row_count_bound) × (self.old.midx ≤ measures_bound) × SomeTimed lanes.count self.old text.old beats.old }
+        requires rows_in_bounds { self.old.kept + self.old.rows ≤ length beats.old }
+        ensures timed { (done : List (List Row)) (cur : List Row) → Timed lanes.count self.old text.old beats.old done cur → Timed lanes.count self.new text.new beats.new (done ++ (reduce cur ∷ [])) [] }
+        ensures no_more { (self.new.out ≤ self.old.out) × (self.new.kept ≤ self.old.kept + self.old.rows) }
+    {
+        let kept = reduction::reduce_rows(text, self.start, self.rows, lanes);
+        let end = self.start + kept * lanes.count;
+        beats::append_row_beats(beats, self.kept, self.midx, kept as u32);
+        self.heads |= has_head(&text[self.start..end]);
+        self.start = end;
+        self.out = end;
+        self.kept += kept;
+        self.rows = 0;
+        self.midx += 1;
+    }
 }
 
 // Whether the byte is a 2 or 4.
@@ -54,81 +100,21 @@ fn has_head(bytes: &[u8]) -> bool
     has
 }
 
-// Before the first line.
-fn no_pass() -> TimingPass
-    ensures { ((L : ℕ) (text : List ℕ) (beats : List Float) → Timed L result text beats [] []) × (result.out ≡ 0) }
-{
-    TimingPass {
-        start: 0,
-        out: 0,
-        kept: 0,
-        rows: 0,
-        midx: 0,
-        heads: false,
-    }
-}
-
-// One row more of the open measure.
-fn pass_row(p: TimingPass, text: &mut [u8], row: &[u8]) -> TimingPass
-    requires { (p.out + length row.now ≤ length text.old) × (p.rows < row_count_bound) }
-    ensures timed { (beats : List Float) (done : List (List Row)) (cur : List Row) → Timed (length row.now) p text.old beats done cur → Timed (length row.now) result text.new beats done (cur ++ (row.now ∷ [])) }
-    ensures out_value { result.out ≡ p.out + length row.now }
-{
-    let at = p.out;
-    output::put_row(text, at, row);
-    TimingPass {
-        start: p.start,
-        out: at + row.len(),
-        kept: p.kept,
-        rows: p.rows + 1,
-        midx: p.midx,
-        heads: p.heads,
-    }
-}
-
-// The open measure ends: its rows are minimised in place, and the beats of those that are kept are written.
-fn finish_timing_rows(p: TimingPass, text: &mut [u8], beats: &mut [f32], lanes: Lanes) -> TimingPass
-    requires room { (p.out ≤ length text.old) × (p.rows < row_count_bound) × (p.midx ≤ measures_bound) × SomeTimed lanes.count p text.old beats.old }
-    requires rows_in_bounds { p.kept + p.rows ≤ length beats.old }
-    ensures timed { (done : List (List Row)) (cur : List Row) → Timed lanes.count p text.old beats.old done cur → Timed lanes.count result text.new beats.new (done ++ (reduce cur ∷ [])) [] }
-    ensures out_le_out { (result.out ≤ p.out) × (result.kept ≤ p.kept + p.rows) }
-{
-    let start = p.start;
-    let rows = p.rows;
-    let at = p.kept;
-    let midx = p.midx;
-    let kept = reduction::reduce_rows(text, start, rows, lanes);
-    let end = start + kept * lanes.count;
-    beats::append_row_beats(beats, at, midx, kept as u32);
-    let found = has_head(&text[start..end]);
-    TimingPass {
-        start: end,
-        out: end,
-        kept: at + kept,
-        rows: 0,
-        midx: midx + 1,
-        heads: p.heads | found,
-    }
-}
-
 // The whole text, its last measure too.
 fn pass_chart(data: &[u8], lanes: Lanes, text: &mut [u8], beats: &mut [f32]) -> TimingPass
     requires accepted { length «data».now ≤ most_bytes }
     requires data_in_bounds { (length «data».now + 1 ≤ length text.old) × (most_rows_in lanes.count (length «data».now) ≤ length beats.old) }
     ensures { TimedAll lanes.count «data».now result text.new beats.new }
 {
-    let mut p = no_pass();
+    let mut pass = TimingPass::new();
     for line in reader::charts::chart_lines(data, lanes) {
         match line {
-            ChartLine::Row(row) => {
-                p = pass_row(p, text, row);
-            }
-            ChartLine::Comma => {
-                p = finish_timing_rows(p, text, beats, lanes);
-            }
+            ChartLine::Row(row) => pass.add_row(text, row),
+            ChartLine::Comma => pass.end_measure(text, beats, lanes),
         }
     }
-    finish_timing_rows(p, text, beats, lanes)
+    pass.end_measure(text, beats, lanes);
+    pass
 }
 
 // The call where it is accepted: the pass, and zeros past each answer.
@@ -139,15 +125,13 @@ fn timing_figures(data: &[u8], lanes: Lanes, text: &mut [u8], beats: &mut [f32])
     ensures text_after { text.new ≡ padded 0 (length text.old) (timing_rows lanes.count «data».now) }
     ensures beats_after { beats.new ≡ padded (f32 0) (length beats.old) (beats_of lanes.count «data».now) }
 {
-    let p = pass_chart(data, lanes, text, beats);
-    let bytes = p.out;
-    let rows = p.kept;
-    slices::zero_past(text, bytes, 0);
-    slices::zero_past(beats, rows, 0.0);
+    let pass = pass_chart(data, lanes, text, beats);
+    slices::zero_past(text, pass.out, 0);
+    slices::zero_past(beats, pass.kept, 0.0);
     TimingFigures {
-        bytes,
-        rows,
-        heads: p.heads,
+        bytes: pass.out,
+        rows: pass.kept,
+        heads: pass.heads,
     }
 }
 

@@ -17,9 +17,9 @@ use Rattle.judged.proofs.Tallying.{tallying-start, tallying-few, tallying-enough
 use Rattle.judged.proofs.tally_timing_rows.Goals.{At-loop-cells, In-Some, in-Mask, in-Other}
 use Rattle.judged.proofs.tally_timing_rows.Goals as goal
 
-come : (c : At-loop-cells) → BackCome true c.args.lanes c.args.«data».now (came c.loop-cells.yielded) c.loop-cells.cells-iterator
+come : (c : At-loop-cells) → BackCome true c.args.lanes.count c.args.«data».now (came c.loop-cells.yielded) c.loop-cells.cells-iterator
 come c =
-    back-come _ _ _ _ (c.into_iter-cells-iterator.ensures.into_iter_gives ∙ c.back_rows-cells-items.ensures) _ _ c.loop-cells.yielded_by c.requires.in_bounds.1
+    back-come _ _ _ _ (c.into_iter-cells-iterator.ensures.into_iter_gives ∙ c.back_rows-cells-items.ensures) _ _ c.loop-cells.yielded_by c.args.lanes.within.0
 
 -- the row that has come: how wide it is, and its place among all
 record Here (L : ℕ) (text : List ℕ) (rows : List Row) (cells : Row) : Type 0 where
@@ -35,20 +35,20 @@ here L text rows rest x cells below e =
       inside = rw (← back-trimmed L text) (next-inside true L text rows rest x cells below e);
     }
 
-row-here : (c : In-Some) → Here c.args.lanes c.args.«data».now (came c.loop-cells.yielded) c.in-Some.cells.now
+row-here : (c : In-Some) → Here c.args.lanes.count c.args.«data».now (came c.loop-cells.yielded) c.in-Some.cells.now
 row-here c =
-    here _ _ _ _ (back-come _ _ _ _ (c.into_iter-cells-iterator.ensures.into_iter_gives ∙ c.back_rows-cells-items.ensures) _ _ c.loop-cells.yielded_by c.requires.in_bounds.1) _ _
+    here _ _ _ _ (back-come _ _ _ _ (c.into_iter-cells-iterator.ensures.into_iter_gives ∙ c.back_rows-cells-items.ensures) _ _ c.loop-cells.yielded_by c.args.lanes.within.0) _ _
     c.in-Some.ensures.steps
 
 -- the tally by some rows that are judged, and the row's entry stands in the work slice
 entry-room : (c : In-Some) → c.loop-cells.row < length c.args.work.now
 entry-room c =
-    let x = back-come _ _ _ _ (c.into_iter-cells-iterator.ensures.into_iter_gives ∙ c.back_rows-cells-items.ensures) _ _ c.loop-cells.yielded_by c.requires.in_bounds.1 in
+    let x = back-come _ _ _ _ (c.into_iter-cells-iterator.ensures.into_iter_gives ∙ c.back_rows-cells-items.ensures) _ _ c.loop-cells.yielded_by c.args.lanes.within.0 in
     let k = c.loop-cells.invariant _ c.requires.entries.timed in
-    omega (arith, c.requires.in_bounds.3, x.most, k.size, next-inside _ _ _ _ _ x _ _ c.in-Some.ensures.steps)
+    omega (arith, c.requires.work_room, x.most, k.size, next-inside _ _ _ _ _ x _ _ c.in-Some.ensures.steps)
 
 few : (c : At-loop-cells) → 10 * length (came c.loop-cells.yielded) ≤ count_bound
-few c = omega (arith, (come c).few, c.requires.in_bounds.0)
+few c = omega (arith, (come c).few, c.requires.text_length)
 
 pub loop-cells-init : goal.loop-cells-init
 loop-cells-init c = λ J w. tallying-start _ _ _ _ c.new-tally.ensures
@@ -61,7 +61,7 @@ bounds-work-row c = entry-room (goal.at.bounds-work-row c).In-Some
 
 pub add_taps-requires : goal.add_taps-requires
 add_taps-requires c =
-    let k = tallying-few _ _ _ _ _ _ (c.loop-cells.invariant _ c.requires.entries.timed) (few (goal.at.add_taps-requires c).At-loop-cells) c.requires.in_bounds.2 (short-back _ _) in
+    let k = tallying-few _ _ _ _ _ _ (c.loop-cells.invariant _ c.requires.entries.timed) (few (goal.at.add_taps-requires c).At-loop-cells) c.args.lanes.within.1 (short-back _ _) in
     let long = (row-here (goal.at.add_taps-requires c).In-Some).wide in (
       rw c.for_lanes-table.ensures (below-at _ _ _ long (free-told c.free_taps.ensures c.in-Mask.is).mask),
       k.0,
@@ -71,11 +71,11 @@ add_taps-requires c =
 pub add_row-requires : goal.add_row-requires
 add_row-requires c =
     let tally = c.loop-cells.invariant _ c.requires.entries.timed in
-    let k = tallying-few _ _ _ _ _ _ tally (few (goal.at.add_row-requires c).At-loop-cells) c.requires.in_bounds.2 (short-back _ _) in
+    let k = tallying-few _ _ _ _ _ _ tally (few (goal.at.add_row-requires c).At-loop-cells) c.args.lanes.within.1 (short-back _ _) in
     let h = row-here (goal.at.add_row-requires c).In-Some in
     record {
-      tally_room = (omega (arith, h.wide, c.requires.in_bounds.2), k.0, k.1);
-      ends_open = tallying-enough _ _ _ _ _ _ tally _ h.wide h.here h.inside _ c.requires.in_bounds.2 (short-back _ _) c.requires.entries.timed;
+      tally_room = (omega (arith, h.wide, c.args.lanes.within.1), k.0, k.1);
+      ends_open = tallying-enough _ _ _ _ _ _ tally _ h.wide h.here h.inside _ c.args.lanes.within.1 (short-back _ _) c.requires.entries.timed;
     }
 
 pub overflow_add-row : goal.overflow_add-row
@@ -89,10 +89,10 @@ loop-cells-preserved c =
       | in-Mask v ↦
           let free = free-told c.free_taps.ensures v.in-Mask.is in
           rw v.tally-is
-          (tallying-taps _ _ _ _ _ _ (c.loop-cells.invariant J w) _ h.wide h.here h.inside _ c.requires.in_bounds.2 (short-back _ _) w _ free _ (v.add_taps.ensures _ free.mask))
+          (tallying-taps _ _ _ _ _ _ (c.loop-cells.invariant J w) _ h.wide h.here h.inside _ c.args.lanes.within.1 (short-back _ _) w _ free _ (v.add_taps.ensures _ free.mask))
       | in-Other v ↦
           rw v.tally-is
-          (tallying-row _ _ _ _ _ _ (c.loop-cells.invariant J w) _ h.wide h.here h.inside _ c.requires.in_bounds.2 (short-back _ _) w _ v.add_row.ensures)
+          (tallying-row _ _ _ _ _ _ (c.loop-cells.invariant J w) _ h.wide h.here h.inside _ c.args.lanes.within.1 (short-back _ _) w _ v.add_row.ensures)
     ])
 
 pub returns : goal.returns

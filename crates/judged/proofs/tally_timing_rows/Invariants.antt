@@ -9,4 +9,4 @@ use Rattle.judged.proofs.Tallying.{Tallying}
 use Rattle.judged.proofs.tally_timing_rows.Given as goal
 
 abbrev pub invariant-loop-cells : goal.invariant-loop-cells
-invariant-loop-cells l = (J : ℕ → Bool) → WorkEntries J (rows_read_back l.lanes l.data) l.work → Tallying J l.lanes (rows_read_back l.lanes l.data) (came l.yielded) l.row l.tally
+invariant-loop-cells l = (J : ℕ → Bool) → WorkEntries J (rows_read_back l.fn.lanes.count l.data) l.work → Tallying J l.fn.lanes.count (rows_read_back l.fn.lanes.count l.data) (came l.yielded) l.row l.tally

@@ -8,9 +8,9 @@ use Rattle.judged.proofs.Tracking.{tracking-start, tracking-reached, tracking-ro
 use Rattle.judged.proofs.track_timing_rows.Goals.{At-loop-cells}
 use Rattle.judged.proofs.track_timing_rows.Goals as goal
 
-come : (c : At-loop-cells) → BackCome true c.args.lanes c.args.«data».now (came c.loop-cells.yielded) c.loop-cells.cells-iterator
+come : (c : At-loop-cells) → BackCome true c.args.lanes.count c.args.«data».now (came c.loop-cells.yielded) c.loop-cells.cells-iterator
 come c =
-    back-come _ _ _ _ (c.into_iter-cells-iterator.ensures.into_iter_gives ∙ c.back_rows-cells-items.ensures) _ _ c.loop-cells.yielded_by c.requires.1
+    back-come _ _ _ _ (c.into_iter-cells-iterator.ensures.into_iter_gives ∙ c.back_rows-cells-items.ensures) _ _ c.loop-cells.yielded_by c.args.lanes.within.0
 
 pub loop-cells-init : goal.loop-cells-init
 loop-cells-init c = tracking-start _ _ c.args.work.now _ c.new-tracker.ensures c.zero_past.ensures
@@ -19,13 +19,13 @@ loop-cells-init c = tracking-start _ _ c.args.work.now _ c.new-tracker.ensures c
 pub track_row-requires : goal.track_row-requires
 track_row-requires c =
     let x = come (goal.at.track_row-requires c).At-loop-cells in (
-      omega (arith, c.requires.2, next-wide _ _ _ _ _ x _ _ c.in-Some.ensures.steps),
-      omega (arith, c.requires.3, x.most, c.loop-cells.invariant.size, next-inside _ _ _ _ _ x _ _ c.in-Some.ensures.steps),
+      omega (arith, c.args.lanes.within.1, next-wide _ _ _ _ _ x _ _ c.in-Some.ensures.steps),
+      omega (arith, c.requires.work_room, x.most, c.loop-cells.invariant.size, next-inside _ _ _ _ _ x _ _ c.in-Some.ensures.steps),
       tracking-reached _ _ _ _ _ c.loop-cells.invariant,
     )
 
 pub overflow_add-row : goal.overflow_add-row
-overflow_add-row c = omega (arith, c.loop-cells.invariant.size, (come (goal.at.overflow_add-row c).At-loop-cells).few, c.requires.0)
+overflow_add-row c = omega (arith, c.loop-cells.invariant.size, (come (goal.at.overflow_add-row c).At-loop-cells).few, c.requires.text_length)
 
 pub loop-cells-preserved : goal.loop-cells-preserved
 loop-cells-preserved c =

@@ -12,9 +12,9 @@ use Rattle.judged_pass.proofs.JudgedPass.{passes-start, passes-few, passes-row, 
 use Rattle.judged_pass.proofs.judge_clean.Goals.{At-loop-row}
 use Rattle.judged_pass.proofs.judge_clean.Goals as goal
 
-come : (c : At-loop-row) → BackCome true c.args.lanes c.args.«data».now (came c.loop-row.yielded) c.loop-row.row-iterator
+come : (c : At-loop-row) → BackCome true c.args.lanes.count c.args.«data».now (came c.loop-row.yielded) c.loop-row.row-iterator
 come c =
-    back-come _ _ _ _ (c.into_iter-row-iterator.ensures.into_iter_gives ∙ c.back_rows-row-items.ensures) _ _ c.loop-row.yielded_by c.requires.1
+    back-come _ _ _ _ (c.into_iter-row-iterator.ensures.into_iter_gives ∙ c.back_rows-row-items.ensures) _ _ c.loop-row.yielded_by c.args.lanes.within.0
 
 pub loop-row-init : goal.loop-row-init
 loop-row-init c = passes-start _ _ _ c.new-rows.ensures.0 c.new-rows.ensures.1 c.new-rows.ensures.2
@@ -36,9 +36,9 @@ loop-row-preserved c =
     let x = come (goal.at.loop-row-preserved c).At-loop-row in
     let e = c.in-Some.ensures.steps in
     rw came-more
-    (passes-row _ _ _ _ c.loop-row.invariant _ _ (sym (back-trimmed _ _) ∙ next-all _ _ _ _ _ x _ _ e) c.requires.2
+    (passes-row _ _ _ _ c.loop-row.invariant _ _ (sym (back-trimmed _ _) ∙ next-all _ _ _ _ _ x _ _ e) c.args.lanes.within.1
     (next-wide _ _ _ _ _ x _ _ e)
-    (subst (λ rs. All (λ (r : Row). length r ≡ c.args.lanes) rs) (back-trimmed _ _) (rows-wide _ _ _))
+    (subst (λ rs. All (λ (r : Row). length r ≡ c.args.lanes.count) rs) (back-trimmed _ _) (rows-wide _ _ _))
     (not-true _ (sym c.in_ok-add_row.ensures.clean)) _ c.in_ok-add_row.ensures.passed)
 
 pub returns-then-heads_are_open : goal.returns-then-heads_are_open

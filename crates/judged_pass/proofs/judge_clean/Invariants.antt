@@ -5,4 +5,4 @@ use Rattle.judged_pass.proofs.JudgedPass.{Passes}
 use Rattle.judged_pass.proofs.judge_clean.Given as goal
 
 abbrev pub invariant-loop-row : goal.invariant-loop-row
-invariant-loop-row l = Passes l.lanes (rows_read_back l.lanes l.data) (came l.yielded) l.rows
+invariant-loop-row l = Passes l.fn.lanes.count (rows_read_back l.fn.lanes.count l.data) (came l.yielded) l.rows

@@ -15,9 +15,9 @@ made p q r = cc
 pub returns : goal.returns
 unfolding figures_of_timing of_bits of_int
 returns c =
-    let x = c.pass_chart-p.ensures in
+    let x = c.pass_chart-pass.ensures in
     record {
       value = made (all-bytes _ _ _ _ _ x) x.rows x.heads;
-      text_after = c.zero_past.ensures ∙ all-text _ _ _ _ _ x c.pass_chart-p.auto.text;
-      beats_after = c.zero_past-2.ensures ∙ all-beats _ _ _ _ _ x c.pass_chart-p.auto.beats;
+      text_after = c.zero_past.ensures ∙ all-text _ _ _ _ _ x c.pass_chart-pass.auto.text;
+      beats_after = c.zero_past-2.ensures ∙ all-beats _ _ _ _ _ x c.pass_chart-pass.auto.beats;
     }

@@ -1,9 +1,9 @@
--- `timing::finish_timing_rows` meets its contract: minimising keeps no more rows and bytes than there were, so what is written fits.
+-- `timing::TimingPass::end_measure` meets its contract: minimising keeps no more rows and bytes than there were, so what is written fits.
 use Prim.Native.Nat.{◌+◌, ◌*◌, ◌≤◌}
 use native.Mathlib.Omega.{arith}
 use lib.ListN.{length}
 use Rattle.timing.proofs.Passing.{timed-few, timed-measure}
-use Rattle.timing.proofs.finish_timing_rows.Goals as goal
+use Rattle.timing.proofs.TimingPass.end_measure.Goals as goal
 
 pub overflow_mul-end : goal.overflow_mul-end
 overflow_mul-end c =
@@ -35,10 +35,10 @@ pub returns : goal.returns
 returns c =
     let s = c.requires.room in
     let few = timed-few _ _ _ _ _ _ s.0 c.reduce_rows-kept.ensures s.3 in
-    let end : c.args.p.start + c.reduce_rows-kept.result * c.args.lanes.count ≤ length c.reduce_rows-kept.new.text = omega (arith, few.1, s.0) in
-    let room : c.args.p.kept ≤ length c.args.beats.now = omega (arith, c.requires.rows_in_bounds) in
+    let end : c.args.self.now.start + c.reduce_rows-kept.result * c.args.lanes.count ≤ length c.reduce_rows-kept.new.text = omega (arith, few.1, s.0) in
+    let room : c.args.self.now.kept ≤ length c.args.beats.now = omega (arith, c.requires.rows_in_bounds) in
     record {
       timed =
-          λ done cur x. timed-measure _ _ _ _ _ _ s.0 c.reduce_rows-kept.ensures done cur x end room _ _ c.append_row_beats.ensures c.has_head-found.ensures;
-      out_le_out = (few.1, omega (arith, few.0));
+          λ done cur x. timed-measure _ _ _ _ _ _ s.0 c.reduce_rows-kept.ensures done cur x end room _ _ c.append_row_beats.ensures c.has_head.ensures;
+      no_more = (few.1, omega (arith, few.0));
     }

@@ -1,7 +1,0 @@
--- `timing::pass_row` meets its contract.
-use mathlib.Core.Path.{refl}
-use Rattle.timing.proofs.Passing.{timed-row}
-use Rattle.timing.proofs.pass_row.Goals as goal
-
-pub returns : goal.returns
-returns c = record { timed = timed-row c.args.p c.args.text.now c.args.row.now c.requires.0 _ c.put_row.ensures; out_value = refl }
