@@ -92,10 +92,8 @@ fn has_head(bytes: &[u8]) -> bool
     ensures { result ≡ has_some_head bytes.now }
 {
     let mut has = false;
-    let mut i = 0;
-    while i < bytes.len() {
-        has = has | is_head(bytes[i]);
-        i += 1;
+    for &b in bytes {
+        has |= is_head(b);
     }
     has
 }
