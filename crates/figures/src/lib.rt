@@ -10,12 +10,6 @@ ghost use Rattle.definitions.specs.Records.{number_of_tail};
 use definitions::{ArrowStats, ChartFigures, KeptFigures, LastBeat, Note, Tail, TimingFigures};
 use note_records::{NO_TAIL_ROW, kind_number};
 
-fn wide(n: u32) -> u64
-    ensures { result ≡ n }
-{
-    n as u64
-}
-
 // The 32 figures of a call on a text: bytes, measures, rows, notes, the last beat by its bits, whether a row has a 2 or 4, the last beat in 48ths,
 // and from place 8 on the tally in the order of its fields.
 fn figures_of(
@@ -36,23 +30,23 @@ fn figures_of(
         rows as u64,
         notes as u64,
         last_bits,
-        wide(cells::one_if(heads)),
+        u64::from(heads),
         last_row,
         0,
-        wide(t.total_arrows),
-        wide(t.left),
-        wide(t.down),
-        wide(t.up),
-        wide(t.right),
-        wide(t.total_steps),
-        wide(t.jumps),
-        wide(t.hands),
-        wide(t.mines),
-        wide(t.holds),
-        wide(t.rolls),
-        wide(t.lifts),
-        wide(t.fakes),
-        wide(t.holding),
+        u64::from(t.total_arrows),
+        u64::from(t.left),
+        u64::from(t.down),
+        u64::from(t.up),
+        u64::from(t.right),
+        u64::from(t.total_steps),
+        u64::from(t.jumps),
+        u64::from(t.hands),
+        u64::from(t.mines),
+        u64::from(t.holds),
+        u64::from(t.rolls),
+        u64::from(t.lifts),
+        u64::from(t.fakes),
+        u64::from(t.holding),
         0,
         0,
         0,
@@ -85,7 +79,6 @@ fn without_tally(
 pub fn chart_places(f: ChartFigures) -> [u64; 32]
     ensures { result ≡ places_of_chart f }
 {
-    let stats = f.stats;
     figures_of(
         f.bytes,
         f.measures,
@@ -94,7 +87,7 @@ pub fn chart_places(f: ChartFigures) -> [u64; 32]
         f.last_bits,
         false,
         f.last_row,
-        stats,
+        f.stats,
     )
 }
 
@@ -102,8 +95,16 @@ pub fn chart_places(f: ChartFigures) -> [u64; 32]
 pub fn kept_places(f: KeptFigures) -> [u64; 32]
     ensures { result ≡ places_of_kept f }
 {
-    let stats = f.stats;
-    figures_of(f.bytes, f.measures, f.rows as usize, 0, 0, false, 0, stats)
+    figures_of(
+        f.bytes,
+        f.measures,
+        f.rows as usize,
+        0,
+        0,
+        false,
+        0,
+        f.stats,
+    )
 }
 
 // What the call for timing rows answers.
@@ -148,13 +149,11 @@ fn tail_number(tail: Tail) -> u32
 pub fn note_figures(n: Note) -> [u64; 4]
     ensures { result ≡ figures_of_note n }
 {
-    let tail = n.tail;
-    let kind = n.kind;
     [
-        wide(n.row),
-        wide(tail_number(tail)),
-        wide(n.column),
-        kind_number(kind) as u64,
+        u64::from(n.row),
+        u64::from(tail_number(n.tail)),
+        u64::from(n.column),
+        u64::from(kind_number(n.kind)),
     ]
 }
 

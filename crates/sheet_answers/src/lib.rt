@@ -16,15 +16,6 @@ ghost use Rattle.definitions.specs.Judged.{judged_tally};
 use definitions::{ArrowStats, Lanes};
 use sheet::SheetFigures;
 
-fn one_less(n: usize) -> usize
-    ensures { result ≡ n - 1 }
-{
-    if n == 0 {
-        return 0;
-    }
-    n - 1
-}
-
 // The judged tally of a minimised text. Its last byte is a newline, and the rows before it are read without it: so the text is no longer than the
 // one that it was minimised from.
 fn judge_minimised(minimised: &[u8], lanes: usize, work: &mut [u16]) -> ArrowStats
@@ -33,7 +24,7 @@ fn judge_minimised(minimised: &[u8], lanes: usize, work: &mut [u16]) -> ArrowSta
     ensures value { result ≡ judged_tally lanes (take (length minimised.now - 1) minimised.now) }
     ensures work_after { work.new ≡ padded 0 (length work.old) [] }
 {
-    let end = one_less(minimised.len());
+    let end = minimised.len().saturating_sub(1);
     judged::judge_accepted(&minimised[..end], Lanes { count: lanes }, true, b"", work)
 }
 
@@ -61,8 +52,7 @@ pub fn sheet_answers(
 {
     let chart = chart::chart_figures(data, lanes, text, densities, beats, work, notes);
     let kept = kept::keep_figures(data, lanes, text, densities, work);
-    let bytes = kept.bytes;
-    let judged = judge_minimised(&text[..bytes], lanes, work);
+    let judged = judge_minimised(&text[..kept.bytes], lanes, work);
     spacing::fill_spacing(data, Lanes { count: lanes }, spacing);
     SheetFigures {
         chart,

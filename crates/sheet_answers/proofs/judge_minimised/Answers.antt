@@ -8,4 +8,4 @@ use Rattle.sheet_answers.proofs.judge_minimised.Goals as goal
 pub returns-clause-value : goal.returns-clause-value
 unfolding judged_tally
 returns-clause-value c =
-    c.judge_accepted.ensures.value ∙ ap (λ (n : ℕ). judged_tally c.args.lanes (take n c.args.minimised.now)) c.one_less-end.ensures
+    c.judge_accepted.ensures.value ∙ ap (λ (n : ℕ). judged_tally c.args.lanes (take n c.args.minimised.now)) c.saturating_sub-end.ensures
