@@ -1,13 +1,11 @@
--- What the calls leave of a text, put together.
-use mathlib.Core.Path.{◌≡◌, ap, sym, ◌∙◌}
+-- What the pass and the calls leave of a text, put together.
+use mathlib.Core.Path.{◌≡◌, ap, ◌∙◌}
 use mathlib.Core.List.{List}
 use Prim.Native.Nat.{ℕ, ◌+◌, ◌-◌, ◌≤◌}
 use native.Mathlib.Nat.{mul-le-mul_right}
 use native.Mathlib.Omega.{arith}
 use lib.Ieee.Nearest.{div_mono}
 use lib.ListN.{length, take}
-use lib.Seq.{take_at}
-use Rattle.definitions.specs.Lists.{padded}
 use Rattle.definitions.specs.Lanes.{most_rows_in}
 use Rattle.definitions.specs.Figures.{minimised_text}
 use Rattle.definitions.specs.Judged.{judged_tally}
@@ -28,20 +26,6 @@ rows-fewer L a b h =
     div_mono (a + 1) (L + 1) (b + 1) (L + 1) (omega arith) (omega arith) (mul-le-mul_right (L + 1) more)
 
 module _ (L : ℕ) (text : List ℕ) where
-  -- the kept-row call counts the bytes of the minimised text
-  pub bytes-are : {k : KeptFigures} → k ≡ figures_of_kept L text → k.bytes ≡ length (minimised_text L text)
-  unfolding figures_of_kept
-  bytes-are e = ap (λ (f : KeptFigures). f.bytes) e
-
-  -- and a slice that has room for the text and one byte more has room for them
-  pub bytes-within : {k : KeptFigures} → k ≡ figures_of_kept L text → (n : ℕ) → length text + 1 ≤ n → k.bytes ≤ n
-  bytes-within e n h = omega (arith, bytes-are e, minimised-short L text)
-
-  -- those bytes of the text slice are the minimised text
-  pub minimised-part : (n : ℕ) {k : KeptFigures} {out : List ℕ} → k ≡ figures_of_kept L text → out ≡ padded 0 n (minimised_text L text)
-      → take k.bytes out ≡ minimised_text L text
-  minimised-part n {k} e o = ap (take k.bytes) o ∙ take_at (minimised_text L text) _ k.bytes (sym (bytes-are e))
-
   -- without its last byte it is no longer than the text
   pub minimised-less : (m : List ℕ) → m ≡ minimised_text L text → length m - 1 ≤ length text
   minimised-less m e = omega (arith, ap length e, minimised-short L text)

@@ -13,7 +13,7 @@ ghost use Rattle.definitions.specs.Records.{records};
 ghost use Rattle.sheet_answers.specs.Answers.{sheet_figures};
 ghost use Rattle.definitions.specs.Judged.{judged_tally};
 
-use definitions::{ArrowStats, Lanes};
+use definitions::{ArrowStats, ChartFigures, KeptFigures, Lanes};
 use sheet::SheetFigures;
 
 // The judged tally of a minimised text. Its last byte is a newline, and the rows before it are read without it: so the text is no longer than the
@@ -28,7 +28,8 @@ fn judge_minimised(minimised: &[u8], lanes: usize, work: &mut [u16]) -> ArrowSta
     judged::judge_accepted(&minimised[..end], Lanes { count: lanes }, true, b"", work)
 }
 
-// All answers of an accepted text, and zeros past each in the lent slices.
+// All answers of an accepted text, and zeros past each in the lent slices. One pass over the text serves both calls: their tallies differ only in
+// how the correction reads the minimised text back.
 pub fn sheet_answers(
     data: &[u8],
     lanes: usize,
@@ -50,13 +51,49 @@ pub fn sheet_answers(
     ensures work_after { work.new ≡ padded 0 (length work.old) [] }
     ensures notes_after { notes.new ≡ padded 0 (length notes.old) (records (notes_of lanes «data».now)) }
 {
-    let chart = chart::chart_figures(data, lanes, text, densities, beats, work, notes);
-    let kept = kept::keep_figures(data, lanes, text, densities, work);
-    let judged = judge_minimised(&text[..kept.bytes], lanes, work);
+    let pass = chart_pass::read_chart(data, lanes, text, densities, beats, notes);
+    let bytes = pass.pass.out;
+    let measures = pass.pass.midx + 1;
+    let counting = pass.pass.counting;
+    let main = corrected_tally::corrected_stats(
+        counting.stats,
+        counting.phantoms,
+        &text[0..bytes],
+        lanes,
+        true,
+        work,
+    );
+    let kept = corrected_tally::corrected_stats(
+        counting.stats,
+        counting.phantoms,
+        &text[0..bytes],
+        lanes,
+        false,
+        work,
+    );
+    let judged = judge_minimised(&text[0..bytes], lanes, work);
     spacing::fill_spacing(data, Lanes { count: lanes }, spacing);
+    let last = pass.noting.last.found;
+    let count = row_notes::finish(pass.noting.scratch, notes);
+    slices::zero_past(text, bytes, 0);
+    slices::zero_past(densities, measures, 0);
+    slices::zero_past(beats, counting.rows as usize, 0.0);
     SheetFigures {
-        chart,
-        kept,
+        chart: ChartFigures {
+            bytes,
+            measures,
+            rows: counting.rows,
+            notes: count,
+            last_bits: beats::last_beat_bits(last),
+            last_row: beats::last_note_row(last),
+            stats: main,
+        },
+        kept: KeptFigures {
+            bytes,
+            measures,
+            rows: counting.rows,
+            stats: kept,
+        },
         judged,
     }
 }

@@ -1,34 +1,56 @@
--- `sheet_answers::sheet_answers` meets its contract: what each call leaves, put together.
-use mathlib.Core.Path.{sym}
+-- `sheet_answers::sheet_answers` meets its contract: what the pass leaves, its tally corrected over both readings of the minimised text, and the
+-- judged tally of that text.
+use mathlib.Core.Path.{ap, ◌∙◌}
+use mathlib.Core.List.{[]}
+use Prim.Native.Nat.{ℕ}
 use native.Mathlib.Omega.{arith}
-use lib.Seq.{length-take-le}
-use Rattle.sheet_answers.proofs.Gathering.{rows-fewer, bytes-within, minimised-part, minimised-less, judged-part, figures-are}
+use lib.Ieee.{of_bits, of_int}
+use lib.ListN.{length}
+use Rattle.definitions.specs.Lists.{padded}
+use Rattle.definitions.specs.Notes.{notes}
+use Rattle.definitions.specs.Records.{records}
+use Rattle.kept_pass.proofs.Answering.{own-part, all-text, all-densities, all-recount}
+use Rattle.chart.proofs.Answering as main
+use Rattle.kept.proofs.Answering as kept
+use Rattle.sheet_answers.proofs.Gathering.{rows-fewer, minimised-less, judged-part, figures-are}
 use Rattle.sheet_answers.proofs.sheet_answers.Goals as goal
 
--- the bytes that the kept-row call counted lie within the text slice
-pub slice_bounds-judge_minimised-end : goal.slice_bounds-judge_minimised-end
-slice_bounds-judge_minimised-end c =
-    bytes-within c.args.lanes c.args.data.now c.keep_figures-kept.ensures.value _ (omega arith)
+pub corrected_stats-main-requires : goal.corrected_stats-main-requires
+corrected_stats-main-requires c =
+    let pre = c.requires.le_lanes in
+    all-recount _ _ _ _ _ c.read_chart-pass.ensures.kept _ c.args.work.now pre.0 pre.1 pre.2 c.requires.data_in_bounds_2.1
 
-pub slice_bounds-judge_minimised-end-2 : goal.slice_bounds-judge_minimised-end-2
-slice_bounds-judge_minimised-end-2 c =
-    sym (length-take-le _ _ (bytes-within c.args.lanes c.args.data.now c.keep_figures-kept.ensures.value _ (omega arith)))
+pub corrected_stats-kept-requires : goal.corrected_stats-kept-requires
+corrected_stats-kept-requires c =
+    let pre = c.requires.le_lanes in
+    all-recount _ _ _ _ _ c.read_chart-pass.ensures.kept _ c.corrected_stats-main.new.work pre.0 pre.1 pre.2 (omega arith)
 
--- and are the minimised text, which has no more rows than the text once its last byte is left out
+-- the minimised text has no more rows than the text once its last byte is left out
 pub judge_minimised-judged-requires-clause-minimised_len_bound : goal.judge_minimised-judged-requires-clause-minimised_len_bound
 judge_minimised-judged-requires-clause-minimised_len_bound c =
-    let text = c.args.data.now in
-    let part = minimised-part c.args.lanes text _ c.keep_figures-kept.ensures.value c.keep_figures-kept.ensures.text_after in
-    let less = minimised-less c.args.lanes text _ part in
+    let part = own-part _ _ _ _ _ c.read_chart-pass.ensures.kept in
+    let less = minimised-less c.args.lanes c.args.data.now _ part in
     (omega (arith, less), omega (arith, rows-fewer c.args.lanes _ _ less))
 
-pub returns-clause-value : goal.returns-clause-value
-returns-clause-value c =
+pub returns : goal.returns
+unfolding of_bits of_int
+returns c =
+    let x = c.read_chart-pass.ensures in
+    let k = x.kept in
+    let L = c.args.lanes in
     let text = c.args.data.now in
-    let part = minimised-part c.args.lanes text _ c.keep_figures-kept.ensures.value c.keep_figures-kept.ensures.text_after in
-    figures-are
-    c.args.lanes
-    text
-    c.chart_figures-chart.ensures.value
-    c.keep_figures-kept.ensures.value
-    (judged-part c.args.lanes text (omega arith) part c.judge_minimised-judged.ensures.value)
+    let part = own-part _ _ _ _ _ k in
+    record {
+      value =
+          figures-are L text
+          (main.all-figures _ _ _ _ _ _ _ x _ _ _ _ _ (c.corrected_stats-main.ensures.value _ k.phantoms k.stats) (main.note-count _ _ _ _ _ _ _ x _ _ _ c.finish-count.ensures)
+          (main.found-48 _ _ _ _ _ _ _ x) c.last_beat_bits.ensures c.last_note_row.ensures.0)
+          (kept.all-figures _ _ _ _ _ k _ (omega (arith, c.requires.le_lanes.0)) (c.corrected_stats-kept.ensures.value _ k.phantoms k.stats))
+          (judged-part L text (omega arith) part c.judge_minimised-judged.ensures.value);
+      text_after = c.zero_past.ensures ∙ all-text _ _ _ _ _ k (length c.args.text.now) c.read_chart-pass.auto.text (omega arith);
+      densities_after = c.zero_past-2.ensures ∙ all-densities _ _ _ _ _ k (length c.args.densities.now) c.read_chart-pass.auto.densities;
+      spacing_after = c.fill_spacing.ensures.spacing_after;
+      beats_after = c.zero_past-3.ensures ∙ main.all-beats _ _ _ _ _ _ _ x (length c.args.beats.now) c.read_chart-pass.auto.beats (omega arith);
+      work_after = c.judge_minimised-judged.ensures.work_after ∙ ap (λ (n : ℕ). padded 0 n []) (c.corrected_stats-kept.auto.work ∙ c.corrected_stats-main.auto.work);
+      notes_after = main.all-notes _ _ _ _ _ _ _ x _ _ _ c.finish-count.ensures ∙ ap (λ n. padded 0 n (records (notes L text))) c.read_chart-pass.auto.slots;
+    }
