@@ -15,8 +15,11 @@ impl Lanes {
     pub fn in_force(given: usize) -> Lanes
         ensures { result.count ≡ lanes_of given }
     {
+        // The numbers stand here one by one, so that the compiler knows each of them where it writes a loop over a row's cells.
         let count = match given {
-            5 | 8 | 10 => given,
+            5 => 5,
+            8 => 8,
+            10 => 10,
             _ => 4,
         };
         Lanes { count }
