@@ -56,13 +56,13 @@ module _ (s : MeasureSpacing) (cur : List Row) (x : Spaces s cur) (row : Row) wh
   longer = rw length-append (omega (arith, x.rows))
 
   -- a row of a measure that cannot be spaced any more
-  pub spaces-lost : s.shift ≡ 0 → (s.steps ≡ s.rows → ⊥) → Spaces (record { rows = s.rows + 1; steps = s.steps; shift = s.shift }) (cur ++ (row ∷ []))
+  pub spaces-lost : s.shift ≡ 0 → (s.steps ≡ s.rows → ⊥) → Spaces (record { rows = s.rows + 1; steps = s.steps; shift = 0 }) (cur ++ (row ∷ []))
   spaces-lost z ne =
       record {
         rows = longer;
-        steps = inr (z, omega (arith, longer, few.0), omega (arith, longer, few.1, density-snoc cur row, at_most (is_step row)));
-        most = x.most;
-        shift = λ k h. rw z (stays k h (all_zero row) refl);
+        steps = inr (refl, omega (arith, longer, few.0), omega (arith, longer, few.1, density-snoc cur row, at_most (is_step row)));
+        most = omega arith;
+        shift = λ k h. stays k h (all_zero row) refl;
       }
     where
       at_most : (t : Bool) → number_of_bool t ≤ 1

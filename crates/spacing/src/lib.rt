@@ -1,7 +1,7 @@
 // Spacing: for each measure whether its minimised rows all have a 1, 2 or 4, by counting its rows, its steps and the doublings of its stride.
 #![tactic(auto)]
 
-ghost use Rattle.std.specs.Prelude.{◌≡◌, List, [], ◌∷◌, ◌++◌, ◌+◌, ◌/◌, ◌≤◌, ◌<◌, length};
+ghost use Rattle.std.specs.Prelude.{◌≡◌, List, [], ◌∷◌, ◌++◌, ◌+◌, ◌/◌, ◌≤◌, ◌<◌, min, length};
 ghost use Rattle.definitions.specs.Sizes.{most_bytes, row_numbers_bound};
 ghost use Rattle.definitions.specs.Lists.{number_of_bool, padded};
 ghost use Rattle.definitions.specs.Lines.{Row};
@@ -22,50 +22,65 @@ pub struct MeasureSpacing {
     pub shift: u32,
 }
 
-impl MeasureSpacing {
-    // A measure without rows.
-    fn new() -> Self
-        ensures { Spaces result [] }
-    {
-        MeasureSpacing {
-            rows: 0,
-            steps: 0,
-            shift: 64,
-        }
-    }
+fn smaller(a: u32, b: u32) -> u32
+    ensures { result ≡ min a b }
+{
+    if a < b { a } else { b }
+}
 
-    // The open measure with one row more. Where the stride is 1 for good and some row is no step, no row can make the measure spaced again, and
-    // none is looked at.
-    fn add_row(&mut self, row: &[u8])
-        requires { (self.old.rows < row_numbers_bound) × (self.old.steps < row_numbers_bound) }
-        ensures { (cur : List Row) → Spaces self.old cur → Spaces self.new (cur ++ (row.now ∷ [])) }
-    {
-        let number = self.rows;
-        self.rows += 1;
-        if (self.shift == 0) & ((self.steps as usize) != number) {
-            return;
-        }
-        self.steps += cells::one_if(cells::row_has_note(row));
-        if reduction::is_all_zero(row) {
-            return;
-        }
-        self.shift = self.shift.min(usize::trailing_zeros(number));
+fn no_spacing() -> MeasureSpacing
+    ensures { Spaces result [] }
+{
+    MeasureSpacing {
+        rows: 0,
+        steps: 0,
+        shift: 64,
     }
+}
 
-    // Whether the measure's minimised rows all have a 1, 2 or 4, as 1 or 0: as many rows have one as stay.
-    fn is_spaced(&self) -> u8
-        requires { self.now.rows ≤ row_numbers_bound }
-        ensures { (cur : List Row) → Spaces self.now cur → result ≡ number_of_bool (spacing_of (reduce cur)) }
-    {
-        if self.rows == 0 {
-            return 1;
-        }
-        let shift = self.shift.min(usize::trailing_zeros(self.rows));
-        if (self.steps as usize) == self.rows >> shift {
-            1
-        } else {
-            0
-        }
+// The open measure with one row more. Where the stride is 1 for good and some row is no step, no row can make the measure spaced again, and
+// none is looked at.
+fn spacing_row(s: MeasureSpacing, row: &[u8]) -> MeasureSpacing
+    requires { (s.rows < row_numbers_bound) × (s.steps < row_numbers_bound) }
+    ensures { (cur : List Row) → Spaces s cur → Spaces result (cur ++ (row.now ∷ [])) }
+{
+    let rows = s.rows;
+    if (s.shift == 0) & ((s.steps as usize) != rows) {
+        return MeasureSpacing {
+            rows: rows + 1,
+            steps: s.steps,
+            shift: 0,
+        };
+    }
+    let steps = s.steps + cells::one_if(cells::row_has_note(row));
+    if reduction::is_all_zero(row) {
+        return MeasureSpacing {
+            rows: rows + 1,
+            steps,
+            shift: s.shift,
+        };
+    }
+    MeasureSpacing {
+        rows: rows + 1,
+        steps,
+        shift: smaller(s.shift, usize::trailing_zeros(rows)),
+    }
+}
+
+// Whether the measure's minimised rows all have a 1, 2 or 4, as 1 or 0: as many rows have one as stay.
+fn is_spaced(s: MeasureSpacing) -> u8
+    requires { s.rows ≤ row_numbers_bound }
+    ensures { (cur : List Row) → Spaces s cur → result ≡ number_of_bool (spacing_of (reduce cur)) }
+{
+    let rows = s.rows;
+    if rows == 0 {
+        return 1;
+    }
+    let shift = smaller(s.shift, usize::trailing_zeros(rows));
+    if (s.steps as usize) == rows >> shift {
+        1
+    } else {
+        0
     }
 }
 
@@ -77,18 +92,20 @@ pub fn fill_spacing(data: &[u8], lanes: Lanes, spacing: &mut [u8]) -> usize
     ensures spacing_after { spacing.new ≡ padded 0 (length spacing.old) (spacings lanes.count «data».now) }
 {
     let mut m = 0;
-    let mut measure = MeasureSpacing::new();
+    let mut s = no_spacing();
     for line in reader::charts::chart_lines(data, lanes) {
         match line {
-            ChartLine::Row(row) => measure.add_row(row),
+            ChartLine::Row(row) => {
+                s = spacing_row(s, row);
+            }
             ChartLine::Comma => {
-                spacing[m] = measure.is_spaced();
+                spacing[m] = is_spaced(s);
                 m += 1;
-                measure = MeasureSpacing::new();
+                s = no_spacing();
             }
         }
     }
-    spacing[m] = measure.is_spaced();
+    spacing[m] = is_spaced(s);
     m += 1;
     slices::zero_past(spacing, m, 0);
     m
