@@ -63,7 +63,8 @@ pub fn room_for_beats(lanes: Lanes, len: usize, room: usize) -> Result<(), Refus
     ensures value { result ≡ short_beats lanes.count len room }
     ensures ok { OnOk result (most_rows_in lanes.count len ≤ room) }
 {
-    if room < most_rows(lanes, len) {
+    let beats = most_rows(lanes, len);
+    if room < beats {
         return Err(Refusal::ShortBeats);
     }
     Ok(())
@@ -76,7 +77,8 @@ pub fn room_for_work(lanes: Lanes, len: usize, room: usize) -> Result<(), Refusa
     ensures value { result ≡ short_work lanes.count len room }
     ensures ok { OnOk result (most_rows_in lanes.count len ≤ room) }
 {
-    if room < most_rows(lanes, len) {
+    let rows = most_rows(lanes, len);
+    if room < rows {
         return Err(Refusal::ShortWork);
     }
     Ok(())
