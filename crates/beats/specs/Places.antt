@@ -1,6 +1,6 @@
 -- Rows by their place, as the contracts of this crate speak of them.
 use Rattle.std.specs.Prelude.{◌≡◌, ℕ, ◌<◌, ◌≤◌}
-use Rattle.std.proofs.Math.Option.{Option, none, some}
+use Rattle.std.specs.Prelude.{Option, None, Some}
 use Rattle.definitions.specs.Sizes.{measures_bound, row_count_bound}
 use Rattle.definitions.specs.Objects.{Place}
 use Rattle.beats.specs.declared.LastObject.{LastObject}
@@ -15,8 +15,8 @@ pub record Inside (m r n : ℕ) : Type 0 where
 
 -- the place that a last object row stands for
 abbrev pub place_of : LastObject → Option Place
-place_of Nothing = none
-place_of (At m r n) = some (record { m = m; r = r; n = n })
+place_of Nothing = None
+place_of (At m r n) = Some (record { m = m; r = r; n = n })
 
 -- it is within those limits, if there is one
 pub record Placed (o : LastObject) : Type 0 where

@@ -1,10 +1,11 @@
 -- The card's lines of what the main call and the spacing scan left are document 01's lines of the text.
 use mathlib.Core.Path.{◌≡◌, refl, ap, ◌∙◌}
 use mathlib.Core.List.{List, [], ◌∷◌, ◌++◌, map, append-nil}
-use mathlib.Core.Option.{some}
+use Rattle.std.specs.Prelude.{Some}
 use Prim.Native.Nat.{ℕ, zero, suc, ◌≤◌, ◌<◌}
 use native.Mathlib.Omega.{arith}
-use lib.ListN.{length, take, get_elem?}
+use lib.ListN.{length, take}
+use Rattle.std.specs.Prelude.{slice_get}
 use lib.Seq.{take-length}
 use Rattle.definitions.specs.Sizes.{most_bytes}
 use Rattle.definitions.specs.Lists.{joined}
@@ -24,7 +25,7 @@ map_snoc : (ns : List Note) (n : Note) → map line_of_note (ns ++ (n ∷ [])) �
 map_snoc [] n = refl
 map_snoc (m ∷ ns) n = ap (λ (l : List (List ℕ)). line_of_note m ∷ l) (map_snoc ns n)
 
-take_more : (ns : List Note) (k : ℕ) (n : Note) → get_elem? ns k ≡ some n → take (suc k) ns ≡ take k ns ++ (n ∷ [])
+take_more : (ns : List Note) (k : ℕ) (n : Note) → slice_get ns k ≡ Some n → take (suc k) ns ≡ take k ns ++ (n ∷ [])
 take_more [] k n e = let z : ◌≡◌ {A = ℕ} 0 1 = cc in absurd (omega arith)
 take_more (m ∷ ns) zero n e = cc
 take_more (m ∷ ns) (suc k) n e = ap (λ (l : List Note). m ∷ l) (take_more ns k n e)

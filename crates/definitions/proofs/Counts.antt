@@ -1,7 +1,7 @@
 -- How many measures, rows and notes a text has at most, and how high a density or a spacing can be.
 use mathlib.Core.Bool.{Bool}
 use mathlib.Core.List.{List, [], ◌∷◌, map}
-use mathlib.Core.Option.{Option, none, some}
+use Rattle.std.specs.Prelude.{Option, None, Some}
 use Prim.Native.Nat.{ℕ, zero, suc, ◌+◌, ◌*◌, ◌/◌, ◌≤◌}
 use native.Mathlib.Nat.{mul-suc}
 use native.Mathlib.Omega.{arith}
@@ -70,8 +70,8 @@ cell-few : (x : NoteEffect) (i c : ℕ) (t : Option ℕ) → length (cell_notes 
 cell-few Nothing i c t = omega arith
 cell-few Closes i c t = omega arith
 cell-few (Single k) i c t = omega arith
-cell-few (Head k) i c none = omega arith
-cell-few (Head k) i c (some j) = omega arith
+cell-few (Head k) i c None = omega arith
+cell-few (Head k) i c (Some j) = omega arith
 
 row-few : (i c : ℕ) (r : Row) (rs : List Row) → length (row_notes i c r rs) ≤ length r
 row-few i c [] rs = omega arith

@@ -1,15 +1,17 @@
 -- Laws of the words of specs/Lists.antt.
 use mathlib.Core.Path.{◌≡◌, refl, ap, sym, ◌∙◌}
-use mathlib.Core.Bool.{Bool, true, false, cond, false≢true}
+use mathlib.Core.Bool.{Bool, true, false, cond}
 use mathlib.Core.List.{List, [], ◌∷◌, ◌++◌, append_assoc, append-nil}
 use Prim.Native.Nat.{ℕ, zero, suc, ◌+◌, ◌≤◌, ◌<◌}
 use native.Mathlib.Omega.{arith}
-use borrow.Author.Tests.{eqb-true, eqb-false}
+use borrow.Author.Tests.{eqb-false}
 use lib.Dec.{eqb}
-use lib.ListN.{length, take, drop, get_or, length-append, take-append-drop}
+use lib.ListN.{length, take, drop, get_or, length-append, length-take, take-append-drop}
 use lib.Seq.{drop-drop, drop-append_seam, drop-append-le}
-use Rattle.definitions.specs.Lists.{number_of_bool, joined, only_if, those, count, up_to, through, after, after_each, starts_with}
-use Rattle.definitions.proofs.Bools.{and_right}
+use lib.Pointwise.{pointwise_long}
+use Rattle.std.specs.Prelude.{nat_eq}
+use Rattle.std.specs.List.{starts_with}
+use Rattle.definitions.specs.Lists.{number_of_bool, joined, only_if, those, up_to, through, after, after_each}
 
 module _ {A : Type 0} where
   -- P holds of each
@@ -166,52 +168,6 @@ unfolding after
 after_each-end b zero s = drop-end 0 s
 after_each-end b (suc n) s = end-end (after_each-end b n (after b s)) (drop-end (suc (length (up_to b s))) s)
 
--- the first b of a list that has one is also the first of a longer list
-pub after-append : (b : ℕ) (s r : List ℕ) → 1 ≤ count (λ x. eqb x b) s → after b (s ++ r) ≡ after b s ++ r
-after-append b [] r h = absurd (omega arith)
-after-append b (x ∷ s) r h = rw (after-cons b x (s ++ r), after-cons b x s) (go (eqb x b) h (after-append b s r))
-  where
-    go : (t : Bool) → 1 ≤ number_of_bool t + count (λ x. eqb x b) s → (1 ≤ count (λ x. eqb x b) s → after b (s ++ r) ≡ after b s ++ r)
-        → cond t (s ++ r) (after b (s ++ r)) ≡ cond t s (after b s) ++ r
-    go true h ih = refl
-    go false h ih = ih (omega arith)
-
--- past the first b there is at most one b less
-pub count-after : (b : ℕ) (s : List ℕ) → count (λ x. eqb x b) s ≤ suc (count (λ x. eqb x b) (after b s))
-count-after b [] = omega arith
-count-after b (x ∷ s) = rw after-cons (go (eqb x b) (count-after b s))
-  where
-    go : (t : Bool) → count (λ x. eqb x b) s ≤ suc (count (λ x. eqb x b) (after b s))
-        → number_of_bool t + count (λ x. eqb x b) s ≤ suc (count (λ x. eqb x b) (cond t s (after b s)))
-    go true ih = omega arith
-    go false ih = omega arith
-
-pub after_each-append : (b n : ℕ) (s r : List ℕ) → n ≤ count (λ x. eqb x b) s → after_each b n (s ++ r) ≡ after_each b n s ++ r
-after_each-append b zero s r h = refl
-after_each-append b (suc n) s r h =
-    rw (after-append b s r (omega arith)) (after_each-append b n (after b s) r (omega (arith, count-after b s)))
-
--- where a b stands before the first c: what follows that b, through the first c
-pub after-through : (b c : ℕ) (s : List ℕ) → eqb b c ≡ false → 1 ≤ count (λ x. eqb x b) (through c s) → after b (through c s) ≡ through c (after b s)
-after-through b c [] n h = let empty : 1 ≤ 0 = rw through-nil at h in absurd (omega arith)
-after-through b c (x ∷ s) n h =
-    rw (through-cons, after-cons b x (cond (eqb x c) [] (through c s)), after-cons b x s) (go (eqb x b) refl (eqb x c) refl (rw through-cons at h) (after-through b c s n))
-  where
-    go : (t : Bool) → eqb x b ≡ t → (u : Bool) → eqb x c ≡ u → 1 ≤ number_of_bool t + count (λ x. eqb x b) (cond u [] (through c s))
-        → (1 ≤ count (λ x. eqb x b) (through c s) → after b (through c s) ≡ through c (after b s))
-        → cond t (cond u [] (through c s)) (after b (cond u [] (through c s))) ≡ through c (cond t s (after b s))
-    go true p true q h ih = absurd (eqb-false b c n (sym (eqb-true x b p) ∙ eqb-true x c q))
-    go true p false q h ih = refl
-    go false p true q h ih = absurd (omega arith)
-    go false p false q h ih = ih (omega arith)
-
-pub after_each-through : (b c n : ℕ) (s : List ℕ) → eqb b c ≡ false → n ≤ count (λ x. eqb x b) (through c s) → after_each b n (through c s) ≡ through c (after_each b n s)
-after_each-through b c zero s m h = refl
-after_each-through b c (suc n) s m h =
-    let e : after b (through c s) ≡ through c (after b s) = after-through b c s m (omega arith) in
-    let few : n ≤ count (λ x. eqb x b) (after b (through c s)) = omega (arith, count-after b (through c s)) in
-    rw e (after_each-through b c n (after b s) m (rw e at few))
-
 -- a list is what stands before a part that begins at a, the part, and what follows it
 pub around-part : (s t r : List ℕ) (a : ℕ) → t ++ r ≡ drop a s → s ≡ take a s ++ (t ++ drop (a + length t) s)
 around-part s t r a e =
@@ -219,7 +175,5 @@ around-part s t r a e =
     rw (rest, e) (sym (take-append-drop a s))
 
 -- a list that begins with a word is no shorter
-pub starts_with-length : (word s : List ℕ) → starts_with word s ≡ true → length word ≤ length s
-starts_with-length [] s e = omega arith
-starts_with-length (b ∷ word) [] e = absurd (false≢true e)
-starts_with-length (b ∷ word) (x ∷ s) e = omega (arith, starts_with-length word s (and_right (eqb x b) (starts_with word s) e))
+pub starts_with-length : (word s : List ℕ) → starts_with nat_eq s word ≡ true → length word ≤ length s
+starts_with-length word s e = omega (arith, pointwise_long nat_eq word (take (length word) s) e, length-take (length word) s)

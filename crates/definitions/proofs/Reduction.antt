@@ -23,6 +23,7 @@ use lib.ListN.{length}
 use Rattle.definitions.specs.Lists.{only_if}
 use Rattle.definitions.specs.Lines.{Row}
 use Rattle.definitions.specs.Reduction.{all_zero, multiple, off_zero, at_multiples, allows, largest, stride, reduce}
+use Rattle.definitions.specs.Halving.{evens, halvable, halved, ReduceHalved}
 use Rattle.definitions.proofs.Bools.{and_left, and-false}
 
 -- Stride 1 is allowed, and keeps every row.
@@ -93,21 +94,6 @@ stride-is r rs =
           le_of_dvd (omega arith) (dvd_of_mod-eq-zero (2 ^ e) (eqb-true _ 0 (and_left _ (off_zero (2 ^ e) 0 (r ∷ rs)) h))) in
           largest-greatest (length (r ∷ rs)) (r ∷ rs) e (omega (arith, below_power e)) h;
     }
-
--- Halving: while the count is even and the rows at odd places are all zero, the even places stay.
-abbrev pub evens : List Row → List Row
-evens [] = []
-evens (r ∷ []) = r ∷ []
-evens (r ∷ r' ∷ rs) = r ∷ evens rs
-
-abbrev pub halvable : List Row → Bool
-halvable [] = true
-halvable (r ∷ []) = false
-halvable (r ∷ r' ∷ rs) = all_zero r' && halvable rs
-
-abbrev pub halved : ℕ → List Row → List Row
-halved zero rs = rs
-halved (suc k) rs = cond (halvable rs) (halved k (evens rs)) rs
 
 pub even-multiple : (s i n : ℕ) → n ≡ 2 * i → multiple (2 * s) n ≡ multiple s i
 even-multiple s i n e = ap (multiple (2 * s)) e ∙ go (eqb (i % s) 0) refl
@@ -205,6 +191,6 @@ largest-halved (suc k) rs = go (halvable rs) refl (largest-halved k (evens rs))
     go false h ih = ap (λ s. at_multiples s 0 rs) (largest-one (suc k) rs h) ∙ one-all 0 rs
 
 -- The two forms are one.
-pub reduce-halved : (rs : List Row) → reduce rs ≡ halved (length rs) rs
-unfolding reduce stride
+pub reduce-halved : ReduceHalved
+unfolding ReduceHalved reduce stride
 reduce-halved rs = largest-halved (length rs) rs

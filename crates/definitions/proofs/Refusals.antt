@@ -10,9 +10,3 @@ pub told-alike : {S T : Type 0} (checks : List (Result Unit Refusal)) (x : S) (y
 told-alike [] x y = refl
 told-alike (Ok u ∷ checks) x y = told-alike checks x y
 told-alike (Err r ∷ checks) x y = refl
-
--- what an accepted call answers
-pub value_answered : {T : Type 0} (checks : List (Result Unit Refusal)) {x y : T} → answered checks x ≡ Ok y → y ≡ x
-value_answered [] e = cc
-value_answered (Ok u ∷ checks) e = value_answered checks e
-value_answered (Err r ∷ checks) e = cc

@@ -5,21 +5,20 @@ use mathlib.Core.List.{List, [], ◌∷◌, ◌++◌}
 use Prim.Native.Nat.{ℕ, zero, suc, ◌+◌, ◌≤◌, ◌<◌}
 use native.Mathlib.Decide.{dec_lt}
 use native.Mathlib.Omega.{arith}
-use borrow.Author.Tests.{leb-true, leb-false, ltb-false, eqb-false, le-leb, le-ltb}
-use lib.Dec.{eqb, leb, ltb}
+use borrow.Author.Tests.{leb-true, le-leb, le-ltb}
+use lib.Dec.{leb, ltb}
 use lib.ListN.{length, drop, get_or, length-drop, get_or-eq_default}
 use lib.Seq.{drop-drop, get_or-drop}
+use Rattle.std.specs.Prelude.{is_none}
 use Rattle.definitions.specs.Sizes.{most_bytes}
-use Rattle.definitions.specs.Lists.{only_if, through, after, after_each}
+use Rattle.definitions.specs.Lists.{only_if, after}
 use Rattle.definitions.specs.Lines.{cut, trim}
 use Rattle.definitions.specs.Refusals.{refused_if, long_text, answered, number_told}
-use Rattle.definitions.specs.declared.ChartPlace.{ChartPlace}
 use Rattle.definitions.specs.declared.Refusal.TheVariants.{LongText, FewFields, OtherType, NoChart}
-use Rattle.definitions.specs.SmFile.{is_tagged, tag_of, notes_tag, block_text, block_end, starts_block, blocks_from, blocks, colons, data_of, sm_tag, sm_text, sm_lanes, sm_data, sm_start, sm_answer, sm_number}
+use Rattle.definitions.specs.SmFile.{Tag, SmPart, is_tagged, tag_of, notes_tag, block_text, block_end, starts_block, blocks_from, blocks, colons, data_of, sm_tag, sm_text, sm_lanes, sm_data, sm_start, sm_answer, sm_number}
 use Rattle.definitions.specs.SmBlocks.{DataInFile, SemicolonLast, BlocksApart, LeastRefused}
-use Rattle.definitions.specs.declared.Tag.{Tag}
 use Rattle.definitions.proofs.Bools.{and_left, and_right}
-use Rattle.definitions.proofs.Lists.{through-after, through-short, through-last, IsEnd, end-append, after_each-end, after_each-append, after_each-through, around-part, starts_with-length}
+use Rattle.definitions.proofs.Lists.{through-after, through-short, through-last, IsEnd, end-append, after_each-end, around-part, starts_with-length}
 use Rattle.definitions.proofs.ChartRows.{trim-short, line_bytes, cut-bytes}
 
 -- ---- Blocks
@@ -146,52 +145,17 @@ semicolon-last file k i h e =
     through-last 59 (drop (sm_tag file k).end file) (d.from + i) (omega (arith, d.size)) (sym same ∙ e)
 
 -- ---- The number that is answered, by its four tests
-abbrev number_by : Bool → Bool → Bool → Bool → ChartPlace → ℕ
+abbrev number_by : Bool → Bool → Bool → Bool → SmPart → ℕ
 number_by a b c d p = number_told (answered (refused_if a LongText ∷ refused_if b NoChart ∷ refused_if c FewFields ∷ refused_if d OtherType ∷ []) p)
 
-none-held : (a b c d : Bool) (p : ChartPlace) → number_by a b c d p ≡ 0 → (a ≡ false) × (b ≡ false) × (c ≡ false) × (d ≡ false)
-none-held true b c d p e = absurd (omega arith)
-none-held false true c d p e = absurd (omega arith)
-none-held false false true d p e = absurd (omega arith)
-none-held false false false true p e = absurd (omega arith)
-none-held false false false false p e = (refl, refl, refl, refl)
-
-second-held : (a b c d : Bool) (p : ChartPlace) → number_by a b c d p ≡ 11 → b ≡ true
+second-held : (a b c d : Bool) (p : SmPart) → number_by a b c d p ≡ 11 → b ≡ true
 second-held true b c d p e = absurd (omega arith)
 second-held false true c d p e = refl
 second-held false false true d p e = absurd (omega arith)
 second-held false false false true p e = absurd (omega arith)
 second-held false false false false p e = absurd (omega arith)
 
--- what holds of a block that is accepted
-pub record Accepted (file : List ℕ) (k : ℕ) : Type 0 where
-  pub short : length file ≤ most_bytes
-  pub there : k < length (blocks file)
-  pub fields : 5 ≤ colons (sm_text file k)
-  pub known : sm_lanes file k ≡ 0 → ⊥
-
 module _ (file : List ℕ) (k : ℕ) where
-  pub accepted : sm_number file k ≡ 0 → Accepted file k
-  unfolding sm_answer long_text
-  accepted e =
-      let h = none-held (ltb most_bytes (length file)) (leb (length (blocks file)) k) (ltb (colons (sm_text file k)) 5) (eqb (sm_lanes file k) 0) _ e in
-      record {
-        short = ltb-false most_bytes (length file) h.0;
-        there = leb-false (length (blocks file)) k h.1;
-        fields = ltb-false (colons (sm_text file k)) 5 h.2;
-        known = eqb-false (sm_lanes file k) 0 h.3;
-      }
-
-  -- the data is what runs from its start through the first `;`
-  pub data-through : sm_number file k ≡ 0 → through 59 (drop (sm_start file k) file) ≡ sm_data file k
-  unfolding sm_data data_of sm_text block_text colons
-  data-through e =
-      let text : List ℕ = drop (sm_tag file k).end file in
-      let enough : 5 ≤ colons (sm_text file k) = (accepted e).fields in
-      let from_start : drop (sm_start file k) file ≡ after_each 58 5 text =
-      sym (data-then file k) ∙ sym (after_each-append 58 5 (sm_text file k) (after 59 text) enough) ∙ ap (after_each 58 5) (through-after 59 text) in
-      ap (through 59) from_start ∙ sym (after_each-through 58 59 5 text refl enough)
-
   -- 11 is answered from the number of blocks on, and nowhere else
   from-blocks : length file ≤ most_bytes → length (blocks file) ≤ k → sm_number file k ≡ 11
   unfolding sm_answer long_text
@@ -201,7 +165,7 @@ module _ (file : List ℕ) (k : ℕ) where
   unfolding sm_answer long_text
   only-from-blocks e =
       leb-true (length (blocks file)) k
-      (second-held (ltb most_bytes (length file)) (leb (length (blocks file)) k) (ltb (colons (sm_text file k)) 5) (eqb (sm_lanes file k) 0) _ e)
+      (second-held (ltb most_bytes (length file)) (leb (length (blocks file)) k) (ltb (colons (sm_text file k)) 5) (is_none (sm_lanes file k)) _ e)
 
 pub least-refused : LeastRefused
 unfolding LeastRefused

@@ -2,11 +2,12 @@
 use Rattle.std.specs.Prelude.{Result, Ok}
 use mathlib.Core.Path.{◌≡◌, refl, ap}
 use mathlib.Core.List.{List, [], ◌∷◌}
-use mathlib.Core.Option.{Option, some, none}
+use Rattle.std.specs.Prelude.{Option, Some, None}
 use Prim.Native.Nat.{ℕ, zero, suc, ◌+◌, ◌≤◌, ◌<◌}
 use native.Mathlib.Nat.{div-le_self}
 use native.Mathlib.Omega.{arith}
-use lib.ListN.{length, get_or, get_elem?}
+use lib.ListN.{length, get_or}
+use Rattle.std.specs.Prelude.{slice_get}
 use Rattle.definitions.specs.Sizes.{most_bytes, row_numbers_bound}
 use Rattle.definitions.specs.Lists.{joined}
 use Rattle.definitions.specs.Lanes.{lanes_of, most_rows_in}
@@ -67,13 +68,13 @@ proper-at : (b : ℕ) → Proper (effect_at b)
 unfolding effect_at
 proper-at b = proper (cell_of b)
 
-made-cell : (x : NoteEffect) → Proper x → (i c : ℕ) → i < row_numbers_bound → c < 10 → (t : Option ℕ) → ((j : ℕ) → t ≡ some j → (i < j) × (j < row_numbers_bound))
+made-cell : (x : NoteEffect) → Proper x → (i c : ℕ) → i < row_numbers_bound → c < 10 → (t : Option ℕ) → ((j : ℕ) → t ≡ Some j → (i < j) × (j < row_numbers_bound))
     → All Made (cell_notes x i c t)
 made-cell Nothing p i c hi hc t h = no_more
 made-cell Closes p i c hi hc t h = no_more
 made-cell (Single k) p i c hi hc t h = one (record { column = hc; kind = kind-below k; row = hi; tail = p i }) no_more
-made-cell (Head k) p i c hi hc none h = no_more
-made-cell (Head k) p i c hi hc (some j) h = one (record { column = hc; kind = kind-below k; row = hi; tail = p i j (h j refl) }) no_more
+made-cell (Head k) p i c hi hc None h = no_more
+made-cell (Head k) p i c hi hc (Some j) h = one (record { column = hc; kind = kind-below k; row = hi; tail = p i j (h j refl) }) no_more
 
 made_row : (i c : ℕ) (bs : Row) (rs : List Row) → i + suc (length rs) ≤ row_numbers_bound → c + length bs ≤ 10 → All Made (row_notes i c bs rs)
 made_row i c [] rs h w = no_more
@@ -106,7 +107,7 @@ module _ (L : ℕ) (some_lane : 1 ≤ L) (ten-lanes : L ≤ 10) (text : List ℕ
 no_note : Note
 no_note = record { row = 0; tail = tail.Without; column = 0; kind = Tap }
 
-stands_at : (ns : List Note) (k : ℕ) → k < length ns → get_elem? ns k ≡ some (get_or ns k no_note)
+stands_at : (ns : List Note) (k : ℕ) → k < length ns → slice_get ns k ≡ Some (get_or ns k no_note)
 stands_at [] k h = absurd (omega arith)
 stands_at (n ∷ ns) zero h = refl
 stands_at (n ∷ ns) (suc k) h = stands_at ns k (omega arith)

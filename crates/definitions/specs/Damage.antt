@@ -1,6 +1,6 @@
 -- Document 01's section "Damage": when two texts differ only in lines of one measure, and what is then the same in both.
 use Rattle.std.specs.Prelude.{◌≡◌, ◌≢◌, ◌⊎◌, Bool, true, false, cond, ◌&&◌, not, List, [], ◌∷◌, ℕ, suc, ◌+◌, ◌≤◌, ◌<◌, eqb, ltb, leb, length, take, drop, get_or}
-use Rattle.std.proofs.Math.ListN.{get_elem?}
+use Rattle.std.specs.Prelude.{slice_get}
 use Rattle.definitions.specs.Lists.{among, joined, those}
 use Rattle.definitions.specs.Lines.{Row, cut, line_kind}
 use Rattle.definitions.specs.Cells.{byte_at}
@@ -61,7 +61,7 @@ pub record Differ (L d : ℕ) (old new : List ℕ) : Type 0 where
 -- As many, and at every place but d the same.
 pub record SameBut {A : Type 0} (d : ℕ) (s t : List A) : Type 0 where
   pub count : length s ≡ length t
-  pub others : (i : ℕ) → i ≢ d → get_elem? s i ≡ get_elem? t i
+  pub others : (i : ℕ) → i ≢ d → slice_get s i ≡ slice_get t i
 
 -- two lists as long, and R between what stands at the same place
 pub data Each {A : Type 0} (R : A → A → Type 0) : List A → List A → Type 0 where

@@ -1,7 +1,7 @@
 -- The calls: for every input what each answers, a refusal or its value, and what it leaves in each lent slice. The entries callable from outside
 -- return the number told, 0 for accepted, and put the value in the 32 figures. `lanes` is the caller's lane number; the lists named after slices are what those held before the call.
 -- The entry that is lent a file is in SmFile.antt.
-use Rattle.std.specs.Prelude.{List, [], ◌∷◌, ◌++◌, ℕ, ◌+◌, Float, length, replicate, Result, Ok, Err}
+use Rattle.std.specs.Prelude.{List, [], ◌∷◌, ◌++◌, ℕ, Float, length, replicate, Result}
 use Rattle.std.specs.Float.{binary64}
 use Rattle.std.specs.Float.Ieee.{to_bits}
 use Rattle.definitions.specs.Lists.{number_of_bool, joined}

@@ -7,6 +7,7 @@ pub mod Lines
 pub mod Cells
 pub mod Measures
 pub mod Reduction
+pub mod Halving
 pub mod Figures
 pub mod Beats
 pub mod Objects

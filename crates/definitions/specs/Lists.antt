@@ -1,5 +1,5 @@
 -- Words on lists that the other files use.
-use Rattle.std.specs.Prelude.{Bool, true, false, cond, ◌||◌, ◌&&◌, List, [], ◌∷◌, ◌++◌, ℕ, zero, suc, ◌+◌, ◌-◌, eqb, length, take, drop, replicate}
+use Rattle.std.specs.Prelude.{Bool, true, false, cond, ◌||◌, List, [], ◌∷◌, ◌++◌, ℕ, zero, suc, ◌+◌, ◌-◌, eqb, length, take, drop, replicate}
 
 -- 1 where the test holds, else 0
 abbrev pub number_of_bool : Bool → ℕ
@@ -68,16 +68,3 @@ after b s = drop (suc (length (up_to b s))) s
 abbrev pub after_each : ℕ → ℕ → List ℕ → List ℕ
 after_each b zero s = s
 after_each b (suc n) s = after_each b n (after b s)
-
--- whether a list begins with a word
-abbrev pub starts_with : List ℕ → List ℕ → Bool
-starts_with [] s = true
-starts_with (b ∷ word) [] = false
-starts_with (b ∷ word) (x ∷ s) = eqb x b && starts_with word s
-
--- whether two lists are the same, byte for byte
-abbrev pub same : List ℕ → List ℕ → Bool
-same [] [] = true
-same [] (y ∷ t) = false
-same (x ∷ s) [] = false
-same (x ∷ s) (y ∷ t) = eqb x y && same s t

@@ -1,6 +1,6 @@
 -- Document 01, "Typed notes", read forward: what is headed at a cell depends only on that cell and on the rows after its row.
 use Rattle.std.specs.Prelude.{List, [], ◌∷◌, ◌++◌, ℕ, zero, suc}
-use Rattle.std.proofs.Math.Option.{Option, none, some}
+use Rattle.std.specs.Prelude.{Option, None, Some}
 use Rattle.definitions.specs.Lists.{joined}
 use Rattle.definitions.specs.Lines.{Row}
 use Rattle.definitions.specs.Cells.{cell_of, byte_at}
@@ -36,13 +36,13 @@ effect_at b = effect_of (cell_of b)
 -- what a cell at row i says of the head open above it: its tail row, that it is dropped, or what the rows after it say
 abbrev pub meets : NoteEffect → ℕ → Option ℕ → Option ℕ
 meets Nothing i later = later
-meets Closes i later = some i
-meets (Single k) i later = none
-meets (Head k) i later = none
+meets Closes i later = Some i
+meets (Single k) i later = None
+meets (Head k) i later = None
 
 -- the tail row of a head in column c, with these rows after it, numbered from i. "Heads open at the end are dropped."
 abbrev pub tail_row_of : ℕ → ℕ → List Row → Option ℕ
-tail_row_of c i [] = none
+tail_row_of c i [] = None
 tail_row_of c i (r ∷ rs) = meets (effect_at (byte_at c r)) i (tail_row_of c (suc i) rs)
 
 -- a note without a tail
@@ -51,8 +51,8 @@ plain_note i c k = record { row = i; tail = tail.Without; column = c; kind = k }
 
 -- a note with the tail row that its head has; without one it is dropped
 abbrev pub held_note : ℕ → ℕ → Kind → Option ℕ → List Note
-held_note i c k none = []
-held_note i c k (some j) = record { row = i; tail = tail.Row j; column = c; kind = k } ∷ []
+held_note i c k None = []
+held_note i c k (Some j) = record { row = i; tail = tail.Row j; column = c; kind = k } ∷ []
 
 -- the note headed by a cell at row i and column c, in a list of at most one, given the tail row that a head there has
 abbrev pub cell_notes : NoteEffect → ℕ → ℕ → Option ℕ → List Note

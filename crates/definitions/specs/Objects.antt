@@ -1,6 +1,6 @@
 -- Document 01, "Last beat": the object rows, the last of them, and its beat.
 use Rattle.std.specs.Prelude.{Bool, true, false, ◌||◌, List, [], ◌∷◌, ◌++◌, ℕ, suc, ◌-◌, ltb, length, Float}
-use Rattle.std.proofs.Math.Option.{Option, none, some}
+use Rattle.std.specs.Prelude.{Option, None, Some}
 use Rattle.definitions.specs.Lists.{only_if}
 use Rattle.definitions.specs.Lines.{Row}
 use Rattle.definitions.specs.Cells.{cell_of, byte_at, object_effect}
@@ -68,8 +68,8 @@ objects_from D m (x ∷ xs) = objects_in D m 0 (length x) x ++ objects_from (aft
 
 -- the last of some places
 abbrev pub last_of : List Place → Option Place
-last_of [] = none
-last_of (p ∷ []) = some p
+last_of [] = None
+last_of (p ∷ []) = Some p
 last_of (p ∷ q ∷ ps) = last_of (q ∷ ps)
 
 -- the last object row, if there is one
@@ -78,8 +78,8 @@ last_object L text = last_of (objects_from (λ c. 0) 0 (minimised L text))
 
 -- The last beat in 48ths. "With no object row it is 0."
 abbrev pub place48 : Option Place → ℕ
-place48 none = 0
-place48 (some p) = last_row p.m p.r p.n
+place48 None = 0
+place48 (Some p) = last_row p.m p.r p.n
 
 -- a text's last beat in 48ths
 unfoldable pub last48 : ℕ → List ℕ → ℕ

@@ -1,6 +1,6 @@
 -- Document 01, "What a call can be told": the refusals by their numbers, the conditions of 1 to 6, their order, and what a call leaves in what it
 -- was lent. 7 and 8 are in Records.antt, 9 to 11 in SmFile.antt.
-use Rattle.std.specs.Prelude.{Bool, cond, List, [], ◌∷◌, ℕ, ◌+◌, ◌*◌, ◌/◌, ltb, length, Result, Ok, Err}
+use Rattle.std.specs.Prelude.{Bool, if◌then◌else◌, List, [], ◌∷◌, ℕ, ◌+◌, ◌*◌, ◌/◌, ◌++◌, nat_lt, length, codes, Result, Ok, Err}
 use Rattle.definitions.specs.Sizes.{most_bytes}
 use Rattle.definitions.specs.Lists.{padded}
 use Rattle.definitions.specs.Lanes.{most_rows_in}
@@ -23,33 +23,69 @@ number_of NoChart = 11
 number_of ShortSheet = 19
 number_of OtherForm = 20
 
+-- Whose mistake it is. "Caused by whoever wires up the call: [1 to 6]. Caused by whoever stores note records: [7 and 8]"
+abbrev pub cause_of : Refusal → List ℕ
+cause_of LongText = codes "whoever wires up the call"
+cause_of ShortText = codes "whoever wires up the call"
+cause_of ShortMeasures = codes "whoever wires up the call"
+cause_of ShortBeats = codes "whoever wires up the call"
+cause_of ShortWork = codes "whoever wires up the call"
+cause_of ShortNotes = codes "whoever wires up the call"
+cause_of NoRecord = codes "whoever stores note records"
+cause_of BadRecord = codes "whoever stores note records"
+cause_of FewFields = codes "whoever writes the SM file"
+cause_of OtherType = codes "whoever writes the SM file"
+cause_of NoChart = codes "whoever asks for the chart"
+cause_of ShortSheet = codes "whoever wires up the call"
+cause_of OtherForm = codes "whoever wires up the call"
+
+-- what is wrong
+abbrev pub words_of : Refusal → List ℕ
+words_of LongText = codes "len is over 16,777,215"
+words_of ShortText = codes "the text slice is shorter than len + 1"
+words_of ShortMeasures = codes "the measure slice is shorter than (len + 1) div 2 + 1"
+words_of ShortBeats = codes "the beat slice is shorter than R"
+words_of ShortWork = codes "the work slice is shorter than R"
+words_of ShortNotes = codes "the note slice is shorter than 10 * L * R"
+words_of NoRecord = codes "there is no such note record"
+words_of BadRecord = codes "that record breaks a limit"
+words_of FewFields = codes "the block has fewer than five fields"
+words_of OtherType = codes "the chart has another type name"
+words_of NoChart = codes "the file has no such block"
+words_of ShortSheet = codes "the sheet slice is shorter than 42 * (len + 1) + 3000"
+words_of OtherForm = codes "the form's number is over 2"
+
+-- a refusal as it is printed
+abbrev pub refusal_text : Refusal → List ℕ
+refusal_text r = words_of r ++ (codes ", by " ++ cause_of r)
+
 -- what a check answers: this refusal where the condition holds
 abbrev pub refused_if : Bool → Refusal → Result Unit Refusal
-refused_if t r = cond t (Err r) (Ok tt)
+refused_if t r = if t then Err r else Ok tt
 
 -- "1: len is over 16,777,215."
 unfoldable pub long_text : ℕ → Result Unit Refusal
-long_text len = refused_if (ltb most_bytes len) LongText
+long_text len = refused_if (nat_lt most_bytes len) LongText
 
 -- "2: the text slice (bytes) is shorter than len + 1."
 unfoldable pub short_text : ℕ → ℕ → Result Unit Refusal
-short_text len room = refused_if (ltb room (len + 1)) ShortText
+short_text len room = refused_if (nat_lt room (len + 1)) ShortText
 
 -- "3: the measure slice (u32 densities, or bytes for spacing, 1 true and 0 false) is shorter than (len + 1) div 2 + 1."
 unfoldable pub short_measures : ℕ → ℕ → Result Unit Refusal
-short_measures len room = refused_if (ltb room ((len + 1) / 2 + 1)) ShortMeasures
+short_measures len room = refused_if (nat_lt room ((len + 1) / 2 + 1)) ShortMeasures
 
 -- "4: the beat slice (f32) is shorter than R."
 unfoldable pub short_beats : ℕ → ℕ → ℕ → Result Unit Refusal
-short_beats L len room = refused_if (ltb room (most_rows_in L len)) ShortBeats
+short_beats L len room = refused_if (nat_lt room (most_rows_in L len)) ShortBeats
 
 -- "5: the work slice (u16) is shorter than R."
 unfoldable pub short_work : ℕ → ℕ → ℕ → Result Unit Refusal
-short_work L len room = refused_if (ltb room (most_rows_in L len)) ShortWork
+short_work L len room = refused_if (nat_lt room (most_rows_in L len)) ShortWork
 
 -- "6: the note slice (bytes) is shorter than 10 × L × R."
 unfoldable pub short_notes : ℕ → ℕ → ℕ → Result Unit Refusal
-short_notes L len room = refused_if (ltb room (10 * L * most_rows_in L len)) ShortNotes
+short_notes L len room = refused_if (nat_lt room (10 * L * most_rows_in L len)) ShortNotes
 
 -- "Checked in rising order": the first check that refuses refuses the call; where none does, it is accepted and answers x.
 abbrev pub answered : {T : Type 0} → List (Result Unit Refusal) → T → Result T Refusal

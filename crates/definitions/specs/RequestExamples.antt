@@ -1,10 +1,11 @@
 -- Examples of document 02's requests as one table with a single claim, `request-examples-hold`. In a file `|` is byte 10 and `^` is byte 13.
-use Rattle.std.specs.Prelude.{◌≡◌, refl, cond, List, [], ◌∷◌, map, ℕ, eqb, length}
+use Rattle.std.specs.Prelude.{◌≡◌, refl, List, [], ◌∷◌, map, ℕ, Result, Ok, Err}
 use Prim.Native.String.{String}
 use Rattle.definitions.specs.Lists.{up_to, through, after}
 use Rattle.definitions.specs.Lines.{is_blank_byte}
-use Rattle.definitions.specs.Refusals.{long_text}
-use Rattle.definitions.specs.SmFile.{is_tagged, tag_of, notes_tag, block_text, block_end, starts_block, blocks_from, blocks, colons, data_of, type_of, lanes_of_type, sm_tag, sm_text, sm_lanes, sm_data, sm_start, sm_answer, sm_number}
+use Rattle.definitions.specs.Refusals.{long_text, number_of}
+use Rattle.definitions.specs.SmFile.{SmPart, is_tagged, tag_of, notes_tag, block_text, block_end, starts_block, blocks_from, blocks, colons, data_of, type_of, lanes_of_type, sm_tag, sm_text, sm_lanes, sm_data, sm_start, sm_answer}
+use Rattle.definitions.specs.declared.Refusal.{Refusal}
 use Rattle.definitions.specs.Examples.{bytes}
 
 -- One question to a file, and the answer.
@@ -13,9 +14,14 @@ pub record Example : Type 0 where
   pub k : ℕ
   pub answer : List ℕ
 
--- E1's answer for block k of a file: 0, the lane count, where the data begins and the data, or a refusal's number alone
+-- 0, the lane count, where the data begins and the data, or a refusal's number alone
+abbrev pub places_told : Result SmPart Refusal → List ℕ
+places_told (Ok c) = 0 ∷ c.lanes ∷ c.start ∷ c.part
+places_told (Err r) = number_of r ∷ []
+
+-- E1's answer for block k of a file
 unfoldable pub sm_told : List ℕ → ℕ → List ℕ
-sm_told file k = sm_number file k ∷ cond (eqb (sm_number file k) 0) (sm_lanes file k ∷ sm_start file k ∷ sm_data file k) []
+sm_told file k = places_told (sm_answer file k)
 
 -- block k of that file has so many lanes, and this data from that place on
 abbrev pub chart : String → ℕ → ℕ → ℕ → String → Example

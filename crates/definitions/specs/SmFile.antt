@@ -1,24 +1,27 @@
 -- Document 02, E1: the charts inside an SM file. What is answered for block k of a file: a refusal's number, or the lane count and the data as a
 -- part of the file. 58 is `:` and 59 `;`.
-use Rattle.std.specs.Prelude.{Bool, cond, ◌&&◌, List, [], ◌∷◌, ◌++◌, ℕ, ◌+◌, ◌-◌, eqb, leb, ltb, length, drop, get_or, Result, Ok, Err}
-use Prim.Native.Char.{code}
-use Prim.Native.String.{String, [] as end, ◌∷◌ as ◌then◌}
-use Rattle.definitions.specs.Lists.{only_if, count, up_to, through, after_each, starts_with, same}
+use Rattle.std.specs.Prelude.{Bool, if◌then◌else◌, ◌&&◌, List, [], ◌∷◌, ◌++◌, ℕ, ◌+◌, ◌-◌, ◌==◌, nat_eq, nat_le, nat_lt, length, drop, get_or, codes, bytes_eq, Option, Some, None, is_none, unwrap_or, Result}
+use Rattle.std.specs.List.{starts_with}
+use Rattle.definitions.specs.Lists.{only_if, count, up_to, through, after_each}
 use Rattle.definitions.specs.Lines.{cut, is_blank_byte, trim}
 use Rattle.definitions.specs.Refusals.{refused_if, long_text, answered, number_told, replaces}
-use Rattle.definitions.specs.declared.Tag.{Tag}
-use Rattle.definitions.specs.declared.ChartPlace.{ChartPlace}
 use Rattle.definitions.specs.declared.Refusal.{Refusal}
 use Rattle.definitions.specs.declared.Refusal.TheVariants.{FewFields, OtherType, NoChart}
 
--- the bytes of a word in ASCII
-abbrev pub letters : String → List ℕ
-letters end = []
-letters (◌then◌ c s) = code c ∷ letters s
+-- A tag with which a line begins, after blanks: where its line begins in the file, and the place just past the tag.
+pub record Tag : Type 0 where
+  pub line : ℕ
+  pub end : ℕ
+
+-- A chart inside a file: its lane count, where its data begins in the file, and the data.
+pub record SmPart : Type 0 where
+  pub lanes : ℕ
+  pub start : ℕ
+  pub part : List ℕ
 
 -- a byte in front of a list whose blanks at the end are off
 abbrev pub before_trimmed : ℕ → List ℕ → List ℕ
-before_trimmed b [] = cond (is_blank_byte b) [] (b ∷ [])
+before_trimmed b [] = if is_blank_byte b then [] else (b ∷ [])
 before_trimmed b (x ∷ s) = b ∷ x ∷ s
 
 -- a list without the blanks at its end
@@ -28,7 +31,7 @@ without_end_blanks (b ∷ s) = before_trimmed b (without_end_blanks s)
 
 -- "a line that begins, after blanks, with" a tag
 unfoldable pub is_tagged : List ℕ → List ℕ → Bool
-is_tagged word line = starts_with word (trim line)
+is_tagged word line = starts_with nat_eq (trim line) word
 
 -- the tag of such a line that starts at `at`
 unfoldable pub tag_of : List ℕ → ℕ → List ℕ → Tag
@@ -36,7 +39,7 @@ tag_of word at line = record { line = at; end = at + (length line - length (trim
 
 -- "`#NOTES:`"
 unfoldable pub notes_tag : List ℕ
-notes_tag = letters "#NOTES:"
+notes_tag = codes "#NOTES:"
 
 -- What stands after a block's tag in the block. "It runs to the first `;` or to the end of the text."
 unfoldable pub block_text : List ℕ → Tag → List ℕ
@@ -49,14 +52,14 @@ block_end file t = t.end + length (block_text file t)
 -- "A block starts at a line that begins, after blanks, with `#NOTES:` and lies outside an earlier block": whether one starts at the line that
 -- begins at `at`, where the blocks before it end at `past`. A line that begins inside a block starts none, also where the block ends on it.
 unfoldable pub starts_block : ℕ → ℕ → List ℕ → Bool
-starts_block past at line = leb past at && is_tagged notes_tag line
+starts_block past at line = nat_le past at && is_tagged notes_tag line
 
 -- the blocks, by their tags, that start at these lines, the first of which begins at `at`
 unfoldable pub blocks_from : List ℕ → ℕ → ℕ → List (List ℕ) → List Tag
 blocks_from file past at [] = []
 blocks_from file past at (line ∷ lines) =
     only_if (starts_block past at line) (tag_of notes_tag at line ∷ [])
-    ++ blocks_from file (cond (starts_block past at line) (block_end file (tag_of notes_tag at line)) past) (at + length line + 1) lines
+    ++ blocks_from file (if starts_block past at line then block_end file (tag_of notes_tag at line) else past) (at + length line + 1) lines
 
 -- the blocks of a file
 unfoldable pub blocks : List ℕ → List Tag
@@ -64,7 +67,7 @@ blocks file = blocks_from file 0 0 (cut file)
 
 -- how many `:` stand in a block after its tag
 unfoldable pub colons : List ℕ → ℕ
-colons text = count (λ b. eqb b 58) text
+colons text = count (λ b. b == 58) text
 
 -- "After that tag five fields each ended by `:` stand before the note data": the data, "its `;` included if there is one"
 unfoldable pub data_of : List ℕ → List ℕ
@@ -74,14 +77,14 @@ data_of text = after_each 58 5 text
 unfoldable pub type_of : List ℕ → List ℕ
 type_of text = without_end_blanks (trim (up_to 58 text))
 
--- "dance-single is 4 lanes, pump-single 5, dance-double 8, pump-double 10"; 0 for another type name
-unfoldable pub lanes_of_type : List ℕ → ℕ
+-- "dance-single is 4 lanes, pump-single 5, dance-double 8, pump-double 10"; none for another type name
+unfoldable pub lanes_of_type : List ℕ → Option ℕ
 lanes_of_type name =
-    cond (same name (letters "dance-single")) 4
-    (cond (same name (letters "pump-single")) 5
-    (cond (same name (letters "dance-double")) 8
-    (cond (same name (letters "pump-double")) 10
-    0)))
+    if bytes_eq name (codes "dance-single") then Some 4
+    else if bytes_eq name (codes "pump-single") then Some 5
+    else if bytes_eq name (codes "dance-double") then Some 8
+    else if bytes_eq name (codes "pump-double") then Some 10
+    else None
 
 -- "Asked for block k, counted from 0, the answer is the lane count and the data as a part of the caller's file"
 module _ (file : List ℕ) (k : ℕ) where
@@ -93,8 +96,8 @@ module _ (file : List ℕ) (k : ℕ) where
   unfoldable pub sm_text : List ℕ
   sm_text = block_text file sm_tag
 
-  -- the lane count
-  unfoldable pub sm_lanes : ℕ
+  -- the lane count, where the type has one
+  unfoldable pub sm_lanes : Option ℕ
   sm_lanes = lanes_of_type (type_of sm_text)
 
   -- the data
@@ -110,18 +113,18 @@ module _ (file : List ℕ) (k : ℕ) where
   abbrev pub sm_checks : List (Result Unit Refusal)
   sm_checks =
       long_text (length file)
-      ∷ refused_if (leb (length (blocks file)) k) NoChart
-      ∷ refused_if (ltb (colons sm_text) 5) FewFields
-      ∷ refused_if (eqb sm_lanes 0) OtherType
+      ∷ refused_if (nat_le (length (blocks file)) k) NoChart
+      ∷ refused_if (nat_lt (colons sm_text) 5) FewFields
+      ∷ refused_if (is_none sm_lanes) OtherType
       ∷ []
 
-  -- the lane count and where the data begins
-  abbrev pub sm_place : ChartPlace
-  sm_place = record { lanes = sm_lanes; start = sm_start }
+  -- the lane count and the data
+  abbrev pub sm_part : SmPart
+  sm_part = record { lanes = unwrap_or sm_lanes 0; start = sm_start; part = sm_data }
 
   -- what the call answers
-  unfoldable pub sm_answer : Result ChartPlace Refusal
-  sm_answer = answered sm_checks sm_place
+  unfoldable pub sm_answer : Result SmPart Refusal
+  sm_answer = answered sm_checks sm_part
 
   -- the number that is returned outside
   abbrev pub sm_number : ℕ
@@ -129,4 +132,4 @@ module _ (file : List ℕ) (k : ℕ) where
 
   -- what it leaves in the three places of the chart, which held `old`: lane count, where the data begins, its length
   abbrev pub places_of_sm : List ℕ → List ℕ
-  places_of_sm old = replaces sm_answer (λ p. p.lanes ∷ p.start ∷ length sm_data ∷ []) old
+  places_of_sm old = replaces sm_answer (λ c. c.lanes ∷ c.start ∷ length c.part ∷ []) old

@@ -1,8 +1,8 @@
 -- Document 01, "The writer makes only": the limits of a note that the writer makes, and the claim that every record of an accepted text keeps
 -- them and is read back as its note. `writer-makes` in proofs/WriterMakes.antt proves it.
 use Rattle.std.specs.Prelude.{◌≡◌, List, ℕ, ◌≤◌, ◌<◌, length, Ok}
-use Rattle.std.proofs.Math.Option.{some}
-use Rattle.std.proofs.Math.ListN.{get_elem?}
+use Rattle.std.specs.Prelude.{Some}
+use Rattle.std.specs.Prelude.{slice_get}
 use Rattle.definitions.specs.Sizes.{most_bytes, row_numbers_bound}
 use Rattle.definitions.specs.Lanes.{lanes_of}
 use Rattle.definitions.specs.Notes.{notes}
@@ -41,7 +41,7 @@ pub record Made (n : Note) : Type 0 where
 -- Record k of these notes keeps the limits and is read back as note k: by `note_of_record`, and from outside by the number 0 and the note's places.
 pub record ReadsBack (ns : List Note) (k : ℕ) : Type 0 where
   pub note : Note
-  pub stands : get_elem? ns k ≡ some note
+  pub stands : slice_get ns k ≡ Some note
   pub limits : Made note
   pub read : note_of_record (records ns) k ≡ Ok note
   pub number : number_told (note_of_record (records ns) k) ≡ 0

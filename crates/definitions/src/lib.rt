@@ -3,10 +3,12 @@
 
 mod lane_count;
 
-ghost use Rattle.std.specs.Prelude.{◌≡◌};
-ghost use Rattle.definitions.specs.Refusals.{number_of};
+ghost use Rattle.std.specs.Prelude.{◌≡◌, codes};
+ghost use Rattle.definitions.specs.Refusals.{number_of, cause_of, words_of};
 
 pub use lane_count::Lanes;
+use std::error::Error;
+use std::fmt;
 
 // The longest text that is accepted, in bytes.
 pub const MOST_BYTES: usize = 16777215;
@@ -126,7 +128,7 @@ pub struct ArrowStats {
     pub holding: u32,
 }
 
-// Why a call is refused, by the papers' numbers.
+/// Why a call is refused, by the papers' numbers. Printed, a refusal says what is wrong and who caused it.
 #[derive(Clone, Copy, PartialEq, Eq, Debug)]
 pub enum Refusal {
     LongText = 1,
@@ -145,13 +147,66 @@ pub enum Refusal {
 }
 
 impl Refusal {
-    // The number that is returned outside.
+    /// The number that is returned outside.
     pub fn number(self) -> u32
         ensures { result ≡ number_of self }
     {
         self as u32
     }
+
+    /// Whose mistake it is.
+    pub fn caused_by(self) -> &'static str
+        ensures { result.now ≡ cause_of self }
+    {
+        match self {
+            Refusal::LongText
+            | Refusal::ShortText
+            | Refusal::ShortMeasures
+            | Refusal::ShortBeats
+            | Refusal::ShortWork
+            | Refusal::ShortNotes
+            | Refusal::ShortSheet
+            | Refusal::OtherForm => "whoever wires up the call",
+            Refusal::NoRecord | Refusal::BadRecord => "whoever stores note records",
+            Refusal::FewFields | Refusal::OtherType => "whoever writes the SM file",
+            Refusal::NoChart => "whoever asks for the chart",
+        }
+    }
+
+    /// What is wrong. len is the text's length in bytes, L the lane count, R the most rows that such a text can hold.
+    pub fn words(self) -> &'static str
+        ensures { result.now ≡ words_of self }
+    {
+        match self {
+            Refusal::LongText => "len is over 16,777,215",
+            Refusal::ShortText => "the text slice is shorter than len + 1",
+            Refusal::ShortMeasures => "the measure slice is shorter than (len + 1) div 2 + 1",
+            Refusal::ShortBeats => "the beat slice is shorter than R",
+            Refusal::ShortWork => "the work slice is shorter than R",
+            Refusal::ShortNotes => "the note slice is shorter than 10 * L * R",
+            Refusal::NoRecord => "there is no such note record",
+            Refusal::BadRecord => "that record breaks a limit",
+            Refusal::FewFields => "the block has fewer than five fields",
+            Refusal::OtherType => "the chart has another type name",
+            Refusal::NoChart => "the file has no such block",
+            Refusal::ShortSheet => "the sheet slice is shorter than 42 * (len + 1) + 3000",
+            Refusal::OtherForm => "the form's number is over 2",
+        }
+    }
 }
+
+impl fmt::Display for Refusal {
+    ghost use Rattle.std.specs.Prelude.{Some};
+    ghost use Rattle.definitions.specs.Refusals.{refusal_text};
+
+    ghost output = { λ refusal. Some (refusal_text refusal) };
+
+    fn fmt<W: fmt::Write>(&self, f: &mut fmt::Formatter<W>) -> fmt::Result {
+        write!(f, "{}, by {}", self.words(), self.caused_by())
+    }
+}
+
+impl Error for Refusal {}
 
 // What the main call answers beside its slices: bytes of the minimised text, measures, minimised rows, note records, the last beat as the
 // bits of its float and in 48ths, and the tally.
@@ -189,18 +244,4 @@ pub struct LastBeat {
     pub beat: f64,
     pub bits: u64,
     pub row: u64,
-}
-
-// A chart inside a file: its lane count, and where its data begins.
-#[derive(Clone, Copy)]
-pub struct ChartPlace {
-    pub lanes: usize,
-    pub start: usize,
-}
-
-// A tag with which a line begins, after blanks: where its line begins in the file, and the place just past the tag.
-#[derive(Clone, Copy)]
-pub struct Tag {
-    pub line: usize,
-    pub end: usize,
 }

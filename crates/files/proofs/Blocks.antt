@@ -13,8 +13,7 @@ use lib.Seq.{drop-drop, get_or-drop}
 use borrow.Author.Tests.{le-leb, lt-leb}
 use Rattle.definitions.specs.Lists.{up_to, through, only_if}
 use Rattle.definitions.specs.Lines.{trim}
-use Rattle.definitions.specs.SmFile.{is_tagged, tag_of, notes_tag, block_text, block_end, starts_block, blocks_from}
-use Rattle.definitions.specs.declared.Tag.{Tag}
+use Rattle.definitions.specs.SmFile.{Tag, is_tagged, tag_of, notes_tag, block_text, block_end, starts_block, blocks_from}
 use Rattle.definitions.proofs.Bools.{and-false}
 use Rattle.definitions.proofs.Lists.{starts_with-length}
 use Rattle.definitions.proofs.SmBlocks.{end-within}
@@ -23,7 +22,7 @@ use Rattle.lines.specs.Lines.{first_line, lines_from}
 use Rattle.lines.proofs.Lines.{lines_next, lines_end, line-within}
 use Rattle.files.specs.Tags.{first_tag}
 use Rattle.files.specs.Sm.{line_past_block}
-use Rattle.files.specs.declared.FoundTag.TheVariants.{At, Nothing}
+use Rattle.std.specs.Prelude.{Some, None}
 use Rattle.files.proofs.Words.{through-ends, up_to-drop, up_to-byte}
 use Rattle.files.proofs.Tags.{tag-none, tag-here, tag-next}
 
@@ -129,8 +128,8 @@ module _ (file : List ℕ) where
     pub starts : from 0 off ≡ from 0 t.line
 
   -- from the line at `off`, and the tags after it
-  met : (off : ℕ) (t : Tag) → off ≤ length file → (b : Bool) → is_tagged notes_tag (line_at off) ≡ b → first_tag notes_tag off (lines_from file off) ≡ At t
-      → (first_tag notes_tag (next_at off) (lines_from file (next_at off)) ≡ At t → TagMet (next_at off) t) → TagMet off t
+  met : (off : ℕ) (t : Tag) → off ≤ length file → (b : Bool) → is_tagged notes_tag (line_at off) ≡ b → first_tag notes_tag off (lines_from file off) ≡ Some t
+      → (first_tag notes_tag (next_at off) (lines_from file (next_at off)) ≡ Some t → TagMet (next_at off) t) → TagMet off t
   unfolding is_tagged tag_of
   met off t h true tagged e later =
       let here = tag-here notes_tag file off (line_at off) (trim (line_at off)) h refl refl tagged in
@@ -146,7 +145,7 @@ module _ (file : List ℕ) where
       }
 
   -- the line that it stands on is met first, and no line before it starts a block
-  tag-met : (n off : ℕ) (t : Tag) → length file < off + n → first_tag notes_tag off (lines_from file off) ≡ At t → TagMet off t
+  tag-met : (n off : ℕ) (t : Tag) → length file < off + n → first_tag notes_tag off (lines_from file off) ≡ Some t → TagMet off t
   tag-met zero off t b e =
       let none = tag-none notes_tag file off (omega arith) in
       let z : ◌≡◌ {A = ℕ} 0 1 = cc in
@@ -160,12 +159,6 @@ module _ (file : List ℕ) where
         let within : off ≤ length file = omega arith in
         met off t within (is_tagged notes_tag (line_at off)) refl e (tag-met n (next_at off) t (omega arith))
   ]
-
-  -- What the first tag from `off` on says of the blocks from there on.
-  pub record BlockMet (off : ℕ) (t : Tag) : Type 0 where
-    pub tag_in : t.end ≤ length file
-    pub in-file : line_past_block file t ≤ length file + 1
-    pub starts : from 0 off ≡ t ∷ from 0 (line_past_block file t)
 
   -- a tag lies on its line
   tag-on-line : (t : Tag) {off : ℕ} → TagMet off t → (t.line < t.end) × (t.end ≤ length file)
@@ -193,7 +186,7 @@ module _ (file : List ℕ) where
   end_after t = omega arith
 
   -- the blocks from `off` on: the one whose tag is found, and those after its lines
-  pub block-met : (off : ℕ) (t : Tag) → first_tag notes_tag off (lines_from file off) ≡ At t → BlockMet off t
+  pub block-met : (off : ℕ) (t : Tag) → first_tag notes_tag off (lines_from file off) ≡ Some t → from 0 off ≡ t ∷ from 0 (line_past_block file t)
   unfolding line_past_block
   block-met off t e =
       let m = tag-met (suc (length file)) off t (omega arith) e in
@@ -201,18 +194,13 @@ module _ (file : List ℕ) where
       let ends : block_end file t ≤ length file = end-within file t p.1 in
       let after : t.end ≤ block_end file t = end_after t in
       let inside = sym (step-inside (block_end file t) t.line m.within (omega (arith, p.0))) in
-      record {
-        tag_in = p.1;
-        in-file = omega (arith, line-within file (block_end file t) ends);
-        starts =
-            m.starts
-            ∙ step_block 0 t.line m.within (omega arith) m.tagged
-            ∙ ap (λ (u : Tag). u ∷ from (block_end file u) (next_at t.line)) (sym m.is)
-            ∙ ap (λ (l : List Tag). t ∷ l) (inside ∙ skip (block_end file t) (suc (length file)) t.line (omega arith) (omega (arith, p.0)) ends (last_byte t p.1));
-      }
+      m.starts
+      ∙ step_block 0 t.line m.within (omega arith) m.tagged
+      ∙ ap (λ (u : Tag). u ∷ from (block_end file u) (next_at t.line)) (sym m.is)
+      ∙ ap (λ (l : List Tag). t ∷ l) (inside ∙ skip (block_end file t) (suc (length file)) t.line (omega arith) (omega (arith, p.0)) ends (last_byte t p.1))
 
-  unmet : (off : ℕ) → off ≤ length file → (b : Bool) → is_tagged notes_tag (line_at off) ≡ b → first_tag notes_tag off (lines_from file off) ≡ Nothing
-      → (first_tag notes_tag (next_at off) (lines_from file (next_at off)) ≡ Nothing → from 0 (next_at off) ≡ []) → from 0 off ≡ []
+  unmet : (off : ℕ) → off ≤ length file → (b : Bool) → is_tagged notes_tag (line_at off) ≡ b → first_tag notes_tag off (lines_from file off) ≡ None
+      → (first_tag notes_tag (next_at off) (lines_from file (next_at off)) ≡ None → from 0 (next_at off) ≡ []) → from 0 off ≡ []
   unfolding is_tagged
   unmet off h true tagged e later =
       let here = tag-here notes_tag file off (line_at off) (trim (line_at off)) h refl refl tagged in
@@ -222,7 +210,7 @@ module _ (file : List ℕ) where
       step_other 0 off h other ∙ later (sym (tag-next notes_tag file off (line_at off) (trim (line_at off)) h refl refl other) ∙ e)
 
   -- where no tag is found there is no block
-  pub none-met : (n off : ℕ) → length file < off + n → first_tag notes_tag off (lines_from file off) ≡ Nothing → from 0 off ≡ []
+  pub none-met : (n off : ℕ) → length file < off + n → first_tag notes_tag off (lines_from file off) ≡ None → from 0 off ≡ []
   none-met zero off b e = step_end 0 off (omega arith)
   none-met (suc n) off b e = elim (dec_lt (length file) off) [
     | yes past ↦ step_end 0 off past
@@ -230,15 +218,3 @@ module _ (file : List ℕ) where
         let within : off ≤ length file = omega arith in
         unmet off within (is_tagged notes_tag (line_at off)) refl e (none-met n (next_at off) (omega arith))
   ]
-
--- where the line begins after the one on which a block ends, by what was read of the block and of its line
-pub past-told : (file : List ℕ) (t : Tag) (text rest : List ℕ) → text ≡ through 59 (drop t.end file) → rest ≡ first_line (drop (t.end + length text) file) → t.end + length text + length rest + 1 ≡ line_past_block file t
-unfolding line_past_block block_end block_text
-past-told file t text rest et er = rw (er, et)
-
-pub past-within : (file : List ℕ) (t : Tag) (text rest : List ℕ) → t.end ≤ length file → text ≡ through 59 (drop t.end file) → rest ≡ first_line (drop (t.end + length text) file) → t.end + length text + length rest ≤ length file
-unfolding block_end block_text
-past-within file t text rest h et er =
-    let ends = end-within file t h in
-    let long : t.end + length text ≤ length file = omega (arith, ends, ap length et) in
-    omega (arith, line-within file (t.end + length text) long, ap length er)

@@ -3,5 +3,5 @@ pub mod Words
 pub mod Fields
 pub mod Tags
 pub mod Blocks
-pub mod Answers
 pub mod Rest
+pub mod Charts

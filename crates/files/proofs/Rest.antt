@@ -12,21 +12,21 @@ use borrow.Author.Tests.{le-leb, lt-leb, le-ltb}
 use Rattle.definitions.specs.Sizes.{most_bytes}
 use Rattle.definitions.specs.Lists.{only_if, through}
 use Rattle.definitions.specs.Lines.{cut}
-use Rattle.definitions.specs.SmFile.{is_tagged, tag_of, notes_tag, block_text, block_end, starts_block, blocks_from, blocks, data_of, type_of, lanes_of_type, sm_tag, sm_text, sm_lanes, sm_data, sm_start, sm_checks, sm_place, sm_answer, sm_number}
+use Rattle.definitions.specs.SmFile.{Tag, is_tagged, tag_of, notes_tag, block_text, block_end, starts_block, blocks_from, blocks, data_of, type_of, lanes_of_type, sm_tag, sm_text, sm_lanes, sm_data, sm_start, sm_checks, sm_part, sm_answer, sm_number}
 use Rattle.definitions.specs.Refusals.{long_text}
 use Rattle.definitions.specs.SmBlocks.{LeastRefused}
 use Rattle.definitions.proofs.Refusals.{told-alike}
-use Rattle.definitions.specs.declared.Tag.{Tag}
 use Rattle.definitions.proofs.SmBlocks.{least-refused}
 use Rattle.lines.specs.Lines.{lines_from}
+use Rattle.lines.proofs.Lines.{lines_start}
 use Rattle.files.specs.Tags.{first_tag}
 use Rattle.files.specs.Sm.{line_past_block}
 use Rattle.files.specs.Rest.{RestAnswered}
-use Rattle.files.specs.declared.FoundTag.{FoundTag}
-use Rattle.files.specs.declared.FoundTag.TheVariants.{At, Nothing}
+use Rattle.std.specs.Prelude.{Option}
+use Rattle.std.specs.Prelude.{Some, None}
 use Rattle.files.proofs.Words.{drop_head}
+use Rattle.files.proofs.Tags.{moved}
 use Rattle.files.proofs.Blocks.{from, any-past, block-met, none-met, step_end}
-use Rattle.files.proofs.Answers.{at_first}
 
 -- tests of two places moved by p
 leb-moved : (p a b : ℕ) → leb (p + a) (p + b) ≡ leb a b
@@ -52,19 +52,15 @@ unfolding lines_from
 lines_at file p h = simp (le-leb p (length file) h)
 
 module _ (file : List ℕ) (p : ℕ) where
-  -- a tag of the file from p on, by its places in the whole
-  abbrev moved : Tag → Tag
-  moved t = record { line = p + t.line; end = p + t.end }
-
-  text-moved : (t : Tag) → block_text file (moved t) ≡ block_text (drop p file) t
+  pub text-moved : (t : Tag) → block_text file (moved p t) ≡ block_text (drop p file) t
   unfolding block_text
   text-moved t = ap (through 59) (sym (drop-drop t.end p file))
 
-  end_moved : (t : Tag) → block_end file (moved t) ≡ p + block_end (drop p file) t
+  pub end_moved : (t : Tag) → block_end file (moved p t) ≡ p + block_end (drop p file) t
   unfolding block_end
   end_moved t = omega (arith, ap length (text-moved t))
 
-  tag-moved : (at : ℕ) (line : List ℕ) → tag_of notes_tag (p + at) line ≡ moved (tag_of notes_tag at line)
+  tag-moved : (at : ℕ) (line : List ℕ) → tag_of notes_tag (p + at) line ≡ moved p (tag_of notes_tag at line)
   unfolding tag_of
   tag-moved at line = ap (λ e. record { line = p + at; end = e }) (omega arith)
 
@@ -72,7 +68,7 @@ module _ (file : List ℕ) (p : ℕ) where
   unfolding starts_block
   test-moved past at line = rw (leb-moved p past at)
 
-  blocks-moved : (past at : ℕ) (lines : List (List ℕ)) → blocks_from file (p + past) (p + at) lines ≡ map moved (blocks_from (drop p file) past at lines)
+  blocks-moved : (past at : ℕ) (lines : List (List ℕ)) → blocks_from file (p + past) (p + at) lines ≡ map (moved p) (blocks_from (drop p file) past at lines)
   unfolding blocks_from
   blocks-moved past at [] = refl
   blocks-moved past at (line ∷ lines) =
@@ -81,28 +77,28 @@ module _ (file : List ℕ) (p : ℕ) where
       place : p + at + length line + 1 ≡ p + (at + length line + 1)
       place = omega arith
 
-      go : (b : Bool) → ((q : ℕ) → blocks_from file (p + q) (p + (at + length line + 1)) lines ≡ map moved (blocks_from (drop p file) q (at + length line + 1) lines))
+      go : (b : Bool) → ((q : ℕ) → blocks_from file (p + q) (p + (at + length line + 1)) lines ≡ map (moved p) (blocks_from (drop p file) q (at + length line + 1) lines))
           → only_if b (tag_of notes_tag (p + at) line ∷ []) ++ blocks_from file (cond b (block_end file (tag_of notes_tag (p + at) line)) (p + past)) (p + at + length line + 1) lines
-          ≡ map moved (only_if b (tag_of notes_tag at line ∷ []) ++ blocks_from (drop p file) (cond b (block_end (drop p file) (tag_of notes_tag at line)) past) (at + length line + 1) lines)
+          ≡ map (moved p) (only_if b (tag_of notes_tag at line ∷ []) ++ blocks_from (drop p file) (cond b (block_end (drop p file) (tag_of notes_tag at line)) past) (at + length line + 1) lines)
       go true ih =
           ap (λ (t : Tag). t ∷ blocks_from file (block_end file t) (p + at + length line + 1) lines) (tag-moved at line)
-          ∙ ap (λ (l : List Tag). moved (tag_of notes_tag at line) ∷ l)
+          ∙ ap (λ (l : List Tag). moved p (tag_of notes_tag at line) ∷ l)
           (ap (λ q. blocks_from file q (p + at + length line + 1) lines) (end_moved (tag_of notes_tag at line))
           ∙ ap (λ n. blocks_from file (p + block_end (drop p file) (tag_of notes_tag at line)) n lines) place
           ∙ ih (block_end (drop p file) (tag_of notes_tag at line)))
       go false ih = ap (λ n. blocks_from file (p + past) n lines) place ∙ ih past
 
-  all_moved : blocks_from file (p + 0) (p + 0) (cut (drop p file)) ≡ map moved (blocks (drop p file))
+  all_moved : blocks_from file (p + 0) (p + 0) (cut (drop p file)) ≡ map (moved p) (blocks (drop p file))
   unfolding blocks
   all_moved = blocks-moved 0 0 (cut (drop p file))
 
   -- the blocks from p on
-  from-moved : from file 0 p ≡ map moved (blocks (drop p file))
+  pub from-moved : from file 0 p ≡ map (moved p) (blocks (drop p file))
   from-moved = elim (dec_lt (length file) p) [
     | yes h ↦
         let past : length file ≤ p = omega arith in
         let none : drop p file ≡ [] = drop_of_length-le file past in
-        step_end file 0 p h ∙ sym (ap (λ (l : List ℕ). map moved (blocks l)) none ∙ ap (map moved) no_blocks)
+        step_end file 0 p h ∙ sym (ap (λ (l : List ℕ). map (moved p) (blocks l)) none ∙ ap (map (moved p)) no_blocks)
     | no h ↦
         let within : p ≤ length file = omega arith in
         let same : p ≡ p + 0 = omega arith in
@@ -112,17 +108,22 @@ module _ (file : List ℕ) (p : ℕ) where
         ∙ all_moved
   ]
 
+-- all blocks are left at first
+pub at_first : (file : List ℕ) → blocks file ≡ from file 0 0
+unfolding blocks
+at_first file = ap (blocks_from file 0 0) (sym (lines_start file))
+
 -- a file's first block, and those after its lines
 first_block : (file : List ℕ) → 0 < length (blocks file) → blocks file ≡ sm_tag file 0 ∷ from file 0 (line_past_block file (sm_tag file 0))
 unfolding sm_tag
 first_block file h = go (first_tag notes_tag 0 (lines_from file 0)) refl
   where
-    go : (f : FoundTag) → first_tag notes_tag 0 (lines_from file 0) ≡ f → blocks file ≡ sm_tag file 0 ∷ from file 0 (line_past_block file (sm_tag file 0))
-    go Nothing e =
+    go : (f : Option Tag) → first_tag notes_tag 0 (lines_from file 0) ≡ f → blocks file ≡ sm_tag file 0 ∷ from file 0 (line_past_block file (sm_tag file 0))
+    go None e =
         let none = at_first file ∙ none-met file (suc (length file)) 0 (omega arith) e in
         absurd (omega (arith, ap length none))
-    go (At t) e =
-        let all = at_first file ∙ (block-met file 0 t e).starts in
+    go (Some t) e =
+        let all = at_first file ∙ block-met file 0 t e in
         let is : get_or (blocks file) 0 (record { line = 0; end = 0 }) ≡ t = (drop_head (blocks file) 0 t (record { line = 0; end = 0 }) _ all).1 in
         all ∙ ap (λ (u : Tag). u ∷ from file 0 (line_past_block file u)) (sym is)
 
@@ -133,16 +134,16 @@ module _ (file : List ℕ) (short : length file ≤ most_bytes) (some : 0 < leng
   abbrev rest : List ℕ
   rest = drop p file
 
-  all_blocks : blocks file ≡ sm_tag file 0 ∷ map (moved file p) (blocks rest)
+  all_blocks : blocks file ≡ sm_tag file 0 ∷ map (moved p) (blocks rest)
   all_blocks = first_block file some ∙ ap (λ (l : List Tag). sm_tag file 0 ∷ l) (from-moved file p)
 
   count : length (blocks file) ≡ suc (length (blocks rest))
-  count = ap length all_blocks ∙ ap suc (length-map (blocks rest) (moved file p))
+  count = ap length all_blocks ∙ ap suc (length-map (blocks rest) (moved p))
 
   module _ (k : ℕ) where
-    tag_same : k < length (blocks rest) → sm_tag file (suc k) ≡ moved file p (sm_tag rest k)
+    tag_same : k < length (blocks rest) → sm_tag file (suc k) ≡ moved p (sm_tag rest k)
     unfolding sm_tag
-    tag_same h = ap (λ (l : List Tag). get_or l (suc k) (record { line = 0; end = 0 })) all_blocks ∙ get_d_map (moved file p) (blocks rest) k _ _ h
+    tag_same h = ap (λ (l : List Tag). get_or l (suc k) (record { line = 0; end = 0 })) all_blocks ∙ get_d_map (moved p) (blocks rest) k _ _ h
 
     text_same : k < length (blocks rest) → sm_text rest k ≡ sm_text file (suc k)
     unfolding sm_text
@@ -165,7 +166,7 @@ module _ (file : List ℕ) (short : length file ≤ most_bytes) (some : 0 < leng
     number-there h =
         let less : length rest ≤ most_bytes = omega (arith, length-drop p file) in
         let more : suc k < length (blocks file) = omega (arith, count) in
-        told-alike (sm_checks rest k) (sm_place rest k) (sm_place file (suc k))
+        told-alike (sm_checks rest k) (sm_part rest k) (sm_part file (suc k))
         ∙ simp (le-ltb most_bytes (length rest) less, le-ltb most_bytes (length file) short, lt-leb (length (blocks rest)) k h, lt-leb (length (blocks file)) (suc k) more)
         (rw (text_same h, lanes-same h))
 

@@ -1,4 +1,4 @@
--- Laws of `starts_with`, `up_to`, `through` and `without_end_blanks`, as std's functions on slices meet them.
+-- Laws of `up_to`, `through`, `after_first` and `without_end_blanks`, as std's functions on slices meet them.
 use mathlib.Core.Logic.{◌⊎◌, inl, inr, ⊎_elim}
 use mathlib.Core.Path.{◌≡◌, refl, ap, sym, ◌∙◌}
 use mathlib.Core.Bool.{Bool, true, false, cond}
@@ -7,23 +7,19 @@ use Prim.Native.Nat.{ℕ, zero, suc, ◌+◌, ◌-◌, ◌≤◌, ◌<◌}
 use native.Mathlib.Numerals.{add-one}
 use native.Mathlib.Omega.{arith}
 use lib.Dec.{eqb}
-use lib.ListN.{length, get_or, take, drop}
+use lib.ListN.{length, get_or, take, drop, drop_of_length-le}
+use Rattle.std.specs.Prelude.{Some, None}
+use Rattle.lines.proofs.Trims.{part-all}
+use Rattle.files.specs.Tags.{after_first}
 use lib.Seq.{take_all}
 use borrow.Author.Tests.{eq-eqb, ne_eqb, eqb-true}
 use Rattle.std.specs.Char.{is_ascii_whitespace}
-use Rattle.std.specs.List.{starts_with as std_starts}
 use Rattle.std.specs.Str.{IsTrimAsciiEnd}
 use Rattle.std.proofs.lemmas.Bool.Decides.{nat_tests}
-use Rattle.definitions.specs.Lists.{up_to, through, starts_with}
+use Rattle.definitions.specs.Lists.{up_to, through, after}
 use Rattle.definitions.specs.Lines.{is_blank_byte}
 use Rattle.definitions.specs.SmFile.{without_end_blanks}
 use Rattle.definitions.proofs.Lists.{through-nil, through-cons}
-
--- std's test for a word at the start
-pub starts_std : (s w : List ℕ) → std_starts eqb s w ≡ starts_with w s
-starts_std s [] = refl
-starts_std [] (y ∷ w) = refl
-starts_std (x ∷ s) (y ∷ w) = grind (arith, nat_tests, starts_std s w)
 
 -- the place of the first b, or else the length
 pub before-at : (b : ℕ) (s : List ℕ) (n : ℕ) → n ≤ length s → ((k : ℕ) → k < n → get_or s k 0 ≡ b → ⊥) → (n < length s → get_or s n 0 ≡ b) → n ≡ length (up_to b s)
@@ -48,7 +44,45 @@ pub through-all : (b : ℕ) (s : List ℕ) → length s ≤ length (up_to b s) �
 unfolding through
 through-all b s h = take_all (suc (length (up_to b s))) s (omega arith)
 
-pub ruleset throughs = (through-more, through-all)
+-- what follows it
+pub after-part : (b : ℕ) (s : List ℕ) (n : ℕ) → n ≡ length (up_to b s) → n < length s → take (length s - (n + 1)) (drop (n + 1) s) ≡ after b s
+unfolding after
+after-part b s n e h = rw (part-all, add-one, e) refl
+
+pub after-none : (b : ℕ) (s : List ℕ) → length s ≤ length (up_to b s) → after b s ≡ []
+unfolding after
+after-none b s h =
+    let all : length s ≤ suc (length (up_to b s)) = omega arith in
+    drop_of_length-le s all
+
+pub ruleset splits = (through-more, through-all, after-part, after-none)
+
+-- what follows the first b, by what stands before it
+first-more : (b : ℕ) (s : List ℕ) → length (up_to b s) < length s → after_first b s ≡ Some (drop (length (up_to b s) + 1) s)
+unfolding up_to
+first-more b [] h = absurd (omega arith)
+first-more b (x ∷ s) h = go (eqb x b) (first-more b s) h
+  where
+    go : (t : Bool) → (length (up_to b s) < length s → after_first b s ≡ Some (drop (length (up_to b s) + 1) s))
+        → length (cond t [] (x ∷ up_to b s)) < length (x ∷ s) → cond t (Some s) (after_first b s) ≡ Some (drop (length (cond t [] (x ∷ up_to b s)) + 1) (x ∷ s))
+    go true ih w = refl
+    go false ih w =
+        let next : suc (length (up_to b s) + 1) ≡ suc (length (up_to b s)) + 1 = omega arith in
+        ih (omega arith) ∙ ap (λ n. Some (drop n (x ∷ s))) next
+
+pub first-part : (b : ℕ) (s : List ℕ) (n : ℕ) → n ≡ length (up_to b s) → n < length s → Some (take (length s - (n + 1)) (drop (n + 1) s)) ≡ after_first b s
+first-part b s n e h = rw (part-all, e) (sym (first-more b s (omega (arith, e))))
+
+pub first-none : (b : ℕ) (s : List ℕ) → length s ≤ length (up_to b s) → None ≡ after_first b s
+unfolding up_to
+first-none b [] h = refl
+first-none b (x ∷ s) h = go (eqb x b) (first-none b s) h
+  where
+    go : (t : Bool) → (length s ≤ length (up_to b s) → None ≡ after_first b s) → length (x ∷ s) ≤ length (cond t [] (x ∷ up_to b s)) → None ≡ cond t (Some s) (after_first b s)
+    go true ih w = absurd (omega arith)
+    go false ih w = ih (omega arith)
+
+pub ruleset firsts = (first-part, first-none)
 
 -- a list that is blank from n on, and not at the place before n
 trim-at : (s : List ℕ) (n : ℕ) → n ≤ length s → ((k : ℕ) → n ≤ k → k < length s → is_blank_byte (get_or s k 0) ≡ true) → ((k : ℕ) → suc k ≡ n → is_blank_byte (get_or s k 0) ≡ false) → take n s ≡ without_end_blanks s

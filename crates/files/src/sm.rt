@@ -1,99 +1,98 @@
-// Document 02's E1: the charts inside an SM file. A block is found by its tag. The blocks before the one that is asked for are passed over from
-// tag to `;`, and not line by line.
-ghost use Rattle.std.specs.Prelude.{◌≡◌, ◌≤◌, ◌+◌, length, drop};
-ghost use Rattle.definitions.specs.Sizes.{most_bytes};
-ghost use Rattle.definitions.specs.Lists.{through};
+// The charts inside an SM file. A block is found by its tag, and passed over from its tag to its `;` and not line by line.
+ghost use Rattle.std.specs.Prelude.{◌≡◌, option_map, option_copied, slice_get};
 ghost use Rattle.definitions.specs.SmFile.{sm_answer};
-ghost use Rattle.files.specs.Sm.{line_past_block, tag_of_block, end_of_fields, text_answer};
+ghost use Rattle.files.specs.Sm.{part_of, data_part, block_parts, answer_of};
 
-use crate::FoundTag;
-use definitions::{ChartPlace, Refusal, Tag};
-use lines::Found;
+use definitions::Refusal;
+use std::marker::Model;
 
-// Where the first line after the block with this tag begins: a line on which the block ends is passed over.
-fn past_block(file: &[u8], tag: Tag) -> usize
-    requires { (length file.now ≤ most_bytes) × (tag.end ≤ length file.now) }
-    ensures { result ≡ line_past_block file.now tag }
-{
-    let end = tag.end;
-    let text = crate::through_byte(&file[end..], b';');
-    let past = end + text.len();
-    let rest = lines::next_line(file, past);
-    past + rest.len() + 1
+/// A block of an SM file: what stands in it after its tag, and what follows it in the file.
+#[derive(Clone, Copy)]
+pub struct Block<'a> {
+    pub text: &'a [u8],
+    pub below: &'a [u8],
 }
 
-// The tag of block `k`: `k` of them are passed over.
-fn block_at(file: &[u8], k: usize) -> FoundTag
-    requires { length file.now ≤ most_bytes }
-    ensures { result ≡ tag_of_block file.now k }
-{
-    let mut off = 0;
-    for passed in 0..k {
-        match crate::next_tag(file, off, b"#NOTES:") {
-            FoundTag::Nothing => return FoundTag::Nothing,
-            FoundTag::At(tag) => off = past_block(file, tag),
-        }
-    }
-    crate::next_tag(file, off, b"#NOTES:")
+/// The blocks of what is left of an SM file. Clauses see the list of them.
+#[derive(Drop)]
+pub struct SmBlocks<'a> {
+    rest: &'a [u8],
 }
 
-// Where the five fields at the start of `text` end, each by a `:`; nothing where a `;` or the end comes first.
-fn fields_end(text: &[u8]) -> Found
-    ensures { result ≡ end_of_fields text.now }
-{
-    let mut left: usize = 5;
-    for (i, b) in text.iter().enumerate() {
-        match *b {
-            b':' => {
-                if left == 1 {
-                    return Found::At(i + 1);
-                }
-                left -= 1;
-            }
-            b';' => return Found::Nothing,
-            _ => {}
-        }
-    }
-    Found::Nothing
+impl<'a> Model for SmBlocks<'a> {
+    ghost use Rattle.std.specs.Prelude.{List};
+    ghost use Rattle.files.specs.Sm.{BlockPart, block_parts};
+
+    ghost Value = { List BlockPart };
+
+    ghost view = { λ it. block_parts it.rest.now };
 }
 
-// The answer for the block whose text after its tag begins at `end`.
-fn answer_at(file: &[u8], end: usize) -> Result<ChartPlace, Refusal>
-    requires { end ≤ length file.now }
-    ensures { result ≡ text_answer end (through 59 (drop end file.now)) }
-{
-    let text = &file[end..];
-    match fields_end(text) {
-        Found::Nothing => Err(Refusal::FewFields),
-        Found::At(fields) => {
-            let lanes = crate::type_lanes(crate::type_name(text));
-            if lanes == 0 {
-                return Err(Refusal::OtherType);
-            }
-            Ok(ChartPlace {
-                lanes,
-                start: end + fields,
-            })
-        }
+impl<'a> Iterator for SmBlocks<'a> {
+    ghost use Rattle.std.specs.Iterator.{YieldsFirstBy, item_count};
+    ghost use Rattle.files.specs.Sm.{part_of};
+
+    type Item = Block<'a>;
+
+    ghost next_gives = { YieldsFirstBy part_of (λ rest. rest) };
+
+    ghost remaining = { item_count (λ rest. rest) };
+
+    // A line on which a block ends starts none: the next one is looked for below it.
+    fn next(&mut self) -> Option<Block<'a>> {
+        let tagged = crate::next_tag(self.rest, b"#NOTES:")?;
+        let (text, below) = crate::split_after(tagged, b';');
+        let (_, rest) = lines::split_line(below);
+        self.rest = rest;
+        Some(Block { text, below })
     }
 }
 
-// The chart of block `k` of an SM file.
+/// The blocks of an SM file.
+pub fn blocks(file: &[u8]) -> SmBlocks<'_>
+    ensures { result ≡ block_parts file.now }
+{
+    SmBlocks { rest: file }
+}
+
+// Block `k` of an SM file, if the file has so many.
+fn nth_block(file: &[u8], k: usize) -> Option<Block<'_>>
+    ensures { option_map part_of result ≡ slice_get (block_parts file.now) k }
+{
+    blocks(file).nth(k)
+}
+
+// The data of a block, by its text: what follows its five fields.
+fn note_data(text: &[u8]) -> Option<&[u8]>
+    ensures { option_copied result ≡ data_part text.now }
+{
+    let mut rest = text;
+    for passed in 0..5usize {
+        rest = crate::after_byte(rest, b':')?;
+    }
+    Some(rest)
+}
+
+/// A chart inside an SM file: its lane count, where its data begins in the file, and the data.
+#[derive(Clone, Copy)]
+pub struct SmChart<'a> {
+    pub lanes: usize,
+    pub start: usize,
+    pub data: &'a [u8],
+}
+
+/// The chart of block `k` of an SM file, counted from 0.
 #[tactic(auto, unfolding(definitions::specs::SmFile::sm_answer))]
-pub fn sm_chart(file: &[u8], k: usize) -> Result<ChartPlace, Refusal>
-    ensures { result ≡ sm_answer file.now k }
+pub fn sm_chart(file: &[u8], k: usize) -> Result<SmChart<'_>, Refusal>
+    ensures { answer_of result ≡ sm_answer file.now k }
 {
     refusals::text_fits(file.len())?;
-    match block_at(file, k) {
-        FoundTag::Nothing => Err(Refusal::NoChart),
-        FoundTag::At(tag) => answer_at(file, tag.end),
-    }
-}
-
-// The data that begins at `start`, as a part of the caller's file: through its `;`, or to the file's end.
-pub fn chart_data(file: &[u8], start: usize) -> &[u8]
-    requires { start ≤ length file.now }
-    ensures { result.now ≡ through 59 (drop start file.now) }
-{
-    crate::through_byte(&file[start..], b';')
+    let block = nth_block(file, k).ok_or(Refusal::NoChart)?;
+    let data = note_data(block.text).ok_or(Refusal::FewFields)?;
+    let lanes = crate::type_lanes(crate::type_name(block.text)).ok_or(Refusal::OtherType)?;
+    Ok(SmChart {
+        lanes,
+        start: file.len() - block.below.len() - data.len(),
+        data,
+    })
 }

@@ -3,7 +3,7 @@
 use mathlib.Core.Path.{◌≡◌, refl, ap, sym, ◌∙◌, subst}
 use mathlib.Core.Bool.{Bool, true, false, ◌||◌}
 use mathlib.Core.List.{List, [], ◌∷◌, ◌++◌, map}
-use mathlib.Core.Option.{Option, none, some}
+use Rattle.std.specs.Prelude.{Option, None, Some}
 use Prim.Native.Nat.{ℕ, suc, ◌+◌, ◌*◌, ◌/◌, ◌%◌, ◌≤◌, ◌<◌}
 use native.Mathlib.Nat.{mul-zero, mul-suc, mul-mod_right, mul-div_cancel', dvd_of_mod-eq-zero, div-add-mod, le_trans, le_of_eq, lt_of_lt_of_le, le_of_mul-le-mul_left, lt_of_mul-lt-mul_left, add-zero}
 use native.Mathlib.Omega.{arith}
@@ -121,8 +121,8 @@ scaled-all D m (x ∷ ms) =
     (subst (λ E. Each Scaled (objects_from (after_rows D x) (suc m) ms) (objects_from E (suc m) (map reduce ms))) (thin-depths D (reduce-thin x)) (scaled-all (after_rows D x) (suc m) ms))
 
 data LastScaled : Option Place → Option Place → Type 0 where
-  neither : LastScaled none none
-  both : {p q : Place} → Scaled p q → LastScaled (some p) (some q)
+  neither : LastScaled None None
+  both : {p q : Place} → Scaled p q → LastScaled (Some p) (Some q)
 
 last-each : {s t : List Place} → Each Scaled s t → LastScaled (last_of s) (last_of t)
 last-each end = neither
@@ -131,13 +131,13 @@ last-each (next x (next y h)) = last-each (next y h)
 
 -- The last beat in 48ths from the last raw object row, which lies in its measure.
 pub last-raw : (L : ℕ) (text : List ℕ) (o : Option Place) → o ≡ last_of (objects_from (λ c. 0) 0 (chart L text))
-    → ((p : Place) → o ≡ some p → (p.r < p.n) × (p.n ≤ row_count_bound)) → place48 o ≡ last48 L text
+    → ((p : Place) → o ≡ Some p → (p.r < p.n) × (p.n ≤ row_count_bound)) → place48 o ≡ last48 L text
 unfolding last48 last_object minimised
 last-raw L text o e h = go o h (subst (λ x. LastScaled x (last_of (objects_from (λ c. 0) 0 (map reduce (chart L text))))) (sym e) (last-each (scaled-all (λ c. 0) 0 (chart L text))))
   where
-    go : (o : Option Place) → ((p : Place) → o ≡ some p → (p.r < p.n) × (p.n ≤ row_count_bound)) → {u : Option Place} → LastScaled o u → place48 o ≡ place48 u
-    go none f neither = refl
-    go (some p) f (both {q = q} x) =
+    go : (o : Option Place) → ((p : Place) → o ≡ Some p → (p.r < p.n) × (p.n ≤ row_count_bound)) → {u : Option Place} → LastScaled o u → place48 o ≡ place48 u
+    go None f neither = refl
+    go (Some p) f (both {q = q} x) =
         let w = f p refl in
         let inside : q.r < q.n = lt_of_mul-lt-mul_left x.by (subst (λ y. y.r < y.n) x.is w.0) in
         ap (λ y. last_row y.m y.r y.n) x.is ∙ last-scaled q.m x.by q.r q.n x.some inside (subst (λ y. y.n ≤ row_count_bound) x.is w.1)

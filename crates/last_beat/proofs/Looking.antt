@@ -1,7 +1,7 @@
 -- The loop of the last-beat scan: what is kept of the lines read tells the last object row in the end.
 use mathlib.Core.Path.{◌≡◌, refl, sym, ap, ◌∙◌}
 use mathlib.Core.List.{List, [], ◌∷◌, ◌++◌}
-use mathlib.Core.Option.{some}
+use Rattle.std.specs.Prelude.{Some}
 use Prim.Native.Nat.{ℕ, ◌≤◌, ◌<◌}
 use native.Mathlib.Omega.{arith}
 use Rattle.definitions.specs.Sizes.{row_count_bound}
@@ -27,7 +27,7 @@ looked-last s t L text f x =
 pub looked-48 : (L : ℕ) (text : List ℕ) (o : LastObject) → Placed o → place_of o ≡ last_of (objects_from (λ c. 0) 0 (chart L text)) → place48 (place_of o) ≡ last48 L text
 looked-48 L text o p e = last-raw L text (place_of o) e (bounds o p)
   where
-    bounds : (o : LastObject) → Placed o → (q : Place) → place_of o ≡ some q → (q.r < q.n) × (q.n ≤ row_count_bound)
+    bounds : (o : LastObject) → Placed o → (q : Place) → place_of o ≡ Some q → (q.r < q.n) × (q.n ≤ row_count_bound)
     bounds last.Nothing p q e = let z : ◌≡◌ {A = ℕ} 0 1 = cc in absurd (omega arith)
     bounds (last.At m r n) p q e =
         let i = p.inside m r n refl in

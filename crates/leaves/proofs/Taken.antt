@@ -2,7 +2,7 @@
 use mathlib.Core.Path.{◌≡◌, refl, sym}
 use mathlib.Core.Bool.{Bool, true, false, cond, ◌&&◌, true≢false, false≢true}
 use mathlib.Core.List.{List}
-use mathlib.Core.Option.{none, some}
+use Rattle.std.specs.Prelude.{None, Some}
 use Prim.Native.Nat.{ℕ, zero, suc, ◌+◌, ◌-◌, ◌*◌, ◌/◌, ◌%◌, ◌^◌, ◌≤◌, ◌<◌}
 use native.Mathlib.Nat.{le-div_iff_mul-le}
 use native.Mathlib.Omega.{arith}
@@ -90,11 +90,11 @@ beats-room len at m n e =
     (leb-true (at + n) len (and_left (leb (at + n) len) (measure_fits m n) e), limits.1, limits.0)
 
 -- no object row where n is 0
-pub last_none : (m r n : ℕ) → n ≡ 0 → (last_fits m r n ≡ true) × (last_place m r n ≡ none)
+pub last_none : (m r n : ℕ) → n ≡ 0 → (last_fits m r n ≡ true) × (last_place m r n ≡ None)
 unfolding last_fits last_place
 last_none m r n e = (rw (eq-eqb n 0 e), rw (eq-eqb n 0 e))
 
 -- else the row given, and the call is taken where that row is
-pub last_some : (m r n : ℕ) → (n ≡ 0 → ⊥) → (last_fits m r n ≡ row_fits m r n) × (last_place m r n ≡ some (record { m = m; r = r; n = n }))
+pub last_some : (m r n : ℕ) → (n ≡ 0 → ⊥) → (last_fits m r n ≡ row_fits m r n) × (last_place m r n ≡ Some (record { m = m; r = r; n = n }))
 unfolding last_fits last_place
 last_some m r n e = (rw (ne_eqb n 0 e), rw (ne_eqb n 0 e))

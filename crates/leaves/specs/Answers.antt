@@ -1,7 +1,7 @@
 -- The answers of the exports as numbers: what the leaf's own definition gives, and for an input that the leaf does not take a number that it
 -- never gives. Such a call writes nothing. `old` is what a lent slice held before the call.
 use Rattle.std.specs.Prelude.{Bool, cond, ◌&&◌, ◌||◌, List, [], ◌∷◌, ◌++◌, ℕ, ◌+◌, ◌*◌, ◌/◌, ◌%◌, ◌^◌, eqb, leb, ltb, length, take, drop, Float}
-use Rattle.std.proofs.Math.Option.{Option, none, some}
+use Rattle.std.specs.Prelude.{Option, None, Some}
 use Rattle.std.specs.Float.{binary64}
 use Rattle.std.specs.Float.Ieee.{to_bits}
 use Rattle.definitions.specs.Sizes.{measures_bound, row_count_bound}
@@ -128,7 +128,7 @@ beats_left old at m n = cond (beats_fit (length old) at m n) ((take at old ++ ro
 
 -- the last object row, none where n is 0
 unfoldable pub last_place : ℕ → ℕ → ℕ → Option Place
-last_place m r n = cond (eqb n 0) none (some (record { m = m; r = r; n = n }))
+last_place m r n = cond (eqb n 0) None (Some (record { m = m; r = r; n = n }))
 
 unfoldable pub last_fits : ℕ → ℕ → ℕ → Bool
 last_fits m r n = eqb n 0 || row_fits m r n

@@ -2,7 +2,7 @@
 use mathlib.Core.Path.{◌≡◌, refl, ap, ap₂, sym, ◌∙◌, subst}
 use mathlib.Core.Bool.{Bool, true, false, cond}
 use mathlib.Core.List.{List, [], ◌∷◌, ◌++◌, append_assoc, append-nil}
-use mathlib.Core.Option.{Option, none, some}
+use Rattle.std.specs.Prelude.{Option, None, Some}
 use Prim.Native.Nat.{ℕ, suc, ◌+◌, ◌≤◌, ◌<◌}
 use native.Mathlib.Nat.{add-zero, zero-add, add-suc, suc-add}
 use native.Mathlib.Omega.{arith}
@@ -31,9 +31,9 @@ rows_snoc D [] x = refl
 rows_snoc D (y ∷ xs) x = rows_snoc (after_row D y) xs x
 
 row_snoc : (D : Depths) (r : ℕ) (o : Option ℕ) (xs : List Row) (x : Row)
-    → row_last D r o (xs ++ (x ∷ [])) ≡ cond (object_row (after_rows D xs) x) (some (r + length xs)) (row_last D r o xs)
+    → row_last D r o (xs ++ (x ∷ [])) ≡ cond (object_row (after_rows D xs) x) (Some (r + length xs)) (row_last D r o xs)
 row_snoc D r o [] x = rw add-zero
-row_snoc D r o (y ∷ xs) x = row_snoc (after_row D y) (suc r) (cond (object_row D y) (some r) o) xs x ∙ rw (suc-add, ← add-suc)
+row_snoc D r o (y ∷ xs) x = row_snoc (after_row D y) (suc r) (cond (object_row D y) (Some r) o) xs x ∙ rw (suc-add, ← add-suc)
 
 rows_append : (D : Depths) (xs ys : List Row) → after_rows D (xs ++ ys) ≡ after_rows (after_rows D xs) ys
 rows_append D [] ys = refl
@@ -41,19 +41,19 @@ rows_append D (x ∷ xs) ys = rows_append (after_row D x) xs ys
 
 -- the last of two lists run together
 abbrev or_else : Option Place → Option Place → Option Place
-or_else none p = p
-or_else (some q) p = some q
+or_else None p = p
+or_else (Some q) p = Some q
 
-none-else : (o : Option Place) → o ≡ or_else o none
-none-else none = refl
-none-else (some p) = refl
+none-else : (o : Option Place) → o ≡ or_else o None
+none-else None = refl
+none-else (Some p) = refl
 
 last-append : (s t : List Place) → last_of (s ++ t) ≡ or_else (last_of t) (last_of s)
 last-append [] t = none-else (last_of t)
 last-append (p ∷ []) [] = refl
 last-append (p ∷ []) (q ∷ t) = go q t
   where
-    go : (q : Place) (t : List Place) → last_of (q ∷ t) ≡ or_else (last_of (q ∷ t)) (some p)
+    go : (q : Place) (t : List Place) → last_of (q ∷ t) ≡ or_else (last_of (q ∷ t)) (Some p)
     go q [] = refl
     go q (x ∷ t) = go x t
 last-append (p ∷ q ∷ s) t = last-append (q ∷ s) t
@@ -70,39 +70,39 @@ objects-snoc D m (y ∷ ms) x =
 
 -- a measure's last object row as a place
 abbrev to_place : ℕ → ℕ → Option ℕ → Option Place
-to_place m n none = none
-to_place m n (some r) = some (record { m = m; r = r; n = n })
+to_place m n None = None
+to_place m n (Some r) = Some (record { m = m; r = r; n = n })
 
 in-last : (D : Depths) (m r n : ℕ) (o : Option ℕ) (xs : List Row) → or_else (last_of (objects_in D m r n xs)) (to_place m n o) ≡ to_place m n (row_last D r o xs)
 in-last D m r n o [] = refl
 in-last D m r n o (x ∷ xs) = go (object_row D x) (λ p. in-last (after_row D x) m (suc r) n p xs)
   where
-    put : (l : List Place) (p : Place) → last_of (p ∷ l) ≡ or_else (last_of l) (some p)
+    put : (l : List Place) (p : Place) → last_of (p ∷ l) ≡ or_else (last_of l) (Some p)
     put [] p = refl
     put (q ∷ l) p = last-append (p ∷ []) (q ∷ l)
 
-    twice : (a : Option Place) (p : Place) (b : Option Place) → or_else (or_else a (some p)) b ≡ or_else a (some p)
-    twice none p b = refl
-    twice (some q) p b = refl
+    twice : (a : Option Place) (p : Place) (b : Option Place) → or_else (or_else a (Some p)) b ≡ or_else a (Some p)
+    twice None p b = refl
+    twice (Some q) p b = refl
 
     go : (t : Bool) → ((o : Option ℕ) → or_else (last_of (objects_in (after_row D x) m (suc r) n xs)) (to_place m n o) ≡ to_place m n (row_last (after_row D x) (suc r) o xs))
-        → or_else (last_of (only_if t (record { m = m; r = r; n = n } ∷ []) ++ objects_in (after_row D x) m (suc r) n xs)) (to_place m n o) ≡ to_place m n (row_last (after_row D x) (suc r) (cond t (some r) o) xs)
+        → or_else (last_of (only_if t (record { m = m; r = r; n = n } ∷ []) ++ objects_in (after_row D x) m (suc r) n xs)) (to_place m n o) ≡ to_place m n (row_last (after_row D x) (suc r) (cond t (Some r) o) xs)
     go true ih =
         let l = objects_in (after_row D x) m (suc r) n xs in
         let p : Place = record { m = m; r = r; n = n } in
-        ap (λ z. or_else z (to_place m n o)) (put l p) ∙ twice (last_of l) p (to_place m n o) ∙ ih (some r)
+        ap (λ z. or_else z (to_place m n o)) (put l p) ∙ twice (last_of l) p (to_place m n o) ∙ ih (Some r)
     go false ih = ih o
 
 -- A measure ends: the last object row of all, by that of the measure.
 measure-last : (done : List (List Row)) (cur : List Row)
-    → last_of (objects_from (λ c. 0) 0 (done ++ (cur ∷ []))) ≡ or_else (to_place (length done) (length cur) (row_last (depths_after done) 0 none cur)) (last_of (objects_from (λ c. 0) 0 done))
+    → last_of (objects_from (λ c. 0) 0 (done ++ (cur ∷ []))) ≡ or_else (to_place (length done) (length cur) (row_last (depths_after done) 0 None cur)) (last_of (objects_from (λ c. 0) 0 done))
 measure-last done cur =
     ap last_of (objects-snoc (λ c. 0) 0 done cur)
     ∙ last-append (objects_from (λ c. 0) 0 done) (objects_in (depths_after done) (0 + length done) 0 (length cur) cur)
     ∙ ap (λ z. or_else z (last_of (objects_from (λ c. 0) 0 done)))
     (ap (λ m. last_of (objects_in (depths_after done) m 0 (length cur) cur)) (zero-add (length done))
     ∙ none-else (last_of (objects_in (depths_after done) (length done) 0 (length cur) cur))
-    ∙ in-last (depths_after done) (length done) 0 (length cur) none cur)
+    ∙ in-last (depths_after done) (length done) 0 (length cur) None cur)
 
 pub kept-start : (d : Held) → NoDepths d → LastKept (record { depths = d; busy = 0; found = last.Nothing; row = Nothing; rows = 0; midx = 0 }) [] []
 kept-start d n =
@@ -127,7 +127,7 @@ module _ (s : LastScan) (done : List (List Row)) (cur : List Row) (x : LastKept 
         low = low-more _ _ s.depths (rw length-append (omega arith)) x.low;
         found = x.found;
         placed = x.placed;
-        row = x.row ∙ sym (row_snoc (depths_after done) 0 none cur row ∙ rw (zero-object (after_rows (depths_after done) cur) row z));
+        row = x.row ∙ sym (row_snoc (depths_after done) 0 None cur row ∙ rw (zero-object (after_rows (depths_after done) cur) row z));
         inside = λ r e. rw length-append (omega (arith, x.inside r e));
         rows = rw length-append (omega (arith, x.rows));
         midx = x.midx;
@@ -152,7 +152,7 @@ module _ (s : LastScan) (done : List (List Row)) (cur : List Row) (x : LastKept 
           low = low-after;
           found = x.found;
           placed = x.placed;
-          row = ap some (x.rows ∙ sym (zero-add (length cur))) ∙ sym (row_snoc (depths_after done) 0 none cur row ∙ rw (is-object true e));
+          row = ap Some (x.rows ∙ sym (zero-add (length cur))) ∙ sym (row_snoc (depths_after done) 0 None cur row ∙ rw (is-object true e));
           inside = λ r q. let z : s.rows ≡ r = cc in rw length-append (omega (arith, x.rows));
           rows = rw length-append (omega (arith, x.rows));
           midx = x.midx;
@@ -166,7 +166,7 @@ module _ (s : LastScan) (done : List (List Row)) (cur : List Row) (x : LastKept 
           low = low-after;
           found = x.found;
           placed = x.placed;
-          row = x.row ∙ sym (row_snoc (depths_after done) 0 none cur row ∙ rw (is-object false e));
+          row = x.row ∙ sym (row_snoc (depths_after done) 0 None cur row ∙ rw (is-object false e));
           inside = λ r q. rw length-append (omega (arith, x.inside r q));
           rows = rw length-append (omega (arith, x.rows));
           midx = x.midx;
@@ -183,7 +183,7 @@ module _ (s : LastScan) (done : List (List Row)) (cur : List Row) (x : LastKept 
   one_more : s.midx + 1 ≡ length (done ++ (cur ∷ []))
   one_more = rw length-append (omega (arith, x.midx))
 
-  nothing-inside : (r : ℕ) → ◌≡◌ {A = Option ℕ} none (some r) → r < 0
+  nothing-inside : (r : ℕ) → ◌≡◌ {A = Option ℕ} None (Some r) → r < 0
   nothing-inside r e = let z : ◌≡◌ {A = ℕ} 0 1 = cc in absurd (omega arith)
 
   pub kept-none : s.row ≡ Nothing → LastKept (record { depths = s.depths; busy = s.busy; found = s.found; row = Nothing; rows = 0; midx = s.midx + 1 }) (done ++ (cur ∷ [])) []

@@ -208,9 +208,8 @@ pub extern "C" fn padcheck_sm_chart(file: &[u8], k: usize, chart: &mut [u64; 3])
 {
     match files::sm::sm_chart(file, k) {
         Err(refusal) => refusal.number(),
-        Ok(place) => {
-            let data = files::sm::chart_data(file, place.start);
-            *chart = chart_figures(place.lanes, place.start, data.len());
+        Ok(found) => {
+            *chart = chart_figures(found.lanes, found.start, found.data.len());
             0
         }
     }

@@ -2,7 +2,7 @@
 use mathlib.Core.Path.{◌≡◌, refl, ap, ◌∙◌}
 use mathlib.Core.Bool.{Bool, true, false, cond}
 use mathlib.Core.List.{List, map}
-use mathlib.Core.Option.{none}
+use Rattle.std.specs.Prelude.{None}
 use Prim.Native.Nat.{ℕ, ◌+◌, ◌*◌, ◌≤◌, ◌<◌}
 use native.Mathlib.Decide.{ℕ_discrete}
 use native.Mathlib.Omega.{arith}
@@ -19,20 +19,20 @@ use Rattle.row_notes.proofs.Stored.{ten-bytes}
 use Rattle.row_notes.proofs.Steps.{dropped-there}
 
 -- a head that still waits is no note, and dropped it is none either
-keep-settle : (c : ℕ) (d : Draft) → keep (settle c none d) ≡ keep d
+keep-settle : (c : ℕ) (d : Draft) → keep (settle c None d) ≡ keep d
 keep-settle c d = go (eqb d.column c)
   where
-    state : (s : State) → note_by d.row d.column d.kind (settle_state none s) none ≡ note_by d.row d.column d.kind s none
+    state : (s : State) → note_by d.row d.column d.kind (settle_state None s) None ≡ note_by d.row d.column d.kind s None
     state plain = refl
     state waiting = refl
     state (ended o) = refl
 
-    go : (t : Bool) → keep (cond t (settled none d) d) ≡ keep d
+    go : (t : Bool) → keep (cond t (settled None d) d) ≡ keep d
     go true = state d.state
     go false = refl
 
-kept-settle : (c : ℕ) (ds : List Draft) → kept (map (settle c none) ds) ≡ kept ds
-kept-settle c ds = gather-map keep (settle c none) keep (keep-settle c) ds
+kept-settle : (c : ℕ) (ds : List Draft) → kept (map (settle c None) ds) ≡ kept ds
+kept-settle c ds = gather-map keep (settle c None) keep (keep-settle c) ds
 
 -- the drafts lie in the slice
 pub stored-length : {l hs : List ℕ} {n : ℕ} {invalid : Bool} {ds : List Draft} → Stored l hs n invalid ds → n * 10 ≤ length l
@@ -68,7 +68,7 @@ module _ (l : List ℕ) (s : ChartNotesScratch) (l' : List ℕ) (r : ChartNotesS
     free = λ i g. rw H.heads (at_i i g (ℕ_discrete i c));
     part = λ ds S.
         let Q = K.part ds S in
-        (map (settle c none) Q.0, rw (H.bytes, H.heads, H.count, H.invalid) (dropped-there l' r c h Q.0 Q.1), kept-settle c Q.0 ∙ Q.2);
+        (map (settle c None) Q.0, rw (H.bytes, H.heads, H.count, H.invalid) (dropped-there l' r c h Q.0 Q.1), kept-settle c Q.0 ∙ Q.2);
   }
     where
       at_i : (i : ℕ) → i < c + 1 → Dec (i ≡ c) → get_or (set r.hold_heads c no_head) i 0 ≡ no_head

@@ -2,7 +2,7 @@
 use mathlib.Core.Path.{◌≡◌, refl, sym, ap, ap₂, subst, ◌∙◌}
 use mathlib.Core.Bool.{Bool, true, false, cond}
 use mathlib.Core.List.{List, [], ◌∷◌, ◌++◌, map, append-nil, append_assoc}
-use mathlib.Core.Option.{Option, some, none}
+use Rattle.std.specs.Prelude.{Option, Some, None}
 use Prim.Native.Nat.{ℕ, zero, suc, ◌+◌, ◌<◌}
 use native.Mathlib.Nat.{zero-add, add-zero}
 use native.Mathlib.Omega.{arith}
@@ -108,9 +108,9 @@ module _ (i : ℕ) (rs : List Row) where
       → gather (mid (suc c) bs) (step_cell i c x ds) ≡ gather (mid c (b ∷ bs)) ds ++ cell_notes x i c (tail_row_of c (suc i) rs)
   unfolding mid
   cell-step c b bs Nothing q ds = step-pass c b bs (λ t. ap (λ (y : NoteEffect). meets y i t) q) ds
-  cell-step c b bs Closes q ds = step-settle c b bs (some i) (λ t. ap (λ (y : NoteEffect). meets y i t) q) ds _ _ refl
-  cell-step c b bs (Single k) q ds = step-settle c b bs none (λ t. ap (λ (y : NoteEffect). meets y i t) q) ds _ _ refl
-  cell-step c b bs (Head k) q ds = step-settle c b bs none (λ t. ap (λ (y : NoteEffect). meets y i t) q) ds _ _ (head-mid c bs k)
+  cell-step c b bs Closes q ds = step-settle c b bs (Some i) (λ t. ap (λ (y : NoteEffect). meets y i t) q) ds _ _ refl
+  cell-step c b bs (Single k) q ds = step-settle c b bs None (λ t. ap (λ (y : NoteEffect). meets y i t) q) ds _ _ refl
+  cell-step c b bs (Head k) q ds = step-settle c b bs None (λ t. ap (λ (y : NoteEffect). meets y i t) q) ds _ _ (head-mid c bs k)
 
   cells-step : (c : ℕ) (bs : Row) (ds : List Draft)
       → gather (ahead (suc i) rs) (step_row i c bs ds) ≡ gather (mid c bs) ds ++ row_notes i c bs rs

@@ -2,7 +2,7 @@
 use mathlib.Core.Path.{◌≡◌, refl, sym, ap, ap₂, ◌∙◌}
 use mathlib.Core.Bool.{Bool, false}
 use mathlib.Core.List.{List, [], ◌∷◌, ◌++◌, map, append-nil}
-use mathlib.Core.Option.{some, none}
+use Rattle.std.specs.Prelude.{Some, None}
 use Prim.Native.Nat.{ℕ, zero, suc, ◌+◌, ◌*◌, ◌≤◌, ◌<◌}
 use native.Mathlib.Nat.{add-zero, add_assoc}
 use native.Mathlib.Numerals.{add-one}
@@ -27,25 +27,25 @@ use Rattle.row_notes.proofs.Stored.{ten-bytes}
 -- ---- what is left of one draft
 
 module _ (r c : ℕ) (k : Kind) where
-  gone : (s : State) → FineState s → (s ≡ waiting → ⊥) → state_number s ≡ dropped → note_by r c k s none ≡ []
+  gone : (s : State) → FineState s → (s ≡ waiting → ⊥) → state_number s ≡ dropped → note_by r c k s None ≡ []
   gone plain f w e = absurd (omega arith)
   gone waiting f w e = absurd (w refl)
-  gone (ended none) f w e = refl
-  gone (ended (some j)) f w e = absurd (omega arith)
+  gone (ended None) f w e = refl
+  gone (ended (Some j)) f w e = absurd (omega arith)
 
   stays : (s : State) → (s ≡ waiting → ⊥) → (state_number s ≡ dropped → ⊥)
-      → (x : Note) × (note_by r c k s none ≡ x ∷ []) × (encode x ≡ fields r (state_number s) c (number_of_kind k))
+      → (x : Note) × (note_by r c k s None ≡ x ∷ []) × (encode x ≡ fields r (state_number s) c (number_of_kind k))
   unfolding encode
   stays plain w e = (record { row = r; tail = Without; column = c; kind = k }, refl, refl)
   stays waiting w e = absurd (w refl)
-  stays (ended none) w e = absurd (e refl)
-  stays (ended (some j)) w e = (record { row = r; tail = Row j; column = c; kind = k }, refl, refl)
+  stays (ended None) w e = absurd (e refl)
+  stays (ended (Some j)) w e = (record { row = r; tail = Row j; column = c; kind = k }, refl, refl)
 
 state-small : (s : State) → FineState s → state_number s < 4294967296
 state-small plain f = omega arith
 state-small waiting f = omega arith
-state-small (ended none) f = omega arith
-state-small (ended (some j)) f = omega arith
+state-small (ended None) f = omega arith
+state-small (ended (Some j)) f = omega arith
 
 kept_more : (ds : List Draft) (k : ℕ) → k < length ds → kept (take (k + 1) ds) ≡ kept (take k ds) ++ keep (get_or ds k blank)
 kept_more ds k h =
@@ -213,16 +213,16 @@ module _ (l₀ : List ℕ) (n : ℕ) (invalid : Bool) (fits : n * 10 ≤ length 
 
 -- ---- nothing was dropped
 
-not-dropped : (s : State) → FineState s → (s ≡ ended none → ⊥) → state_number s ≡ dropped → ⊥
+not-dropped : (s : State) → FineState s → (s ≡ ended None → ⊥) → state_number s ≡ dropped → ⊥
 not-dropped plain f ne e = omega arith
 not-dropped waiting f ne e = omega arith
-not-dropped (ended none) f ne e = ne refl
-not-dropped (ended (some j)) f ne e = omega arith
+not-dropped (ended None) f ne e = ne refl
+not-dropped (ended (Some j)) f ne e = omega arith
 
 -- a draft that neither waits nor was dropped
 pub record Stays (d : Draft) : Type 0 where
   pub done : d.state ≡ waiting → ⊥
-  pub there : d.state ≡ ended none → ⊥
+  pub there : d.state ≡ ended None → ⊥
   pub fine : Fine d
 
 -- such drafts are their notes

@@ -2,7 +2,7 @@
 use mathlib.Core.Path.{◌≡◌, refl, sym, ◌∙◌, subst}
 use mathlib.Core.Bool.{Bool, true, false, cond, ◌||◌, not, or-false}
 use mathlib.Core.List.{List, map, append-nil}
-use mathlib.Core.Option.{some, none}
+use Rattle.std.specs.Prelude.{Some, None}
 use Prim.Native.Nat.{ℕ, ◌+◌, ◌*◌, ◌≤◌, ◌<◌}
 use native.Mathlib.Omega.{arith}
 use lib.Dec.{eqb}
@@ -40,9 +40,9 @@ invalid-keeps s c e =
 
 -- the head of a column is dropped
 pub dropped-there : (l : List ℕ) (s : ChartNotesScratch) (c : ℕ) → c < 10 → (ds : List Draft) → DraftsHeld l s ds
-    → Stored (end_head l s.hold_heads c dropped) (set s.hold_heads c no_head) s.count (invalid_after s c) (map (settle c none) ds)
+    → Stored (end_head l s.hold_heads c dropped) (set s.hold_heads c no_head) s.count (invalid_after s c) (map (settle c None) ds)
 dropped-there l s c h ds S =
-    stored-settle l s.hold_heads s.count s.has_invalid ds S c h none tt (invalid_after s c)
+    stored-settle l s.hold_heads s.count s.has_invalid ds S c h None tt (invalid_after s c)
     (λ q. let p = invalid-keeps s c q in (p.0, λ e. p.1))
 
 pub step-nothing : (l : List ℕ) (s : ChartNotesScratch) (i c : ℕ) (x : NoteEffect) → x ≡ Nothing → NoteStepped l s l s 1 (step_cell i c x)
@@ -63,7 +63,7 @@ module _ (l : List ℕ) (s : ChartNotesScratch) (c : ℕ) (R : NoteReady l s c) 
   step-closes x e H = record {
     stored = λ ds S.
         rw (e, H.bytes, H.heads, H.count, H.invalid, append-nil)
-        (stored-settle l s.hold_heads s.count s.has_invalid ds S c R.inside (some s.row_index) R.low s.has_invalid
+        (stored-settle l s.hold_heads s.count s.has_invalid ds S c R.inside (Some s.row_index) R.low s.has_invalid
         (λ q. (q, λ z. let w : ◌≡◌ {A = ℕ} 0 1 = cc in absurd (omega arith))));
     bound = omega (arith, H.count);
     row = H.row;

@@ -2,7 +2,7 @@
 use mathlib.Core.Path.{◌≡◌, refl, sym, ap, ap₂, subst, ◌∙◌}
 use mathlib.Core.Bool.{Bool, true, false, cond}
 use mathlib.Core.List.{List, [], ◌∷◌, ◌++◌, map}
-use mathlib.Core.Option.{Option, none}
+use Rattle.std.specs.Prelude.{Option, None}
 use Prim.Native.Nat.{ℕ, zero, suc, ◌+◌, ◌*◌, ◌≤◌, ◌<◌}
 use native.Mathlib.Decide.{ℕ_discrete}
 use native.Mathlib.Omega.{arith}
@@ -78,15 +78,15 @@ module _ (c : ℕ) (o : Option ℕ) where
       go false q e = (e, eqb-false _ _ q)
 
   -- a head that was not dropped before and is now
-  settle-drops : (d : Draft) → (d.state ≡ ended none → ⊥) → (settle c o d).state ≡ ended none → (d.column ≡ c) × (d.state ≡ waiting) × (o ≡ none)
+  settle-drops : (d : Draft) → (d.state ≡ ended None → ⊥) → (settle c o d).state ≡ ended None → (d.column ≡ c) × (d.state ≡ waiting) × (o ≡ None)
   settle-drops d ne = go (eqb d.column c) refl
     where
-      at-state : (s : State) → (s ≡ ended none → ⊥) → settle_state o s ≡ ended none → (s ≡ waiting) × (o ≡ none)
+      at-state : (s : State) → (s ≡ ended None → ⊥) → settle_state o s ≡ ended None → (s ≡ waiting) × (o ≡ None)
       at-state plain n e = absurd (n e)
       at-state waiting n e = (refl, cc)
       at-state (ended x) n e = absurd (n e)
 
-      go : (t : Bool) → eqb d.column c ≡ t → (cond t (settled o d) d).state ≡ ended none → (d.column ≡ c) × (d.state ≡ waiting) × (o ≡ none)
+      go : (t : Bool) → eqb d.column c ≡ t → (cond t (settled o d) d).state ≡ ended None → (d.column ≡ c) × (d.state ≡ waiting) × (o ≡ None)
       go true q e = let p = at-state d.state ne e in (eqb-true _ _ q, p.0, p.1)
       go false q e = absurd (ne e)
 
@@ -157,14 +157,14 @@ module _ (l hs : List ℕ) (n : ℕ) (invalid : Bool) (ds : List Draft) (S : Sto
         rw (e, s) p
 
     -- `flag` says that a draft was dropped where one is
-    module _ (flag : Bool) (keeps : flag ≡ false → (invalid ≡ false) × (o ≡ none → get_or hs c 0 ≡ no_head)) where
+    module _ (flag : Bool) (keeps : flag ≡ false → (invalid ≡ false) × (o ≡ None → get_or hs c 0 ≡ no_head)) where
       settle-clean : Clean flag (map (settle c o) ds)
       settle-clean q k h e =
           let m : n ≡ length ds = S.count in
           let f : n < no_head = S.few in
           let h' : k < length ds = rw length-map at h in
           let d : Draft = get_or ds k blank in
-          let p : (d.column ≡ c) × (d.state ≡ waiting) × (o ≡ none) =
+          let p : (d.column ≡ c) × (d.state ≡ waiting) × (o ≡ None) =
           settle-drops c o d (S.clean (keeps q).0 k h') (sym (ap (λ (x : Draft). x.state) (at_map k (omega arith))) ∙ e) in
           let x : get_or hs c 0 ≡ k = subst (λ (i : ℕ). get_or hs i 0 ≡ k) p.0 (S.waits k (omega arith) p.1) in
           let y : get_or hs c 0 ≡ no_head = (keeps q).1 p.2 in
@@ -223,11 +223,11 @@ module _ (l hs : List ℕ) (n : ℕ) (invalid : Bool) (ds : List Draft) (S : Sto
     more-fine : (k : ℕ) → k < n + 1 → Fine (get_or (ds ++ (b ∷ [])) k blank)
     more-fine = below (λ (k : ℕ). Fine (get_or (ds ++ (b ∷ [])) k blank)) (λ k h. rw (at_old k h) (S.fine k h)) (rw at_new f)
 
-    more-clean : (b.state ≡ ended none → ⊥) → Clean invalid (ds ++ (b ∷ []))
+    more-clean : (b.state ≡ ended None → ⊥) → Clean invalid (ds ++ (b ∷ []))
     more-clean ne q k h =
         let m : n + 1 ≡ length (ds ++ (b ∷ [])) = more-count in
         let m' : n ≡ length ds = S.count in
-        below (λ (i : ℕ). (get_or (ds ++ (b ∷ [])) i blank).state ≡ ended none → ⊥)
+        below (λ (i : ℕ). (get_or (ds ++ (b ∷ [])) i blank).state ≡ ended None → ⊥)
         (λ i g. rw (at_old i g) (S.clean q i (omega arith))) (rw at_new ne) k (omega arith)
 
     old-waits : (k : ℕ) → k < n → (get_or (ds ++ (b ∷ [])) k blank).state ≡ waiting → get_or hs (get_or (ds ++ (b ∷ [])) k blank).column 0 ≡ k
@@ -251,7 +251,7 @@ module _ (l hs : List ℕ) (n : ℕ) (invalid : Bool) (ds : List Draft) (S : Sto
           (λ e. let p : plain ≡ waiting = sym w ∙ sym (ap (λ (d : Draft). d.state) at_new) ∙ e in let z : ◌≡◌ {A = ℕ} 0 1 = cc in absurd (omega arith));
       heads = old-heads;
       fine = more-fine;
-      clean = more-clean (λ e. let p : plain ≡ ended none = sym w ∙ e in let z : ◌≡◌ {A = ℕ} 0 1 = cc in omega arith);
+      clean = more-clean (λ e. let p : plain ≡ ended None = sym w ∙ e in let z : ◌≡◌ {A = ℕ} 0 1 = cc in omega arith);
     }
 
     pub stored-head : b.state ≡ waiting → get_or hs b.column 0 ≡ no_head
@@ -270,7 +270,7 @@ module _ (l hs : List ℕ) (n : ℕ) (invalid : Bool) (ds : List Draft) (S : Sto
           (λ e. rw at_new at_n);
       heads = λ i h ne. new-heads i h ne (ℕ_discrete i b.column);
       fine = more-fine;
-      clean = more-clean (λ e. let p : waiting ≡ ended none = sym w ∙ e in let z : ◌≡◌ {A = ℕ} 0 1 = cc in omega arith);
+      clean = more-clean (λ e. let p : waiting ≡ ended None = sym w ∙ e in let z : ◌≡◌ {A = ℕ} 0 1 = cc in omega arith);
     }
       where
         at_n : get_or (set hs b.column n) b.column 0 ≡ n

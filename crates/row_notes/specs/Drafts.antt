@@ -1,7 +1,7 @@
 -- The note writer's state on plain lists, row by row: drafts of notes, of which those of heads wait until a later cell of their column ends
 -- them.
 use Rattle.std.specs.Prelude.{cond, List, [], ◌∷◌, ◌++◌, map, ℕ, zero, suc, eqb}
-use Rattle.std.proofs.Math.Option.{Option, some, none}
+use Rattle.std.specs.Prelude.{Option, Some, None}
 use Rattle.definitions.specs.Lines.{Row}
 use Rattle.definitions.specs.Notes.{effect_at, plain_note, held_note}
 use Rattle.definitions.specs.declared.Kind.{Kind}
@@ -37,9 +37,9 @@ settle c o d = cond (eqb d.column c) (settled o d) d
 -- what a cell at row i and column c does to the drafts
 abbrev pub touch : NoteEffect → ℕ → ℕ → List Draft → List Draft
 touch Nothing i c ds = ds
-touch Closes i c ds = map (settle c (some i)) ds
-touch (Single k) i c ds = map (settle c none) ds
-touch (Head k) i c ds = map (settle c none) ds
+touch Closes i c ds = map (settle c (Some i)) ds
+touch (Single k) i c ds = map (settle c None) ds
+touch (Head k) i c ds = map (settle c None) ds
 
 abbrev pub one : ℕ → ℕ → Kind → State → List Draft
 one i c k s = record { row = i; column = c; kind = k; state = s } ∷ []
@@ -80,7 +80,7 @@ note_by i c k (ended o) t = held_note i c k o
 
 -- the notes that are left at the end: a head that still waits is none
 abbrev pub keep : Draft → List Note
-keep d = note_by d.row d.column d.kind d.state none
+keep d = note_by d.row d.column d.kind d.state None
 
 abbrev pub kept : List Draft → List Note
 kept ds = gather keep ds

@@ -1,7 +1,7 @@
 -- How the drafts lie in the lent slice and in the writer's struct, and what the writer's own functions do there. Only their contracts cite
 -- these; callers go by `Written`.
 use Rattle.std.specs.Prelude.{◌≡◌, Bool, false, cond, ◌||◌, not, List, ◌++◌, map, ℕ, ◌+◌, ◌*◌, ◌<◌, ◌≤◌, eqb, length, get_or, set}
-use Rattle.std.proofs.Math.Option.{Option, some, none}
+use Rattle.std.specs.Prelude.{Option, Some, None}
 use Rattle.std.proofs.lemmas.List.Edits.{sets}
 use Rattle.definitions.specs.Sizes.{row_numbers_bound}
 use Rattle.definitions.specs.Lists.{joined}
@@ -34,8 +34,8 @@ pub record FreeHeads (hs : List ℕ) (row : Row) : Type 0 where
 -- ---- the drafts as bytes
 
 abbrev pub end_number : Option ℕ → ℕ
-end_number none = dropped
-end_number (some j) = j
+end_number None = dropped
+end_number (Some j) = j
 
 abbrev pub state_number : State → ℕ
 state_number plain = no_tail
@@ -47,8 +47,8 @@ draft_bytes d = fields d.row (state_number d.state) d.column (number_of_kind d.k
 
 -- rows and tail rows are below 16,777,216, columns below 10
 abbrev pub FineEnd : Option ℕ → Type 0
-FineEnd none = Unit {0}
-FineEnd (some j) = j < row_numbers_bound
+FineEnd None = Unit {0}
+FineEnd (Some j) = j < row_numbers_bound
 
 abbrev pub FineState : State → Type 0
 FineState plain = Unit {0}
@@ -65,7 +65,7 @@ blank = record { row = 0; column = 0; kind = Tap; state = plain }
 
 -- where `invalid` is false no draft was dropped
 abbrev pub Clean : Bool → List Draft → Type 0
-Clean invalid ds = invalid ≡ false → (k : ℕ) → k < length ds → (get_or ds k blank).state ≡ ended none → ⊥
+Clean invalid ds = invalid ≡ false → (k : ℕ) → k < length ds → (get_or ds k blank).state ≡ ended None → ⊥
 
 -- the slice l begins with the bytes of the n drafts; at c in hs is the number of the draft that waits in column c
 pub record Stored (l hs : List ℕ) (n : ℕ) (invalid : Bool) (ds : List Draft) : Type 0 where

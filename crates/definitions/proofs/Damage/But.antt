@@ -4,7 +4,8 @@ use mathlib.Core.Bool.{false, true≢false}
 use mathlib.Core.List.{List, [], ◌∷◌, map}
 use Prim.Native.Nat.{ℕ, zero, suc, ◌+◌, ◌<◌}
 use native.Mathlib.Omega.{arith}
-use lib.ListN.{length, take, drop, get_elem?}
+use lib.ListN.{length, take, drop}
+use Rattle.std.specs.Prelude.{slice_get}
 use Rattle.definitions.specs.Lists.{to_first}
 use Rattle.definitions.specs.Lines.{Row, line_kind, line_row}
 use Rattle.definitions.specs.Measures.{add_line, measures, chart}
@@ -60,7 +61,7 @@ module _ {A : Type 0} where
   lengths (other h) = ap suc (lengths h)
   lengths (here e h) = ap suc (lengths h)
 
-  gets : {d k : ℕ} {s t : List A} → But d k s t → (i : ℕ) → (k + i ≡ d → ⊥) → get_elem? s i ≡ get_elem? t i
+  gets : {d k : ℕ} {s t : List A} → But d k s t → (i : ℕ) → (k + i ≡ d → ⊥) → slice_get s i ≡ slice_get t i
   gets none i n = refl
   gets (other h) zero n = refl
   gets (other h) (suc i) n = gets h i (λ e. n (omega arith))

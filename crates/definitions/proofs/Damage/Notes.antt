@@ -3,7 +3,7 @@ use mathlib.Core.Path.{◌≡◌, refl, ap, sym, ◌∙◌}
 use mathlib.Core.Logic.{◌⊎◌, inl, inr}
 use mathlib.Core.Bool.{Bool, true, false, ◌&&◌, not, true≢false, false≢true}
 use mathlib.Core.List.{List, [], ◌∷◌, ◌++◌, append_assoc}
-use mathlib.Core.Option.{Option, none, some}
+use Rattle.std.specs.Prelude.{Option, None, Some}
 use Prim.Native.Nat.{ℕ, zero, suc, ◌+◌, ◌≤◌, ◌<◌}
 use native.Mathlib.Nat.{add-zero, zero-add, add-suc, suc-add}
 use native.Mathlib.Omega.{arith}
@@ -16,7 +16,6 @@ use Rattle.definitions.specs.Lines.{Row}
 use Rattle.definitions.specs.Cells.{byte_at}
 use Rattle.definitions.specs.Notes.{effect_at, meets, tail_row_of, held_note, cell_notes, row_notes, notes_from}
 use Rattle.definitions.specs.declared.Kind.{Kind}
-use Rattle.definitions.specs.declared.Tail.TheVariants as tail
 use Rattle.definitions.specs.declared.Note.{Note}
 use Rattle.definitions.specs.declared.NoteEffect.{NoteEffect}
 use Rattle.definitions.specs.declared.NoteEffect.TheVariants.{Nothing, Closes, Single, Head}
@@ -42,8 +41,8 @@ record At (i c : ℕ) (x : Note) : Type 0 where
   column : x.column ≡ c
 
 held_at : (i c : ℕ) (k : Kind) (t : Option ℕ) → All (At i c) (held_note i c k t)
-held_at i c k none = all_none
-held_at i c k (some j) = all_one (record { row = refl; column = refl }) all_none
+held_at i c k None = all_none
+held_at i c k (Some j) = all_one (record { row = refl; column = refl }) all_none
 
 cell_at : (x : NoteEffect) (i c : ℕ) (t : Option ℕ) → All (At i c) (cell_notes x i c t)
 cell_at Nothing i c t = all_none
@@ -90,8 +89,8 @@ after-part ps q =
 -- Later notes: the same rows under other numbers.
 module _ (a b : ℕ) where
   data ShiftedRow : Option ℕ → Option ℕ → Type 0 where
-    no_row : ShiftedRow none none
-    row-to : {x y : ℕ} → y + a ≡ x + b → ShiftedRow (some x) (some y)
+    no_row : ShiftedRow None None
+    row-to : {x y : ℕ} → y + a ≡ x + b → ShiftedRow (Some x) (Some y)
 
   meets-shift : (x : NoteEffect) (i j : ℕ) → j + a ≡ i + b → {t u : Option ℕ} → ShiftedRow t u → ShiftedRow (meets x i t) (meets x j u)
   meets-shift Nothing i j e h = h
@@ -144,8 +143,8 @@ module _ (P : ℕ → ℕ → Bool) where
   shut x = not (P x.row x.column)
 
   gone : (i c : ℕ) (k : Kind) (t : Option ℕ) → P i c ≡ true → those shut (held_note i c k t) ≡ []
-  gone i c k none e = refl
-  gone i c k (some j) e = rw e
+  gone i c k None e = refl
+  gone i c k (Some j) e = rw e
 
   cell-left : (x : NoteEffect) (i c : ℕ) (rs q q' : List Row) (u : Bool) → untouched c rs ≡ u → P i c ≡ (heading x && u)
       → those shut (cell_notes x i c (tail_row_of c (suc i) (rs ++ q))) ≡ those shut (cell_notes x i c (tail_row_of c (suc i) (rs ++ q')))
@@ -272,8 +271,8 @@ open-head i c ps q h = go (notes-here i c 0 i (zero-add i) (ps ++ q))
 
     -- the tail of a head that nothing stops lies in q
     last : (t : Option ℕ) → tail_row_of c (length ps) q ≡ t → ns ≡ held_note i c k t → MissingOrLate (length ps) (length (ps ++ q)) i c k (notes_from 0 (ps ++ q))
-    last none e p = inl p
-    last (some j) e p = let w = tail_within c (length ps) q j e in inr (j, w.0, omega (arith, w.1, length-append ps q), p)
+    last None e p = inl p
+    last (Some j) e p = let w = tail_within c (length ps) q j e in inr (j, w.0, omega (arith, w.1, length-append ps q), p)
 
     go : (ns ≡ []) ⊎ (ns ≡ headed_by i c (drop (suc i) (ps ++ q)) (byte_at c (get_or (ps ++ q) i [])))
         → MissingOrLate (length ps) (length (ps ++ q)) i c k (notes_from 0 (ps ++ q))

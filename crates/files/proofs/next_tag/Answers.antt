@@ -1,34 +1,42 @@
--- `files::next_tag` meets its contract: the lines from `off` on have the same first tag as those from `start` on. Assumes nothing.
-use mathlib.Core.Path.{sym, ◌∙◌}
-use Prim.Native.Nat.{◌+◌, ◌≤◌}
-use native.Mathlib.Omega.{arith}
-use lib.ListN.{length}
+-- `files::next_tag` meets its contract: a line that begins with the tag has the first; below another line stands what stood from that line on.
+use Rattle.std.proofs.Common.{◌≤◌, length, sym, ap, ◌∙◌, arith, rules}
+use Rattle.std.proofs.lemmas.List.{nil_from_length}
+use Rattle.definitions.proofs.Lists.{starts_with-length}
 use Rattle.definitions.proofs.ChartRows.{trim-short}
-use Rattle.lines.proofs.Lines.{line-within}
-use Rattle.files.proofs.Tags.{tag-none, tag-here, tag-next}
+use Rattle.lines.proofs.Trims.{part-all}
+use Rattle.files.specs.Tags.{after_tag}
+use Rattle.files.proofs.Tags.{tag-empty, after-here, after-next, line-short, below-less}
 use Rattle.files.proofs.next_tag.Goals as goal
 
--- the line lies in the file, and what is left of it without its blanks in the line
-raw-within : (c : goal.Else-starts_with) →
-    length c.next_line-raw.result.now + c.loop-off.off ≤ length c.args.file.now
-raw-within c =
-    rw c.next_line-raw.ensures
-    (line-within c.args.file.now c.loop-off.off c.loop-off-test.true)
-
-bare-within : (c : goal.Then-starts_with) → length c.skip_ws-line.result.now ≤ length c.next_line-raw.result.now
-bare-within c = rw c.skip_ws-line.ensures (trim-short c.next_line-raw.result.now)
+-- the tag stands on the line
+within : (c : goal.Then-starts_with) → (length c.skip_ws-bare.result.now ≤ length c.split_line.result.0.now) × (length c.args.word.now ≤ length c.skip_ws-bare.result.now) × (length c.split_line.result.0.now ≤ length c.loop-rest.rest.now)
+within c =
+    (rw c.skip_ws-bare.ensures (trim-short _), starts_with-length _ _ (sym c.starts_with.ensures.value ∙ c.if-starts_with.true), rw c.split_line.ensures.line (line-short _))
 
 pub overflow_sub-result : goal.overflow_sub-result
-overflow_sub-result c = bare-within c
+overflow_sub-result c = (within c).0
+
+pub slice_bounds-result-start : goal.slice_bounds-result-start
+slice_bounds-result-start c = let w = within c in omega (arith, w.0, w.1, w.2)
+
+pub slice_bounds-result-count : goal.slice_bounds-result-count
+slice_bounds-result-count c = let w = within c in omega (arith, w.0, w.1, w.2)
 
 pub returns-then-starts_with : goal.returns-then-starts_with
 returns-then-starts_with c =
-    sym (c.loop-off.invariant.1 ∙ tag-here c.args.word.now c.args.file.now c.loop-off.off c.next_line-raw.result.now c.skip_ws-line.result.now c.loop-off-test.true c.next_line-raw.ensures c.skip_ws-line.ensures (sym c.starts_with.ensures ∙ c.if-starts_with.true))
+    rw part-all
+    (sym (c.loop-rest.invariant ∙ after-here _ _ _ _ c.split_line.ensures.line c.skip_ws-bare.ensures (sym c.starts_with.ensures.value ∙ c.if-starts_with.true)))
 
-pub loop-off-preserved : goal.loop-off-preserved
-loop-off-preserved c =
-    (omega (arith, raw-within c), c.loop-off.invariant.1 ∙ tag-next c.args.word.now c.args.file.now c.loop-off.off c.next_line-raw.result.now c.skip_ws-line.result.now c.loop-off-test.true c.next_line-raw.ensures c.skip_ws-line.ensures (sym c.starts_with.ensures ∙ c.if-starts_with.false))
+pub loop-rest-smaller : goal.loop-rest-smaller
+loop-rest-smaller c = below-less _ _ (search rules) c.split_line.ensures.rest
+
+pub loop-rest-preserved : goal.loop-rest-preserved
+loop-rest-preserved c =
+    c.loop-rest.invariant
+    ∙ after-next _ _ _ _ c.split_line.ensures.line c.skip_ws-bare.ensures c.requires (sym c.starts_with.ensures.value ∙ c.if-starts_with.false)
+    ∙ ap (after_tag c.args.word.now) (sym c.split_line.ensures.rest)
 
 pub returns : goal.returns
 returns c =
-    sym (c.loop-off.invariant.1 ∙ tag-none c.args.word.now c.args.file.now c.loop-off.off c.loop-off-test.false)
+    let ended = nil_from_length c.loop-rest.rest.now (search rules) in
+    sym (c.loop-rest.invariant ∙ ap (after_tag c.args.word.now) ended ∙ tag-empty c.args.word.now c.requires)
