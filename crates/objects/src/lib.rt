@@ -136,7 +136,8 @@ pub fn last_taps(s: LastScan, mask: u16) -> LastScan
     let depths = s.depths;
     let found = s.found;
     let row = s.row;
-    if mask == 0 {
+    let is_empty = mask == 0;
+    if is_empty {
         return LastScan {
             depths,
             busy: s.busy,

@@ -103,7 +103,8 @@ fn is_left_over(p: Phantoms, lanes: Lanes) -> bool
 pub fn is_corrected(p: Phantoms, lanes: Lanes) -> bool
     ensures { (rows : List Row) → Counts lanes.count rows p → result ≡ corrects lanes.count rows }
 {
-    if p.heads == 0 {
+    let is_headless = p.heads == 0;
+    if is_headless {
         return false;
     }
     if p.heads != p.tails {

@@ -114,7 +114,8 @@ fn line_number(row: &[u8]) -> u32
     if n == 8 {
         return number8(row);
     }
-    if n == 10 {
+    let is_ten = n == 10;
+    if is_ten {
         return number10(row);
     }
     NO_MASK
