@@ -101,7 +101,8 @@ fn put_card(data: &[u8], out: &mut [u8]) -> usize
     ensures upper_bound { result ≤ length out.new }
     ensures out_after { take result out.new ≡ card «data».now }
 {
-    if data.len() > 4095 {
+    let too_long = data.len() > 4095;
+    if too_long {
         return put_refusal(out);
     }
     put_chart(data, out)

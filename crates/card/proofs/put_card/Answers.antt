@@ -4,11 +4,11 @@ use borrow.Author.Tests.{lt-ltb, le-ltb}
 use Rattle.sheet.specs.Card.{card}
 use Rattle.card.proofs.put_card.Goals as goal
 
-pub returns-then-data-gt4095-clause-out_after : goal.returns-then-data-gt4095-clause-out_after
+pub returns-then-too_long-clause-out_after : goal.returns-then-too_long-clause-out_after
 unfolding card
-returns-then-data-gt4095-clause-out_after c =
-    rw (lt-ltb 4095 (length c.args.data.now) c.if-data-gt4095.true) c.put_refusal.ensures.out_after
+returns-then-too_long-clause-out_after c =
+    rw (lt-ltb 4095 (length c.args.data.now) c.if-too_long.true) c.put_refusal.ensures.out_after
 
 pub returns-clause-out_after : goal.returns-clause-out_after
 unfolding card
-returns-clause-out_after c = rw (le-ltb 4095 (length c.args.data.now) c.if-data-gt4095.false) c.put_chart.ensures.out_after
+returns-clause-out_after c = rw (le-ltb 4095 (length c.args.data.now) c.if-too_long.false) c.put_chart.ensures.out_after
