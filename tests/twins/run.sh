@@ -12,6 +12,7 @@ passed=0
 failed=0
 room=$(mktemp -d)
 trap 'rm -rf "$room"' EXIT
+trap 'exit 1' INT TERM
 
 # A crate of the copy as it is here.
 copy() {
