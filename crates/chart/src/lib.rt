@@ -43,7 +43,7 @@ pub fn chart_figures(
         stats,
         depths,
         &text[0..out],
-        lanes,
+        Lanes { count: lanes },
         true,
         work,
     );

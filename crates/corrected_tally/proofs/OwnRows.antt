@@ -119,11 +119,9 @@ pub back-rows-most : (trim : Bool) (L : ℕ) (text : List ℕ) → 1 ≤ L → l
 back-rows-most trim L text w = le_trans (back-rows-few trim L text w) (minimised-rows-few L text w)
 
 -- A work slice that a call was accepted with has room for the rows of its minimised text.
-pub minimised-room : (trim : Bool) (L : ℕ) (text work : List ℕ) → 4 ≤ L → L ≤ 10 → length text ≤ most_bytes → most_rows_in L (length text) ≤ length work → Room trim L (minimised_text L text) work
-minimised-room trim L text work l m s w =
+pub minimised-room : (trim : Bool) (L : ℕ) (text work : List ℕ) → 1 ≤ L → length text ≤ most_bytes → most_rows_in L (length text) ≤ length work → Room trim L (minimised_text L text) work
+minimised-room trim L text work l s w =
     record {
-      least = l;
-      most = m;
       short = omega (arith, minimised-short L text);
-      room = le_trans (back-rows-most trim L text (omega arith)) w;
+      room = le_trans (back-rows-most trim L text l) w;
     }

@@ -9,8 +9,6 @@ use Rattle.reader.specs.BackReading.{rows_back}
 
 -- The work slice has an entry for each row that is read back out of the text.
 pub record Room (trim : Bool) (L : ℕ) (text work : List ℕ) : Type 0 where
-  pub least : 4 ≤ L
-  pub most : L ≤ 10
   pub short : length text ≤ row_numbers_bound
   pub room : length (rows_back trim L text) ≤ length work
 

@@ -18,13 +18,13 @@ use phantoms::Phantoms;
 use taps::{TapTable, Taps};
 
 // Marks in each row's entry of the work slice, which is all 0, the heads that the tracker pairs.
-fn mark_heads(text: &[u8], lanes: usize, trim: bool, work: &mut [u16])
-    requires { Room trim lanes text.now work.old × ((i : ℕ) → slice_index work.old i ≡ 0) }
-    ensures { Heads (rows_back trim lanes text.now) work.new }
+fn mark_heads(text: &[u8], lanes: Lanes, trim: bool, work: &mut [u16])
+    requires { Room trim lanes.count text.now work.old × ((i : ℕ) → slice_index work.old i ≡ 0) }
+    ensures { Heads (rows_back trim lanes.count text.now) work.new }
 {
     let mut tracker = Tracker::new();
     let mut row: u32 = 0;
-    for cells in reader::back::back_rows(text, Lanes { count: lanes }, trim) {
+    for cells in reader::back::back_rows(text, lanes, trim) {
         tracker.track_row(row, cells, false, &mut *work);
         row += 1;
     }
@@ -48,14 +48,14 @@ fn count_row(t: ArrowStats, row: &[u8], heads: u16, table: &TapTable) -> ArrowSt
 }
 
 // The tally of the rows with only the heads that the work slice marks.
-fn count_kept(text: &[u8], lanes: usize, trim: bool, work: &[u16]) -> ArrowStats
-    requires { Room trim lanes text.now work.now × Heads (rows_back trim lanes text.now) work.now }
-    ensures { result ≡ tally (paired_only (rows_back trim lanes text.now)) }
+fn count_kept(text: &[u8], lanes: Lanes, trim: bool, work: &[u16]) -> ArrowStats
+    requires { Room trim lanes.count text.now work.now × Heads (rows_back trim lanes.count text.now) work.now }
+    ensures { result ≡ tally (paired_only (rows_back trim lanes.count text.now)) }
 {
-    let table = TapTable::for_lanes(Lanes { count: lanes });
+    let table = TapTable::for_lanes(lanes);
     let mut stats = row_tally::no_stats();
     let mut i = 0;
-    for cells in reader::back::back_rows(text, Lanes { count: lanes }, trim) {
+    for cells in reader::back::back_rows(text, lanes, trim) {
         stats = count_row(stats, cells, entry::heads(work[i]), &table);
         i += 1;
     }
@@ -63,9 +63,9 @@ fn count_kept(text: &[u8], lanes: usize, trim: bool, work: &[u16]) -> ArrowStats
 }
 
 // The tally of the rows of minimised text with only tracker-paired heads. The work slice may hold anything, and is 0 afterwards.
-pub fn recalc_phantom_stats(text: &[u8], lanes: usize, trim: bool, work: &mut [u16]) -> ArrowStats
-    requires { Room trim lanes text.now work.old }
-    ensures { (result ≡ tally (paired_only (rows_back trim lanes text.now))) × (work.new ≡ replicate (length work.old) 0) }
+pub fn recalc_phantom_stats(text: &[u8], lanes: Lanes, trim: bool, work: &mut [u16]) -> ArrowStats
+    requires { Room trim lanes.count text.now work.old }
+    ensures { (result ≡ tally (paired_only (rows_back trim lanes.count text.now))) × (work.new ≡ replicate (length work.old) 0) }
 {
     slices::zero_past(&mut *work, 0, 0);
     mark_heads(text, lanes, trim, &mut *work);
@@ -80,18 +80,17 @@ pub fn corrected_stats(
     stats: ArrowStats,
     p: Phantoms,
     text: &[u8],
-    lanes: usize,
+    lanes: Lanes,
     trim: bool,
     work: &mut [u16],
 ) -> ArrowStats
-    requires { Room trim lanes text.now work.old }
-    ensures value { (rows : List Row) → Counts lanes rows p → stats ≡ tally rows → result ≡ corrected lanes rows (rows_back trim lanes text.now) }
+    requires { Room trim lanes.count text.now work.old }
+    ensures value { (rows : List Row) → Counts lanes.count rows p → stats ≡ tally rows → result ≡ corrected lanes.count rows (rows_back trim lanes.count text.now) }
     ensures work_after { work.new ≡ replicate (length work.old) 0 }
 {
-    let steps = stats.total_steps;
-    if phantoms::is_corrected(p, Lanes { count: lanes }) {
+    if phantoms::is_corrected(p, lanes) {
         let anew = recalc_phantom_stats(text, lanes, trim, work);
-        row_tally::with_steps(anew, steps)
+        row_tally::with_steps(anew, stats.total_steps)
     } else {
         slices::zero_past(work, 0, 0);
         stats

@@ -23,6 +23,7 @@ pub struct Tracker {
 
 impl Tracker {
     // The tracker before the first row.
+    #[tactic(auto, unfolding(crate::specs::Stacks::stack_of))]
     pub fn new() -> Self
         ensures { (c : ℕ) → c < 10 → stack_of result c ≡ [] }
     {
@@ -86,12 +87,10 @@ impl Tracker {
         requires { (length cells.now ≤ 10) × (row < length work.old) × Sized self.old × Reached row self.old work.old }
         ensures { CellsTracked row cells.now self.old work.old self.new work.new result }
     {
-        let mut ends: u16 = 0;
-        let mut column = 0;
-        while column < cells.len() {
-            let ended = self.track_cell(row, column, cells[column]);
+        let mut ends = 0;
+        for (column, &b) in cells.iter().enumerate() {
+            let ended = self.track_cell(row, column, b);
             ends += mark(&mut *work, ended, column);
-            column += 1;
         }
         self.busy = taps::unlike(&self.depths, 0);
         ends

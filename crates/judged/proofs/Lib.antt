@@ -1,4 +1,3 @@
--- Laws of the judged tallies: the flags, and the two loops over the rows.
-pub mod Flags
+-- Laws of the judged tallies: the two loops over the rows.
 pub mod Tracking
 pub mod Tallying

@@ -61,16 +61,11 @@ impl TimingStats {
 }
 
 // Whether row i is judged: every row where all are, else by its flag. A row past the flags is judged.
+#[tactic(auto, unfolding(definitions::specs::Judged::judged_at))]
 fn is_judged(all: bool, flags: &[u8], i: usize) -> bool
     ensures { result ≡ judged_by all flags.now i }
 {
-    if all {
-        return true;
-    }
-    if i < flags.len() {
-        return flags[i] != 0;
-    }
-    true
+    all || flags.get(i).copied().unwrap_or(1) != 0
 }
 
 // The entry of each row in the work slice, as the Rust's `TimingRow`: its paired heads, how many holds of judged heads end there, and whether
@@ -126,6 +121,7 @@ fn judge_rows(data: &[u8], lanes: Lanes, all: bool, flags: &[u8], work: &mut [u1
 
 // The judged tally of an accepted text: in one pass where every row is judged and the rows are clean, else by the two loops, as the Rust's
 // `recalc_judgable_stats` does.
+#[tactic(auto, using(judged_pass::proofs::JudgedPass::answer_told))]
 pub fn judge_accepted(
     data: &[u8],
     lanes: Lanes,

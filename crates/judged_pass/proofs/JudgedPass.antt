@@ -30,7 +30,7 @@ use Rattle.judged_pass.specs.Clean.{unpairs, unpairs_from, is_clean, every, clea
 use Rattle.judged_pass.specs.JudgedPass.{row_unpairs, Ready, RowPassed}
 use Rattle.judged_pass.specs.declared.CleanRows.{CleanRows}
 use Rattle.judged_pass.proofs.Paired.{AllClean, clean-kept, clean-active}
-use Rattle.judged_pass.proofs.Rows.{none-unpairs}
+use Rattle.judged_pass.proofs.Rows.{none-unpairs, sum-columns}
 
 -- `all` are the rows of the text, and `rows` those that have come.
 pub record Passes (L : ℕ) (all rows : List Row) (t : CleanRows) : Type 0 where
@@ -64,9 +64,9 @@ unfolding clean_answer
 answer-none L rows e = rw e
 
 -- an answer that is a tally
-pub answer-told : (r : Option ArrowStats) (L : ℕ) (rows : List Row) (s : ArrowStats) → r ≡ clean_answer L rows → r ≡ Some s → s ≡ judged_rows L every rows
+pub answer_told : (r : Option ArrowStats) (L : ℕ) (rows : List Row) (s : ArrowStats) → r ≡ clean_answer L rows → r ≡ Some s → s ≡ judged_rows L every rows
 unfolding clean_answer
-answer-told r L rows s e f = go (is_clean rows) refl
+answer_told r L rows s e f = go (is_clean rows) refl
   where
     go : (t : Bool) → is_clean rows ≡ t → s ≡ judged_rows L every rows
     go true q = let h : Some s ≡ Some (judged_rows L every rows) = sym f ∙ e ∙ rw q refl in cc
@@ -120,7 +120,7 @@ module _ (L : ℕ) (all rows : List Row) (t : CleanRows) (x : Passes L all rows 
 
   -- the open heads are those of the rows so far
   held : t.active ≡ sum_columns 10 (λ c. phantom_after c 0 rows)
-  held = x.ready.active ∙ sum_same 10 (λ c. get_or t.depths c 0) (λ c. phantom_after c 0 rows) x.depths
+  held = x.ready.active ∙ sum-columns 10 t.depths x.ready.ten ∙ sum_same 10 (λ c. get_or t.depths c 0) (λ c. phantom_after c 0 rows) x.depths
 
   -- at the end
   module _ (e : all ≡ rows) where

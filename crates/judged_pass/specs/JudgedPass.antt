@@ -1,6 +1,6 @@
 -- What the private functions of the one pass leave: of a cell, of a row's cells, and of a row.
-use Rattle.std.specs.Prelude.{◌≡◌, Option, Some, None, Bool, true, if◌then◌else◌, List, ℕ, ◌≤◌, ◌<◌, slice_index}
-use Rattle.definitions.specs.Lists.{some_column, sum_columns}
+use Rattle.std.specs.Prelude.{◌≡◌, Option, Some, None, Bool, true, if◌then◌else◌, List, ℕ, ◌≤◌, ◌<◌, length, slice_index, sum}
+use Rattle.definitions.specs.Lists.{some_column}
 use Rattle.definitions.specs.Lines.{Row}
 use Rattle.definitions.specs.Cells.{byte_at}
 use Rattle.definitions.specs.Tracker.{hold_at}
@@ -23,14 +23,11 @@ row_unpairs row depths = some_column 10 (λ c. unpairs (hold_at (byte_at c row))
 abbrev pub DepthsPassed : Row → List ℕ → List ℕ → Type 0
 DepthsPassed row depths depths' = (c : ℕ) → c < 10 → slice_index depths' c ≡ phantom_step (hold_at (byte_at c row)) (slice_index depths c)
 
--- The open heads of ten columns.
-abbrev pub open_head_count : List ℕ → ℕ
-open_head_count depths = sum_columns 10 (λ c. slice_index depths c)
-
 -- The rows so far left every column clean, and the open holds and the columns that have one are those of the depths.
 pub record Ready (t : CleanRows) : Type 0 where
+  pub ten : length t.depths ≡ 10
   pub low : (c : ℕ) → c < 10 → slice_index t.depths c ≤ 8
-  pub active : t.active ≡ open_head_count t.depths
+  pub active : t.active ≡ sum t.depths
   pub busy : FreeAre t.busy 0 t.depths
 
 -- One row more, judged, with all its heads.

@@ -12,7 +12,7 @@ ghost use Rattle.definitions.specs.Lines.{Row};
 ghost use Rattle.taps.specs.Taps.{FreeTaps};
 ghost use Rattle.row_tally.specs.Bounds.{Below};
 ghost use Rattle.judged_pass.specs.Clean.{clean_answer};
-ghost use Rattle.judged_pass.specs.JudgedPass.{clean_depth, row_unpairs, DepthsPassed, open_head_count, Ready, RowPassed};
+ghost use Rattle.judged_pass.specs.JudgedPass.{clean_depth, row_unpairs, DepthsPassed, Ready, RowPassed};
 
 use definitions::{ArrowStats, Cell, DepthEffect, Lanes, RowSum};
 use taps::{TapTable, Taps};
@@ -48,12 +48,13 @@ impl CleanRows {
     {
         let sum = clean_cells(&mut self.depths, row)?;
         self.stats = row_tally::add_judged_row(self.stats, true, self.active, sum);
-        self.active = open_heads(&self.depths);
+        self.active = self.depths.iter().sum();
         self.busy = taps::unlike(&self.depths, 0);
         Some(())
     }
 
     // One row more of taps alone, none in a column with an open head: it leaves the depths as they are.
+    #[tactic(auto, using(crate::proofs::Rows::active_few))]
     fn add_taps(&mut self, mask: u16, table: &TapTable)
         requires { (mask < 2 ^ table.now.lanes.count) × Ready self.old × Below count_bound self.old.stats }
         ensures { (row : Row) → FreeTaps self.old.busy mask row → RowPassed row self.old self.new }
@@ -100,33 +101,16 @@ fn clean_cells(depths: &mut [u32; 10], row: &[u8]) -> Option<RowSum>
     ensures depths_after { OnSome result (DepthsPassed row.now depths.old depths.new) }
 {
     let mut sum = row_tally::no_sum();
-    let mut i = 0;
-    while i < row.len() {
-        let b = row[i];
+    for (column, &b) in row.iter().enumerate() {
         match cells::cell_of(b) {
             Cell::Empty => {}
             _ => {
-                depths[i] = depth_after(b, depths[i])?;
-                sum = row_tally::judged_cell(sum, i, b);
+                depths[column] = depth_after(b, depths[column])?;
+                sum = row_tally::judged_cell(sum, column, b);
             }
         }
-        i += 1;
     }
     Some(sum)
-}
-
-// The open heads of ten columns.
-fn open_heads(depths: &[u32; 10]) -> u32
-    requires { (c : ℕ) → c < 10 → slice_index depths.now c ≤ 9 }
-    ensures { result ≡ open_head_count depths.now }
-{
-    let mut sum: u32 = 0;
-    let mut i = 0;
-    while i < 10 {
-        sum += depths[i];
-        i += 1;
-    }
-    sum
 }
 
 // The judged tally of a text's rows, every row judged: an answer is given exactly where they are clean.

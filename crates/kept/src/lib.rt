@@ -35,7 +35,7 @@ pub fn keep_figures(
         stats,
         depths,
         &text[0..out],
-        lanes,
+        Lanes { count: lanes },
         false,
         work,
     );

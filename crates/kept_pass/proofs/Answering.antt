@@ -35,8 +35,8 @@ module _ (L : ℕ) (data-text : List ℕ) (p : KeptPass) (text densities : List 
   pub own-part : take (p.out - 0) text ≡ minimised_text L data-text
   own-part = let n : p.out - 0 ≡ p.out = omega arith in ap (λ k. take k text) n ∙ x.text-is
 
-  pub all-recount : (trim : Bool) (work : List ℕ) → 4 ≤ L → L ≤ 10 → length data-text ≤ most_bytes → most_rows_in L (length data-text) ≤ length work → Room trim L (take (p.out - 0) text) work
-  all-recount trim work l m s w = subst (λ t. Room trim L t work) (sym own-part) (minimised-room trim L data-text work l m s w)
+  pub all-recount : (trim : Bool) (work : List ℕ) → 1 ≤ L → length data-text ≤ most_bytes → most_rows_in L (length data-text) ≤ length work → Room trim L (take (p.out - 0) text) work
+  all-recount trim work l s w = subst (λ t. Room trim L t work) (sym own-part) (minimised-room trim L data-text work l s w)
 
 -- a slice of zeros from its first entry on
 pub none-off : (n : ℕ) → replicate {A = ℕ} n 0 ≡ replicate (n - 0) 0

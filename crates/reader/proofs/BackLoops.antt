@@ -3,16 +3,14 @@
 use mathlib.Core.Path.{◌≡◌, refl, ap, sym, ◌∙◌, subst}
 use mathlib.Core.Logic.{⊎_elim}
 use mathlib.Core.Bool.{Bool, true, false, ◌&&◌, not}
-use mathlib.Core.List.{List, [], ◌∷◌, ◌++◌, map, map-append, append-nil}
+use mathlib.Core.List.{List, [], ◌∷◌, ◌++◌, map, map-append, append_assoc, append-nil}
 use Prim.Native.Nat.{ℕ, ◌+◌, ◌*◌, ◌<◌, ◌≤◌}
 use native.Mathlib.Nat.{le_trans, le_of_eq, mul_comm, le-div_iff_mul-le, mul-le-mul_right}
 use native.Mathlib.Omega.{arith}
 use borrow.Author.Tests.{leb-true, lt-leb}
 use lib.ListN.{length, get_or, take, length-append}
 use lib.Seq.{length-take-le, get_or-append_seam}
-use Rattle.std.specs.Prelude.{Option}
 use Rattle.std.specs.Borrow.{Bor}
-use Rattle.std.specs.Iterator.{Yields, YieldsFirstRef}
 use Rattle.definitions.specs.Lists.{only_if, after}
 use Rattle.definitions.specs.Lanes.{most_rows_in}
 use Rattle.definitions.specs.Lines.{Row, cut, is_row_line}
@@ -80,22 +78,16 @@ rows-bytes trim L text = le_trans (back-bytes trim L (cut text)) (le_of_eq (cut-
 
 -- ---- the loop
 
-abbrev pub Steps : List Row → Option (Bor Row) → List Row → Type 0
-Steps = YieldsFirstRef (λ rest. rest)
-
 -- the rows that have come
 abbrev pub came : List (Bor Row) → List Row
 came ls = map (λ x. x.now) ls
 
-pub came-more : (ls : List (Bor Row)) (x : Bor Row) → came (ls ++ (x ∷ [])) ≡ came ls ++ (x.now ∷ [])
+came-more : (ls : List (Bor Row)) (x : Bor Row) → came (ls ++ (x ∷ [])) ≡ came ls ++ (x.now ∷ [])
 came-more ls x = map-append (λ x. x.now) ls (x ∷ [])
-
-split : (s : List Row) (ls : List (Bor Row)) (t : List Row) → Yields Steps s ls t → s ≡ came ls ++ t
-split s [] t y = y
-split s (x ∷ ls) t y = y.1 ∙ ap (λ l. x.now ∷ l) (split y.0 ls t y.2)
 
 -- Rows of a text have come, with `rest` left to come. Few have, and an entry for each row of the text has room in a slice of `most_rows_in`.
 pub record BackCome (trim : Bool) (L : ℕ) (text : List ℕ) (rows rest : List Row) : Type 0 where
+  pub lanes : 4 ≤ L
   pub rows_are : rows_back trim L text ≡ rows ++ rest
   pub few : 5 * length rows ≤ length text + 1
   pub most : length (rows_back trim L text) ≤ most_rows_in L (length text)
@@ -104,20 +96,41 @@ all-most : (L n len : ℕ) → (L + 1) * n ≤ len + 1 → n ≤ most_rows_in L 
 unfolding most_rows_in
 all-most L n len h = (le-div_iff_mul-le {k = L + 1} (omega arith)).1 (le_trans (le_of_eq (mul_comm n (L + 1))) h)
 
-pub back-come : (trim : Bool) (L : ℕ) (text : List ℕ) (s : List Row) → s ≡ rows_back trim L text → (ls : List (Bor Row)) (t : List Row) → Yields Steps s ls t → 4 ≤ L → BackCome trim L text (came ls) t
-back-come trim L text s e ls t y w =
-    let parts = sym e ∙ split s ls t y in
+back-come : (trim : Bool) (L : ℕ) (text : List ℕ) (rows rest : List Row) → 4 ≤ L → rows_back trim L text ≡ rows ++ rest → BackCome trim L text rows rest
+back-come trim L text rows rest w parts =
     let five : 5 ≤ L + 1 = omega arith in
     let all = le_trans (mul-le-mul_right (length (rows_back trim L text)) five) (rows-bytes trim L text) in
     record {
+      lanes = w;
       rows_are = parts;
-      few = omega (arith, all, ap length parts, length-append (came ls) t);
+      few = omega (arith, all, ap length parts, length-append rows rest);
       most = all-most L (length (rows_back trim L text)) (length text) (rows-bytes trim L text);
     }
 
-module _ (trim : Bool) (L : ℕ) (text : List ℕ) (rows rest : List Row) (x : BackCome trim L text rows rest) where
+-- A pass holds K of the rows that have come.
+pub record BackHolds (trim : Bool) (L : ℕ) (text : List ℕ) (K : List Row → Type 0) (ls : List (Bor Row)) (rest : List Row) : Type 0 where
+  pub come : BackCome trim L text (came ls) rest
+  pub held : K (came ls)
+
+pub back-start : (trim : Bool) (L : ℕ) (text : List ℕ) {K : List Row → Type 0} {rest : List Row} → rest ≡ rows_back trim L text → 4 ≤ L → K [] → BackHolds trim L text K [] rest
+back-start trim L text {rest = rest} e w k = record { come = back-come trim L text [] rest w (sym e); held = k }
+
+-- one row more has come
+pub back-more : {trim : Bool} {L : ℕ} {text : List ℕ} {K K' : List Row → Type 0} {ls : List (Bor Row)} {rest below : List Row} → BackHolds trim L text K ls rest → (row : Bor Row) → rest ≡ row.now ∷ below
+    → K' (came ls ++ (row.now ∷ [])) → BackHolds trim L text K' (ls ++ (row ∷ [])) below
+back-more {trim = trim} {L = L} {text = text} {K' = K'} {ls = ls} {below = below} h row e k =
+    let more = sym (came-more ls row) in
+    record {
+      come =
+          subst (λ rows. BackCome trim L text rows below) more
+          (back-come trim L text (came ls ++ (row.now ∷ [])) below h.come.lanes
+          (h.come.rows_are ∙ ap (λ l. came ls ++ l) e ∙ sym (append_assoc (came ls) (row.now ∷ []) below)));
+      held = subst K' more k;
+    }
+
+module _ {trim : Bool} {L : ℕ} {text : List ℕ} {rows rest : List Row} (x : BackCome trim L text rows rest) where
   -- the next row
-  module _ (row : Row) (below : List Row) (e : rest ≡ row ∷ below) where
+  module _ {row : Row} {below : List Row} (e : rest ≡ row ∷ below) where
     pub next-all : rows_back trim L text ≡ rows ++ (row ∷ below)
     next-all = x.rows_are ∙ ap (λ l. rows ++ l) e
 

@@ -59,7 +59,7 @@ pub fn sheet_answers(
         counting.stats,
         counting.phantoms,
         &text[0..bytes],
-        lanes,
+        Lanes { count: lanes },
         true,
         work,
     );
@@ -67,7 +67,7 @@ pub fn sheet_answers(
         counting.stats,
         counting.phantoms,
         &text[0..bytes],
-        lanes,
+        Lanes { count: lanes },
         false,
         work,
     );

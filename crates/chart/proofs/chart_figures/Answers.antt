@@ -1,5 +1,6 @@
 -- `chart::chart_figures` meets its contract, by what the pass leaves.
 use mathlib.Core.Path.{ap, ◌∙◌}
+use native.Mathlib.Omega.{arith}
 use lib.Ieee.{of_bits, of_int}
 use lib.ListN.{length}
 use Rattle.definitions.specs.Lists.{padded}
@@ -11,7 +12,7 @@ use Rattle.chart.proofs.chart_figures.Goals as goal
 
 pub corrected_stats-corrected-requires : goal.corrected_stats-corrected-requires
 corrected_stats-corrected-requires c =
-    all-recount _ _ _ _ _ c.read_chart-p.ensures.kept _ c.args.work.now c.requires.le_lanes.0 c.requires.le_lanes.1 c.requires.le_lanes.2 c.requires.data_in_bounds_2
+    all-recount _ _ _ _ _ c.read_chart-p.ensures.kept _ c.args.work.now (omega arith) c.requires.le_lanes.2 c.requires.data_in_bounds_2
 
 pub returns : goal.returns
 unfolding of_bits of_int

@@ -12,14 +12,10 @@ use Rattle.definitions.specs.ReadBack.{rows_read_back}
 use Rattle.taps.proofs.Free.{free-told}
 use Rattle.taps.proofs.Masks.{below-at}
 use Rattle.reader.proofs.BackReading.{back-trimmed}
-use Rattle.reader.proofs.BackLoops.{BackCome, came, came-more, back-come, next-inside, next-here, next-wide, all-came, short-back}
+use Rattle.reader.proofs.BackLoops.{BackCome, came, back-start, back-more, next-inside, next-here, next-wide, all-came, short-back}
 use Rattle.judged.proofs.Tallying.{tallying-start, tallying-few, tallying-enough, tallying-row, tallying-taps, tallying-end}
-use Rattle.judged.proofs.tally_timing_rows.Goals.{At-loop-cells, In-Some, in-Mask, in-Other}
+use Rattle.judged.proofs.tally_timing_rows.Goals.{In-Some, in-Mask, in-Other}
 use Rattle.judged.proofs.tally_timing_rows.Goals as goal
-
-come : (c : At-loop-cells) → BackCome true c.args.lanes.count c.args.«data».now (came c.loop-cells.yielded) c.loop-cells.cells-iterator
-come c =
-    back-come _ _ _ _ (c.into_iter-cells-iterator.ensures.into_iter_gives ∙ c.back_rows-cells-items.ensures) _ _ c.loop-cells.yielded_by c.args.lanes.within.0
 
 -- the row that has come: how wide it is, and its place among all
 record Here (L : ℕ) (text : List ℕ) (rows : List Row) (cells : Row) : Type 0 where
@@ -27,31 +23,31 @@ record Here (L : ℕ) (text : List ℕ) (rows : List Row) (cells : Row) : Type 0
   here : get_or (rows_read_back L text) (length rows) [] ≡ cells
   inside : length rows < length (rows_read_back L text)
 
-here : (L : ℕ) (text : List ℕ) (rows rest : List Row) → BackCome true L text rows rest → (cells : Row) (below : List Row) → rest ≡ cells ∷ below → Here L text rows cells
-here L text rows rest x cells below e =
+here : {L : ℕ} {text : List ℕ} {rows rest : List Row} → BackCome true L text rows rest → {cells : Row} {below : List Row} → rest ≡ cells ∷ below → Here L text rows cells
+here {L = L} {text = text} x e =
     record {
-      wide = next-wide true L text rows rest x cells below e;
-      here = rw (← back-trimmed L text) (next-here true L text rows rest x cells below e);
-      inside = rw (← back-trimmed L text) (next-inside true L text rows rest x cells below e);
+      wide = next-wide x e;
+      here = rw (← back-trimmed L text) (next-here x e);
+      inside = rw (← back-trimmed L text) (next-inside x e);
     }
 
 row-here : (c : In-Some) → Here c.args.lanes.count c.args.«data».now (came c.loop-cells.yielded) c.in-Some.cells.now
-row-here c =
-    here _ _ _ _ (back-come _ _ _ _ (c.into_iter-cells-iterator.ensures.into_iter_gives ∙ c.back_rows-cells-items.ensures) _ _ c.loop-cells.yielded_by c.args.lanes.within.0) _ _
-    c.in-Some.ensures.steps
+row-here c = here c.loop-cells.invariant.come c.in-Some.ensures.steps
 
 -- the tally by some rows that are judged, and the row's entry stands in the work slice
 entry-room : (c : In-Some) → c.loop-cells.row < length c.args.work.now
 entry-room c =
-    let x = back-come _ _ _ _ (c.into_iter-cells-iterator.ensures.into_iter_gives ∙ c.back_rows-cells-items.ensures) _ _ c.loop-cells.yielded_by c.args.lanes.within.0 in
-    let k = c.loop-cells.invariant _ c.requires.entries.timed in
-    omega (arith, c.requires.work_room, x.most, k.size, next-inside _ _ _ _ _ x _ _ c.in-Some.ensures.steps)
+    let x = c.loop-cells.invariant.come in
+    let k = c.loop-cells.invariant.held _ c.requires.entries.timed in
+    omega (arith, c.requires.work_room, x.most, k.size, next-inside x c.in-Some.ensures.steps)
 
-few : (c : At-loop-cells) → 10 * length (came c.loop-cells.yielded) ≤ count_bound
-few c = omega (arith, (come c).few, c.requires.text_length)
+few : (c : In-Some) → 10 * length (came c.loop-cells.yielded) ≤ count_bound
+few c = omega (arith, c.loop-cells.invariant.come.few, c.requires.text_length)
 
 pub loop-cells-init : goal.loop-cells-init
-loop-cells-init c = λ J w. tallying-start _ _ _ _ c.new-tally.ensures
+loop-cells-init c =
+    back-start _ _ _ (c.into_iter-cells-iterator.ensures.into_iter_gives ∙ c.back_rows-cells-items.ensures) c.args.lanes.within.0
+    (λ J w. tallying-start _ _ _ _ c.new-tally.ensures)
 
 pub offset_bounds-work-row : goal.offset_bounds-work-row
 offset_bounds-work-row c = omega (arith, entry-room (goal.at.offset_bounds-work-row c).In-Some)
@@ -61,7 +57,7 @@ bounds-work-row c = entry-room (goal.at.bounds-work-row c).In-Some
 
 pub add_taps-requires : goal.add_taps-requires
 add_taps-requires c =
-    let k = tallying-few _ _ _ _ _ _ (c.loop-cells.invariant _ c.requires.entries.timed) (few (goal.at.add_taps-requires c).At-loop-cells) c.args.lanes.within.1 (short-back _ _) in
+    let k = tallying-few _ _ _ _ _ _ (c.loop-cells.invariant.held _ c.requires.entries.timed) (few (goal.at.add_taps-requires c).In-Some) c.args.lanes.within.1 (short-back _ _) in
     let long = (row-here (goal.at.add_taps-requires c).In-Some).wide in (
       rw c.for_lanes-table.ensures (below-at _ _ _ long (free-told c.free_taps.ensures c.in-Mask.is).mask),
       k.0,
@@ -70,8 +66,8 @@ add_taps-requires c =
 
 pub add_row-requires : goal.add_row-requires
 add_row-requires c =
-    let tally = c.loop-cells.invariant _ c.requires.entries.timed in
-    let k = tallying-few _ _ _ _ _ _ tally (few (goal.at.add_row-requires c).At-loop-cells) c.args.lanes.within.1 (short-back _ _) in
+    let tally = c.loop-cells.invariant.held _ c.requires.entries.timed in
+    let k = tallying-few _ _ _ _ _ _ tally (few (goal.at.add_row-requires c).In-Some) c.args.lanes.within.1 (short-back _ _) in
     let h = row-here (goal.at.add_row-requires c).In-Some in
     record {
       tally_room = (omega (arith, h.wide, c.args.lanes.within.1), k.0, k.1);
@@ -84,18 +80,18 @@ overflow_add-row c = omega (arith, entry-room (goal.at.overflow_add-row c).In-So
 pub loop-cells-preserved : goal.loop-cells-preserved
 loop-cells-preserved c =
     let h = row-here (goal.at.loop-cells-preserved c).In-Some in
-    λ J w.
-    rw came-more (elim c.match-free_taps.branch [
+    back-more c.loop-cells.invariant _ c.in-Some.ensures.steps
+    (λ J w. elim c.match-free_taps.branch [
       | in-Mask v ↦
           let free = free-told c.free_taps.ensures v.in-Mask.is in
           rw v.tally-is
-          (tallying-taps _ _ _ _ _ _ (c.loop-cells.invariant J w) _ h.wide h.here h.inside _ c.args.lanes.within.1 (short-back _ _) w _ free _ (v.add_taps.ensures _ free.mask))
+          (tallying-taps _ _ _ _ _ _ (c.loop-cells.invariant.held J w) _ h.wide h.here h.inside _ c.args.lanes.within.1 (short-back _ _) w _ free _ (v.add_taps.ensures _ free.mask))
       | in-Other v ↦
           rw v.tally-is
-          (tallying-row _ _ _ _ _ _ (c.loop-cells.invariant J w) _ h.wide h.here h.inside _ c.args.lanes.within.1 (short-back _ _) w _ v.add_row.ensures)
+          (tallying-row _ _ _ _ _ _ (c.loop-cells.invariant.held J w) _ h.wide h.here h.inside _ c.args.lanes.within.1 (short-back _ _) w _ v.add_row.ensures)
     ])
 
 pub returns : goal.returns
 returns c =
     λ J w.
-    tallying-end _ _ _ _ _ _ (c.loop-cells.invariant J w) (sym (back-trimmed _ _) ∙ all-came _ _ _ _ _ (come (goal.at.returns c).At-loop-cells) c.in-None.ensures.steps.0)
+    tallying-end _ _ _ _ _ _ (c.loop-cells.invariant.held J w) (sym (back-trimmed _ _) ∙ all-came c.loop-cells.invariant.come c.in-None.ensures.steps.0)

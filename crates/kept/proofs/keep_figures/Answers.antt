@@ -9,7 +9,7 @@ use Rattle.kept.proofs.keep_figures.Goals as goal
 pub corrected_stats-corrected-requires : goal.corrected_stats-corrected-requires
 corrected_stats-corrected-requires c =
     let pre = c.requires.le_lanes in
-    all-recount _ _ _ _ _ c.keep_chart-p.ensures _ c.args.work.now pre.0 pre.1 pre.2 c.requires.data_in_bounds.2
+    all-recount _ _ _ _ _ c.keep_chart-p.ensures _ c.args.work.now (omega arith) pre.2 c.requires.data_in_bounds.2
 
 pub returns : goal.returns
 returns c =

@@ -18,12 +18,12 @@ use Rattle.sheet_answers.proofs.sheet_answers.Goals as goal
 pub corrected_stats-main-requires : goal.corrected_stats-main-requires
 corrected_stats-main-requires c =
     let pre = c.requires.le_lanes in
-    all-recount _ _ _ _ _ c.read_chart-pass.ensures.kept _ c.args.work.now pre.0 pre.1 pre.2 c.requires.data_in_bounds_2.1
+    all-recount _ _ _ _ _ c.read_chart-pass.ensures.kept _ c.args.work.now (omega arith) pre.2 c.requires.data_in_bounds_2.1
 
 pub corrected_stats-kept-requires : goal.corrected_stats-kept-requires
 corrected_stats-kept-requires c =
     let pre = c.requires.le_lanes in
-    all-recount _ _ _ _ _ c.read_chart-pass.ensures.kept _ c.corrected_stats-main.new.work pre.0 pre.1 pre.2 (omega arith)
+    all-recount _ _ _ _ _ c.read_chart-pass.ensures.kept _ c.corrected_stats-main.new.work (omega arith) pre.2 (omega arith)
 
 -- the minimised text has no more rows than the text once its last byte is left out
 pub judge_minimised-judged-requires-clause-minimised_len_bound : goal.judge_minimised-judged-requires-clause-minimised_len_bound

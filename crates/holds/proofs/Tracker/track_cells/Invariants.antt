@@ -1,11 +1,6 @@
 -- The loop's invariant: the columns before `column` have this row too.
-use Prim.Native.Nat.{◌-◌}
-use lib.ListN.{length}
 use Rattle.holds.proofs.Sweep.{Sweeping}
 use Rattle.holds.proofs.Tracker.track_cells.Given as goal
 
 abbrev pub invariant-loop-column : goal.invariant-loop-column
 invariant-loop-column l = Sweeping l.row l.cells l.initial.work l.initial.self l.self l.work l.ends l.column
-
-abbrev pub decreases-loop-column : goal.decreases-loop-column
-decreases-loop-column l = length l.cells - l.column

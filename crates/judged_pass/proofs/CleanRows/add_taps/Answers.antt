@@ -8,5 +8,5 @@ returns c =
     record {
       depths = free-passed c.args.self.now _ row c.requires.1 f;
       stats = c.judge_taps-self.ensures row f.mask;
-      ready = record { low = c.requires.1.low; active = c.requires.1.active; busy = c.requires.1.busy };
+      ready = record { ten = c.requires.1.ten; low = c.requires.1.low; active = c.requires.1.active; busy = c.requires.1.busy };
     }
