@@ -19,9 +19,7 @@ fn fill_densities(data: &[u8], lanes: Lanes, densities: &mut [u32]) -> usize
     let mut steps: u32 = 0;
     for line in reader::charts::chart_lines(data, lanes) {
         match line {
-            ChartLine::Row(row) => {
-                steps += cells::one_if(cells::row_has_note(row));
-            }
+            ChartLine::Row(row) => steps += u32::from(cells::row_has_note(row)),
             ChartLine::Comma => {
                 densities[m] = steps;
                 m += 1;

@@ -77,14 +77,11 @@ impl TimingPass {
 }
 
 // Whether the byte is a 2 or 4.
+#[tactic(auto, unfolding(definitions::specs::Tracker::hold_at, definitions::specs::Cells::cell_of))]
 fn is_head(b: u8) -> bool
     ensures { result ≡ is_opening (hold_at b) }
 {
-    match b {
-        b'2' => true,
-        b'4' => true,
-        _ => false,
-    }
+    matches!(b, b'2' | b'4')
 }
 
 // Whether any of the bytes is. It looks at every byte, so that no turn of the loop branches on one.

@@ -6,6 +6,7 @@ use native.Mathlib.Omega.{arith}
 use lib.ListN.{length}
 use Rattle.definitions.specs.Lists.{number_of_bool, padded}
 use Rattle.definitions.specs.Figures.{density}
+use Rattle.definitions.proofs.Lists.{one-le}
 use Rattle.reader.proofs.ChartLoops.{Come, holds-start, holds-row, holds-comma, holds-over}
 use Rattle.scans.proofs.Raw.{densities-raw}
 use Rattle.scans.proofs.Filling.{Filled, filling-start, filling-row, filling-comma, filling-over, filled-count, filled-slice}
@@ -24,12 +25,12 @@ loop-line-init c = holds-start _ _ c.args.lanes.within.0 (filling-start density 
 pub overflow_add-steps : goal.overflow_add-steps
 overflow_add-steps c =
     let x = c.loop-line.invariant in
-    omega (arith, c.one_if-steps.ensures.1, steps-few _ (length c.args.«data».now + 1) _ x.held.state (omega (arith, x.few.fifth)))
+    omega (arith, c.from-steps.ensures, one-le c.row_has_note.result, steps-few _ (length c.args.«data».now + 1) _ x.held.state (omega (arith, x.few.fifth)))
 
 pub loop-line-preserved-in-Row : goal.loop-line-preserved-in-Row
 loop-line-preserved-in-Row c =
     holds-row _ _ (come (goal.at.loop-line-preserved-in-Row c).At-loop-line) _ _ c.next.ensures.steps c.in-Some.is _ c.in-Row.is
-    (filling-row density (Steps _) (Steps _) _ _ _ (steps-more _ _ _ (c.one_if-steps.ensures.0 ∙ ap number_of_bool c.row_has_note.ensures)))
+    (filling-row density (Steps _) (Steps _) _ _ _ (steps-more _ _ _ (c.from-steps.ensures ∙ ap number_of_bool c.row_has_note.ensures)))
     c.loop-line.invariant
 
 pub loop-line-preserved : goal.loop-line-preserved
