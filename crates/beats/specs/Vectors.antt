@@ -5,17 +5,19 @@ use Rattle.std.specs.Float.{binary32, binary64}
 use Rattle.std.specs.Float.Ieee.{round, add, mul, div, of_int, to_bits}
 use Rattle.definitions.specs.Beats.{step, fused, beat_of_row, beat, whole, last_row, row_to_beat}
 
-abbrev Result : Type 0
+abbrev pub Result : Type 0
 Result = ℕ × ℕ × ℕ × ℕ × ℕ
 
-right : Result → Bool
+-- the bits of both beats are those of a result
+unfoldable pub right : Result → Bool
 right t = to_bits binary32 (beat_of_row t.0 t.1 t.2) == t.3 && to_bits binary64 (row_to_beat (last_row t.0 t.1 t.2)) == t.4
 
-all : List Result → Bool
-all [] = true
-all (t ∷ l) = right t && all l
+-- of each of some results
+abbrev pub all_right : List Result → Bool
+all_right [] = true
+all_right (t ∷ l) = right t && all_right l
 
-results : List Result
+unfoldable pub results : List Result
 results =
     (0, 0, 1, 0, 0) ∷
     (0, 0, 3, 0, 0) ∷
@@ -66,6 +68,6 @@ results =
     (8388608, 3, 4, 1275068417, 4719772409886932992) ∷
     (8388608, 4194302, 4194303, 1275068417, 4719772410021150720) ∷ []
 
-results-right : all results ≡ true
-unfolding right all results beat_of_row fused step row_to_beat last_row whole beat round add mul div of_int to_bits
+pub results-right : all_right results ≡ true
+unfolding right results beat_of_row fused step row_to_beat last_row whole beat round add mul div of_int to_bits
 results-right = refl

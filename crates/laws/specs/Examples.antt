@@ -1,7 +1,12 @@
--- What the tables of examples say, as statements.
-use Rattle.std.specs.Prelude.{◌≡◌, map}
+-- What the examples say, as statements.
+use Rattle.std.specs.Prelude.{◌≡◌, true, map}
+use Rattle.definitions.specs.Damage.{Differ, DamageStays}
+use Rattle.definitions.specs.DamageExample.{old_text, new_text}
+use Rattle.definitions.specs.Objects.{last_beat_of}
 use Rattle.definitions.specs.Examples as papers
 use Rattle.definitions.specs.RequestExamples as requests
+use Rattle.beats.specs.Vectors.{all_right, results}
+use Rattle.sheet.specs.Card.{card}
 
 -- of each example of the papers: the figures that the definitions give are those that the table says
 abbrev pub ExamplesHold : Type 0
@@ -10,3 +15,21 @@ ExamplesHold = map papers.given_by_definitions papers.table ≡ map papers.said 
 -- of each example of the requests: the answer that the definitions give is the one that the table says
 abbrev pub RequestExamplesHold : Type 0
 RequestExamplesHold = map (λ (e : requests.Example). requests.sm_told (papers.bytes e.file) e.k) requests.table ≡ map (λ (e : requests.Example). e.answer) requests.table
+
+-- what the card prints for its example; `|` is byte 10
+abbrev pub CardExample : Type 0
+CardExample =
+    card (papers.bytes "1000|0000|0100|0000|;|")
+    ≡ papers.bytes "measures 1|rows 2|arrows 2|steps 2|notes 2|last 96|m 0 2 1|n 0 0 0 -|n 1 1 0 -|"
+
+-- of each computed result: the row beat and the last beat that the definitions give have its bits
+abbrev pub BeatsRight : Type 0
+BeatsRight = all_right results ≡ true
+
+-- the two texts of the damage theorem's example differ only in lines of measure 1, and the rest stays
+abbrev pub DamageMet : Type 0
+DamageMet = Differ 4 1 old_text new_text × DamageStays 4 1 old_text new_text
+
+-- and so does their last beat
+abbrev pub LastBeatStays : Type 0
+LastBeatStays = last_beat_of 4 old_text ≡ last_beat_of 4 new_text

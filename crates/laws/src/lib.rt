@@ -4,10 +4,11 @@
 
 ghost use Rattle.std.specs.Prelude.{ℕ, List};
 ghost use Rattle.definitions.specs.Damage.{Differ, DamageStays};
+ghost use Rattle.definitions.specs.Halving.{ReduceHalved};
 ghost use Rattle.definitions.specs.WriterMakes.{WriterMakes};
 ghost use Rattle.definitions.specs.SmBlocks.{DataInFile, SemicolonLast, BlocksApart, LeastRefused};
 ghost use Rattle.files.specs.Rest.{RestAnswered};
-ghost use Rattle.laws.specs.Examples.{ExamplesHold, RequestExamplesHold};
+ghost use Rattle.laws.specs.Examples.{ExamplesHold, RequestExamplesHold, CardExample, BeatsRight, DamageMet, LastBeatStays};
 
 // The papers' examples are what the definitions give.
 pub fn examples_hold()
@@ -19,9 +20,34 @@ pub fn request_examples_hold()
     ensures { RequestExamplesHold }
 {}
 
+// The card's example, too.
+pub fn card_example()
+    ensures { CardExample }
+{}
+
+// Row beats and last beats that the Rust computed are what the definitions give.
+pub fn beats_right()
+    ensures { BeatsRight }
+{}
+
+// Minimising by the stride is halving as long as it goes.
+pub fn reduce_halved()
+    ensures { ReduceHalved }
+{}
+
 // Where two texts differ only in lines of one measure, the rest of every answer is the same.
 pub fn damage_stays()
     ensures { (L d : ℕ) (old new : List ℕ) → Differ L d old new → DamageStays L d old new }
+{}
+
+// Two texts meet each hypothesis of that, and what it promises holds of them.
+pub fn damage_met()
+    ensures { DamageMet }
+{}
+
+// Theirs are met under which the last beat stays, too.
+pub fn last_beat_stays()
+    ensures { LastBeatStays }
 {}
 
 // A note record is what the writer makes of a note, and is read back as that note.

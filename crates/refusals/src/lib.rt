@@ -1,10 +1,10 @@
 // The checks of a call on a chart's text, each by the lengths of what it was lent. A call makes them in order, and ends with the first that refuses.
 #![tactic(auto)]
 
-ghost use Rattle.std.specs.Prelude.{◌≡◌, ◌+◌, ◌*◌, ◌/◌, ◌≤◌, OnOk};
+ghost use Rattle.std.specs.Prelude.{◌≡◌, ◌+◌, ◌*◌, ◌/◌, ◌≤◌, nat_lt, OnOk};
 ghost use Rattle.definitions.specs.Sizes.{most_bytes};
 ghost use Rattle.definitions.specs.Lanes.{most_rows_in};
-ghost use Rattle.definitions.specs.Refusals.{long_text, short_text, short_measures, short_beats, short_work, short_notes};
+ghost use Rattle.definitions.specs.Refusals.{refused_if, long_text, short_text, short_measures, short_beats, short_work, short_notes};
 
 use definitions::{Lanes, Refusal};
 
@@ -20,6 +20,17 @@ pub fn text_fits(len: usize) -> Result<(), Refusal>
     Ok(())
 }
 
+// A slice has room for what a call may write to it; where it has not, the call is refused so.
+fn has_room(room: usize, needed: usize, refusal: Refusal) -> Result<(), Refusal>
+    ensures value { result ≡ refused_if (nat_lt room needed) refusal }
+    ensures ok { OnOk result (needed ≤ room) }
+{
+    if room < needed {
+        return Err(refusal);
+    }
+    Ok(())
+}
+
 // The text slice has room for a text of that length.
 #[tactic(auto, unfolding(definitions::specs::Refusals::short_text))]
 pub fn room_for_text(len: usize, room: usize) -> Result<(), Refusal>
@@ -27,10 +38,7 @@ pub fn room_for_text(len: usize, room: usize) -> Result<(), Refusal>
     ensures value { result ≡ short_text len room }
     ensures ok { OnOk result (len + 1 ≤ room) }
 {
-    if room < len + 1 {
-        return Err(Refusal::ShortText);
-    }
-    Ok(())
+    has_room(room, len + 1, Refusal::ShortText)
 }
 
 // The measure slice has room for the measures of such a text.
@@ -40,10 +48,7 @@ pub fn room_for_measures(len: usize, room: usize) -> Result<(), Refusal>
     ensures value { result ≡ short_measures len room }
     ensures ok { OnOk result ((len + 1) / 2 + 1 ≤ room) }
 {
-    if room < (len + 1) / 2 + 1 {
-        return Err(Refusal::ShortMeasures);
-    }
-    Ok(())
+    has_room(room, (len + 1) / 2 + 1, Refusal::ShortMeasures)
 }
 
 // The most rows of such a text at so many lanes.
@@ -63,11 +68,7 @@ pub fn room_for_beats(lanes: Lanes, len: usize, room: usize) -> Result<(), Refus
     ensures value { result ≡ short_beats lanes.count len room }
     ensures ok { OnOk result (most_rows_in lanes.count len ≤ room) }
 {
-    let beats = most_rows(lanes, len);
-    if room < beats {
-        return Err(Refusal::ShortBeats);
-    }
-    Ok(())
+    has_room(room, most_rows(lanes, len), Refusal::ShortBeats)
 }
 
 // The work slice has room for its rows.
@@ -77,11 +78,7 @@ pub fn room_for_work(lanes: Lanes, len: usize, room: usize) -> Result<(), Refusa
     ensures value { result ≡ short_work lanes.count len room }
     ensures ok { OnOk result (most_rows_in lanes.count len ≤ room) }
 {
-    let rows = most_rows(lanes, len);
-    if room < rows {
-        return Err(Refusal::ShortWork);
-    }
-    Ok(())
+    has_room(room, most_rows(lanes, len), Refusal::ShortWork)
 }
 
 // The note slice has room for a note in each cell of its rows.
@@ -91,8 +88,6 @@ pub fn room_for_notes(lanes: Lanes, len: usize, room: usize) -> Result<(), Refus
     ensures value { result ≡ short_notes lanes.count len room }
     ensures ok { OnOk result (10 * lanes.count * most_rows_in lanes.count len ≤ room) }
 {
-    if room < 10 * lanes.count * most_rows(lanes, len) {
-        return Err(Refusal::ShortNotes);
-    }
-    Ok(())
+    let needed = 10 * lanes.count * most_rows(lanes, len);
+    has_room(room, needed, Refusal::ShortNotes)
 }

@@ -1,0 +1,6 @@
+use Rattle.definitions.specs.DamageExample.{they_differ}
+use Rattle.definitions.proofs.Damage.Example.{example-stays}
+use Rattle.laws.proofs.damage_met.Goals as goal
+
+pub returns : goal.returns
+returns c = (they_differ, example-stays)
