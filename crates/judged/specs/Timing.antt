@@ -1,5 +1,6 @@
 -- What the private functions of the judged tallies work with: the rows' entries in the work slice, and the tally by them.
-use Rattle.std.specs.Prelude.{Bool, true, false, List, ℕ, ◌+◌, ◌-◌}
+use Rattle.std.specs.Borrow.{Bor}
+use Rattle.std.specs.Prelude.{Option, None, Some, Bool, true, List, ℕ, ◌+◌, ◌-◌}
 use Rattle.definitions.specs.Lines.{Row}
 use Rattle.definitions.specs.Tally.{empty_stats}
 use Rattle.definitions.specs.Judged.{judged_at, judged_sum, judge_row}
@@ -10,10 +11,10 @@ use Rattle.holds.specs.declared.Tracker.{Tracker}
 use Rattle.row_tally.specs.Kept.{row_by_mask}
 use Rattle.judged.specs.declared.TimingStats.{TimingStats}
 
--- which rows are judged: all, or by the flags
-abbrev pub judged_by : Bool → List ℕ → ℕ → Bool
-judged_by true flags i = true
-judged_by false flags i = judged_at flags i
+-- which rows are judged: all where there are no flags, or by the flags
+abbrev pub judged_by : Option (Bor (List ℕ)) → ℕ → Bool
+judged_by None i = true
+judged_by (Some flags) i = judged_at flags.now i
 
 -- what a row adds up to by its entry, and the holds that it opens
 unfoldable pub timing_sum : ℕ → Row → RowSum

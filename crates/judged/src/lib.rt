@@ -60,26 +60,29 @@ impl TimingStats {
     }
 }
 
-// Whether row i is judged: every row where all are, else by its flag. A row past the flags is judged.
+// Whether row i is judged: every row where there are no flags, else by its own. A row past the flags is judged.
 #[tactic(auto, unfolding(definitions::specs::Judged::judged_at))]
-fn is_judged(all: bool, flags: &[u8], i: usize) -> bool
-    ensures { result ≡ judged_by all flags.now i }
+fn is_judged(flags: Option<&[u8]>, i: usize) -> bool
+    ensures { result ≡ judged_by flags.entry i }
 {
-    all || flags.get(i).copied().unwrap_or(1) != 0
+    match flags {
+        None => true,
+        Some(flags) => flags.get(i).copied().unwrap_or(1) != 0,
+    }
 }
 
 // The entry of each row in the work slice, as the Rust's `TimingRow`: its paired heads, how many holds of judged heads end there, and whether
 // it is judged.
-fn track_timing_rows(data: &[u8], lanes: Lanes, all: bool, flags: &[u8], work: &mut [u16])
+fn track_timing_rows(data: &[u8], lanes: Lanes, flags: Option<&[u8]>, work: &mut [u16])
     requires text_length { length «data».now ≤ most_bytes }
     requires work_room { most_rows_in lanes.count (length «data».now) ≤ length work.old }
-    ensures { WorkEntries (judged_by all flags.now) (rows_read_back lanes.count «data».now) work.new }
+    ensures { WorkEntries (judged_by flags.entry) (rows_read_back lanes.count «data».now) work.new }
 {
     slices::zero_past(&mut *work, 0, 0);
     let mut tracker = Tracker::new();
     let mut row: u32 = 0;
     for cells in reader::back::back_rows(data, lanes, true) {
-        let judged = is_judged(all, flags, row as usize);
+        let judged = is_judged(flags, row as usize);
         tracker.track_row(row, cells, judged, &mut *work);
         row += 1;
     }
@@ -107,13 +110,13 @@ fn tally_timing_rows(data: &[u8], lanes: Lanes, work: &[u16]) -> ArrowStats
 }
 
 // The judged tally of an accepted text by the two loops, through the work slice, which is left 0 throughout.
-fn judge_rows(data: &[u8], lanes: Lanes, all: bool, flags: &[u8], work: &mut [u16]) -> ArrowStats
+fn judge_rows(data: &[u8], lanes: Lanes, flags: Option<&[u8]>, work: &mut [u16]) -> ArrowStats
     requires text_length { length «data».now ≤ most_bytes }
     requires work_room { most_rows_in lanes.count (length «data».now) ≤ length work.old }
-    ensures value { result ≡ judged_rows lanes.count (judged_by all flags.now) (rows_read_back lanes.count «data».now) }
+    ensures value { result ≡ judged_rows lanes.count (judged_by flags.entry) (rows_read_back lanes.count «data».now) }
     ensures work_after { work.new ≡ padded 0 (length work.old) [] }
 {
-    track_timing_rows(data, lanes, all, flags, &mut *work);
+    track_timing_rows(data, lanes, flags, &mut *work);
     let stats = tally_timing_rows(data, lanes, &*work);
     slices::zero_past(work, 0, 0);
     stats
@@ -125,39 +128,39 @@ fn judge_rows(data: &[u8], lanes: Lanes, all: bool, flags: &[u8], work: &mut [u1
 pub fn judge_accepted(
     data: &[u8],
     lanes: Lanes,
-    all: bool,
-    flags: &[u8],
+    flags: Option<&[u8]>,
     work: &mut [u16],
 ) -> ArrowStats
     requires text_length { length «data».now ≤ most_bytes }
     requires work_room { most_rows_in lanes.count (length «data».now) ≤ length work.old }
-    ensures value { result ≡ judged_rows lanes.count (judged_by all flags.now) (rows_read_back lanes.count «data».now) }
+    ensures value { result ≡ judged_rows lanes.count (judged_by flags.entry) (rows_read_back lanes.count «data».now) }
     ensures work_after { work.new ≡ padded 0 (length work.old) [] }
 {
-    if all && let Some(stats) = judged_pass::judge_clean(data, lanes) {
+    if flags.is_none()
+        && let Some(stats) = judged_pass::judge_clean(data, lanes)
+    {
         slices::zero_past(work, 0, 0);
         return stats;
     }
-    judge_rows(data, lanes, all, flags, work)
+    judge_rows(data, lanes, flags, work)
 }
 
-// The judged tally of a text where all rows are judged, or else by the flags.
+// The judged tally of a text where all rows are judged, or by the flags where there are some.
 #[tactic(auto, unfolding(definitions::specs::Entries::judged_checked))]
 fn judge(
     data: &[u8],
     lanes: usize,
-    all: bool,
-    flags: &[u8],
+    flags: Option<&[u8]>,
     work: &mut [u16],
 ) -> Result<ArrowStats, Refusal>
-    ensures value { result ≡ judged_checked lanes «data».now work.old (judged_rows (lanes_of lanes) (judged_by all flags.now) (rows_read_back (lanes_of lanes) «data».now)) }
+    ensures value { result ≡ judged_checked lanes «data».now work.old (judged_rows (lanes_of lanes) (judged_by flags.entry) (rows_read_back (lanes_of lanes) «data».now)) }
     ensures work_after { work.new ≡ judged_work lanes «data».now work.old }
 {
     let len = data.len();
     refusals::text_fits(len)?;
     let columns = Lanes::in_force(lanes);
     refusals::room_for_work(columns, len, work.len())?;
-    Ok(judge_accepted(data, columns, all, flags, work))
+    Ok(judge_accepted(data, columns, flags, work))
 }
 
 // The tally with every row judged.
@@ -170,7 +173,7 @@ pub fn process_rows_judgable(
     ensures value { result ≡ judged_answer lanes «data».now work.old }
     ensures work_after { work.new ≡ judged_work lanes «data».now work.old }
 {
-    judge(data, lanes, true, b"", work)
+    judge(data, lanes, None, work)
 }
 
 // The tally with one flag byte a row: 0 unjudged, else judged.
@@ -184,5 +187,5 @@ pub fn process_timing_rows(
     ensures value { result ≡ flagged_answer lanes «data».now work.old flags.now }
     ensures work_after { work.new ≡ judged_work lanes «data».now work.old }
 {
-    judge(data, lanes, false, flags, work)
+    judge(data, lanes, Some(flags), work)
 }

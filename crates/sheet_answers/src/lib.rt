@@ -25,7 +25,7 @@ fn judge_minimised(minimised: &[u8], lanes: usize, work: &mut [u16]) -> ArrowSta
     ensures work_after { work.new ≡ padded 0 (length work.old) [] }
 {
     let end = minimised.len().saturating_sub(1);
-    judged::judge_accepted(&minimised[..end], Lanes { count: lanes }, true, b"", work)
+    judged::judge_accepted(&minimised[..end], Lanes { count: lanes }, None, work)
 }
 
 // All answers of an accepted text, and zeros past each in the lent slices. One pass over the text serves both calls: their tallies differ only in

@@ -6,4 +6,4 @@ use Rattle.judged.proofs.Tracking.{Tracking}
 use Rattle.judged.proofs.track_timing_rows.Given as goal
 
 abbrev pub invariant-loop-cells : goal.invariant-loop-cells
-invariant-loop-cells l = BackHolds true l.fn.lanes.count l.data (λ rows. Tracking (judged_by l.all l.flags) rows l.row l.tracker l.work) l.yielded l.cells-iterator
+invariant-loop-cells l = BackHolds true l.fn.lanes.count l.data (λ rows. Tracking (judged_by l.fn.flags) rows l.row l.tracker l.work) l.yielded l.cells-iterator
