@@ -4,6 +4,7 @@ use mathlib.Core.Bool.{Bool, true, false, cond}
 use mathlib.Core.List.{List, [], ◌∷◌}
 use Prim.Native.Nat.{ℕ, suc, ◌+◌, ◌-◌, ◌≤◌, ◌<◌}
 use native.Mathlib.Omega.{arith}
+use Rattle.std.proofs.Common.{rules}
 use native.Mathlib.Decide.{dec_lt}
 use lib.ListN.{length, drop, length-drop, drop_of_length-le}
 use lib.Seq.{drop-drop}
@@ -53,6 +54,12 @@ first-moved word p at (line ∷ lines) = go (is_tagged word line) (first-moved w
     go true ih = ap (λ e. Some (record { line = p + at; end = e })) (omega arith)
     go false ih = ap (λ n. first_tag word n lines) (omega arith) ∙ ih
 
+-- only an empty word stands at the beginning of every line
+pub untagged : (word line : List ℕ) → starts_with nat_eq line word ≡ false → 0 < length word
+untagged [] [] e = absurd (search rules)
+untagged [] (b ∷ line) e = absurd (search rules)
+untagged (b ∷ word) line e = omega arith
+
 -- an empty text has no tag
 pub tag-empty : (word : List ℕ) → 0 < length word → after_tag word [] ≡ None
 unfolding after_tag first_tag is_tagged
@@ -86,13 +93,13 @@ module _ (word s line bare : List ℕ) (el : line ≡ first_line s) (eb : bare �
       ∙ ap (option_map (λ (t : Tag). drop t.end s)) (tag-here word s 0 line bare (omega arith) el eb e)
       ∙ ap (λ n. Some (drop n s)) (omega arith)
 
-  pub after-next : 0 < length word → starts_with nat_eq bare word ≡ false → after_tag word s ≡ after_tag word (after 10 s)
+  pub after-next : starts_with nat_eq bare word ≡ false → after_tag word s ≡ after_tag word (after 10 s)
   unfolding after_tag after first_line
-  after-next some e =
+  after-next e =
       let next : 0 + length line + 1 ≡ suc (length (up_to 10 s)) = omega (arith, ap length el) in
       ap (λ ls. option_map (λ (t : Tag). drop t.end s) (first_tag word 0 ls)) (sym (lines_start s))
       ∙ ap (option_map (λ (t : Tag). drop t.end s)) (tag-next word s 0 line bare (omega arith) el eb e)
-      ∙ tag-from word s (0 + length line + 1) some
+      ∙ tag-from word s (0 + length line + 1) (untagged word bare e)
       ∙ ap (λ n. after_tag word (drop n s)) next
 
 -- a text's first line is no longer than the text, and what is below it is shorter

@@ -4,7 +4,7 @@
 
 pub mod sm;
 
-ghost use Rattle.std.specs.Prelude.{◌≡◌, ◌<◌, length, option_copied};
+ghost use Rattle.std.specs.Prelude.{◌≡◌, length, option_copied};
 ghost use Rattle.definitions.specs.Lists.{up_to, through, after};
 ghost use Rattle.definitions.specs.SmFile.{without_end_blanks, type_of, lanes_of_type};
 ghost use Rattle.files.specs.Tags.{after_first, after_tag};
@@ -81,17 +81,18 @@ pub fn type_lanes(name: &[u8]) -> Option<usize>
 
 /// What follows the tag of the first line that begins, after blanks, with `word`.
 pub fn next_tag<'a>(text: &'a [u8], word: &[u8]) -> Option<&'a [u8]>
-    requires { 0 < length word.now }
     ensures { option_copied result ≡ after_tag word.now text.now }
 {
     let mut rest = text;
-    while !rest.is_empty() {
+    loop {
         let (line, below) = lines::split_line(rest);
         let bare = lines::skip_ws(line);
         if bare.starts_with(word) {
             return Some(&rest[line.len() - bare.len() + word.len()..]);
         }
+        if rest.is_empty() {
+            return None;
+        }
         rest = below;
     }
-    None
 }

@@ -5,11 +5,11 @@ use Rattle.definitions.proofs.Lists.{starts_with-length}
 use Rattle.definitions.proofs.ChartRows.{trim-short}
 use Rattle.lines.proofs.Trims.{part-all}
 use Rattle.files.specs.Tags.{after_tag}
-use Rattle.files.proofs.Tags.{tag-empty, after-here, after-next, line-short, below-less}
+use Rattle.files.proofs.Tags.{untagged, tag-empty, after-here, after-next, line-short, below-less}
 use Rattle.files.proofs.next_tag.Goals as goal
 
 -- the tag stands on the line
-within : (c : goal.Then-starts_with) → (length c.skip_ws-bare.result.now ≤ length c.split_line.result.0.now) × (length c.args.word.now ≤ length c.skip_ws-bare.result.now) × (length c.split_line.result.0.now ≤ length c.loop-rest.rest.now)
+within : (c : goal.Then-starts_with) → (length c.skip_ws-bare.result.now ≤ length c.split_line.result.0.now) × (length c.args.word.now ≤ length c.skip_ws-bare.result.now) × (length c.split_line.result.0.now ≤ length c.loop-below.rest.now)
 within c =
     (rw c.skip_ws-bare.ensures (trim-short _), starts_with-length _ _ (sym c.starts_with.ensures.value ∙ c.if-starts_with.true), rw c.split_line.ensures.line (line-short _))
 
@@ -25,18 +25,19 @@ slice_bounds-result-count c = let w = within c in omega (arith, w.0, w.1, w.2)
 pub returns-then-starts_with : goal.returns-then-starts_with
 returns-then-starts_with c =
     rw part-all
-    (sym (c.loop-rest.invariant ∙ after-here _ _ _ _ c.split_line.ensures.line c.skip_ws-bare.ensures (sym c.starts_with.ensures.value ∙ c.if-starts_with.true)))
+    (sym (c.loop-below.invariant ∙ after-here _ _ _ _ c.split_line.ensures.line c.skip_ws-bare.ensures (sym c.starts_with.ensures.value ∙ c.if-starts_with.true)))
 
-pub loop-rest-smaller : goal.loop-rest-smaller
-loop-rest-smaller c = below-less _ _ (search rules) c.split_line.ensures.rest
+pub loop-below-smaller : goal.loop-below-smaller
+loop-below-smaller c = below-less _ _ (search rules) c.split_line.ensures.rest
 
-pub loop-rest-preserved : goal.loop-rest-preserved
-loop-rest-preserved c =
-    c.loop-rest.invariant
-    ∙ after-next _ _ _ _ c.split_line.ensures.line c.skip_ws-bare.ensures c.requires (sym c.starts_with.ensures.value ∙ c.if-starts_with.false)
+pub loop-below-preserved : goal.loop-below-preserved
+loop-below-preserved c =
+    c.loop-below.invariant
+    ∙ after-next _ _ _ _ c.split_line.ensures.line c.skip_ws-bare.ensures (sym c.starts_with.ensures.value ∙ c.if-starts_with.false)
     ∙ ap (after_tag c.args.word.now) (sym c.split_line.ensures.rest)
 
-pub returns : goal.returns
-returns c =
-    let ended = nil_from_length c.loop-rest.rest.now (search rules) in
-    sym (c.loop-rest.invariant ∙ ap (after_tag c.args.word.now) ended ∙ tag-empty c.args.word.now c.requires)
+pub returns-then-is_empty : goal.returns-then-is_empty
+returns-then-is_empty c =
+    let ended = nil_from_length c.loop-below.rest.now (search rules) in
+    let some = untagged _ _ (sym c.starts_with.ensures.value ∙ c.if-starts_with.false) in
+    sym (c.loop-below.invariant ∙ ap (after_tag c.args.word.now) ended ∙ tag-empty c.args.word.now some)
