@@ -1,2 +1,2 @@
--- Laws of the tests that an export makes before it asks its leaf.
-pub mod Taken
+-- Laws of the powers of two that divide a number of 64 bits.
+pub mod Powers

@@ -1,7 +1,6 @@
 -- The answers of the exports as numbers: what the leaf's own definition gives, and for an input that the leaf does not take a number that it
 -- never gives. Such a call writes nothing. `old` is what a lent slice held before the call.
-use Rattle.std.specs.Prelude.{Bool, cond, ◌&&◌, ◌||◌, List, [], ◌∷◌, ◌++◌, ℕ, ◌+◌, ◌*◌, ◌/◌, ◌%◌, ◌^◌, eqb, leb, ltb, length, take, drop, Float}
-use Rattle.std.specs.Prelude.{Option, None, Some}
+use Rattle.std.specs.Prelude.{Option, Some, None, Bool, if◌then◌else◌, ◌&&◌, ◌||◌, List, [], ◌∷◌, ◌++◌, ℕ, ◌+◌, ◌*◌, ◌/◌, ◌%◌, ◌^◌, ◌==◌, nat_le, nat_lt, length, take, drop, Float}
 use Rattle.std.specs.Float.{binary64}
 use Rattle.std.specs.Float.Ieee.{to_bits}
 use Rattle.definitions.specs.Sizes.{measures_bound, row_count_bound}
@@ -60,7 +59,7 @@ number_of_taps Other = 256
 
 -- the mask of a row's first n cells; 257 where it has fewer
 unfoldable pub mask_number : ℕ → Row → ℕ
-mask_number n row = cond (ltb (length row) n) 257 (number_of_taps (tap_mask (take n row)))
+mask_number n row = if nat_lt (length row) n then 257 else number_of_taps (tap_mask (take n row))
 
 -- a row's sum in the order of its fields
 abbrev pub sum_numbers : RowSum → List ℕ
@@ -82,63 +81,63 @@ sum_numbers s =
 
 -- n rows of L bytes, L not 0, stand w bytes apart in `len` bytes from `start` on
 unfoldable pub rows_in_bounds : ℕ → ℕ → ℕ → ℕ → ℕ → Bool
-rows_in_bounds len start n w L = ltb 0 L && (leb L w && leb (start + n * w) len)
+rows_in_bounds len start n w L = nat_lt 0 L && (nat_le L w && nat_le (start + n * w) len)
 
 unfoldable pub stride_number : List ℕ → ℕ → ℕ → ℕ → ℕ → ℕ
-stride_number text start n w L = cond (rows_in_bounds (length text) start n w L) (stride (rows_at w L n (drop start text))) no_answer
+stride_number text start n w L = if rows_in_bounds (length text) start n w L then stride (rows_at w L n (drop start text)) else no_answer
 
 -- n blocks of w bytes stand there, n not 0 and a multiple of 2 ^ shift
 unfoldable pub blocks_in_bounds : ℕ → ℕ → ℕ → ℕ → ℕ → Bool
-blocks_in_bounds len start n shift w = ltb 0 n && (eqb (n % 2 ^ shift) 0 && rows_in_bounds len start n w w)
+blocks_in_bounds len start n shift w = nat_lt 0 n && (n % 2 ^ shift == 0 && rows_in_bounds len start n w w)
 
 -- how many blocks stay
 unfoldable pub compacted_number : List ℕ → ℕ → ℕ → ℕ → ℕ → ℕ
-compacted_number text start n shift w = cond (blocks_in_bounds (length text) start n shift w) (n / 2 ^ shift) no_answer
+compacted_number text start n shift w = if blocks_in_bounds (length text) start n shift w then n / 2 ^ shift else no_answer
 
 -- the text with them moved together
 unfoldable pub compacted_text : List ℕ → ℕ → ℕ → ℕ → ℕ → List ℕ
-compacted_text text start n shift w = cond (blocks_in_bounds (length text) start n shift w) (compacted w n (2 ^ shift) start text) text
+compacted_text text start n shift w = if blocks_in_bounds (length text) start n shift w then compacted w n (2 ^ shift) start text else text
 
 -- ---- Beats
 
 -- measure m and a number n of rows, within the limits of an accepted text
 unfoldable pub measure_fits : ℕ → ℕ → Bool
-measure_fits m n = leb m measures_bound && ltb n row_count_bound
+measure_fits m n = nat_le m measures_bound && nat_lt n row_count_bound
 
 -- row r of the n rows of measure m
 unfoldable pub row_fits : ℕ → ℕ → ℕ → Bool
-row_fits m r n = ltb r n && measure_fits m n
+row_fits m r n = nat_lt r n && measure_fits m n
 
 -- 0 for a call that is taken, else 1
 unfoldable pub beat_number : ℕ → ℕ → ℕ → ℕ
-beat_number m r n = cond (row_fits m r n) 0 1
+beat_number m r n = if row_fits m r n then 0 else 1
 
 unfoldable pub beat_left : ℕ → ℕ → ℕ → List Float → List Float
-beat_left m r n old = cond (row_fits m r n) (beat_of_row m r n ∷ []) old
+beat_left m r n old = if row_fits m r n then beat_of_row m r n ∷ [] else old
 
 -- a measure's beats have room in `len` places from `at` on
 unfoldable pub beats_fit : ℕ → ℕ → ℕ → ℕ → Bool
-beats_fit len at m n = leb (at + n) len && measure_fits m n
+beats_fit len at m n = nat_le (at + n) len && measure_fits m n
 
 unfoldable pub beats_number : List Float → ℕ → ℕ → ℕ → ℕ
-beats_number old at m n = cond (beats_fit (length old) at m n) 0 1
+beats_number old at m n = if beats_fit (length old) at m n then 0 else 1
 
 unfoldable pub beats_left : List Float → ℕ → ℕ → ℕ → List Float
-beats_left old at m n = cond (beats_fit (length old) at m n) ((take at old ++ row_beats m n 0 n) ++ drop (at + n) old) old
+beats_left old at m n = if beats_fit (length old) at m n then (take at old ++ row_beats m n 0 n) ++ drop (at + n) old else old
 
 -- the last object row, none where n is 0
 unfoldable pub last_place : ℕ → ℕ → ℕ → Option Place
-last_place m r n = cond (eqb n 0) None (Some (record { m = m; r = r; n = n }))
+last_place m r n = if n == 0 then None else Some (record { m = m; r = r; n = n })
 
 unfoldable pub last_fits : ℕ → ℕ → ℕ → Bool
-last_fits m r n = eqb n 0 || row_fits m r n
+last_fits m r n = n == 0 || row_fits m r n
 
 unfoldable pub last_number : ℕ → ℕ → ℕ → ℕ
-last_number m r n = cond (last_fits m r n) 0 1
+last_number m r n = if last_fits m r n then 0 else 1
 
 -- the last beat's bits, and the last beat in 48ths
 abbrev pub numbers_of_last : Option Place → List ℕ
 numbers_of_last p = to_bits binary64 (row_to_beat (place48 p)) ∷ place48 p ∷ []
 
 unfoldable pub last_left : ℕ → ℕ → ℕ → List ℕ → List ℕ
-last_left m r n old = cond (last_fits m r n) (numbers_of_last (last_place m r n)) old
+last_left m r n old = if last_fits m r n then numbers_of_last (last_place m r n) else old

@@ -9,22 +9,17 @@ use beats::LastObject;
 fn measure_taken(m: u32, n: u32) -> bool
     ensures { result ≡ measure_fits m n }
 {
-    if definitions::MEASURES_BOUND < m {
-        return false;
-    }
-    n < definitions::ROWS_BOUND
+    m <= definitions::MEASURES_BOUND && n < definitions::ROWS_BOUND
 }
 
 #[tactic(auto, unfolding(crate::specs::Answers::row_fits))]
 fn row_taken(m: u32, r: u32, n: u32) -> bool
     ensures { result ≡ row_fits m r n }
 {
-    if n <= r {
-        return false;
-    }
-    measure_taken(m, n)
+    r < n && measure_taken(m, n)
 }
 
+#[tactic(auto, unfolding(crate::specs::Answers::measure_fits, crate::specs::Answers::row_fits, crate::specs::Answers::beat_number, crate::specs::Answers::beat_left))]
 #[unsafe(no_mangle)]
 pub extern "C" fn leaves_row_beat(m: u32, r: u32, n: u32, beat: &mut [f32; 1]) -> u32
     ensures value { result ≡ beat_number m r n }
@@ -42,15 +37,10 @@ pub extern "C" fn leaves_row_beat(m: u32, r: u32, n: u32, beat: &mut [f32; 1]) -
 fn beats_taken(len: usize, at: usize, m: u32, n: u32) -> bool
     ensures { result ≡ beats_fit len at m n }
 {
-    if len < at {
-        return false;
-    }
-    if len - at < n as usize {
-        return false;
-    }
-    measure_taken(m, n)
+    at <= len && n as usize <= len - at && measure_taken(m, n)
 }
 
+#[tactic(auto, unfolding(crate::specs::Answers::measure_fits, crate::specs::Answers::beats_fit, crate::specs::Answers::beats_number, crate::specs::Answers::beats_left))]
 #[unsafe(no_mangle)]
 pub extern "C" fn leaves_append_row_beats(beats: &mut [f32], at: usize, midx: u32, rows: u32) -> u32
     ensures value { result ≡ beats_number beats.old at midx rows }
@@ -72,6 +62,7 @@ fn last_numbers(last: LastObject) -> [u64; 2]
 }
 
 // Of no object row where `n` is 0.
+#[tactic(auto, unfolding(crate::specs::Answers::measure_fits, crate::specs::Answers::row_fits, crate::specs::Answers::last_place, crate::specs::Answers::last_fits, crate::specs::Answers::last_number, crate::specs::Answers::last_left))]
 #[unsafe(no_mangle)]
 pub extern "C" fn leaves_calc_last_beat(m: u32, r: u32, n: u32, last: &mut [u64; 2]) -> u32
     ensures value { result ≡ last_number m r n }

@@ -7,59 +7,28 @@ ghost use Rattle.definitions.specs.Tracker.{hold_at};
 ghost use Rattle.taps.specs.Taps.{mask_counts, unpack};
 ghost use Rattle.leaves.specs.Answers.{number_of_cell, number_of_effect, number_of_taps, mask_number, sum_numbers};
 
-use definitions::{Cell, DepthEffect, Lanes};
+use definitions::Lanes;
 use taps::{TapTable, Taps};
-
-// The number of the variant.
-fn cell_number(cell: Cell) -> u32
-    ensures { result ≡ number_of_cell cell }
-{
-    match cell {
-        Cell::Empty => 0,
-        Cell::Tap => 1,
-        Cell::Hold => 2,
-        Cell::Tail => 3,
-        Cell::Roll => 4,
-        Cell::Mine => 5,
-        Cell::Lift => 6,
-        Cell::Fake => 7,
-        Cell::KeySound => 8,
-        Cell::LowerMine => 9,
-        Cell::LowerLift => 10,
-        Cell::LowerFake => 11,
-    }
-}
 
 #[unsafe(no_mangle)]
 pub extern "C" fn leaves_cell_of(b: u8) -> u32
     ensures { result ≡ number_of_cell (cell_of b) }
 {
-    cell_number(cells::cell_of(b))
-}
-
-fn effect_number(e: DepthEffect) -> u32
-    ensures { result ≡ number_of_effect e }
-{
-    match e {
-        DepthEffect::Nothing => 0,
-        DepthEffect::Blocks => 1,
-        DepthEffect::Opens => 2,
-        DepthEffect::Closes => 3,
-    }
+    cells::cell_of(b) as u32
 }
 
 #[unsafe(no_mangle)]
 pub extern "C" fn leaves_hold_effect(b: u8) -> u32
     ensures { result ≡ number_of_effect (hold_at b) }
 {
-    effect_number(cells::hold_effect(b))
+    cells::hold_effect(b) as u32
 }
 
 #[unsafe(no_mangle)]
 pub extern "C" fn leaves_object_effect(b: u8) -> u32
     ensures { result ≡ number_of_effect (object_at b) }
 {
-    effect_number(cells::object_effect(b))
+    cells::object_effect(b) as u32
 }
 
 #[unsafe(no_mangle)]
@@ -74,7 +43,7 @@ fn taps_number(taps: Taps) -> u32
     ensures { result ≡ number_of_taps taps }
 {
     match taps {
-        Taps::Mask(mask) => mask as u32,
+        Taps::Mask(mask) => u32::from(mask),
         Taps::Other => 256,
     }
 }

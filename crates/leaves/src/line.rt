@@ -12,16 +12,14 @@ use lines::Found;
 pub extern "C" fn leaves_skip_ws(line: &[u8]) -> usize
     ensures { result ≡ length (trim line.now) }
 {
-    let part = lines::skip_ws(line);
-    part.len()
+    lines::skip_ws(line).len()
 }
 
 #[unsafe(no_mangle)]
 pub extern "C" fn leaves_trim_cr(line: &[u8]) -> usize
     ensures { result ≡ length (without_cr line.now) }
 {
-    let part = lines::trim_cr(line);
-    part.len()
+    lines::trim_cr(line).len()
 }
 
 // The place, or the largest number.
@@ -30,7 +28,7 @@ fn found_number(found: Found) -> usize
 {
     match found {
         Found::At(at) => at,
-        Found::Nothing => 0xffff_ffff_ffff_ffff,
+        Found::Nothing => usize::MAX,
     }
 }
 
@@ -52,6 +50,5 @@ pub extern "C" fn leaves_count_byte(slice: &[u8], needle: u8) -> usize
 pub extern "C" fn leaves_next_line(data: &[u8], start: usize) -> usize
     ensures { result ≡ length (first_line (drop start «data».now)) }
 {
-    let line = lines::next_line(data, start);
-    line.len()
+    lines::next_line(data, start).len()
 }

@@ -1,5 +1,5 @@
 // Minimising of a measure's rows in place. The largest number is returned where the rows do not stand in the text.
-ghost use Rattle.std.specs.Prelude.{◌≡◌};
+ghost use Rattle.std.specs.Prelude.{◌≡◌, ◌<◌, ◌%◌, ◌^◌, ◌==◌};
 ghost use Rattle.definitions.specs.Lanes.{lanes_of};
 ghost use Rattle.definitions.specs.Reduction.{all_zero};
 ghost use Rattle.leaves.specs.Answers.{rows_in_bounds, stride_number, blocks_in_bounds, compacted_number, compacted_text};
@@ -21,22 +21,15 @@ pub extern "C" fn leaves_lanes_of(lanes: usize) -> usize
 }
 
 // Whether so many rows of `lanes` bytes stand `width` bytes apart in `len` bytes from `start` on.
+#[tactic(auto, unfolding(crate::specs::Answers::rows_in_bounds))]
 fn rows_stand(len: usize, start: usize, rows: usize, width: usize, lanes: usize) -> bool
     ensures { result ≡ rows_in_bounds len start rows width lanes }
 {
-    if lanes == 0 {
-        return false;
-    }
-    if width < lanes {
-        return false;
-    }
-    if len < start {
-        return false;
-    }
-    rows <= (len - start) / width
+    0 < lanes && lanes <= width && start <= len && rows <= (len - start) / width
 }
 
 // 2 to the power that `measure_reduce_shift` finds. A `width` of `lanes` is for rows back to back, one more for rows with a byte 10 after each.
+#[tactic(auto, unfolding(crate::specs::Answers::rows_in_bounds, crate::specs::Answers::stride_number), using(crate::proofs::Powers::stride_fits, reduction::proofs::Compaction::shifted_one))]
 #[unsafe(no_mangle)]
 pub extern "C" fn leaves_stride(
     text: &[u8],
@@ -50,26 +43,28 @@ pub extern "C" fn leaves_stride(
     if rows_stand(text.len(), start, rows, width, lanes) {
         return 1 << reduction::measure_reduce_shift(text, start, rows, width, lanes);
     }
-    0xffff_ffff_ffff_ffff
+    usize::MAX
+}
+
+// Whether 2 to the power `shift` divides `rows`: no number of 64 bits but 0 has a higher one than the 63rd.
+#[tactic(auto, using(crate::proofs::Powers::power_over, reduction::proofs::Compaction::shifted_one))]
+fn is_divided(rows: usize, shift: usize) -> bool
+    requires { 0 < rows }
+    ensures { result ≡ (rows % 2 ^ shift == 0) }
+{
+    shift < 64 && rows % (1 << shift) == 0
 }
 
 // Whether so many blocks of `width` bytes stand there, and 2 to the power `shift` divides their number, which is not 0.
+#[tactic(auto, unfolding(crate::specs::Answers::blocks_in_bounds))]
 fn blocks_stand(len: usize, start: usize, rows: usize, shift: usize, width: usize) -> bool
     ensures { result ≡ blocks_in_bounds len start rows shift width }
 {
-    if rows == 0 {
-        return false;
-    }
-    if 63 < shift {
-        return false;
-    }
-    if rows % (1usize << shift) != 0 {
-        return false;
-    }
-    rows_stand(len, start, rows, width, width)
+    0 < rows && is_divided(rows, shift) && rows_stand(len, start, rows, width, width)
 }
 
 // How many rows stay, moved together.
+#[tactic(auto, unfolding(crate::specs::Answers::rows_in_bounds, crate::specs::Answers::blocks_in_bounds, crate::specs::Answers::compacted_number, crate::specs::Answers::compacted_text))]
 #[unsafe(no_mangle)]
 pub extern "C" fn leaves_compact_output_rows(
     text: &mut [u8],
@@ -84,5 +79,5 @@ pub extern "C" fn leaves_compact_output_rows(
     if blocks_stand(text.len(), start, rows, shift, width) {
         return reduction::compact_output_rows(text, start, rows, shift, width);
     }
-    0xffff_ffff_ffff_ffff
+    usize::MAX
 }
