@@ -22,13 +22,13 @@ use Rattle.definitions.specs.SmFile.{without_end_blanks}
 use Rattle.definitions.proofs.Lists.{through-nil, through-cons}
 
 -- the place of the first b, or else the length
-pub before-at : (b : ℕ) (s : List ℕ) (n : ℕ) → n ≤ length s → ((k : ℕ) → k < n → get_or s k 0 ≡ b → ⊥) → (n < length s → get_or s n 0 ≡ b) → n ≡ length (up_to b s)
+pub before_at : (b : ℕ) (s : List ℕ) (n : ℕ) → n ≤ length s → ((k : ℕ) → k < n → get_or s k 0 ≡ b → ⊥) → (n < length s → get_or s n 0 ≡ b) → n ≡ length (up_to b s)
 unfolding up_to
-before-at b [] n h none there = omega arith
-before-at b (x ∷ s) zero h none there = simp (eq-eqb x b (there (omega arith)))
-before-at b (x ∷ s) (suc n) h none there =
+before_at b [] n h none there = omega arith
+before_at b (x ∷ s) zero h none there = simp (eq-eqb x b (there (omega arith)))
+before_at b (x ∷ s) (suc n) h none there =
     simp (ne_eqb x b (none 0 (omega arith)))
-    (ap suc (before-at b s n (omega arith) (λ k p. none (suc k) (omega arith)) (λ p. there (omega arith))))
+    (ap suc (before_at b s n (omega arith) (λ k p. none (suc k) (omega arith)) (λ p. there (omega arith))))
 
 -- std's white space
 blank-std : (b : ℕ) → is_ascii_whitespace b ≡ is_blank_byte b
