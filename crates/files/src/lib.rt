@@ -86,14 +86,14 @@ pub fn next_tag<'a>(text: &'a [u8], word: &[u8]) -> Option<&'a [u8]>
 {
     let mut rest = text;
     loop {
-        let (line, below) = lines::split_line(rest);
+        let line = lines::next_line(rest, 0);
         let bare = lines::skip_ws(line);
         if bare.starts_with(word) {
             return Some(&rest[line.len() - bare.len() + word.len()..]);
         }
-        if rest.is_empty() {
+        if line.len() == rest.len() {
             return None;
         }
-        rest = below;
+        rest = &rest[line.len() + 1..];
     }
 }
