@@ -16,52 +16,47 @@ use definitions::{ChartFigures, Lanes, Refusal};
 // The main call where it is accepted: the pass, the tally corrected over the minimised text read back, and zeros past each answer.
 pub fn chart_figures(
     data: &[u8],
-    lanes: usize,
+    lanes: Lanes,
     text: &mut [u8],
     densities: &mut [u32],
     beats: &mut [f32],
     work: &mut [u16],
     slots: &mut [u8],
 ) -> ChartFigures
-    requires le_lanes { (4 ≤ lanes) × (lanes ≤ 10) × (length «data».now ≤ most_bytes) }
-    requires data_in_bounds { (length «data».now + 1 ≤ length text.old) × ((length «data».now + 1) / 2 + 1 ≤ length densities.old) × (most_rows_in lanes (length «data».now) ≤ length beats.old) × (10 * lanes * most_rows_in lanes (length «data».now) ≤ length slots.old) }
-    requires data_in_bounds_2 { most_rows_in lanes (length «data».now) ≤ length work.old }
-    ensures value { result ≡ figures_of_chart lanes «data».now }
-    ensures text_after { text.new ≡ padded 0 (length text.old) (minimised_text lanes «data».now) }
-    ensures densities_after { densities.new ≡ padded 0 (length densities.old) (densities_of lanes «data».now) }
-    ensures beats_after { beats.new ≡ padded (f32 0) (length beats.old) (beats_of lanes «data».now) }
+    requires accepted { length «data».now ≤ most_bytes }
+    requires data_in_bounds { (length «data».now + 1 ≤ length text.old) × ((length «data».now + 1) / 2 + 1 ≤ length densities.old) × (most_rows_in lanes.count (length «data».now) ≤ length beats.old) × (10 * lanes.count * most_rows_in lanes.count (length «data».now) ≤ length slots.old) }
+    requires room_for_work { most_rows_in lanes.count (length «data».now) ≤ length work.old }
+    ensures value { result ≡ figures_of_chart lanes.count «data».now }
+    ensures text_after { text.new ≡ padded 0 (length text.old) (minimised_text lanes.count «data».now) }
+    ensures densities_after { densities.new ≡ padded 0 (length densities.old) (densities_of lanes.count «data».now) }
+    ensures beats_after { beats.new ≡ padded (f32 0) (length beats.old) (beats_of lanes.count «data».now) }
     ensures work_after { work.new ≡ padded 0 (length work.old) [] }
-    ensures slots_after { slots.new ≡ padded 0 (length slots.old) (records (notes_of lanes «data».now)) }
+    ensures slots_after { slots.new ≡ padded 0 (length slots.old) (records (notes_of lanes.count «data».now)) }
 {
-    let p = chart_pass::read_chart(data, lanes, text, densities, beats, slots);
-    let out = p.pass.out;
-    let measures = p.pass.midx + 1;
-    let rows = p.pass.counting.rows;
-    let stats = p.pass.counting.stats;
-    let depths = p.pass.counting.phantoms;
-    let corrected = corrected_tally::corrected_stats(
-        stats,
-        depths,
-        &text[0..out],
-        Lanes { count: lanes },
+    let chart = chart_pass::read_chart(data, lanes, text, densities, beats, slots);
+    let measures = chart.pass.midx + 1;
+    let rows = chart.pass.counting.rows;
+    let stats = corrected_tally::corrected_stats(
+        chart.pass.counting.stats,
+        chart.pass.counting.phantoms,
+        &text[0..chart.pass.out],
+        lanes,
         true,
         work,
     );
-    let noting = p.noting;
-    let scan = noting.last;
-    let last = scan.found;
-    let count = row_notes::finish(noting.scratch, slots);
-    slices::zero_past(text, out, 0);
+    let last = chart.noting.last.found;
+    let count = row_notes::finish(chart.noting.scratch, slots);
+    slices::zero_past(text, chart.pass.out, 0);
     slices::zero_past(densities, measures, 0);
     slices::zero_past(beats, rows as usize, 0.0);
     ChartFigures {
-        bytes: out,
+        bytes: chart.pass.out,
         measures,
         rows,
         notes: count,
         last_bits: beats::last_beat_bits(last),
         last_row: beats::last_note_row(last),
-        stats: corrected,
+        stats,
     }
 }
 
@@ -91,5 +86,5 @@ pub fn minimize_chart_count_rows_notes(
     refusals::room_for_beats(columns, len, beats.len())?;
     refusals::room_for_work(columns, len, work.len())?;
     refusals::room_for_notes(columns, len, slots.len())?;
-    Ok(chart_figures(data, columns.count, text, densities, beats, work, slots))
+    Ok(chart_figures(data, columns, text, densities, beats, work, slots))
 }

@@ -16,7 +16,7 @@ use Rattle.definitions.specs.Beats.{row_beats, beats_from, measure_beats, beats 
 use Rattle.definitions.proofs.Lists.{joined_snoc}
 use Rattle.beats.proofs.Beats.{beats-appended}
 use Rattle.kept_pass.specs.declared.KeptPass.{KeptPass}
-use Rattle.kept_pass.specs.KeptPass.{Kept, Closed, MeasureEnded}
+use Rattle.kept_pass.specs.KeptPass.{Kept, MeasureEnded}
 use Rattle.kept_pass.proofs.Keeping.{kept-all}
 use Rattle.reduction.specs.Rows.{rows_at, RowsStand}
 use Rattle.reduction.proofs.Forms.{in-text, form-rows}
@@ -30,8 +30,8 @@ use Rattle.chart_pass.specs.declared.ChartPass.{ChartPass}
 use Rattle.chart_pass.specs.ChartPass.{Charted, SomeCharted, ChartEnded, ChartAll}
 
 -- the minimised rows stand where their measure begins
-rows-there : (L : ℕ) (e : KeptPass) (text : List ℕ) (done : List (List Row)) (cur : List Row) → Closed L e text done cur → rows_at (L + 1) L e.rows (drop e.start text) ≡ cur
-rows-there L e text done cur x =
+rows-there : (L : ℕ) (e : KeptPass) (text densities : List ℕ) (done : List (List Row)) (cur : List Row) → MeasureEnded L e text densities done cur → rows_at (L + 1) L e.rows (drop e.start text) ≡ cur
+rows-there L e text densities done cur x =
     form-rows (in-text L)
     (subst (λ n. RowsStand row_text L n e.start cur text) (sym x.rows) (wrote-holds (in-text L) (44 ∷ 10 ∷ []) text e.start e.out done cur x.wrote))
 
@@ -40,11 +40,11 @@ module _ (L : ℕ) (p : ChartPass) (text densities : List ℕ) (beats : List Flo
   module _ (done : List (List Row)) (cur : List Row) (x : Charted L p text densities beats slots done cur) where
     -- the rows before the open measure
     pub rows_before : p.pass.counting.rows ≡ length (joined done)
-    rows_before = x.kept.open_is.counted.rows ∙ ap length (append-nil (joined done))
+    rows_before = x.kept.counted.rows ∙ ap length (append-nil (joined done))
 
     pub rows-after : p.pass.counting.rows + e.rows ≡ e.counting.rows
     rows-after =
-        let k = (ends done cur x.kept).closed in
+        let k = ends done cur x.kept in
         omega (arith, rows_before, k.rows, k.counted.rows, length-append (joined done) (reduce cur))
 
     pub charted-end : p.pass.counting.rows ≤ length beats → (beats₁ : List Float)
@@ -56,11 +56,11 @@ module _ (L : ℕ) (p : ChartPass) (text densities : List ℕ) (beats : List Flo
         let k = ends done cur x.kept in
         record {
           ended = k;
-          noted = subst (Noted L s slots₁) (ap (λ rs. done ++ (rs ∷ [])) (rows-there L e after done (reduce cur) k.closed)) (f done x.noted);
+          noted = subst (Noted L s slots₁) (ap (λ rs. done ++ (rs ∷ [])) (rows-there L e after dens done (reduce cur) k)) (f done x.noted);
           beats-are =
               ap (λ n. take n beats₁) (sym rows-after)
               ∙ ap (take (p.pass.counting.rows + e.rows)) eb
-              ∙ beats-appended beats p.pass.counting.rows e.midx e.rows done (reduce cur) room x.beats-are k.closed.midx k.closed.rows;
+              ∙ beats-appended beats p.pass.counting.rows e.midx e.rows done (reduce cur) room x.beats-are k.midx k.rows;
         }
 
 -- there is room for the walk over the minimised rows
@@ -69,16 +69,16 @@ pub walk-room : (L : ℕ) (p : ChartPass) (text densities : List ℕ) (beats : L
     → Walking L p.pass.counting p.noting slots (rows_at (L + 1) L kept (drop p.pass.start after)) 0
 walk-room L p text densities beats slots s kept after less few room least =
     let x = s.charted in
-    let before : p.pass.counting.rows ≡ length (joined s.done) = x.kept.open_is.counted.rows ∙ ap length (append-nil (joined s.done)) in
+    let before : p.pass.counting.rows ≡ length (joined s.done) = x.kept.counted.rows ∙ ap length (append-nil (joined s.done)) in
     let many : length (rows_at (L + 1) L kept (drop p.pass.start after)) ≡ kept = rw rows-length in
     let most : length (joined s.done) + length (rows_at (L + 1) L kept (drop p.pass.start after)) ≤ p.pass.counting.rows + p.pass.rows = omega (arith, before, many, less) in
     record {
       done = s.done;
-      counted = x.kept.open_is.counted;
+      counted = x.kept.counted;
       noted = x.noted;
       few = omega (arith, most, few);
       room = le_trans (mul-le-mul_right 10 (mul-le-mul_right L most)) room;
-      midx = omega (arith, x.kept.open_is.midx, least);
+      midx = omega (arith, x.kept.midx, least);
     }
 
 -- The next measure begins.
@@ -86,8 +86,17 @@ pub charted-next : (L : ℕ) (e : ChartPass) (text after densities : List ℕ) (
     → (q : KeptPass) → Kept L q after densities (done ++ (cur ∷ [])) [] → Charted L (record { pass = q; noting = e.noting }) after densities beats slots (done ++ (cur ∷ [])) []
 charted-next L e text after densities beats slots done cur x q k =
     let same : q.counting.rows ≡ e.pass.counting.rows =
-    k.open_is.counted.rows ∙ ap length (append-nil (joined (done ++ (cur ∷ []))) ∙ joined_snoc done cur) ∙ sym x.ended.closed.counted.rows in
+    k.counted.rows ∙ ap length (append-nil (joined (done ++ (cur ∷ []))) ∙ joined_snoc done cur) ∙ sym x.ended.counted.rows in
     record { kept = k; noted = x.noted; beats-are = ap (λ n. take n beats) same ∙ x.beats-are }
+
+-- a row of L bytes is one row more
+pub charted-more : (L : ℕ) (p q : ChartPass) (text after : List ℕ) (row : Row) → length row ≡ L
+    → ((densities : List ℕ) (beats : List Float) (slots : List ℕ) (done : List (List Row)) (cur : List Row) → Charted (length row) p text densities beats slots done cur
+    → Charted (length row) q after densities beats slots done (cur ++ (row ∷ [])))
+    → (densities : List ℕ) (beats : List Float) (slots : List ℕ) (done : List (List Row)) (cur : List Row) → Charted L p text densities beats slots done cur
+    → Charted L q after densities beats slots done (cur ++ (row ∷ []))
+charted-more L p q text after row w f densities beats slots done cur =
+    subst (λ n. Charted n p text densities beats slots done cur → Charted n q after densities beats slots done (cur ++ (row ∷ []))) w (f densities beats slots done cur)
 
 -- a row's cells fit where the notes of as many rows as a text can have do
 pub slots-room : (L rows most : ℕ) (size : ℕ) → rows ≤ most → 10 * L * most ≤ size → rows * L * 10 ≤ size

@@ -13,39 +13,35 @@ use definitions::{KeptFigures, Lanes, Refusal};
 // The kept-row call where it is accepted: the pass, the tally corrected over its own rows, and zeros past each answer.
 pub fn keep_figures(
     data: &[u8],
-    lanes: usize,
+    lanes: Lanes,
     text: &mut [u8],
     densities: &mut [u32],
     work: &mut [u16],
 ) -> KeptFigures
-    requires le_lanes { (4 ≤ lanes) × (lanes ≤ 10) × (length «data».now ≤ most_bytes) }
-    requires data_in_bounds { (length «data».now + 1 ≤ length text.old) × ((length «data».now + 1) / 2 + 1 ≤ length densities.old) × (most_rows_in lanes (length «data».now) ≤ length work.old) }
-    ensures value { result ≡ figures_of_kept lanes «data».now }
-    ensures text_after { text.new ≡ padded 0 (length text.old) (minimised_text lanes «data».now) }
-    ensures densities_after { densities.new ≡ padded 0 (length densities.old) (densities_of lanes «data».now) }
+    requires accepted { length «data».now ≤ most_bytes }
+    requires data_in_bounds { (length «data».now + 1 ≤ length text.old) × ((length «data».now + 1) / 2 + 1 ≤ length densities.old) × (most_rows_in lanes.count (length «data».now) ≤ length work.old) }
+    ensures value { result ≡ figures_of_kept lanes.count «data».now }
+    ensures text_after { text.new ≡ padded 0 (length text.old) (minimised_text lanes.count «data».now) }
+    ensures densities_after { densities.new ≡ padded 0 (length densities.old) (densities_of lanes.count «data».now) }
     ensures work_after { work.new ≡ padded 0 (length work.old) [] }
 {
-    let p = kept_pass::keep_chart(data, lanes, text, densities);
-    let out = p.out;
-    let measures = p.midx + 1;
-    let rows = p.counting.rows;
-    let stats = p.counting.stats;
-    let depths = p.counting.phantoms;
-    let corrected = corrected_tally::corrected_stats(
-        stats,
-        depths,
-        &text[0..out],
-        Lanes { count: lanes },
+    let pass = kept_pass::keep_chart(data, lanes, text, densities);
+    let measures = pass.midx + 1;
+    let stats = corrected_tally::corrected_stats(
+        pass.counting.stats,
+        pass.counting.phantoms,
+        &text[0..pass.out],
+        lanes,
         false,
         work,
     );
-    slices::zero_past(text, out, 0);
+    slices::zero_past(text, pass.out, 0);
     slices::zero_past(densities, measures, 0);
     KeptFigures {
-        bytes: out,
+        bytes: pass.out,
         measures,
-        rows,
-        stats: corrected,
+        rows: pass.counting.rows,
+        stats,
     }
 }
 
@@ -69,5 +65,5 @@ pub fn process_chart_kept(
     refusals::room_for_measures(len, densities.len())?;
     let columns = Lanes::in_force(lanes);
     refusals::room_for_work(columns, len, work.len())?;
-    Ok(keep_figures(data, columns.count, text, densities, work))
+    Ok(keep_figures(data, columns, text, densities, work))
 }

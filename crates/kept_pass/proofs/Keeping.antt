@@ -29,9 +29,9 @@ pub record Small (L : ℕ) (p : KeptPass) (len : ℕ) : Type 0 where
 pub kept-few : (L : ℕ) (p : KeptPass) (text densities : List ℕ) (len : ℕ) (done : List (List Row)) (cur : List Row) → Few L len done cur → Kept L p text densities done cur → Small L p len
 kept-few L p text densities len done cur f x =
     record {
-      most = omega (arith, f.rows, x.open_is.rows, x.open_is.counted.rows, length-append (joined done) []);
-      rows = omega (arith, f.fifth, x.open_is.rows, x.open_is.counted.rows, length-append (joined done) []);
-      midx = omega (arith, f.measures, x.open_is.midx);
+      most = omega (arith, f.rows, x.rows, x.counted.rows, length-append (joined done) []);
+      rows = omega (arith, f.fifth, x.rows, x.counted.rows, length-append (joined done) []);
+      midx = omega (arith, f.measures, x.midx);
     }
 
 -- The last measure has ended too: all of the chart's.
@@ -40,19 +40,18 @@ pub kept-all : (L : ℕ) (e : KeptPass) (data-text text densities₁ : List ℕ)
     → KeptAll L data-text e text densities₁
 unfolding minimised_text densities minimised
 kept-all L e data-text text densities₁ done cur read few x fits short =
-    let k = x.closed in
     let all : map reduce (chart L data-text) ≡ map reduce done ++ (reduce cur ∷ []) = ap (map reduce) read ∙ map-append reduce done (cur ∷ []) in
     let rows_are : joined (map reduce (chart L data-text)) ≡ joined (map reduce done) ++ reduce cur = ap joined all ∙ joined_snoc (map reduce done) (reduce cur) in
-    let bytes : take e.out text ≡ text_of (map reduce (chart L data-text)) = k.wrote.bytes ∙ sym (ap text_of all ∙ text-done (map reduce done) (reduce cur)) in
+    let bytes : take e.out text ≡ text_of (map reduce (chart L data-text)) = x.wrote.bytes ∙ sym (ap text_of all ∙ text-done (map reduce done) (reduce cur)) in
     record {
       text-is = bytes;
       out = sym (ap length (sym bytes) ∙ length-take-le e.out text fits);
       short = short;
       densities-are = x.stored ∙ sym (ap (map density) all);
-      midx = sym (ap length all ∙ length-append (map reduce done) (reduce cur ∷ []) ∙ ap (λ n. n + 1) (sym k.midx));
-      measures-few = omega (arith, few.measures, k.midx);
-      stats = k.counted.stats ∙ ap tally (sym rows_are);
-      phantoms = subst (λ rs. Counts L rs e.counting.phantoms) (sym rows_are) k.counted.phantoms;
-      rows = k.counted.rows ∙ ap length (sym rows_are);
-      rows_few = omega (arith, few.rows, k.counted.rows, length-append (joined (map reduce done)) (reduce cur), reduce-short cur);
+      midx = sym (ap length all ∙ length-append (map reduce done) (reduce cur ∷ []) ∙ ap (λ n. n + 1) (sym x.midx));
+      measures-few = omega (arith, few.measures, x.midx);
+      stats = x.counted.stats ∙ ap tally (sym rows_are);
+      phantoms = subst (λ rs. Counts L rs e.counting.phantoms) (sym rows_are) x.counted.phantoms;
+      rows = x.counted.rows ∙ ap length (sym rows_are);
+      rows_few = omega (arith, few.rows, x.counted.rows, length-append (joined (map reduce done)) (reduce cur), reduce-short cur);
     }

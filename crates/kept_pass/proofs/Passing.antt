@@ -1,11 +1,11 @@
 -- The pass with one row more, and with the open measure minimised and counted.
 use mathlib.Core.Path.{◌≡◌, refl, ap, sym, ◌∙◌, subst}
-use mathlib.Core.List.{List, [], ◌∷◌, ◌++◌, map, map-append}
+use mathlib.Core.List.{List, [], ◌∷◌, ◌++◌, map-append}
 use Prim.Native.Nat.{ℕ, ◌+◌, ◌*◌, ◌≤◌, ◌<◌}
 use native.Mathlib.Nat.{mul-le-mul_right}
 use native.Mathlib.Omega.{arith}
 use native.Mathlib.Numerals.{add-one}
-use lib.ListN.{length, take, drop, set, length-append}
+use lib.ListN.{length, drop, set, length-append}
 use lib.Seq.{take-suc-set}
 use Rattle.definitions.specs.Lines.{Row}
 use Rattle.definitions.specs.Reduction.{reduce}
@@ -18,37 +18,39 @@ use Rattle.output.specs.Wrote.{Wrote}
 use Rattle.output.proofs.Writing.{wrote-start, wrote-row, wrote-holds, wrote-reduced, wrote-sep}
 use Rattle.definitions.proofs.Shorter.{reduce-short}
 use Rattle.kept_pass.specs.declared.KeptPass.{KeptPass}
-use Rattle.kept_pass.specs.KeptPass.{Open, Closed, SomeOpen, Kept, MeasureEnded}
+use Rattle.kept_pass.specs.KeptPass.{Kept, SomeKept, MeasureEnded}
 
 abbrev sep : List ℕ
 sep = 44 ∷ 10 ∷ []
 
-pub open-start : (L : ℕ) (text : List ℕ) (c : Counting) → Counted L c [] [] → Open L (record { counting = c; start = 0; out = 0; rows = 0; midx = 0 }) text [] []
-open-start L text c x = record { wrote = wrote-start (in-text L) sep text; counted = x; rows = refl; midx = refl }
+pub kept-start : (L : ℕ) (text densities : List ℕ) (c : Counting) → Counted L c [] [] → Kept L (record { counting = c; start = 0; out = 0; rows = 0; midx = 0 }) text densities [] []
+kept-start L text densities c x = record { wrote = wrote-start (in-text L) sep text; counted = x; rows = refl; midx = refl; stored = refl }
 
-module _ (p : KeptPass) (text : List ℕ) (row : Row) (room : p.out + length row + 1 ≤ length text) (after : List ℕ) (e : after ≡ placed p.out (row ++ (10 ∷ [])) text) where
-  pub open_row : (done : List (List Row)) (cur : List Row) → Open (length row) p text done cur
-      → Open (length row) (record { counting = p.counting; start = p.start; out = p.out + length row + 1; rows = p.rows + 1; midx = p.midx }) after done (cur ++ (row ∷ []))
+module _ (p : KeptPass) (text : List ℕ) (row : Row) (room : p.out + length row + 1 ≤ length text) (after : List ℕ) (e : after ≡ placed p.out (row ++ (10 ∷ [])) text)
+    (out : ℕ) (size : out ≡ p.out + length row + 1) where
+  pub kept-row : (densities : List ℕ) (done : List (List Row)) (cur : List Row) → Kept (length row) p text densities done cur
+      → Kept (length row) (record { counting = p.counting; start = p.start; out = out; rows = p.rows + 1; midx = p.midx }) after densities done (cur ++ (row ∷ []))
   unfolding in-text
-  open_row done cur x =
+  kept-row densities done cur x =
       let fits : p.out + (length row + 1) ≤ length text = omega arith in
-      let out : p.out + (length row + 1) ≡ p.out + length row + 1 = omega arith in
+      let same : p.out + (length row + 1) ≡ out = omega (arith, size) in
       record {
-        wrote = subst (λ t. Wrote row_text sep (length row + 1) (length row) t p.start (p.out + length row + 1) done (cur ++ (row ∷ []))) (sym e)
-            (subst (λ n. Wrote row_text sep (length row + 1) (length row) (placed p.out (row ++ (10 ∷ [])) text) p.start n done (cur ++ (row ∷ []))) out
+        wrote = subst (λ t. Wrote row_text sep (length row + 1) (length row) t p.start out done (cur ++ (row ∷ []))) (sym e)
+            (subst (λ n. Wrote row_text sep (length row + 1) (length row) (placed p.out (row ++ (10 ∷ [])) text) p.start n done (cur ++ (row ∷ []))) same
             (wrote-row (in-text (length row)) sep text p.start p.out done cur x.wrote row refl fits));
         counted = x.counted;
         rows = rw length-append (omega (arith, x.rows));
         midx = x.midx;
+        stored = x.stored;
       }
 
 -- where the open measure's rows end
-pub open-size : (L : ℕ) (p : KeptPass) (text : List ℕ) → SomeOpen L p text → p.start + p.rows * (L + 1) ≡ p.out
-open-size L p text s = sym (s.open_is.wrote.size ∙ ap (λ n. p.start + n * (L + 1)) (sym s.open_is.rows))
+pub open-size : (L : ℕ) (p : KeptPass) (text densities : List ℕ) → SomeKept L p text densities → p.start + p.rows * (L + 1) ≡ p.out
+open-size L p text densities s = sym (s.kept.wrote.size ∙ ap (λ n. p.start + n * (L + 1)) (sym s.kept.rows))
 
-module _ (L : ℕ) (p : KeptPass) (text after : List ℕ) (kept : ℕ) (fits : p.out ≤ length text)
+module _ (L : ℕ) (p : KeptPass) (text densities after : List ℕ) (kept : ℕ) (fits : p.out ≤ length text)
     (red : (rs : List Row) → RowsStand row_text L p.rows p.start rs text → Reduced row_text p.start rs text kept after) where
-  module _ (done : List (List Row)) (cur : List Row) (x : Open L p text done cur) where
+  module _ (done : List (List Row)) (cur : List Row) (x : Kept L p text densities done cur) where
     reduced : Reduced row_text p.start cur text kept after
     reduced = red cur (subst (λ n. RowsStand row_text L n p.start cur text) (sym x.rows) (wrote-holds (in-text L) sep text p.start p.out done cur x.wrote))
 
@@ -64,26 +66,26 @@ module _ (L : ℕ) (p : KeptPass) (text after : List ℕ) (kept : ℕ) (fits : p
     kept-few : kept ≤ p.rows
     kept-few = omega (arith, reduced.count, reduce-short cur, x.rows)
 
-    pub closed-rows : (c : Counting)
+    -- the measure's density is stored
+    pub measure-ended : (c : Counting)
         → ((done : List (List Row)) → Counted L p.counting done [] → Counted L c done (rows_at (L + 1) L kept (drop p.start after)))
-        → Closed L (record { counting = c; start = p.start; out = p.start + kept * (L + 1); rows = kept; midx = p.midx }) after done (reduce cur)
-    closed-rows c f =
-        record { wrote = wrote; counted = subst (λ rs. Counted L c done rs) rows-there (f done x.counted); rows = reduced.count; midx = x.midx }
+        → p.midx < length densities → (d : ℕ) → ((done : List (List Row)) (cur : List Row) → Counted L c done cur → d ≡ density cur)
+        → MeasureEnded L (record { counting = c; start = p.start; out = p.start + kept * (L + 1); rows = kept; midx = p.midx }) after (set densities p.midx d) done (reduce cur)
+    measure-ended c f room d same =
+        let counted : Counted L c done (reduce cur) = subst (λ rs. Counted L c done rs) rows-there (f done x.counted) in
+        record {
+          wrote = wrote;
+          counted = counted;
+          rows = reduced.count;
+          midx = x.midx;
+          stored = rw (add-one, take-suc-set densities p.midx d room, x.stored, same done (reduce cur) counted) (sym (map-append density done (reduce cur ∷ [])));
+        }
 
   -- no more rows and bytes than before
-  pub closed-few : SomeOpen L p text → (kept ≤ p.rows) × (p.start + kept * (L + 1) ≤ p.out)
-  closed-few s =
-      let k = kept-few s.done s.cur s.open_is in
-      (k, omega (arith, mul-le-mul_right (L + 1) k, open-size L p text s))
-
--- the measure's density is stored
-pub ended-rows : (L : ℕ) (e : KeptPass) (text densities : List ℕ) (done : List (List Row)) (cur : List Row) → Closed L e text done cur → take e.midx densities ≡ map density done
-    → e.midx < length densities → (d : ℕ) → d ≡ density cur → MeasureEnded L e text (set densities e.midx d) done cur
-ended-rows L e text densities done cur x stored room d same =
-    record {
-      closed = x;
-      stored = rw (add-one, take-suc-set densities e.midx d room, stored, same) (sym (map-append density done (cur ∷ [])));
-    }
+  pub ended-few : SomeKept L p text densities → (kept ≤ p.rows) × (p.start + kept * (L + 1) ≤ p.out)
+  ended-few s =
+      let k = kept-few s.done s.cur s.kept in
+      (k, omega (arith, mul-le-mul_right (L + 1) k, open-size L p text densities s))
 
 -- the `,` line is written
 pub next-measure : (L : ℕ) (e : KeptPass) (text densities : List ℕ) (done : List (List Row)) (cur : List Row) → MeasureEnded L e text densities done cur → e.out + 2 ≤ length text
@@ -92,23 +94,16 @@ pub next-measure : (L : ℕ) (e : KeptPass) (text densities : List ℕ) (done : 
     → Kept L (record { counting = c; start = e.out + 2; out = e.out + 2; rows = 0; midx = e.midx + 1 }) after densities (done ++ (cur ∷ [])) []
 next-measure L e text densities done cur x fits c after f ea =
     record {
-      open_is =
-          record {
-            wrote = subst (λ t. Wrote row_text sep (L + 1) L t (e.out + 2) (e.out + 2) (done ++ (cur ∷ [])) []) (sym ea)
-                (wrote-sep (in-text L) sep text e.start e.out done cur x.closed.wrote fits);
-            counted = f L done cur x.closed.counted;
-            rows = refl;
-            midx = rw length-append (omega (arith, x.closed.midx));
-          };
+      wrote = subst (λ t. Wrote row_text sep (L + 1) L t (e.out + 2) (e.out + 2) (done ++ (cur ∷ [])) []) (sym ea)
+          (wrote-sep (in-text L) sep text e.start e.out done cur x.wrote fits);
+      counted = f L done cur x.counted;
+      rows = refl;
+      midx = rw length-append (omega (arith, x.midx));
       stored = x.stored;
     }
 
 -- a row of L bytes is one row more
-pub kept_row : (L : ℕ) (p q : KeptPass) (text after densities : List ℕ) (row : Row) → length row ≡ L
-    → ((done : List (List Row)) (cur : List Row) → Open (length row) p text done cur → Open (length row) q after done (cur ++ (row ∷ []))) → q.midx ≡ p.midx
-    → (done : List (List Row)) (cur : List Row) → Kept L p text densities done cur → Kept L q after densities done (cur ++ (row ∷ []))
-kept_row L p q text after densities row w f m done cur x =
-    record {
-      open_is = subst (λ n. Open n p text done cur → Open n q after done (cur ++ (row ∷ []))) w (f done cur) x.open_is;
-      stored = ap (λ n. take n densities) m ∙ x.stored;
-    }
+pub kept-more : (L : ℕ) (p q : KeptPass) (text after : List ℕ) (row : Row) → length row ≡ L
+    → ((densities : List ℕ) (done : List (List Row)) (cur : List Row) → Kept (length row) p text densities done cur → Kept (length row) q after densities done (cur ++ (row ∷ [])))
+    → (densities : List ℕ) (done : List (List Row)) (cur : List Row) → Kept L p text densities done cur → Kept L q after densities done (cur ++ (row ∷ []))
+kept-more L p q text after row w f densities done cur = subst (λ n. Kept n p text densities done cur → Kept n q after densities done (cur ++ (row ∷ []))) w (f densities done cur)

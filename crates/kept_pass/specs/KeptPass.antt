@@ -12,33 +12,25 @@ use Rattle.measure_tally.specs.Counted.{Counted}
 use Rattle.output.specs.Wrote.{Wrote}
 use Rattle.kept_pass.specs.declared.KeptPass.{KeptPass}
 
--- the open measure has these rows, as they were read
-pub record Open (L : ℕ) (p : KeptPass) (text : List ℕ) (done : List (List Row)) (cur : List Row) : Type 0 where
+-- the open measure has these rows, as they were read, and the densities are those of the measures that have ended
+pub record Kept (L : ℕ) (p : KeptPass) (text densities : List ℕ) (done : List (List Row)) (cur : List Row) : Type 0 where
   pub wrote : Wrote row_text (44 ∷ 10 ∷ []) (L + 1) L text p.start p.out done cur
   pub counted : Counted L p.counting done []
   pub rows : p.rows ≡ length cur
   pub midx : p.midx ≡ length done
+  pub stored : take p.midx densities ≡ map density done
 
--- the open measure has these rows, minimised and counted
-pub record Closed (L : ℕ) (p : KeptPass) (text : List ℕ) (done : List (List Row)) (cur : List Row) : Type 0 where
+pub record SomeKept (L : ℕ) (p : KeptPass) (text densities : List ℕ) : Type 0 where
+  pub done : List (List Row)
+  pub cur : List Row
+  pub kept : Kept L p text densities done cur
+
+-- the open measure has ended with these rows, minimised and counted, and its density is stored
+pub record MeasureEnded (L : ℕ) (p : KeptPass) (text densities : List ℕ) (done : List (List Row)) (cur : List Row) : Type 0 where
   pub wrote : Wrote row_text (44 ∷ 10 ∷ []) (L + 1) L text p.start p.out done cur
   pub counted : Counted L p.counting done cur
   pub rows : p.rows ≡ length cur
   pub midx : p.midx ≡ length done
-
-pub record SomeOpen (L : ℕ) (p : KeptPass) (text : List ℕ) : Type 0 where
-  pub done : List (List Row)
-  pub cur : List Row
-  pub open_is : Open L p text done cur
-
--- the open measure, and the densities of those that have ended
-pub record Kept (L : ℕ) (p : KeptPass) (text densities : List ℕ) (done : List (List Row)) (cur : List Row) : Type 0 where
-  pub open_is : Open L p text done cur
-  pub stored : take p.midx densities ≡ map density done
-
--- the open measure minimised and counted, and the densities with its own
-pub record MeasureEnded (L : ℕ) (p : KeptPass) (text densities : List ℕ) (done : List (List Row)) (cur : List Row) : Type 0 where
-  pub closed : Closed L p text done cur
   pub stored : take (p.midx + 1) densities ≡ map density (done ++ (cur ∷ []))
 
 -- A whole text was read: the text, the densities and what is counted are those of its minimised measures.

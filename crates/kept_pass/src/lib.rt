@@ -2,11 +2,11 @@
 // it ends.
 #![tactic(auto)]
 
-ghost use Rattle.std.specs.Prelude.{◌≡◌, List, [], ◌∷◌, ◌++◌, ℕ, ◌+◌, ◌*◌, ◌/◌, ◌≤◌, ◌<◌, length};
+ghost use Rattle.std.specs.Prelude.{◌≡◌, List, [], ◌∷◌, ◌++◌, ℕ, ◌+◌, ◌/◌, ◌≤◌, ◌<◌, length};
 ghost use Rattle.definitions.specs.Sizes.{measures_bound, most_bytes, row_count_bound};
 ghost use Rattle.definitions.specs.Lines.{Row};
 ghost use Rattle.definitions.specs.Reduction.{reduce};
-ghost use Rattle.kept_pass.specs.KeptPass.{Open, Closed, SomeOpen, Kept, MeasureEnded, KeptAll};
+ghost use Rattle.kept_pass.specs.KeptPass.{Kept, SomeKept, MeasureEnded, KeptAll};
 
 use definitions::Lanes;
 use measure_tally::Counting;
@@ -14,7 +14,7 @@ use reader::charts::ChartLine;
 use taps::TapTable;
 
 // What is counted so far, where the open measure begins, how many bytes are written, and the open measure's rows and number.
-#[derive(Clone, Copy)]
+#[derive(Drop)]
 pub struct KeptPass {
     pub counting: Counting,
     pub start: usize,
@@ -23,144 +23,96 @@ pub struct KeptPass {
     pub midx: usize,
 }
 
-pub fn no_pass() -> KeptPass
-    ensures { ((L : ℕ) (text : List ℕ) → L ≤ 10 → Open L result text [] []) × (result.out ≡ 0) × (result.counting.rows ≡ 0) × (result.rows ≡ 0) × (result.midx ≡ 0) }
-{
-    let counting = measure_tally::no_counting();
-    KeptPass {
-        counting,
-        start: 0,
-        out: 0,
-        rows: 0,
-        midx: 0,
+impl KeptPass {
+    // Before the first line.
+    pub fn new() -> Self
+        ensures before { (L : ℕ) (text densities : List ℕ) → L ≤ 10 → Kept L result text densities [] [] }
+        ensures nothing_written { (result.out ≡ 0) × (result.counting.rows ≡ 0) }
+    {
+        KeptPass {
+            counting: Counting::new(),
+            start: 0,
+            out: 0,
+            rows: 0,
+            midx: 0,
+        }
     }
-}
 
-// One row more of the open measure.
-pub fn pass_row(p: KeptPass, text: &mut [u8], row: &[u8]) -> KeptPass
-    requires { (p.out + length row.now + 1 ≤ length text.old) × (p.rows < row_count_bound) }
-    ensures fact { (done : List (List Row)) (cur : List Row) → Open (length row.now) p text.old done cur → Open (length row.now) result text.new done (cur ++ (row.now ∷ [])) }
-    ensures out_value { (result.out ≡ p.out + length row.now + 1) × (result.counting.rows ≡ p.counting.rows) × (result.rows ≡ p.rows + 1) × (result.midx ≡ p.midx) }
-{
-    let counting = p.counting;
-    let at = p.out;
-    output::put_line(text, at, row);
-    KeptPass {
-        counting,
-        start: p.start,
-        out: at + row.len() + 1,
-        rows: p.rows + 1,
-        midx: p.midx,
+    // One row more of the open measure.
+    pub fn add_row(&mut self, text: &mut [u8], row: &[u8])
+        requires { (self.old.out + length row.now + 1 ≤ length text.old) × (self.old.rows < row_count_bound) }
+        ensures kept { (densities : List ℕ) (done : List (List Row)) (cur : List Row) → Kept (length row.now) self.old text.old densities done cur → Kept (length row.now) self.new text.new densities done (cur ++ (row.now ∷ [])) }
+        ensures out_after { (self.new.out ≡ self.old.out + length row.now + 1) × (self.new.counting.rows ≡ self.old.counting.rows) }
+    {
+        output::put_line(text, self.out, row);
+        self.out += row.len() + 1;
+        self.rows += 1;
     }
-}
 
-// The open measure's rows minimised in place and counted.
-fn end_rows(p: KeptPass, text: &mut [u8], lanes: usize, table: &TapTable) -> KeptPass
-    requires { (0 < lanes) × (lanes ≤ 10) × (p.out ≤ length text.old) × (p.counting.rows + p.rows < row_count_bound) × SomeOpen lanes p text.old × (table.now.lanes.count ≡ lanes) }
-    ensures closed { (done : List (List Row)) (cur : List Row) → Open lanes p text.old done cur → Closed lanes result text.new done (reduce cur) }
-    ensures out_le_out { (result.out ≤ p.out) × (result.midx ≡ p.midx) }
-{
-    let counting = p.counting;
-    let start = p.start;
-    let rows = p.rows;
-    let kept = reduction::reduce_output_measure(text, start, rows, lanes);
-    let counted = measure_tally::count_rows(counting, text, start, kept, lanes, table);
-    KeptPass {
-        counting: counted,
-        start,
-        out: start + kept * (lanes + 1),
-        rows: kept,
-        midx: p.midx,
+    // The open measure ends: its rows are minimised in place and counted, and its density is stored.
+    fn end_measure(&mut self, text: &mut [u8], densities: &mut [u32], table: &TapTable)
+        requires room { (self.old.out ≤ length text.old) × (self.old.counting.rows + self.old.rows < row_count_bound) × (self.old.midx < length densities.old) }
+        requires kept { SomeKept table.now.lanes.count self.old text.old densities.old }
+        ensures measure_ended { (done : List (List Row)) (cur : List Row) → Kept table.now.lanes.count self.old text.old densities.old done cur → MeasureEnded table.now.lanes.count self.new text.new densities.new done (reduce cur) }
+        ensures no_more { (self.new.out ≤ self.old.out) × (self.new.midx ≡ self.old.midx) }
+    {
+        let lanes = table.lanes.count;
+        let kept = reduction::reduce_output_measure(text, self.start, self.rows, lanes);
+        self.counting.count_rows(text, self.start, kept, table);
+        densities[self.midx] = self.counting.density();
+        self.out = self.start + kept * (lanes + 1);
+        self.rows = kept;
     }
-}
 
-// The open measure ends: its rows are minimised and counted, and its density is stored.
-pub fn end_measure(
-    p: KeptPass,
-    text: &mut [u8],
-    densities: &mut [u32],
-    lanes: usize,
-    table: &TapTable,
-) -> KeptPass
-    requires lanes_nonzero { (0 < lanes) × (lanes ≤ 10) × (p.out ≤ length text.old) × (p.counting.rows + p.rows < row_count_bound) × SomeOpen lanes p text.old × (table.now.lanes.count ≡ lanes) }
-    requires midx_in_bounds { p.midx < length densities.old }
-    ensures measure_ended { (done : List (List Row)) (cur : List Row) → Kept lanes p text.old densities.old done cur → MeasureEnded lanes result text.new densities.new done (reduce cur) }
-    ensures out_le_out { (result.out ≤ p.out) × (result.midx ≡ p.midx) }
-{
-    let e = end_rows(p, text, lanes, table);
-    let m = e.midx;
-    densities[m] = measure_tally::density(e.counting);
-    e
-}
-
-// The `,` line after a measure that has ended is written, and the next measure begins.
-pub fn begin_measure(e: KeptPass, text: &mut [u8]) -> KeptPass
-    requires { (e.out + 2 ≤ length text.old) × (e.midx ≤ measures_bound) }
-    ensures by_index { (L : ℕ) (densities : List ℕ) (done : List (List Row)) (cur : List Row) → MeasureEnded L e text.old densities done cur → Kept L result text.new densities (done ++ (cur ∷ [])) [] }
-    ensures out_value { (result.out ≡ e.out + 2) × (result.midx ≡ e.midx + 1) }
-{
-    let counting = e.counting;
-    let at = e.out;
-    output::put_comma(text, at);
-    let next = measure_tally::count_measure(counting);
-    KeptPass {
-        counting: next,
-        start: at + 2,
-        out: at + 2,
-        rows: 0,
-        midx: e.midx + 1,
+    // The `,` line after a measure that has ended is written, and the next measure begins.
+    pub fn begin_measure(&mut self, text: &mut [u8])
+        requires { (self.old.out + 2 ≤ length text.old) × (self.old.midx ≤ measures_bound) }
+        ensures begun { (L : ℕ) (densities : List ℕ) (done : List (List Row)) (cur : List Row) → MeasureEnded L self.old text.old densities done cur → Kept L self.new text.new densities (done ++ (cur ∷ [])) [] }
+        ensures out_after { (self.new.out ≡ self.old.out + 2) × (self.new.midx ≡ self.old.midx + 1) }
+    {
+        output::put_comma(text, self.out);
+        self.counting.end_measure();
+        self.out += 2;
+        self.start = self.out;
+        self.rows = 0;
+        self.midx += 1;
     }
-}
 
-// The open measure ends with a `,` line.
-fn pass_comma(
-    p: KeptPass,
-    text: &mut [u8],
-    densities: &mut [u32],
-    lanes: usize,
-    table: &TapTable,
-) -> KeptPass
-    requires lanes_nonzero { (0 < lanes) × (lanes ≤ 10) × (p.out + 2 ≤ length text.old) × (p.counting.rows + p.rows < row_count_bound) × SomeOpen lanes p text.old × (table.now.lanes.count ≡ lanes) }
-    requires midx_in_bounds { (p.midx < length densities.old) × (p.midx ≤ measures_bound) }
-    ensures kept { (done : List (List Row)) (cur : List Row) → Kept lanes p text.old densities.old done cur → Kept lanes result text.new densities.new (done ++ (reduce cur ∷ [])) [] }
-    ensures out_bound { (result.out ≤ p.out + 2) × (result.midx ≡ p.midx + 1) }
-{
-    let e = end_measure(p, text, densities, lanes, table);
-    begin_measure(e, text)
+    // The open measure ends with a `,` line.
+    fn comma(&mut self, text: &mut [u8], densities: &mut [u32], table: &TapTable)
+        requires room { (self.old.out + 2 ≤ length text.old) × (self.old.counting.rows + self.old.rows < row_count_bound) × (self.old.midx < length densities.old) × (self.old.midx ≤ measures_bound) }
+        requires kept { SomeKept table.now.lanes.count self.old text.old densities.old }
+        ensures kept_after { (done : List (List Row)) (cur : List Row) → Kept table.now.lanes.count self.old text.old densities.old done cur → Kept table.now.lanes.count self.new text.new densities.new (done ++ (reduce cur ∷ [])) [] }
+        ensures out_bound { self.new.out ≤ self.old.out + 2 }
+    {
+        self.end_measure(text, densities, table);
+        self.begin_measure(text);
+    }
 }
 
 // The lines of a whole text, and the end of its last measure. The table of the tap masks is lent.
-fn keep_lines(
-    data: &[u8],
-    lanes: usize,
-    text: &mut [u8],
-    densities: &mut [u32],
-    table: &TapTable,
-) -> KeptPass
-    requires le_lanes { (4 ≤ lanes) × (lanes ≤ 10) × (length «data».now ≤ most_bytes) }
-    requires data_in_bounds { (length «data».now + 1 ≤ length text.old) × ((length «data».now + 1) / 2 + 1 ≤ length densities.old) × (table.now.lanes.count ≡ lanes) }
-    ensures { KeptAll lanes «data».now result text.new densities.new }
+fn keep_lines(data: &[u8], text: &mut [u8], densities: &mut [u32], table: &TapTable) -> KeptPass
+    requires accepted { length «data».now ≤ most_bytes }
+    requires data_in_bounds { (length «data».now + 1 ≤ length text.old) × ((length «data».now + 1) / 2 + 1 ≤ length densities.old) }
+    ensures { KeptAll table.now.lanes.count «data».now result text.new densities.new }
 {
-    let mut p = no_pass();
-    for line in reader::charts::chart_lines(data, Lanes { count: lanes }) {
+    let mut pass = KeptPass::new();
+    for line in reader::charts::chart_lines(data, table.lanes) {
         match line {
-            ChartLine::Row(row) => {
-                p = pass_row(p, text, row);
-            }
-            ChartLine::Comma => {
-                p = pass_comma(p, text, densities, lanes, table);
-            }
+            ChartLine::Row(row) => pass.add_row(text, row),
+            ChartLine::Comma => pass.comma(text, densities, table),
         }
     }
-    end_measure(p, text, densities, lanes, table)
+    pass.end_measure(text, densities, table);
+    pass
 }
 
 // The whole text: what is counted in the end, and how much is written; the last measure's density is stored too.
-pub fn keep_chart(data: &[u8], lanes: usize, text: &mut [u8], densities: &mut [u32]) -> KeptPass
-    requires le_lanes { (4 ≤ lanes) × (lanes ≤ 10) × (length «data».now ≤ most_bytes) }
+pub fn keep_chart(data: &[u8], lanes: Lanes, text: &mut [u8], densities: &mut [u32]) -> KeptPass
+    requires accepted { length «data».now ≤ most_bytes }
     requires data_in_bounds { (length «data».now + 1 ≤ length text.old) × ((length «data».now + 1) / 2 + 1 ≤ length densities.old) }
-    ensures { KeptAll lanes «data».now result text.new densities.new }
+    ensures { KeptAll lanes.count «data».now result text.new densities.new }
 {
-    let table = TapTable::for_lanes(Lanes { count: lanes });
-    keep_lines(data, lanes, text, densities, &table)
+    let table = TapTable::for_lanes(lanes);
+    keep_lines(data, text, densities, &table)
 }

@@ -1,7 +1,6 @@
 -- A row's cells, one after the other: what is summed and counted of those before column i.
 use mathlib.Core.Path.{◌≡◌, refl}
-use mathlib.Core.Bool.{Bool, ◌||◌}
-use mathlib.Core.List.{List}
+use mathlib.Core.Bool.{◌||◌}
 use Prim.Native.Nat.{ℕ, ◌+◌, ◌<◌}
 use lib.ListN.{length, get_or, set, drop}
 use Rattle.definitions.specs.Lines.{Row}
@@ -41,10 +40,3 @@ module _ (row : Row) (p₀ p : Phantoms) (sum : RowSum) (i : ℕ) (C : Lined row
     passed = passed-next row p₀ p q i C.passed h m w;
     summed = summed-next is_arrow (drop i row) (drop (i + 1) row) (row_sum row) sum t i (get_or row i 0) (drop-next row i h) et C.summed;
   }
-
--- the same, of values that are the same
-pub lined_moved : {row : Row} {p₀ : Phantoms} {i : ℕ} {ds ds' : List ℕ} {hs hs' ts ts' : ℕ} {met met' : Bool} {sum sum' : RowSum}
-    → ds' ≡ ds → hs' ≡ hs → ts' ≡ ts → met' ≡ met → sum' ≡ sum
-    → Lined row p₀ (record { depths = ds; heads = hs; tails = ts; met = met }) sum i
-    → Lined row p₀ (record { depths = ds'; heads = hs'; tails = ts'; met = met' }) sum' i
-lined_moved e₀ e₁ e₂ e₃ e₄ C = rw (e₀, e₁, e₂, e₃, e₄) C

@@ -51,7 +51,7 @@ pub fn sheet_answers(
     ensures work_after { work.new ≡ padded 0 (length work.old) [] }
     ensures notes_after { notes.new ≡ padded 0 (length notes.old) (records (notes_of lanes «data».now)) }
 {
-    let pass = chart_pass::read_chart(data, lanes, text, densities, beats, notes);
+    let pass = chart_pass::read_chart(data, Lanes { count: lanes }, text, densities, beats, notes);
     let bytes = pass.pass.out;
     let measures = pass.pass.midx + 1;
     let counting = pass.pass.counting;

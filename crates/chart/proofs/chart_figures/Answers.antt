@@ -10,20 +10,20 @@ use Rattle.kept_pass.proofs.Answering.{all-text, all-densities, all-recount, non
 use Rattle.chart.proofs.Answering.{all-beats, found-48, all-notes, note-count, all-figures}
 use Rattle.chart.proofs.chart_figures.Goals as goal
 
-pub corrected_stats-corrected-requires : goal.corrected_stats-corrected-requires
-corrected_stats-corrected-requires c =
-    all-recount _ _ _ _ _ c.read_chart-p.ensures.kept _ c.args.work.now (omega arith) c.requires.le_lanes.2 c.requires.data_in_bounds_2
+pub corrected_stats-stats-requires : goal.corrected_stats-stats-requires
+corrected_stats-stats-requires c =
+    all-recount _ _ _ _ _ c.read_chart-chart.ensures.kept _ c.args.work.now (omega (arith, c.args.lanes.within.0)) c.requires.accepted c.requires.room_for_work
 
 pub returns : goal.returns
 unfolding of_bits of_int
 returns c =
-    let x = c.read_chart-p.ensures in record {
+    let x = c.read_chart-chart.ensures in record {
       value =
-          all-figures _ _ _ _ _ _ _ x _ _ _ _ _ (c.corrected_stats-corrected.ensures.value _ x.kept.phantoms x.kept.stats) (note-count _ _ _ _ _ _ _ x _ _ _ c.finish-count.ensures)
+          all-figures _ _ _ _ _ _ _ x _ _ _ _ _ (c.corrected_stats-stats.ensures.value _ x.kept.phantoms x.kept.stats) (note-count _ _ _ _ _ _ _ x _ _ _ c.finish-count.ensures)
           (found-48 _ _ _ _ _ _ _ x) c.last_beat_bits.ensures c.last_note_row.ensures.0;
-      text_after = c.zero_past.ensures ∙ all-text _ _ _ _ _ x.kept (length c.args.text.now) c.read_chart-p.auto.text c.requires.data_in_bounds.0;
-      densities_after = c.zero_past-2.ensures ∙ all-densities _ _ _ _ _ x.kept (length c.args.densities.now) c.read_chart-p.auto.densities;
-      beats_after = c.zero_past-3.ensures ∙ all-beats _ _ _ _ _ _ _ x (length c.args.beats.now) c.read_chart-p.auto.beats c.requires.data_in_bounds.2;
-      work_after = c.corrected_stats-corrected.ensures.work_after ∙ none-off (length c.args.work.now);
-      slots_after = all-notes _ _ _ _ _ _ _ x _ _ _ c.finish-count.ensures ∙ ap (λ n. padded 0 n (records (notes c.args.lanes c.args.«data».now))) c.read_chart-p.auto.slots;
+      text_after = c.zero_past.ensures ∙ all-text _ _ _ _ _ x.kept (length c.args.text.now) c.read_chart-chart.auto.text c.requires.data_in_bounds.0;
+      densities_after = c.zero_past-2.ensures ∙ all-densities _ _ _ _ _ x.kept (length c.args.densities.now) c.read_chart-chart.auto.densities;
+      beats_after = c.zero_past-3.ensures ∙ all-beats _ _ _ _ _ _ _ x (length c.args.beats.now) c.read_chart-chart.auto.beats c.requires.data_in_bounds.2;
+      work_after = c.corrected_stats-stats.ensures.work_after ∙ none-off (length c.args.work.now);
+      slots_after = all-notes _ _ _ _ _ _ _ x _ _ _ c.finish-count.ensures ∙ ap (λ n. padded 0 n (records (notes c.args.lanes.count c.args.«data».now))) c.read_chart-chart.auto.slots;
     }

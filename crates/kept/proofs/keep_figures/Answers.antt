@@ -6,18 +6,17 @@ use Rattle.kept_pass.proofs.Answering.{all-text, all-densities, all-recount, non
 use Rattle.kept.proofs.Answering.{all-figures}
 use Rattle.kept.proofs.keep_figures.Goals as goal
 
-pub corrected_stats-corrected-requires : goal.corrected_stats-corrected-requires
-corrected_stats-corrected-requires c =
-    let pre = c.requires.le_lanes in
-    all-recount _ _ _ _ _ c.keep_chart-p.ensures _ c.args.work.now (omega arith) pre.2 c.requires.data_in_bounds.2
+pub corrected_stats-stats-requires : goal.corrected_stats-stats-requires
+corrected_stats-stats-requires c =
+    all-recount _ _ _ _ _ c.keep_chart-pass.ensures _ c.args.work.now (omega (arith, c.args.lanes.within.0)) c.requires.accepted c.requires.data_in_bounds.2
 
 pub returns : goal.returns
 returns c =
-    let k = c.keep_chart-p in
+    let k = c.keep_chart-pass in
     let x = k.ensures in
-    let r = c.corrected_stats-corrected.ensures in
+    let r = c.corrected_stats-stats.ensures in
     record {
-      value = all-figures _ _ _ _ _ x _ (omega (arith, c.requires.le_lanes.0)) (r.value _ x.phantoms x.stats);
+      value = all-figures _ _ _ _ _ x _ (omega (arith, c.args.lanes.within.0)) (r.value _ x.phantoms x.stats);
       text_after = c.zero_past.ensures ∙ all-text _ _ _ _ _ x (length c.args.text.now) k.auto.text c.requires.data_in_bounds.0;
       densities_after = c.zero_past-2.ensures ∙ all-densities _ _ _ _ _ x (length c.args.densities.now) k.auto.densities;
       work_after = r.work_after ∙ none-off (length c.args.work.now);

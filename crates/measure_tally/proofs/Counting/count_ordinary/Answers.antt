@@ -1,0 +1,43 @@
+-- `measure_tally::Counting::count_ordinary` meets its contract: the row at `at` has `lanes` bytes, few rows are counted before it, and it is one row more.
+use mathlib.Core.Path.{sym, subst}
+use native.Mathlib.Omega.{arith}
+use lib.ListN.{take}
+use Rattle.taps.proofs.Masks.{below-at}
+use Rattle.taps.proofs.Free.{free-told}
+use Rattle.reduction.proofs.RowsAt.{rows-length}
+use Rattle.reduction.proofs.Powers.{next-at}
+use Rattle.measure_tally.specs.Counted.{Counted}
+use Rattle.measure_tally.proofs.Rows.{counted-grown}
+use Rattle.measure_tally.proofs.Places.{rows_of, row-wide, row_more}
+use Rattle.measure_tally.proofs.Counting.count_ordinary.Goals as goal
+
+pub count_taps-requires : goal.count_taps-requires
+count_taps-requires c =
+    let a = c.args in
+    let L = a.table.now.lanes.count in
+    let ms = rows_of L a.rows a.text.now a.start in
+    let some = c.requires.few.1 in
+    let x = c.loop-i.invariant.3 some.done some.counted in
+    let grown = counted-grown _ _ _ _ ms a.first c.loop-i.i (rw rows-length c.requires.in_text.1) (rw rows-length c.loop-i.invariant.1) some.counted x in
+    let free = free-told c.free_taps.ensures c.in-Mask.is in
+    let wide = row-wide L a.rows a.text.now a.start c.requires.in_text.0 c.loop-i.i c.loop-i.at c.loop-i-test.true c.loop-i.invariant.2 in (
+      omega (arith, grown, c.requires.few.0, c.loop-i.invariant.0, c.loop-i-test.true),
+      x.few,
+      below-at _ _ _ wide free.mask,
+    )
+
+pub loop-i-preserved : goal.loop-i-preserved
+loop-i-preserved c =
+    let a = c.args in
+    let lanes = a.table.now.lanes in
+    let L = lanes.count in
+    let ms = rows_of L a.rows a.text.now a.start in
+    let free = free-told c.free_taps.ensures c.in-Mask.is in
+    let wide = row-wide L a.rows a.text.now a.start c.requires.in_text.0 c.loop-i.i c.loop-i.at c.loop-i-test.true c.loop-i.invariant.2 in
+    let more = row_more L a.rows a.text.now a.start c.requires.in_text.0 c.loop-i.i c.loop-i.at c.loop-i-test.true c.loop-i.invariant.2 in (
+      omega (arith, c.loop-i.invariant.0),
+      omega (arith, c.loop-i-test.true),
+      next-at c.loop-i.at a.start c.loop-i.i L c.loop-i.invariant.2,
+      λ done x. subst (Counted L _ done) (sym more)
+          (c.count_taps.ensures _ free L done (take c.loop-i.i ms) (omega (arith, wide)) lanes.within.1 (c.loop-i.invariant.3 done x)),
+    )
