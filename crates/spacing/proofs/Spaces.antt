@@ -17,6 +17,7 @@ use Rattle.definitions.specs.Measures.{chart}
 use Rattle.definitions.specs.Reduction.{all_zero, off_zero, reduce, stride, minimised}
 use Rattle.definitions.specs.Figures.{is_step, density, spacing, spacings}
 use Rattle.definitions.proofs.Bools.{and_left, and_right}
+use Rattle.definitions.proofs.Lists.{one-le}
 use Rattle.definitions.proofs.Figures.{density-snoc}
 use Rattle.spacing.specs.declared.MeasureSpacing.{MeasureSpacing}
 use Rattle.spacing.specs.Spaces.{Spaces}
@@ -56,19 +57,15 @@ module _ (s : MeasureSpacing) (cur : List Row) (x : Spaces s cur) (row : Row) wh
   longer = rw length-append (omega (arith, x.rows))
 
   -- a row of a measure that cannot be spaced any more
-  pub spaces-lost : s.shift ≡ 0 → (s.steps ≡ s.rows → ⊥) → Spaces (record { rows = s.rows + 1; steps = s.steps; shift = 0 }) (cur ++ (row ∷ []))
+  pub spaces-lost : s.shift ≡ 0 → (s.steps ≡ s.rows → ⊥) → Spaces (record { rows = s.rows + 1; steps = s.steps; shift = s.shift }) (cur ++ (row ∷ []))
   spaces-lost z ne =
       record {
         rows = longer;
-        steps = inr (refl, omega (arith, longer, few.0), omega (arith, longer, few.1, density-snoc cur row, at_most (is_step row)));
-        most = omega arith;
-        shift = λ k h. stays k h (all_zero row) refl;
+        steps = inr (z, omega (arith, longer, few.0), omega (arith, longer, few.1, density-snoc cur row, one-le (is_step row)));
+        most = x.most;
+        shift = λ k h. rw z (stays k h (all_zero row) refl);
       }
     where
-      at_most : (t : Bool) → number_of_bool t ≤ 1
-      at_most true = omega arith
-      at_most false = omega arith
-
       few : (s.steps < s.rows + 1) × (density cur < s.rows)
       few =
           ⊎_elim
@@ -109,7 +106,7 @@ spaces-few s cur x b h =
     (omega (arith, x.rows), ⊎_elim (λ e. omega (arith, e, steps-most cur)) (λ y. omega (arith, y.1)) x.steps)
 
 -- without rows it is spaced
-pub spaced-none : (s : MeasureSpacing) (cur : List Row) → Spaces s cur → s.rows ≡ 0 → 1 ≡ spaced_in cur
+pub spaced-none : (s : MeasureSpacing) (cur : List Row) → Spaces s cur → s.rows ≡ 0 → true ≡ spacing (reduce cur)
 unfolding reduce stride
 spaced-none s [] x h = refl
 spaced-none s (r ∷ cur) x h = absurd (omega (arith, x.rows))
@@ -131,17 +128,11 @@ module _ (s : MeasureSpacing) (cur : List Row) (x : Spaces s cur) (some : 0 < s.
       let none : t ≡ 0 = omega (arith, q, z) in
       ap (λ k. s.rows / 2 ^ k) none ∙ div-one s.rows
 
-  pub spaced-yes : s.steps ≡ s.rows / 2 ^ t → 1 ≡ spaced_in cur
-  spaced-yes h =
+  pub spaced-told : eqb s.steps (s.rows / 2 ^ t) ≡ spacing (reduce cur)
+  spaced-told =
       ⊎_elim
-      (λ e. sym (ap number_of_bool (spacing-raw cur ∙ eq-eqb (density cur) (length (reduce cur)) (sym e ∙ h ∙ kept))))
-      (λ y. absurd (omega (arith, y.1, x.rows, h, all_stay y.0)))
-      x.steps
-
-  pub spaced-no : (s.steps ≡ s.rows / 2 ^ t → ⊥) → 0 ≡ spaced_in cur
-  spaced-no h =
-      ⊎_elim
-      (λ c. sym (ap number_of_bool (spacing-raw cur ∙ ne_eqb (density cur) (length (reduce cur)) (λ e. h (c ∙ e ∙ sym kept)))))
+      (λ e. ap₂ eqb e kept ∙ sym (spacing-raw cur))
       (λ y.
-      sym (ap number_of_bool (spacing-raw cur ∙ ne_eqb (density cur) (length (reduce cur)) (λ e. omega (arith, y.2, x.rows, e, kept, all_stay y.0)))))
+      ne_eqb s.steps (s.rows / 2 ^ t) (λ h. omega (arith, y.1, x.rows, h, all_stay y.0))
+      ∙ sym (spacing-raw cur ∙ ne_eqb (density cur) (length (reduce cur)) (λ e. omega (arith, y.2, x.rows, e, kept, all_stay y.0))))
       x.steps

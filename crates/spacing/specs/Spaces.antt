@@ -1,5 +1,5 @@
 -- What the spacing scan keeps of the open measure.
-use Rattle.std.specs.Prelude.{◌≡◌, ◌⊎◌, List, ℕ, ◌^◌, ◌≤◌, ◌<◌, leb, length}
+use Rattle.std.specs.Prelude.{◌≡◌, ◌⊎◌, List, ℕ, ◌^◌, ◌≤◌, ◌<◌, nat_le, length}
 use Rattle.definitions.specs.Lines.{Row}
 use Rattle.definitions.specs.Reduction.{off_zero}
 use Rattle.definitions.specs.Figures.{density}
@@ -11,4 +11,4 @@ pub record Spaces (s : MeasureSpacing) (cur : List Row) : Type 0 where
   pub rows : s.rows ≡ length cur
   pub steps : (s.steps ≡ density cur) ⊎ ((s.shift ≡ 0) × (s.steps < length cur) × (density cur < length cur))
   pub most : s.shift ≤ 64
-  pub shift : (k : ℕ) → k ≤ 64 → off_zero (2 ^ k) 0 cur ≡ leb k s.shift
+  pub shift : (k : ℕ) → k ≤ 64 → off_zero (2 ^ k) 0 cur ≡ nat_le k s.shift

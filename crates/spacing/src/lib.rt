@@ -1,9 +1,9 @@
 // Spacing: for each measure whether its minimised rows all have a 1, 2 or 4, by counting its rows, its steps and the doublings of its stride.
 #![tactic(auto)]
 
-ghost use Rattle.std.specs.Prelude.{◌≡◌, List, [], ◌∷◌, ◌++◌, ◌+◌, ◌/◌, ◌≤◌, ◌<◌, min, length};
+ghost use Rattle.std.specs.Prelude.{◌≡◌, List, [], ◌∷◌, ◌++◌, ◌+◌, ◌/◌, ◌≤◌, ◌<◌, length};
 ghost use Rattle.definitions.specs.Sizes.{most_bytes, row_numbers_bound};
-ghost use Rattle.definitions.specs.Lists.{number_of_bool, padded};
+ghost use Rattle.definitions.specs.Lists.{padded};
 ghost use Rattle.definitions.specs.Lines.{Row};
 ghost use Rattle.definitions.specs.Reduction.{reduce};
 ghost use Rattle.definitions.specs.Figures.{spacing as spacing_of, spacings};
@@ -22,65 +22,46 @@ pub struct MeasureSpacing {
     pub shift: u32,
 }
 
-fn smaller(a: u32, b: u32) -> u32
-    ensures { result ≡ min a b }
-{
-    if a < b { a } else { b }
-}
+impl MeasureSpacing {
+    // A measure without rows.
+    fn new() -> Self
+        ensures { Spaces result [] }
+    {
+        MeasureSpacing {
+            rows: 0,
+            steps: 0,
+            shift: 64,
+        }
+    }
 
-fn no_spacing() -> MeasureSpacing
-    ensures { Spaces result [] }
-{
-    MeasureSpacing {
-        rows: 0,
-        steps: 0,
-        shift: 64,
+    // The open measure with one row more. Where the stride is 1 for good and some row is no step, no row can make the measure spaced again, and
+    // none is looked at. It is written into the loop, where the measure then stays in registers.
+    #[inline(always)]
+    fn add_row(&mut self, row: &[u8])
+        requires { (self.old.rows < row_numbers_bound) × (self.old.steps < row_numbers_bound) }
+        ensures { (cur : List Row) → Spaces self.old cur → Spaces self.new (cur ++ (row.now ∷ [])) }
+    {
+        let number = self.rows;
+        self.rows += 1;
+        if (self.shift == 0) & ((self.steps as usize) != number) {
+            return;
+        }
+        self.steps += u32::from(cells::row_has_note(row));
+        if !reduction::is_all_zero(row) {
+            self.shift = self.shift.min(number.trailing_zeros());
+        }
     }
-}
 
-// The open measure with one row more. Where the stride is 1 for good and some row is no step, no row can make the measure spaced again, and
-// none is looked at.
-fn spacing_row(s: MeasureSpacing, row: &[u8]) -> MeasureSpacing
-    requires { (s.rows < row_numbers_bound) × (s.steps < row_numbers_bound) }
-    ensures { (cur : List Row) → Spaces s cur → Spaces result (cur ++ (row.now ∷ [])) }
-{
-    let rows = s.rows;
-    if (s.shift == 0) & ((s.steps as usize) != rows) {
-        return MeasureSpacing {
-            rows: rows + 1,
-            steps: s.steps,
-            shift: 0,
-        };
-    }
-    let steps = s.steps + cells::one_if(cells::row_has_note(row));
-    if reduction::is_all_zero(row) {
-        return MeasureSpacing {
-            rows: rows + 1,
-            steps,
-            shift: s.shift,
-        };
-    }
-    MeasureSpacing {
-        rows: rows + 1,
-        steps,
-        shift: smaller(s.shift, usize::trailing_zeros(rows)),
-    }
-}
-
-// Whether the measure's minimised rows all have a 1, 2 or 4, as 1 or 0: as many rows have one as stay.
-fn is_spaced(s: MeasureSpacing) -> u8
-    requires { s.rows ≤ row_numbers_bound }
-    ensures { (cur : List Row) → Spaces s cur → result ≡ number_of_bool (spacing_of (reduce cur)) }
-{
-    let rows = s.rows;
-    if rows == 0 {
-        return 1;
-    }
-    let shift = smaller(s.shift, usize::trailing_zeros(rows));
-    if (s.steps as usize) == rows >> shift {
-        1
-    } else {
-        0
+    // Whether the measure's minimised rows all have a 1, 2 or 4: as many rows have one as stay.
+    fn is_spaced(&self) -> bool
+        requires { self.now.rows ≤ row_numbers_bound }
+        ensures { (cur : List Row) → Spaces self.now cur → result ≡ spacing_of (reduce cur) }
+    {
+        if self.rows == 0 {
+            return true;
+        }
+        let shift = self.shift.min(self.rows.trailing_zeros());
+        self.steps as usize == self.rows >> shift
     }
 }
 
@@ -92,20 +73,18 @@ pub fn fill_spacing(data: &[u8], lanes: Lanes, spacing: &mut [u8]) -> usize
     ensures spacing_after { spacing.new ≡ padded 0 (length spacing.old) (spacings lanes.count «data».now) }
 {
     let mut m = 0;
-    let mut s = no_spacing();
+    let mut measure = MeasureSpacing::new();
     for line in reader::charts::chart_lines(data, lanes) {
         match line {
-            ChartLine::Row(row) => {
-                s = spacing_row(s, row);
-            }
+            ChartLine::Row(row) => measure.add_row(row),
             ChartLine::Comma => {
-                spacing[m] = is_spaced(s);
+                spacing[m] = u8::from(measure.is_spaced());
                 m += 1;
-                s = no_spacing();
+                measure = MeasureSpacing::new();
             }
         }
     }
-    spacing[m] = is_spaced(s);
+    spacing[m] = u8::from(measure.is_spaced());
     m += 1;
     slices::zero_past(spacing, m, 0);
     m

@@ -1,10 +1,10 @@
--- `spacing::fill_spacing` meets its contract. At the start of each iteration the spacing of the measures that have ended is stored, and `s` holds what
+-- `spacing::fill_spacing` meets its contract. At the start of each iteration the spacing of the measures that have ended is stored, and `measure` holds what
 -- counts of the open one, which is the last at the end.
 use Prim.Native.Nat.{◌<◌, ◌+◌}
 use mathlib.Core.Path.{sym, ap, ◌∙◌}
 use native.Mathlib.Omega.{arith}
 use lib.ListN.{length}
-use Rattle.definitions.specs.Lists.{padded}
+use Rattle.definitions.specs.Lists.{number_of_bool, padded}
 use Rattle.spacing.specs.Spaces.{Spaces}
 use Rattle.reader.proofs.ChartLoops.{Come, holds-start, holds-row, holds-comma, holds-over}
 use Rattle.scans.proofs.Filling.{Filled, filling-start, filling-row, filling-comma, filling-over, filled-count, filled-slice}
@@ -17,11 +17,11 @@ come c =
     record { lanes = c.args.lanes.within.0; start = _; from = c.into_iter-line-iterator.ensures.into_iter_gives ∙ c.chart_lines-line-items.ensures; by = c.loop-line.yielded_by }
 
 pub loop-line-init : goal.loop-line-init
-loop-line-init c = holds-start _ _ c.args.lanes.within.0 (filling-start spaced_in (Spaces _) _ c.no_spacing-s.ensures)
+loop-line-init c = holds-start _ _ c.args.lanes.within.0 (filling-start spaced_in (Spaces _) _ c.new-measure.ensures)
 
 -- the open measure's rows are few enough for their counts
-pub spacing_row-s-requires : goal.spacing_row-s-requires
-spacing_row-s-requires c =
+pub add_row-requires : goal.add_row-requires
+add_row-requires c =
     let x = c.loop-line.invariant in
     let w = spaces-few _ _ x.held.state (length c.args.«data».now + 1) (omega (arith, x.few.fifth)) in
     (omega (arith, w.0), omega (arith, w.1))
@@ -29,20 +29,20 @@ spacing_row-s-requires c =
 pub loop-line-preserved-in-Row : goal.loop-line-preserved-in-Row
 loop-line-preserved-in-Row c =
     holds-row _ _ (come (goal.at.loop-line-preserved-in-Row c).At-loop-line) _ _ c.next.ensures.steps c.in-Some.is _ c.in-Row.is
-    (filling-row spaced_in (Spaces _) (Spaces _) _ _ _ c.spacing_row-s.ensures)
+    (filling-row spaced_in (Spaces _) (Spaces _) _ _ _ c.add_row.ensures)
     c.loop-line.invariant
 
 pub loop-line-preserved : goal.loop-line-preserved
 loop-line-preserved c =
     let room : c.loop-line.m < length c.loop-line.spacing = omega arith in
     holds-comma _ _ (come (goal.at.loop-line-preserved c).At-loop-line) _ _ c.next.ensures.steps c.in-Some.is c.in-Comma.is
-    (filling-comma spaced_in (Spaces _) (Spaces _) _ _ _ room c.is_spaced.ensures c.no_spacing-s-in-Comma.ensures)
+    (filling-comma spaced_in (Spaces _) (Spaces _) _ _ _ room (λ cur x. c.from.ensures ∙ ap number_of_bool (c.is_spaced.ensures cur x)) c.new-measure-in-Comma.ensures)
     c.loop-line.invariant
 
 pub returns : goal.returns
 returns c =
-    let last : Filled spaced_in c.args.lanes.count c.args.«data».now c.loop-line.m c.is_spaced-2.result c.loop-line.spacing
-    = filling-over spaced_in (Spaces _) _ _ _ _ _ c.is_spaced-2.ensures
+    let last : Filled spaced_in c.args.lanes.count c.args.«data».now c.loop-line.m c.from-2.result c.loop-line.spacing
+    = filling-over spaced_in (Spaces _) _ _ _ _ _ (λ cur x. c.from-2.ensures ∙ ap number_of_bool (c.is_spaced-2.ensures cur x))
     (holds-over _ _ (come (goal.at.returns c).At-loop-line) _ _ c.next.ensures.steps c.in-None.is c.loop-line.invariant) in
     let room : c.loop-line.m < length c.loop-line.spacing = omega (arith, last.room) in
     let raw = spacings-raw c.args.lanes.count c.args.«data».now in
