@@ -66,7 +66,8 @@ impl TimingPass {
     {
         let kept = reduction::reduce_rows(text, self.start, self.rows, lanes);
         let end = self.start + kept * lanes.count;
-        beats::append_row_beats(beats, self.kept, self.midx, kept as u32);
+        let count = kept as u32;
+        beats::append_row_beats(beats, self.kept, self.midx, count);
         self.heads |= has_head(&text[self.start..end]);
         self.start = end;
         self.out = end;

@@ -15,8 +15,8 @@ overflow_add-end c =
     let s = c.requires.room in
     omega (arith, (timed-few _ _ _ _ _ _ s.0 c.reduce_rows-kept.ensures s.3).1, s.0)
 
-pub overflow_cast-kept : goal.overflow_cast-kept
-overflow_cast-kept c =
+pub overflow_cast-count : goal.overflow_cast-count
+overflow_cast-count c =
     let s = c.requires.room in
     omega (arith, (timed-few _ _ _ _ _ _ s.0 c.reduce_rows-kept.ensures s.3).0, s.1)
 
