@@ -1,10 +1,8 @@
 -- Rows by their place, as the contracts of this crate speak of them.
-use Rattle.std.specs.Prelude.{◌≡◌, ℕ, ◌<◌, ◌≤◌}
-use Rattle.std.specs.Prelude.{Option, None, Some}
+use Rattle.std.specs.Prelude.{◌≡◌, ℕ, ◌<◌, ◌≤◌, Option, Some, None}
 use Rattle.definitions.specs.Sizes.{measures_bound, row_count_bound}
 use Rattle.definitions.specs.Objects.{Place}
-use Rattle.beats.specs.declared.LastObject.{LastObject}
-use Rattle.beats.specs.declared.LastObject.TheVariants.{Nothing, At}
+use Rattle.beats.specs.declared.RowPlace.{RowPlace}
 
 -- Row r of the n rows of measure m. An accepted text, of at most 16,777,215 bytes, keeps these limits: with its byte 10 a row takes
 -- 5 bytes or more, and the end of a measure 2.
@@ -13,11 +11,11 @@ pub record Inside (m r n : ℕ) : Type 0 where
   pub rows : n < row_count_bound
   pub measure : m ≤ measures_bound
 
--- the place that a last object row stands for
-abbrev pub place_of : LastObject → Option Place
-place_of Nothing = None
-place_of (At m r n) = Some (record { m = m; r = r; n = n })
+-- the place of the last object row, if there is one
+abbrev pub place_of : Option RowPlace → Option Place
+place_of None = None
+place_of (Some p) = Some (record { m = p.measure; r = p.row; n = p.rows })
 
 -- it is within those limits, if there is one
-pub record Placed (o : LastObject) : Type 0 where
-  pub inside : (m r n : ℕ) → o ≡ At m r n → Inside m r n
+pub record Placed (o : Option RowPlace) : Type 0 where
+  pub inside : (p : RowPlace) → o ≡ Some p → Inside p.measure p.row p.rows

@@ -91,10 +91,8 @@ fn append_steps(beats: &mut [f32], at: usize, midx: u32, rows: u32)
 {
     let step = step_of(rows);
     let first = midx * rows;
-    let mut r: u32 = 0;
-    while r < rows {
+    for r in 0..rows {
         beats[at + (r as usize)] = steps_beat(first + r, step);
-        r += 1;
     }
 }
 
@@ -103,10 +101,8 @@ fn append_rounded(beats: &mut [f32], at: usize, midx: u32, rows: u32, s: u64)
     requires { (at + rows ≤ length beats.old) × (midx ≤ measures_bound) × (HasValue (step rows) false s (2 ^ 43)) × (s * rows < 2 ^ 46) }
     ensures { beats.new ≡ (take at beats.old ++ row_beats midx rows 0 rows) ++ drop (at + rows) beats.old }
 {
-    let mut r: u32 = 0;
-    while r < rows {
+    for r in 0..rows {
         beats[at + (r as usize)] = mul_add(r, s, midx);
-        r += 1;
     }
 }
 
@@ -164,26 +160,27 @@ pub fn note_row_to_beat(row: u64) -> f64
     (row as f64) / 48.0
 }
 
-// The last object row: none, or its measure, its row and the rows of that measure.
+// A row by its place: its measure, its number in it, and the rows of that measure.
 #[derive(Clone, Copy)]
-pub enum LastObject {
-    Nothing,
-    At(u32, u32, u32),
+pub struct RowPlace {
+    pub measure: u32,
+    pub row: u32,
+    pub rows: u32,
 }
 
-// The last beat in 48ths.
-pub fn last_note_row(last: LastObject) -> u64
+// The last beat in 48ths, by the last object row, if there is one.
+pub fn last_note_row(last: Option<RowPlace>) -> u64
     requires { Placed last }
     ensures { (result ≡ place48 (place_of last)) × (result ≤ 2 ^ 39) }
 {
     match last {
-        LastObject::Nothing => 0,
-        LastObject::At(m, r, n) => beat_to_note_row(m, r, n),
+        None => 0,
+        Some(at) => beat_to_note_row(at.measure, at.row, at.rows),
     }
 }
 
 // The last beat.
-pub fn calc_last_beat(last: LastObject) -> f64
+pub fn calc_last_beat(last: Option<RowPlace>) -> f64
     requires { Placed last }
     ensures { result ≡ row_to_beat (place48 (place_of last)) }
 {
@@ -191,7 +188,7 @@ pub fn calc_last_beat(last: LastObject) -> f64
 }
 
 // The last beat's bits.
-pub fn last_beat_bits(last: LastObject) -> u64
+pub fn last_beat_bits(last: Option<RowPlace>) -> u64
     requires { Placed last }
     ensures { result ≡ to_bits binary64 (row_to_beat (place48 (place_of last))) }
 {

@@ -133,14 +133,14 @@ fn walk_closing(at: CellAt, slots: &mut [u8]) -> WalkCell
 {
     row_notes::end_note(at.head, at.row, slots);
     let phantom = PhantomCell {
-        depth: phantoms::one_less(at.depth),
+        depth: at.depth.saturating_sub(1),
         heads: 0,
         tails: 1,
         met: false,
     };
     let object = ObjectCell {
         object: 0 < at.low,
-        depth: phantoms::one_less(at.low),
+        depth: at.low.saturating_sub(1),
     };
     WalkCell {
         phantom,
@@ -213,16 +213,16 @@ pub fn count_kind(s: RowSum, column: usize, kind: u8, tails: u32) -> RowSum
     let arrow = kind < 3;
     let direction = column % 4;
     RowSum {
-        arrows: s.arrows + cells::one_if(arrow),
-        left: s.left + cells::one_if(arrow & (direction == 0)),
-        down: s.down + cells::one_if(arrow & (direction == 1)),
-        up: s.up + cells::one_if(arrow & (direction == 2)),
-        right: s.right + cells::one_if(arrow & (direction == 3)),
-        holds: s.holds + cells::one_if(kind == 1),
-        rolls: s.rolls + cells::one_if(kind == 2),
+        arrows: s.arrows + u32::from(arrow),
+        left: s.left + u32::from(arrow & (direction == 0)),
+        down: s.down + u32::from(arrow & (direction == 1)),
+        up: s.up + u32::from(arrow & (direction == 2)),
+        right: s.right + u32::from(arrow & (direction == 3)),
+        holds: s.holds + u32::from(kind == 1),
+        rolls: s.rolls + u32::from(kind == 2),
         tails: s.tails + tails,
-        mines: s.mines + cells::one_if(kind == 3),
-        lifts: s.lifts + cells::one_if(kind == 4),
-        fakes: s.fakes + cells::one_if(kind == 5),
+        mines: s.mines + u32::from(kind == 3),
+        lifts: s.lifts + u32::from(kind == 4),
+        fakes: s.fakes + u32::from(kind == 5),
     }
 }

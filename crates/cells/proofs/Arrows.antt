@@ -1,13 +1,12 @@
--- The arrows: the tests that `is_note` joins, and a row's test from a column on.
-use mathlib.Core.Path.{◌≡◌, refl, sym}
-use mathlib.Core.Bool.{Bool, true, false, cond, ◌||◌, or_assoc}
-use Prim.Native.Nat.{ℕ, ◌+◌, ◌<◌}
-use native.Mathlib.Numerals.{add-one}
+-- The arrows as tests of a byte, and a row's test by std's search.
+use mathlib.Core.Path.{◌≡◌, refl, sym, ap}
+use mathlib.Core.List.{[], ◌∷◌}
+use mathlib.Core.Bool.{Bool, true, false, cond, ◌||◌}
+use Prim.Native.Nat.{ℕ}
 use native.Mathlib.Omega.{arith}
 use lib.Dec.{eqb}
-use lib.ListN.{length, get_or, drop}
-use lib.Seq.{drop-cons}
 use borrow.Author.Tests.{eqb-true, ne_eqb}
+use Rattle.std.specs.List.{list_any}
 use Rattle.definitions.specs.Lines.{Row}
 use Rattle.definitions.specs.Cells.{cell_of, is_arrow}
 use Rattle.definitions.specs.Figures.{is_step}
@@ -35,15 +34,15 @@ first false false true s x n h = n refl
 first false false false true x n h = refl
 first false false false false x n h = sym h
 
-pub arrow-byte : (b : ℕ) → ((eqb b 49 || eqb b 50) || eqb b 52) ≡ is_arrow (cell_of b)
+pub arrow_byte : (b : ℕ) → ((eqb b 49 || eqb b 50) || eqb b 52) ≡ is_arrow (cell_of b)
 unfolding cell_of
-arrow-byte b =
+arrow_byte b =
     first (eqb b 49) (eqb b 50) (eqb b 51) (eqb b 52) _
     (λ e. ne_eqb b 52 (λ f. omega (arith, eqb-true b 51 e)))
     (later (eqb b 77) (eqb b 76) (eqb b 70) (eqb b 75) (eqb b 109) (eqb b 108) (eqb b 102))
 
--- one column more: n says whether it is an arrow
-pub step-next : (r : Row) (i : ℕ) (has n : Bool) → i < length r → n ≡ is_arrow (cell_of (get_or r i 0))
-    → (has || is_step (drop i r)) ≡ ((has || n) || is_step (drop (i + 1) r))
+-- a step by std's search
+pub step-any : (r : Row) → list_any (λ b. is_arrow (cell_of b)) r ≡ is_step r
 unfolding is_step
-step-next r i has n h e = rw (or_assoc, e, add-one, drop-cons r i 0)
+step-any [] = refl
+step-any (b ∷ r) = ap (λ t. is_arrow (cell_of b) || t) (step-any r)

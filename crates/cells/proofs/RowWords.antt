@@ -11,7 +11,7 @@ use Rattle.definitions.specs.Lines.{Row}
 use Rattle.definitions.specs.Cells.{cell_of, is_arrow}
 use Rattle.definitions.specs.Figures.{is_step}
 use Rattle.lines.specs.Words.{word_of, Bytes}
-use Rattle.cells.proofs.Arrows.{arrow-byte}
+use Rattle.cells.proofs.Arrows.{arrow_byte}
 
 -- a half with nothing above it
 abbrev pub nothing : List ℕ
@@ -40,9 +40,9 @@ gathered false false true false true u = refl
 gathered false false true false false u = refl
 gathered false false false s t u = refl
 
-pub step-among : (r : Row) → ((among 49 r || among 50 r) || among 52 r) ≡ is_step r
+pub step_among : (r : Row) → ((among 49 r || among 50 r) || among 52 r) ≡ is_step r
 unfolding is_step
-step-among [] = refl
-step-among (b ∷ r) =
+step_among [] = refl
+step_among (b ∷ r) =
     sym (gathered (eqb 49 b) (eqb 50 b) (eqb 52 b) (among 49 r) (among 50 r) (among 52 r))
-    ∙ rw (equal-turned 49 b, equal-turned 50 b, equal-turned 52 b, arrow-byte b, step-among r)
+    ∙ rw (equal-turned 49 b, equal-turned 50 b, equal-turned 52 b, arrow_byte b, step_among r)

@@ -2,7 +2,6 @@
 #![tactic(auto)]
 
 ghost use Rattle.std.specs.Prelude.{◌≡◌, List, ℕ, ◌≤◌, length};
-ghost use Rattle.definitions.specs.Lists.{number_of_bool};
 ghost use Rattle.definitions.specs.Cells.{cell_of, is_arrow};
 ghost use Rattle.definitions.specs.Figures.{is_step};
 ghost use Rattle.definitions.specs.Tracker.{hold_at};
@@ -12,14 +11,8 @@ ghost use Rattle.lines.specs.Words.{word_of, Bytes};
 use definitions::{Cell, DepthEffect};
 use lines::words;
 
-// 1 where the test holds, else 0.
-pub fn one_if(test: bool) -> u32
-    ensures { (result ≡ number_of_bool test) × (result ≤ 1) }
-{
-    if test { 1 } else { 0 }
-}
-
 // What a byte of a row stands for.
+#[tactic(auto, unfolding(definitions::specs::Cells::cell_of))]
 pub fn cell_of(b: u8) -> Cell
     ensures { result ≡ cell_of b }
 {
@@ -43,28 +36,18 @@ pub fn cell_of(b: u8) -> Cell
 pub fn is_note(b: u8) -> bool
     ensures { result ≡ is_arrow (cell_of b) }
 {
-    match b {
-        b'1' => true,
-        b'2' => true,
-        b'4' => true,
-        _ => false,
-    }
+    matches!(cell_of(b), Cell::Tap | Cell::Hold | Cell::Roll)
 }
 
-// Whether the row has an arrow. It looks at every byte, so that no turn of the loop branches on one.
+// Whether the row has an arrow.
 fn cells_have_note(row: &[u8]) -> bool
     ensures { result ≡ is_step row.now }
 {
-    let mut has = false;
-    let mut i = 0;
-    while i < row.len() {
-        has = has | is_note(row[i]);
-        i += 1;
-    }
-    has
+    row.iter().any(|&b| is_note(b))
 }
 
 // Whether one of the word's bytes is an arrow.
+#[tactic(auto, using(crate::proofs::RowWords::step_among))]
 fn word_has_note(word: u64) -> bool
     ensures { (xs : List ℕ) → length xs ≡ 8 → Bytes xs → word_of xs ≡ word → result ≡ is_step xs }
 {
@@ -88,6 +71,7 @@ pub fn row_has_note(row: &[u8]) -> bool
 }
 
 // What the byte does to the tracker's stack and to the phantom depth of its column.
+#[tactic(auto, unfolding(definitions::specs::Tracker::hold_at))]
 pub fn hold_effect(b: u8) -> DepthEffect
     ensures { result ≡ hold_at b }
 {
@@ -95,22 +79,21 @@ pub fn hold_effect(b: u8) -> DepthEffect
         Cell::Tap | Cell::Mine | Cell::Lift | Cell::Fake => DepthEffect::Blocks,
         Cell::Hold | Cell::Roll => DepthEffect::Opens,
         Cell::Tail => DepthEffect::Closes,
-        Cell::KeySound => DepthEffect::Nothing,
-        Cell::LowerMine => DepthEffect::Nothing,
-        _ => DepthEffect::Nothing,
+        Cell::Empty | Cell::KeySound | Cell::LowerMine | Cell::LowerLift | Cell::LowerFake => {
+            DepthEffect::Nothing
+        }
     }
 }
 
 // What the byte does to the depth that the last beat goes by: the same, and K blocks too.
+#[tactic(auto, unfolding(definitions::specs::Objects::object_at))]
 pub fn object_effect(b: u8) -> DepthEffect
     ensures { result ≡ object_at b }
 {
     match cell_of(b) {
-        Cell::Tap | Cell::Mine | Cell::Lift | Cell::Fake => DepthEffect::Blocks,
+        Cell::Tap | Cell::Mine | Cell::Lift | Cell::Fake | Cell::KeySound => DepthEffect::Blocks,
         Cell::Hold | Cell::Roll => DepthEffect::Opens,
         Cell::Tail => DepthEffect::Closes,
-        Cell::KeySound => DepthEffect::Blocks,
-        Cell::LowerMine | Cell::LowerLift | Cell::LowerFake => DepthEffect::Nothing,
-        Cell::Empty => DepthEffect::Nothing,
+        Cell::Empty | Cell::LowerMine | Cell::LowerLift | Cell::LowerFake => DepthEffect::Nothing,
     }
 }

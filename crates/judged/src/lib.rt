@@ -1,7 +1,7 @@
 // Judged tallies, over rows read by `parse_minimized_rows`. One definition serves both calls: which rows are judged is a test.
 #![tactic(auto)]
 
-ghost use Rattle.std.specs.Prelude.{◌≡◌, Bool, [], ℕ, ◌+◌, ◌≤◌, ◌<◌, ◌^◌, length};
+ghost use Rattle.std.specs.Prelude.{◌≡◌, Bool, [], ℕ, ◌+◌, ◌≤◌, ◌<◌, length};
 ghost use Rattle.definitions.specs.Sizes.{count_bound, most_bytes};
 ghost use Rattle.definitions.specs.Lists.{padded};
 ghost use Rattle.definitions.specs.Lanes.{lanes_of, most_rows_in};
@@ -9,7 +9,7 @@ ghost use Rattle.definitions.specs.ReadBack.{rows_read_back};
 ghost use Rattle.definitions.specs.Judged.{judged_rows};
 ghost use Rattle.definitions.specs.Entries.{judged_checked, judged_answer, flagged_answer, judged_work};
 ghost use Rattle.definitions.specs.Lines.{Row};
-ghost use Rattle.taps.specs.Taps.{mask_of_line};
+ghost use Rattle.taps.specs.Taps.{mask_of_line, masks};
 ghost use Rattle.taps.specs.declared.Taps.TheVariants.{Mask};
 ghost use Rattle.row_tally.specs.Bounds.{Below};
 ghost use Rattle.holds.specs.Entry.{ends_of};
@@ -52,7 +52,7 @@ impl TimingStats {
 
     // One row of taps alone more, by its entry: no hold begins or ends there.
     fn add_taps(&mut self, mask: u16, entry: u16, table: &TapTable)
-        requires { (mask < 2 ^ table.now.lanes.count) × Below count_bound self.old.stats × (self.old.active ≤ count_bound) }
+        requires { (mask < masks table.now.wide) × Below count_bound self.old.stats × (self.old.active ≤ count_bound) }
         ensures { (row : Row) → mask_of_line row ≡ Mask mask → self.new ≡ timing_taps self.old entry row }
     {
         let judged = entry::is_judged(entry);

@@ -2,14 +2,14 @@
 // row are the open heads of the columns.
 #![tactic(auto)]
 
-ghost use Rattle.std.specs.Prelude.{◌≡◌, true, not, ℕ, ◌≤◌, ◌<◌, ◌^◌, length, slice_index, is_some, OnSome, IfSome};
+ghost use Rattle.std.specs.Prelude.{◌≡◌, true, not, ℕ, ◌≤◌, ◌<◌, length, slice_index, is_some, OnSome, IfSome};
 ghost use Rattle.definitions.specs.Sizes.{count_bound, most_bytes};
 ghost use Rattle.definitions.specs.Tally.{empty_stats};
 ghost use Rattle.definitions.specs.ReadBack.{rows_read_back};
 ghost use Rattle.definitions.specs.Tracker.{hold_at};
 ghost use Rattle.definitions.specs.Judged.{judged_sum};
 ghost use Rattle.definitions.specs.Lines.{Row};
-ghost use Rattle.taps.specs.Taps.{FreeTaps};
+ghost use Rattle.taps.specs.Taps.{FreeTaps, masks};
 ghost use Rattle.row_tally.specs.Bounds.{Below};
 ghost use Rattle.judged_pass.specs.Clean.{clean_answer};
 ghost use Rattle.judged_pass.specs.JudgedPass.{clean_depth, row_unpairs, DepthsPassed, Ready, RowPassed};
@@ -56,7 +56,7 @@ impl CleanRows {
     // One row more of taps alone, none in a column with an open head: it leaves the depths as they are.
     #[tactic(auto, using(crate::proofs::Rows::active_few))]
     fn add_taps(&mut self, mask: u16, table: &TapTable)
-        requires { (mask < 2 ^ table.now.lanes.count) × Ready self.old × Below count_bound self.old.stats }
+        requires { (mask < masks table.now.wide) × Ready self.old × Below count_bound self.old.stats }
         ensures { (row : Row) → FreeTaps self.old.busy mask row → RowPassed row self.old self.new }
     {
         self.stats = row_tally::judge_taps(self.stats, true, self.active, mask, table);

@@ -11,7 +11,7 @@ ghost use Rattle.objects.specs.Rows.{DepthsLow};
 ghost use Rattle.objects.specs.LastKept.{LastKept};
 ghost use Rattle.definitions.specs.Entries.{figures_of_last, last_answer};
 
-use beats::LastObject;
+use beats::RowPlace;
 use definitions::{Lanes, LastBeat, Refusal};
 use objects::LastScan;
 use reader::charts::ChartLine;
@@ -42,7 +42,7 @@ fn last_row(s: LastScan, cells: &[u8]) -> LastScan
 }
 
 // The last object row of an accepted text, among its raw rows.
-fn scan_last(data: &[u8], lanes: Lanes) -> LastObject
+fn scan_last(data: &[u8], lanes: Lanes) -> Option<RowPlace>
     requires { length «data».now ≤ most_bytes }
     ensures { (Placed result) × (place_of result ≡ last_of (objects_from (λ c. 0) 0 (chart lanes.count «data».now))) }
 {

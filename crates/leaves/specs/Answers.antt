@@ -13,8 +13,6 @@ use Rattle.definitions.specs.declared.Cell.TheVariants.{Empty, Tap, Hold, Tail, 
 use Rattle.definitions.specs.declared.DepthEffect.{DepthEffect}
 use Rattle.definitions.specs.declared.DepthEffect.TheVariants as effect
 use Rattle.definitions.specs.declared.RowSum.{RowSum}
-use Rattle.lines.specs.declared.Found.{Found}
-use Rattle.lines.specs.declared.Found.TheVariants as found
 use Rattle.taps.specs.Taps.{tap_mask}
 use Rattle.taps.specs.declared.Taps.{Taps}
 use Rattle.taps.specs.declared.Taps.TheVariants.{Mask, Other}
@@ -26,9 +24,9 @@ no_answer = 18446744073709551615
 
 -- ---- Lines
 
-abbrev pub number_of_found : Found → ℕ
-number_of_found (found.At k) = k
-number_of_found found.Nothing = no_answer
+abbrev pub number_of_found : Option ℕ → ℕ
+number_of_found (Some k) = k
+number_of_found None = no_answer
 
 -- ---- Cells and masks
 

@@ -3,7 +3,7 @@ ghost use Rattle.std.specs.Prelude.{◌≡◌};
 ghost use Rattle.beats.specs.Places.{place_of, Placed};
 ghost use Rattle.leaves.specs.Answers.{measure_fits, row_fits, beat_number, beat_left, beats_fit, beats_number, beats_left, last_number, numbers_of_last, last_left};
 
-use beats::LastObject;
+use beats::RowPlace;
 
 #[tactic(auto, unfolding(crate::specs::Answers::measure_fits))]
 fn measure_taken(m: u32, n: u32) -> bool
@@ -54,7 +54,7 @@ pub extern "C" fn leaves_append_row_beats(beats: &mut [f32], at: usize, midx: u3
 }
 
 // The last beat's bits, and the last beat in 48ths.
-fn last_numbers(last: LastObject) -> [u64; 2]
+fn last_numbers(last: Option<RowPlace>) -> [u64; 2]
     requires { Placed last }
     ensures { result ≡ numbers_of_last (place_of last) }
 {
@@ -69,11 +69,15 @@ pub extern "C" fn leaves_calc_last_beat(m: u32, r: u32, n: u32, last: &mut [u64;
     ensures last_after { last.new ≡ last_left m r n last.old }
 {
     if n == 0 {
-        *last = last_numbers(LastObject::Nothing);
+        *last = last_numbers(None);
         return 0;
     }
     if row_taken(m, r, n) {
-        *last = last_numbers(LastObject::At(m, r, n));
+        *last = last_numbers(Some(RowPlace {
+            measure: m,
+            row: r,
+            rows: n,
+        }));
         return 0;
     }
     1

@@ -1,12 +1,10 @@
 // The line reader. A line is a part of the text, and its length says which.
-ghost use Rattle.std.specs.Prelude.{◌≡◌, length, drop};
+ghost use Rattle.std.specs.Prelude.{◌≡◌, ◌==◌, length, drop, position};
 ghost use Rattle.definitions.specs.Lines.{trim};
 ghost use Rattle.definitions.specs.ReadBack.{without_cr};
-ghost use Rattle.lines.specs.Search.{find_from, count_of};
+ghost use Rattle.lines.specs.Search.{count_of};
 ghost use Rattle.lines.specs.Lines.{first_line};
 ghost use Rattle.leaves.specs.Answers.{number_of_found};
-
-use lines::Found;
 
 #[unsafe(no_mangle)]
 pub extern "C" fn leaves_skip_ws(line: &[u8]) -> usize
@@ -23,18 +21,18 @@ pub extern "C" fn leaves_trim_cr(line: &[u8]) -> usize
 }
 
 // The place, or the largest number.
-fn found_number(found: Found) -> usize
+fn found_number(found: Option<usize>) -> usize
     ensures { result ≡ number_of_found found }
 {
     match found {
-        Found::At(at) => at,
-        Found::Nothing => usize::MAX,
+        Some(at) => at,
+        None => usize::MAX,
     }
 }
 
 #[unsafe(no_mangle)]
 pub extern "C" fn leaves_find_byte(slice: &[u8], needle: u8) -> usize
-    ensures { result ≡ number_of_found (find_from needle 0 slice.now) }
+    ensures { result ≡ number_of_found (position (λ x. x == needle) slice.now) }
 {
     found_number(lines::find_byte(slice, needle))
 }

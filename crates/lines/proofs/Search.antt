@@ -1,24 +1,38 @@
--- Laws of `find_from` and `count_of`: one turn of the loop over a slice's last bytes, lists put together, and what the search's answer shows of
+-- Laws of the search for a byte and of `count_of`: one turn of the loop over a slice's last bytes, lists put together, and what the search's answer shows of
 -- the list before the byte.
-use Rattle.std.proofs.Common.{◌≡◌, ℕ, suc, ◌+◌, ◌-◌, ◌<◌, ◌≤◌, Bool, true, false, cond, eqb, List, [], ◌∷◌, ◌++◌, length, get_or, take, drop, refl, ap, add-one, arith, drop_of_length-le, drop-cons, eq-eqb, ne_eqb}
-use Rattle.definitions.specs.Lists.{up_to}
+use Rattle.std.proofs.Common.{◌≡◌, ℕ, suc, ◌+◌, ◌-◌, ◌<◌, ◌≤◌, Bool, true, false, cond, eqb, List, [], ◌∷◌, ◌++◌, length, get_or, take, drop, refl, sym, ap, ◌∙◌, add-one, arith, drop_of_length-le, drop-cons, eq-eqb, ne_eqb}
+use Rattle.definitions.specs.Lists.{up_to, after}
 use Rattle.definitions.proofs.Lists.{one-le}
-use Rattle.lines.specs.Search.{find_from, count_of}
-use Rattle.lines.specs.declared.Found.TheVariants.{At, Nothing}
+use Rattle.lines.proofs.Trims.{part-all}
+use native.Mathlib.Nat.{sub-zero}
+use lib.ListN.{length-take}
+use Rattle.std.proofs.lemmas.Iterator.Adapters.{position_from-zero}
+use Rattle.std.specs.Prelude.{Option, Some, None, position, ◌==◌}
+use Rattle.std.specs.List.{position_from}
+use Rattle.lines.specs.Search.{count_of}
+
+-- where b stands first in a list whose first element has the place k
+abbrev pub find_from : ℕ → ℕ → List ℕ → Option ℕ
+find_from b k [] = None
+find_from b k (x ∷ xs) = cond (eqb x b) (Some k) (find_from b (suc k) xs)
+
+from : (b k : ℕ) (xs : List ℕ) → position_from (λ x. eqb x b) k xs ≡ find_from b k xs
+from b k [] = refl
+from b k (x ∷ xs) = ap (cond (eqb x b) (Some k)) (rw add-one (from b (suc k) xs))
+
+pub found-position : (b : ℕ) (xs : List ℕ) → position (λ x. x == b) xs ≡ find_from b 0 xs
+found-position b xs = position_from-zero (λ x. eqb x b) xs ∙ from b 0 xs
 
 -- b stands at i
-pub find-hit : (b : ℕ) (s : List ℕ) (i : ℕ) → i < length s → get_or s i 0 ≡ b → find_from b i (drop i s) ≡ At i
-unfolding find_from
+pub find-hit : (b : ℕ) (s : List ℕ) (i : ℕ) → i < length s → get_or s i 0 ≡ b → find_from b i (drop i s) ≡ Some i
 find-hit b s i h e = rw (drop-cons s i 0) (simp (eq-eqb _ _ e))
 
 -- it does not
 pub find-miss : (b : ℕ) (s : List ℕ) (i : ℕ) → i < length s → (get_or s i 0 ≡ b → ⊥) → find_from b i (drop i s) ≡ find_from b (i + 1) (drop (i + 1) s)
-unfolding find_from
 find-miss b s i h e = rw (add-one, drop-cons s i 0) (simp (ne_eqb _ _ e))
 
 -- nothing is left
-pub find-end : (b : ℕ) (s : List ℕ) (i : ℕ) → length s ≤ i → find_from b i (drop i s) ≡ Nothing
-unfolding find_from
+pub find-end : (b : ℕ) (s : List ℕ) (i : ℕ) → length s ≤ i → find_from b i (drop i s) ≡ None
 find-end b s i h = rw (drop_of_length-le s h)
 
 -- the same of the count
@@ -45,12 +59,12 @@ unfolding count_of
 count-le b [] = omega arith
 count-le b (x ∷ s) = let ih = count-le b s in omega (arith, one-le (eqb x b))
 
--- What the search's answer shows of the list before the byte: `At r` is its length, counted from k.
+-- What the search's answer shows of the list before the byte: `Some r` is its length, counted from k.
 abbrev pub FrontFound : ℕ → ℕ → List ℕ → List ℕ → Type 0
 FrontFound k r l front = (k ≤ r) × (r < k + length l) × (take (r - k) l ≡ front)
 
-found-step : (b x : ℕ) (xs : List ℕ) (k r : ℕ) (t : Bool) → (find_from b (suc k) xs ≡ At r → FrontFound (suc k) r xs (up_to b xs))
-    → cond t (At k) (find_from b (suc k) xs) ≡ At r → FrontFound k r (x ∷ xs) (cond t [] (x ∷ up_to b xs))
+found-step : (b x : ℕ) (xs : List ℕ) (k r : ℕ) (t : Bool) → (find_from b (suc k) xs ≡ Some r → FrontFound (suc k) r xs (up_to b xs))
+    → cond t (Some k) (find_from b (suc k) xs) ≡ Some r → FrontFound k r (x ∷ xs) (cond t [] (x ∷ up_to b xs))
 found-step b x xs k r true ih e =
     let same : k ≡ r = cc in
     let z : r - k ≡ 0 = omega arith in
@@ -60,18 +74,41 @@ found-step b x xs k r false ih e =
     let z : r - k ≡ suc (r - suc k) = omega (arith, h.0) in
     (omega (arith, h.0), omega (arith, h.1), rw z (ap {B = List ℕ} (λ l. x ∷ l) h.2))
 
-pub front-found : (b : ℕ) (l : List ℕ) (k r : ℕ) → find_from b k l ≡ At r → FrontFound k r l (up_to b l)
-unfolding find_from up_to
+pub front-found : (b : ℕ) (l : List ℕ) (k r : ℕ) → find_from b k l ≡ Some r → FrontFound k r l (up_to b l)
+unfolding up_to
 front-found b [] k r e = let z : ◌≡◌ {A = ℕ} 0 1 = cc in absurd (omega arith)
 front-found b (x ∷ xs) k r e = found-step b x xs k r (eqb x b) (front-found b xs (suc k) r) e
 
-none-step : (b x : ℕ) (xs : List ℕ) (k : ℕ) (t : Bool) → (find_from b (suc k) xs ≡ Nothing → up_to b xs ≡ xs)
-    → cond t (At k) (find_from b (suc k) xs) ≡ Nothing → cond t [] (x ∷ up_to b xs) ≡ x ∷ xs
+none-step : (b x : ℕ) (xs : List ℕ) (k : ℕ) (t : Bool) → (find_from b (suc k) xs ≡ None → up_to b xs ≡ xs)
+    → cond t (Some k) (find_from b (suc k) xs) ≡ None → cond t [] (x ∷ up_to b xs) ≡ x ∷ xs
 none-step b x xs k true ih e = let z : ◌≡◌ {A = ℕ} 0 1 = cc in absurd (omega arith)
 none-step b x xs k false ih e = ap {B = List ℕ} (λ l. x ∷ l) (ih e)
 
 -- where the search finds nothing, all of the list is before it
-pub front-none : (b : ℕ) (l : List ℕ) (k : ℕ) → find_from b k l ≡ Nothing → up_to b l ≡ l
-unfolding find_from up_to
+pub front-none : (b : ℕ) (l : List ℕ) (k : ℕ) → find_from b k l ≡ None → up_to b l ≡ l
+unfolding up_to
 front-none b [] k e = refl
 front-none b (x ∷ xs) k e = none-step b x xs k (eqb x b) (front-none b xs (suc k)) e
+
+-- the same of std's search
+pub front_at : (b : ℕ) (l : List ℕ) (r : ℕ) → position (λ x. x == b) l ≡ Some r → (r < length l) × (take r l ≡ up_to b l)
+front_at b l r e =
+    let f = front-found b l 0 r (sym (found-position b l) ∙ e) in
+    (omega (arith, f.1), rw sub-zero at f.2)
+
+pub front_all : (b : ℕ) (l : List ℕ) → position (λ x. x == b) l ≡ None → up_to b l ≡ l
+front_all b l e = front-none b l 0 (sym (found-position b l) ∙ e)
+
+-- and what follows the byte, as `&l[r + 1..]` has it
+pub after_at : (b : ℕ) (l : List ℕ) (r : ℕ) → position (λ x. x == b) l ≡ Some r → take (length l - (r + 1)) (drop (r + 1) l) ≡ after b l
+unfolding after
+after_at b l r e =
+    let f = front_at b l r e in
+    let long : length (up_to b l) ≡ r = rw (← f.1, length-take) (omega (arith, f.0)) in
+    rw (part-all l (r + 1), long, add-one) refl
+
+pub after_all : (b : ℕ) (l : List ℕ) → position (λ x. x == b) l ≡ None → [] ≡ after b l
+unfolding after
+after_all b l e = let all : length l ≤ suc (length l) = omega arith in rw (front_all b l e) (sym (drop_of_length-le l all))
+
+pub ruleset found = (front_at, front_all, after_at, after_all)

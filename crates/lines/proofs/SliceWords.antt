@@ -3,10 +3,10 @@ use Rattle.std.proofs.Common.{◌≡◌, ℕ, zero, suc, ◌+◌, ◌*◌, ◌/�
 use lib.Count.{count_trailing_zeros, trailing_of_zero}
 use borrow.Author.Tests.{eqb-false}
 use Rattle.definitions.specs.Lists.{among}
-use Rattle.lines.specs.Search.{find_from, count_of}
-use Rattle.lines.specs.declared.Found.TheVariants.{At}
+use Rattle.std.specs.Prelude.{Some}
+use Rattle.lines.specs.Search.{count_of}
 use Rattle.lines.specs.Words.{half_word_at, word_at, word_of, Bytes, first_in}
-use Rattle.lines.proofs.Search.{count-append}
+use Rattle.lines.proofs.Search.{find_from, count-append}
 use Rattle.lines.proofs.Hits.{trailing_lt}
 
 eight-step : (s : List ℕ) (n i k : ℕ) → i + k < length s → take (suc n) (drop (i + k) s) ≡ get_or s (i + k) 0 ∷ take n (drop (i + suc k) s)
@@ -23,24 +23,24 @@ bytes_take (suc n) [] h = tt
 bytes_take (suc n) (x ∷ s) h = (h 0, bytes_take n s (λ k. h (suc k)))
 
 -- a search that ends in the first of two lists
-find-in-step : (b k x : ℕ) (xs rest : List ℕ) (t : Bool) → (first_in b xs < length xs → find_from b (suc k) (xs ++ rest) ≡ At (suc k + first_in b xs))
-    → cond t 0 (suc (first_in b xs)) < suc (length xs) → cond t (At k) (find_from b (suc k) (xs ++ rest)) ≡ At (k + cond t 0 (suc (first_in b xs)))
-find-in-step b k x xs rest true ih h = ap At (omega arith)
-find-in-step b k x xs rest false ih h = ih (omega arith) ∙ ap At (omega arith)
+find-in-step : (b k x : ℕ) (xs rest : List ℕ) (t : Bool) → (first_in b xs < length xs → find_from b (suc k) (xs ++ rest) ≡ Some (suc k + first_in b xs))
+    → cond t 0 (suc (first_in b xs)) < suc (length xs) → cond t (Some k) (find_from b (suc k) (xs ++ rest)) ≡ Some (k + cond t 0 (suc (first_in b xs)))
+find-in-step b k x xs rest true ih h = ap Some (omega arith)
+find-in-step b k x xs rest false ih h = ih (omega arith) ∙ ap Some (omega arith)
 
-find-in : (b k : ℕ) (xs rest : List ℕ) → first_in b xs < length xs → find_from b k (xs ++ rest) ≡ At (k + first_in b xs)
-unfolding find_from first_in
+find-in : (b k : ℕ) (xs rest : List ℕ) → first_in b xs < length xs → find_from b k (xs ++ rest) ≡ Some (k + first_in b xs)
+unfolding first_in
 find-in b k [] rest h = absurd (omega arith)
 find-in b k (x ∷ xs) rest h = find-in-step b k x xs rest (eqb x b) (find-in b (suc k) xs rest) h
 
 -- and one that goes on to the second
 find-out-step : (b k x : ℕ) (xs rest : List ℕ) (t : Bool) → (length xs ≤ first_in b xs → find_from b (suc k) (xs ++ rest) ≡ find_from b (suc k + length xs) rest)
-    → suc (length xs) ≤ cond t 0 (suc (first_in b xs)) → cond t (At k) (find_from b (suc k) (xs ++ rest)) ≡ find_from b (k + suc (length xs)) rest
+    → suc (length xs) ≤ cond t 0 (suc (first_in b xs)) → cond t (Some k) (find_from b (suc k) (xs ++ rest)) ≡ find_from b (k + suc (length xs)) rest
 find-out-step b k x xs rest true ih h = absurd (omega arith)
 find-out-step b k x xs rest false ih h = ih (omega arith) ∙ ap (λ (n : ℕ). find_from b n rest) (omega arith)
 
 find-out : (b k : ℕ) (xs rest : List ℕ) → length xs ≤ first_in b xs → find_from b k (xs ++ rest) ≡ find_from b (k + length xs) rest
-unfolding find_from first_in
+unfolding first_in
 find-out b k [] rest h = ap (λ (n : ℕ). find_from b n rest) (omega arith)
 find-out b k (x ∷ xs) rest h = find-out-step b k x xs rest (eqb x b) (find-out b (suc k) xs rest) h
 
@@ -60,7 +60,7 @@ module _ (b : ℕ) (s : List ℕ) (i : ℕ) (h : i + 8 ≤ length s) where
   parts : drop i s ≡ take 8 (drop i s) ++ drop (i + 8) s
   parts = sym (take-append-drop 8 (drop i s)) ∙ rw drop-drop
 
-  pub word_in : first_in b (take 8 (drop i s)) < 8 → find_from b i (drop i s) ≡ At (i + first_in b (take 8 (drop i s)))
+  pub word_in : first_in b (take 8 (drop i s)) < 8 → find_from b i (drop i s) ≡ Some (i + first_in b (take 8 (drop i s)))
   word_in lt = ap (find_from b i) parts ∙ find-in b i (take 8 (drop i s)) _ (rw eight-long lt)
 
   pub word_out : 8 ≤ first_in b (take 8 (drop i s)) → find_from b i (drop i s) ≡ find_from b (i + 8) (drop (i + 8) s)

@@ -1,5 +1,5 @@
 -- Document 01, "The text is cut at byte 10", as the line reader meets it: the line at a place of the text, and the lines from there on.
-use Rattle.std.specs.Prelude.{ℕ, cond, List, [], length, drop, nat_le}
+use Rattle.std.specs.Prelude.{ℕ, if◌then◌else◌, List, [], length, drop, nat_le}
 use Rattle.definitions.specs.Lists.{up_to}
 use Rattle.definitions.specs.Lines.{cut}
 
@@ -9,4 +9,4 @@ first_line s = up_to 10 s
 
 -- the lines of a text that start at `off` and after it: none past the text's end
 unfoldable pub lines_from : List ℕ → ℕ → List (List ℕ)
-lines_from text off = cond (nat_le off (length text)) (cut (drop off text)) []
+lines_from text off = if nat_le off (length text) then cut (drop off text) else []

@@ -1,5 +1,5 @@
 -- Words of bytes, the first one lowest. Only contracts of functions that go by words cite these.
-use Rattle.std.specs.Prelude.{ℕ, suc, ◌+◌, ◌*◌, ◌<◌, cond, List, [], ◌∷◌, ◌==◌, slice_index}
+use Rattle.std.specs.Prelude.{ℕ, suc, ◌+◌, ◌*◌, ◌<◌, if◌then◌else◌, List, [], ◌∷◌, ◌==◌, slice_index}
 
 -- the word of the four bytes from i on
 abbrev pub half_word_at : List ℕ → ℕ → ℕ
@@ -30,4 +30,4 @@ Bytes (x ∷ xs) = (x < 256) × Bytes xs
 -- the place of the first b, or the length
 unfoldable pub first_in : ℕ → List ℕ → ℕ
 first_in b [] = 0
-first_in b (x ∷ xs) = cond (x == b) 0 (suc (first_in b xs))
+first_in b (x ∷ xs) = if x == b then 0 else suc (first_in b xs)

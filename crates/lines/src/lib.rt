@@ -3,11 +3,11 @@
 
 pub mod words;
 
-ghost use Rattle.std.specs.Prelude.{◌≡◌, ◌+◌, ◌≤◌, length, take, drop};
+ghost use Rattle.std.specs.Prelude.{◌≡◌, ◌==◌, ◌+◌, ◌≤◌, length, take, drop, position};
 ghost use Rattle.definitions.specs.Lists.{after};
 ghost use Rattle.definitions.specs.Lines.{is_blank_byte, trim};
 ghost use Rattle.definitions.specs.ReadBack.{without_cr};
-ghost use Rattle.lines.specs.Search.{find_from, count_of};
+ghost use Rattle.lines.specs.Search.{count_of};
 ghost use Rattle.lines.specs.Words.{first_in};
 ghost use Rattle.lines.specs.Lines.{first_line};
 
@@ -16,14 +16,9 @@ ghost use Rattle.lines.specs.Lines.{first_line};
 pub fn trim_cr(line: &[u8]) -> &[u8]
     ensures { result.now ≡ without_cr line.now }
 {
-    if line.len() == 0 {
-        return line;
-    }
-    let last = line.len() - 1;
-    if line[last] == 13 {
-        &line[..last]
-    } else {
-        line
+    match line {
+        [bare @ .., b'\r'] => bare,
+        _ => line,
     }
 }
 
@@ -32,14 +27,7 @@ pub fn trim_cr(line: &[u8]) -> &[u8]
 pub fn is_blank(b: u8) -> bool
     ensures { result ≡ is_blank_byte b }
 {
-    match b {
-        9 => true,
-        10 => true,
-        12 => true,
-        13 => true,
-        32 => true,
-        _ => false,
-    }
+    matches!(b, 9 | 10 | 12 | 13 | 32)
 }
 
 // The line without its leading blanks.
@@ -76,33 +64,26 @@ pub fn count_byte(slice: &[u8], needle: u8) -> usize
     n
 }
 
-// What a search finds.
-#[derive(Drop)]
-pub enum Found {
-    At(usize),
-    Nothing,
-}
-
 // The place of the first byte of `slice` that is `needle`: by words of eight, then the rest one by one.
-pub fn find_byte(slice: &[u8], needle: u8) -> Found
-    ensures { result ≡ find_from needle 0 slice.now }
+pub fn find_byte(slice: &[u8], needle: u8) -> Option<usize>
+    ensures { result ≡ position (λ x. x == needle) slice.now }
 {
     let mut i = 0;
     while i + 8 <= slice.len() {
         let hits = words::byte_hits(words::word_at(slice, i), needle);
         if hits != 0 {
             let at = (u64::trailing_zeros(hits) / 8) as usize;
-            return Found::At(i + at);
+            return Some(i + at);
         }
         i += 8;
     }
     while i < slice.len() {
         if slice[i] == needle {
-            return Found::At(i);
+            return Some(i);
         }
         i += 1;
     }
-    Found::Nothing
+    None
 }
 
 // How many of the eight bytes from `start` on stand before the first newline among them: 8 where there is none.
@@ -119,8 +100,8 @@ pub fn next_line(data: &[u8], start: usize) -> &[u8]
 {
     if start <= data.len() {
         match find_byte(&data[start..], 10) {
-            Found::At(rel) => &data[start..start + rel],
-            Found::Nothing => &data[start..],
+            Some(rel) => &data[start..start + rel],
+            None => &data[start..],
         }
     } else {
         &data[..0]
@@ -128,15 +109,13 @@ pub fn next_line(data: &[u8], start: usize) -> &[u8]
 }
 
 // A text's first line, without its newline, and what follows that newline: nothing where there is none.
+#[tactic(auto, using(crate::proofs::Search::found), unfolding(crate::specs::Lines::first_line))]
 pub fn split_line(text: &[u8]) -> (&[u8], &[u8])
     ensures line { result.0.now ≡ first_line text.now }
     ensures rest { result.1.now ≡ after 10 text.now }
 {
-    let line = next_line(text, 0);
-    let end = line.len();
-    if end < text.len() {
-        (line, &text[end + 1..])
-    } else {
-        (line, &text[..0])
+    match find_byte(text, 10) {
+        Some(end) => (&text[..end], &text[end + 1..]),
+        None => (text, &text[..0]),
     }
 }

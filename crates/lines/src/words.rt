@@ -12,26 +12,19 @@ const LOW: u64 = 0x7f7f_7f7f_7f7f_7f7f;
 
 const HI: u64 = 0x8080_8080_8080_8080;
 
-// A u8 as a u64.
-fn wide(x: u8) -> u64
-    ensures { (result ≡ x) × (result < 256) }
-{
-    x as u64
-}
-
 // The eight bytes from i on, as one load of the machine.
 pub fn word_at(s: &[u8], i: usize) -> u64
     requires { i + 8 ≤ length s.now }
     ensures { result ≡ word_at s.now i }
 {
-    wide(s[i])
-        + wide(s[i + 1]) * 0x100
-        + wide(s[i + 2]) * 0x1_0000
-        + wide(s[i + 3]) * 0x100_0000
-        + wide(s[i + 4]) * 0x1_0000_0000
-        + wide(s[i + 5]) * 0x100_0000_0000
-        + wide(s[i + 6]) * 0x1_0000_0000_0000
-        + wide(s[i + 7]) * 0x100_0000_0000_0000
+    u64::from(s[i])
+        + u64::from(s[i + 1]) * 0x100
+        + u64::from(s[i + 2]) * 0x1_0000
+        + u64::from(s[i + 3]) * 0x100_0000
+        + u64::from(s[i + 4]) * 0x1_0000_0000
+        + u64::from(s[i + 5]) * 0x100_0000_0000
+        + u64::from(s[i + 6]) * 0x1_0000_0000_0000
+        + u64::from(s[i + 7]) * 0x100_0000_0000_0000
 }
 
 // The four bytes from i on.
@@ -39,7 +32,10 @@ pub fn half_at(s: &[u8], i: usize) -> u64
     requires { i + 4 ≤ length s.now }
     ensures { (result ≡ half_word_at s.now i) × (result < 4294967296) }
 {
-    wide(s[i]) + wide(s[i + 1]) * 0x100 + wide(s[i + 2]) * 0x1_0000 + wide(s[i + 3]) * 0x100_0000
+    u64::from(s[i])
+        + u64::from(s[i + 1]) * 0x100
+        + u64::from(s[i + 2]) * 0x1_0000
+        + u64::from(s[i + 3]) * 0x100_0000
 }
 
 // The eight bytes from i on, by halves: the compiler finds two loads before it decides what to write into its callers.
@@ -62,7 +58,7 @@ pub fn second_half(n: usize) -> usize
 pub fn byte_hits(word: u64, byte: u8) -> u64
     ensures { (xs : List ℕ) → length xs ≡ 8 → Bytes xs → word_of xs ≡ word → count_trailing_zeros 64 result / 8 ≡ first_in byte xs }
 {
-    let x = word ^ (wide(byte) * LO);
+    let x = word ^ (u64::from(byte) * LO);
     std::num::wrapping_sub_u64(x, LO) & !x & HI
 }
 
@@ -77,6 +73,6 @@ pub fn has_byte(word: u64, byte: u8) -> bool
 pub fn byte_match_mask(word: u64, byte: u8) -> u64
     ensures { (xs : List ℕ) → length xs ≡ 8 → Bytes xs → word_of xs ≡ word → count_ones result ≡ count_of byte xs }
 {
-    let x = word ^ (wide(byte) * LO);
+    let x = word ^ (u64::from(byte) * LO);
     !(((x & LOW) + LOW) | x | LOW) & HI
 }

@@ -9,7 +9,7 @@ use lib.ListN.{take}
 use Rattle.definitions.specs.Lines.{Row}
 use Rattle.taps.specs.Taps.{FreeAre}
 use Rattle.taps.proofs.Free.{or-none}
-use Rattle.objects.specs.declared.LastRow.TheVariants.{Nothing}
+use Rattle.std.specs.Prelude.{None}
 use Rattle.row_notes.specs.Writer.{no_head}
 use Rattle.row_walk.specs.declared.Marks.{Marks}
 use Rattle.measure_tally.specs.declared.Counting.{Counting}
@@ -42,7 +42,7 @@ module _ (L : ℕ) (c : Counting) (n : Noting) (l : List ℕ) (done : List (List
 
   noted-first : n.scratch.row_index ≡ c.rows → NotedRows L n l done [] → NotedRows L (noting_of c.rows first (marks_before c n) (run_before c n)) l done []
   noted-first e x =
-      let none : row_at c.rows 0 ≡ Nothing = rw (le-ltb c.rows 0 (omega arith)) in
+      let none : row_at c.rows 0 ≡ None = rw (le-ltb c.rows 0 (omega arith)) in
       record {
         written = record { row = sym e ∙ x.written.row; holds = x.written.holds; cells = x.written.cells; low = x.written.low };
         wide = x.wide;

@@ -1,10 +1,8 @@
 -- What a walk holds of a measure of which some rows are walked, as the structs of the layers beneath.
-use Rattle.std.specs.Prelude.{cond, List, ℕ, ◌+◌, ◌-◌, ltb}
+use Rattle.std.specs.Prelude.{cond, List, ℕ, ◌+◌, ◌-◌, nat_lt, Option, Some, None, if◌then◌else◌}
 use Rattle.std.specs.Int.Bits.{bit_or}
 use Rattle.definitions.specs.Tally.{tally_with_row}
-use Rattle.beats.specs.declared.LastObject.{LastObject}
-use Rattle.objects.specs.declared.LastRow.{LastRow}
-use Rattle.objects.specs.declared.LastRow.TheVariants.{Nothing, At}
+use Rattle.beats.specs.declared.RowPlace.{RowPlace}
 use Rattle.row_walk.specs.declared.Marks.{Marks}
 use Rattle.row_walk.specs.declared.Seen.{Seen}
 use Rattle.row_walk.specs.Rows.{phantoms_of, notes_of}
@@ -19,7 +17,7 @@ pub record Rest : Type 0 where
   pub depths : List ℕ
   pub low : List ℕ
   pub heads : List ℕ
-  pub found : LastObject
+  pub found : Option RowPlace
   pub midx : ℕ
 
 abbrev pub rest_of : Counting → Noting → List ℕ → List ℕ → List ℕ → Rest
@@ -29,8 +27,8 @@ abbrev pub counting_of : Rest → Marks → Run → Counting
 counting_of q m r = record { stats = r.stats; phantoms = phantoms_of q.depths m; rows = r.row; before = q.before; busy = m.busy }
 
 -- the measure's last object row, where `first` rows stand before the measure
-abbrev pub row_at : ℕ → ℕ → LastRow
-row_at first last = cond (ltb first last) (At (last - 1 - first)) Nothing
+abbrev pub row_at : ℕ → ℕ → Option ℕ
+row_at first last = if nat_lt first last then Some (last - 1 - first) else None
 
 abbrev pub noting_of : ℕ → Rest → Marks → Run → Noting
 noting_of first q m r = record {

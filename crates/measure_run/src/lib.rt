@@ -11,7 +11,7 @@ ghost use Rattle.measure_run.specs.Held.{rest_of, counting_of, row_at, noting_of
 use definitions::ArrowStats;
 use measure_notes::Noting;
 use measure_tally::Counting;
-use objects::{Depths, LastRow, LastScan};
+use objects::{Depths, LastScan};
 use phantoms::Phantoms;
 use row_notes::ChartNotesScratch;
 use row_walk::{Marks, Seen};
@@ -90,13 +90,13 @@ pub fn add_cells(r: Run, s: Seen) -> Run
 }
 
 // The last object row of a measure before which `first` rows stand.
-fn last_row(first: u32, last: u32) -> LastRow
+fn last_row(first: u32, last: u32) -> Option<u32>
     ensures { result ≡ row_at first last }
 {
     if first < last {
-        LastRow::At(last - 1 - first)
+        Some(last - 1 - first)
     } else {
-        LastRow::Nothing
+        None
     }
 }
 

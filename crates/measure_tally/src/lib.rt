@@ -1,11 +1,11 @@
 // What a whole-chart pass counts of the minimised rows, one row after the other: the tally, the phantom depths and the open measure's density.
 #![tactic(auto)]
 
-ghost use Rattle.std.specs.Prelude.{◌≡◌, List, [], ◌∷◌, ◌++◌, ℕ, ◌+◌, ◌-◌, ◌*◌, ◌^◌, ◌≤◌, ◌<◌, length, take, drop};
+ghost use Rattle.std.specs.Prelude.{◌≡◌, List, [], ◌∷◌, ◌++◌, ℕ, ◌+◌, ◌-◌, ◌*◌, ◌≤◌, ◌<◌, length, take, drop};
 ghost use Rattle.definitions.specs.Sizes.{row_count_bound};
 ghost use Rattle.definitions.specs.Lines.{Row};
 ghost use Rattle.definitions.specs.Figures.{density as density_of};
-ghost use Rattle.taps.specs.Taps.{FreeTaps};
+ghost use Rattle.taps.specs.Taps.{FreeTaps, masks};
 ghost use Rattle.reduction.specs.Rows.{rows_at};
 ghost use Rattle.measure_tally.specs.Counted.{Few, Counted, SomeCounted};
 
@@ -40,7 +40,7 @@ impl Counting {
 
     // One row of taps more, all in columns of the phantom depth 0: it leaves the depths, and no turn of a loop branches on its cells.
     fn count_taps(&mut self, mask: u16, table: &TapTable)
-        requires { (self.old.rows < row_count_bound) × Few self.old × (mask < 2 ^ table.now.lanes.count) }
+        requires { (self.old.rows < row_count_bound) × Few self.old × (mask < masks table.now.wide) }
         ensures { (row : Row) → FreeTaps self.old.busy mask row → (L : ℕ) (done : List (List Row)) (cur : List Row) → length row ≤ L → L ≤ 10 → Counted L self.old done cur → Counted L self.new done (cur ++ (row ∷ [])) }
     {
         self.stats = row_tally::count_taps(self.stats, mask, table);

@@ -2,7 +2,7 @@
 #![tactic(auto)]
 
 ghost use Rattle.std.specs.Prelude.{◌≡◌, ◌+◌, ◌*◌, ◌≤◌, ◌<◌, length};
-ghost use Rattle.std.proofs.lemmas.List.Edits.{sets};
+ghost use lib.Seq.{sets};
 ghost use Rattle.definitions.specs.Records.{word, bytes4, fields, number_of_kind, plain_of, held_of, note_of, note_of_record};
 ghost use Rattle.note_records.specs.Fields.{fields_at};
 
@@ -11,19 +11,16 @@ use definitions::{Kind, Note, Refusal, Tail};
 // The tail field of a note without a tail.
 pub const NO_TAIL_ROW: u32 = 4294967295;
 
-// A u8 as a u32.
-fn wide(x: u8) -> u32
-    ensures { (result ≡ x) × (result < 256) }
-{
-    x as u32
-}
-
 // Four bytes as a number.
+#[tactic(auto, unfolding(definitions::specs::Records::word))]
 pub fn get_word(s: &[u8], at: usize) -> u32
     requires { at + 4 ≤ length s.now }
     ensures { result ≡ word s.now at }
 {
-    wide(s[at]) + 256 * wide(s[at + 1]) + 65536 * wide(s[at + 2]) + 16777216 * wide(s[at + 3])
+    u32::from(s[at])
+        + 256 * u32::from(s[at + 1])
+        + 65536 * u32::from(s[at + 2])
+        + 16777216 * u32::from(s[at + 3])
 }
 
 // A note without a tail.
@@ -46,17 +43,13 @@ fn plain(row: u32, tail: u32, column: u32, kind: Kind) -> Result<Note, Refusal>
 fn held(row: u32, tail: u32, column: u32, kind: Kind) -> Result<Note, Refusal>
     ensures { result ≡ held_of row tail column kind }
 {
-    if row < tail {
-        if tail < definitions::ROW_NUMBERS_BOUND {
-            Ok(Note {
-                row,
-                tail: Tail::Row(tail),
-                column,
-                kind,
-            })
-        } else {
-            Err(Refusal::BadRecord)
-        }
+    if row < tail && tail < definitions::ROW_NUMBERS_BOUND {
+        Ok(Note {
+            row,
+            tail: Tail::Row(tail),
+            column,
+            kind,
+        })
     } else {
         Err(Refusal::BadRecord)
     }
@@ -98,7 +91,7 @@ pub fn read_note(records: &[u8], index: usize) -> Result<Note, Refusal>
     let at = index * 10;
     let row = get_word(records, at);
     let tail = get_word(records, at + 4);
-    let column = wide(records[at + 8]);
+    let column = u32::from(records[at + 8]);
     let kind = records[at + 9];
     note_of(row, tail, column, kind)
 }

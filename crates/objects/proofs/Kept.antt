@@ -2,7 +2,7 @@
 use mathlib.Core.Path.{◌≡◌, refl, ap, ap₂, sym, ◌∙◌, subst}
 use mathlib.Core.Bool.{Bool, true, false, cond}
 use mathlib.Core.List.{List, [], ◌∷◌, ◌++◌, append_assoc, append-nil}
-use Rattle.std.specs.Prelude.{Option, None, Some}
+use Rattle.std.specs.Prelude.{Option, Some, None}
 use Prim.Native.Nat.{ℕ, suc, ◌+◌, ◌≤◌, ◌<◌}
 use native.Mathlib.Nat.{add-zero, zero-add, add-suc, suc-add}
 use native.Mathlib.Omega.{arith}
@@ -14,15 +14,13 @@ use Rattle.definitions.specs.Reduction.{all_zero}
 use Rattle.definitions.specs.Objects.{Depths, after_row, after_rows, object_row, Place, objects_in, objects_from, last_of}
 use Rattle.definitions.proofs.Lists.{joined_snoc}
 use Rattle.taps.specs.Taps.{FreeAre}
-use Rattle.beats.specs.declared.LastObject.TheVariants as last
 use Rattle.beats.proofs.Placed.{placed-nothing, placed_at}
 use Rattle.objects.specs.declared.Depths.{Depths as Held}
 use Rattle.objects.specs.declared.Objects.{Objects}
 use Rattle.objects.specs.Rows.{DepthsHeld, DepthsLow, NoDepths, RowDone}
 use Rattle.objects.proofs.Scan.{low-more}
-use Rattle.objects.specs.declared.LastRow.TheVariants.{Nothing, At}
 use Rattle.objects.specs.declared.LastScan.{LastScan}
-use Rattle.objects.specs.LastKept.{row_of, row_last, depths_after, LastKept}
+use Rattle.objects.specs.LastKept.{row_last, depths_after, LastKept}
 use Rattle.objects.proofs.Zeros.{zero-after, zero-object}
 
 -- one row more
@@ -104,7 +102,7 @@ measure-last done cur =
     ∙ none-else (last_of (objects_in (depths_after done) (length done) 0 (length cur) cur))
     ∙ in-last (depths_after done) (length done) 0 (length cur) None cur)
 
-pub kept-start : (d : Held) → NoDepths d → LastKept (record { depths = d; busy = 0; found = last.Nothing; row = Nothing; rows = 0; midx = 0 }) [] []
+pub kept-start : (d : Held) → NoDepths d → LastKept (record { depths = d; busy = 0; found = None; row = None; rows = 0; midx = 0 }) [] []
 kept-start d n =
     record {
       depths = n.none;
@@ -145,7 +143,7 @@ module _ (s : LastScan) (done : List (List Row)) (cur : List Row) (x : LastKept 
     is-object : (t : Bool) → o.object ≡ t → object_row (after_rows (depths_after done) cur) row ≡ t
     is-object t e = sym (w.object (after_rows (depths_after done) cur) x.depths) ∙ e
 
-    pub kept-object : o.object ≡ true → LastKept (record { depths = o.depths; busy = busy; found = s.found; row = At s.rows; rows = s.rows + 1; midx = s.midx }) done (cur ++ (row ∷ []))
+    pub kept-object : o.object ≡ true → LastKept (record { depths = o.depths; busy = busy; found = s.found; row = Some s.rows; rows = s.rows + 1; midx = s.midx }) done (cur ++ (row ∷ []))
     kept-object e =
         record {
           depths = depths-after;
@@ -186,12 +184,12 @@ module _ (s : LastScan) (done : List (List Row)) (cur : List Row) (x : LastKept 
   nothing-inside : (r : ℕ) → ◌≡◌ {A = Option ℕ} None (Some r) → r < 0
   nothing-inside r e = let z : ◌≡◌ {A = ℕ} 0 1 = cc in absurd (omega arith)
 
-  pub kept-none : s.row ≡ Nothing → LastKept (record { depths = s.depths; busy = s.busy; found = s.found; row = Nothing; rows = 0; midx = s.midx + 1 }) (done ++ (cur ∷ [])) []
+  pub kept-none : s.row ≡ None → LastKept (record { depths = s.depths; busy = s.busy; found = s.found; row = None; rows = 0; midx = s.midx + 1 }) (done ++ (cur ∷ [])) []
   kept-none e =
       record {
         depths = depths-kept;
         low = low-kept;
-        found = x.found ∙ sym (measure-last done cur ∙ rw (sym x.row ∙ ap row_of e));
+        found = x.found ∙ sym (measure-last done cur ∙ rw (sym x.row ∙ e));
         placed = x.placed;
         row = refl;
         inside = nothing-inside;
@@ -200,15 +198,15 @@ module _ (s : LastScan) (done : List (List Row)) (cur : List Row) (x : LastKept 
         free = x.free;
       }
 
-  pub kept_at : (r : ℕ) → s.row ≡ At r → s.rows < row_count_bound → s.midx ≤ measures_bound
-      → LastKept (record { depths = s.depths; busy = s.busy; found = last.At s.midx r s.rows; row = Nothing; rows = 0; midx = s.midx + 1 }) (done ++ (cur ∷ [])) []
+  pub kept_at : (r : ℕ) → s.row ≡ Some r → s.rows < row_count_bound → s.midx ≤ measures_bound
+      → LastKept (record { depths = s.depths; busy = s.busy; found = Some (record { measure = s.midx; row = r; rows = s.rows }); row = None; rows = 0; midx = s.midx + 1 }) (done ++ (cur ∷ [])) []
   kept_at r e f g =
-      let inside : r < length cur = x.inside r (ap row_of e) in
+      let inside : r < length cur = x.inside r e in
       record {
         depths = depths-kept;
         low = low-kept;
-        found = rw (x.midx, x.rows) (sym (measure-last done cur ∙ rw (sym x.row ∙ ap row_of e)));
-        placed = placed_at s.midx r s.rows (record { row = omega (arith, x.rows); rows = f; measure = g });
+        found = rw (x.midx, x.rows) (sym (measure-last done cur ∙ rw (sym x.row ∙ e)));
+        placed = placed_at _ (record { row = omega (arith, x.rows); rows = f; measure = g });
         row = refl;
         inside = nothing-inside;
         rows = refl;

@@ -9,7 +9,7 @@ ghost use Rattle.taps.specs.Taps.{FreeTaps, FreeAre};
 ghost use Rattle.objects.specs.Rows.{DepthsLow, NoDepths, CellDone, RowDone};
 ghost use Rattle.objects.specs.LastKept.{LastKept};
 
-use beats::LastObject;
+use beats::RowPlace;
 use definitions::DepthEffect;
 
 // The depth of each column, of up to ten.
@@ -78,37 +78,24 @@ pub fn row_has_object(row: &[u8], old: Depths) -> Objects
     requires { (length row.now ≤ 10) × DepthsLow 4294967294 old }
     ensures { RowDone row.now old result }
 {
-    let mut depths = old.depths;
+    let mut depths = old;
     let mut object = false;
-    let mut i = 0;
-    while i < row.len() {
-        let cell = object_cell(row[i], depths[i]);
-        depths[i] = cell.depth;
-        object = object | cell.object;
-        i += 1;
+    for (i, &b) in row.iter().enumerate() {
+        let cell = object_cell(b, depths.depths[i]);
+        depths.depths[i] = cell.depth;
+        object |= cell.object;
     }
-    let after = Depths { depths };
-    Objects {
-        object,
-        depths: after,
-    }
+    Objects { object, depths }
 }
 
-// The last object row of the open measure.
-#[derive(Clone, Copy)]
-pub enum LastRow {
-    Nothing,
-    At(u32),
-}
-
-// The depths of the columns, the last object row of the measures that have ended and that of the open one, the rows of the open one, and its
-// number. A column without its bit in `busy` has the depth 0.
+// The depths of the columns, the last object row of the measures that have ended and that of the open one, by its number there; the rows of
+// the open one, and its number. A column without its bit in `busy` has the depth 0.
 #[derive(Clone, Copy)]
 pub struct LastScan {
     pub depths: Depths,
     pub busy: u32,
-    pub found: LastObject,
-    pub row: LastRow,
+    pub found: Option<RowPlace>,
+    pub row: Option<u32>,
     pub rows: u32,
     pub midx: u32,
 }
@@ -117,12 +104,11 @@ pub struct LastScan {
 pub fn no_last() -> LastScan
     ensures { LastKept result [] [] }
 {
-    let depths = no_depths();
     LastScan {
-        depths,
+        depths: no_depths(),
         busy: 0,
-        found: LastObject::Nothing,
-        row: LastRow::Nothing,
+        found: None,
+        row: None,
         rows: 0,
         midx: 0,
     }
@@ -133,38 +119,27 @@ pub fn last_taps(s: LastScan, mask: u16) -> LastScan
     requires { s.rows < row_numbers_bound }
     ensures { (row : Row) → FreeTaps s.busy mask row → (done : List (List Row)) (cur : List Row) → LastKept s done cur → LastKept result done (cur ++ (row ∷ [])) }
 {
-    let depths = s.depths;
-    let found = s.found;
-    let row = s.row;
     let is_empty = mask == 0;
     if is_empty {
         return LastScan {
-            depths,
-            busy: s.busy,
-            found,
-            row,
             rows: s.rows + 1,
-            midx: s.midx,
+            ..s
         };
     }
     LastScan {
-        depths,
-        busy: s.busy,
-        found,
-        row: LastRow::At(s.rows),
+        row: Some(s.rows),
         rows: s.rows + 1,
-        midx: s.midx,
+        ..s
     }
 }
 
 // One row more that is all zero: it is no object row and changes no depth.
-pub fn last_zero(s: LastScan) -> LastScan
+pub fn last_zero(mut s: LastScan) -> LastScan
     requires { s.rows < row_numbers_bound }
     ensures { (row : Row) → all_zero row ≡ true → (done : List (List Row)) (cur : List Row) → LastKept s done cur → LastKept result done (cur ++ (row ∷ [])) }
 {
-    let mut t = s;
-    t.rows = s.rows + 1;
-    t
+    s.rows += 1;
+    s
 }
 
 // One row more, of which the object row's test says this; a column without its bit in `busy` has the depth 0 after it.
@@ -172,27 +147,19 @@ pub fn last_seen(s: LastScan, o: Objects, busy: u32) -> LastScan
     requires { s.rows < row_numbers_bound }
     ensures { (row : Row) → RowDone row s.depths o → FreeAre busy 0 o.depths.depths → (done : List (List Row)) (cur : List Row) → LastKept s done cur → LastKept result done (cur ++ (row ∷ [])) }
 {
-    let found = s.found;
-    let row = s.row;
-    let depths = o.depths;
+    let after = LastScan {
+        depths: o.depths,
+        busy,
+        rows: s.rows + 1,
+        ..s
+    };
     if o.object {
         return LastScan {
-            depths,
-            busy,
-            found,
-            row: LastRow::At(s.rows),
-            rows: s.rows + 1,
-            midx: s.midx,
+            row: Some(s.rows),
+            ..after
         };
     }
-    LastScan {
-        depths,
-        busy,
-        found,
-        row,
-        rows: s.rows + 1,
-        midx: s.midx,
-    }
+    after
 }
 
 // The open measure ends.
@@ -200,25 +167,21 @@ pub fn last_measure(s: LastScan) -> LastScan
     requires { (s.rows < row_count_bound) × (s.midx ≤ measures_bound) }
     ensures { (done : List (List Row)) (cur : List Row) → LastKept s done cur → LastKept result (done ++ (cur ∷ [])) [] }
 {
-    let depths = s.depths;
-    let found = s.found;
-    let row = s.row;
-    match row {
-        LastRow::Nothing => LastScan {
-            depths,
-            busy: s.busy,
-            found,
-            row: LastRow::Nothing,
-            rows: 0,
-            midx: s.midx + 1,
-        },
-        LastRow::At(r) => LastScan {
-            depths,
-            busy: s.busy,
-            found: LastObject::At(s.midx, r, s.rows),
-            row: LastRow::Nothing,
-            rows: 0,
-            midx: s.midx + 1,
+    let after = LastScan {
+        row: None,
+        rows: 0,
+        midx: s.midx + 1,
+        ..s
+    };
+    match s.row {
+        None => after,
+        Some(row) => LastScan {
+            found: Some(RowPlace {
+                measure: s.midx,
+                row,
+                rows: s.rows,
+            }),
+            ..after
         },
     }
 }

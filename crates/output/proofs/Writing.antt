@@ -7,6 +7,7 @@ use native.Mathlib.Numerals.{add-one}
 use native.Mathlib.Omega.{arith}
 use lib.ListN.{length, take, drop, get_or, set, length-append}
 use lib.Seq.{paste, set_split, take-length, length-take-le, drop-cons, set_at}
+use Rattle.std.specs.List.{splice}
 use Rattle.definitions.specs.Lists.{joined}
 use Rattle.definitions.specs.Lines.{Row}
 use Rattle.definitions.specs.Figures.{row_text, text_of}
@@ -18,6 +19,10 @@ use Rattle.reduction.proofs.Blocks.{joined-append}
 use Rattle.reduction.proofs.Multiples.{reduce-all}
 use Rattle.reduction.proofs.Forms.{Form, form-length, form-holds, form-after}
 use Rattle.output.specs.Wrote.{done_text, Wrote}
+
+-- a part of a source pasted, in std's word
+pub paste-spliced : (d : List ℕ) (at : ℕ) (s : List ℕ) (n : ℕ) → paste d at s n ≡ splice d at (at + n) (take n s)
+paste-spliced d at s n = append_assoc (take at d) (take n s) (drop (at + n) d)
 
 -- a whole source pasted is placed
 pub paste-placed : (d : List ℕ) (at : ℕ) (s : List ℕ) → paste d at s (length s) ≡ placed at s d
@@ -34,9 +39,6 @@ placed-byte d at s b h =
   where
     place : suc (at + length s) ≡ at + length (s ++ (b ∷ []))
     place = rw length-append (omega arith)
-
-pub first_byte : (d : List ℕ) (at b : ℕ) → at < length d → set d at b ≡ placed at (b ∷ []) d
-first_byte d at b h = set_split d at b h ∙ ap (λ n. take at d ++ (b ∷ drop n d)) (sym (add-one at))
 
 -- measures run together, one more
 done-snoc : (form : List Row → List ℕ) (sep : List ℕ) (done : List (List Row)) (m : List Row) → done_text form sep (done ++ (m ∷ [])) ≡ done_text form sep done ++ (form m ++ sep)

@@ -1,14 +1,14 @@
 // Writing minimised text: a row, a row with its newline, and the `,` line between two measures.
 #![tactic(auto)]
 
-ghost use Rattle.std.specs.Prelude.{◌≡◌, ◌++◌, ◌∷◌, [], ◌+◌, ◌≤◌, length, drop};
-ghost use Rattle.std.proofs.Math.Seq.{paste};
+ghost use Rattle.std.specs.Prelude.{◌≡◌, ◌++◌, ◌∷◌, [], ◌+◌, ◌≤◌, length, take, drop};
+ghost use Rattle.std.specs.List.{splice};
 ghost use Rattle.reduction.specs.Rows.{placed};
 
 // Four bytes of the row, all read before one is written, so that they are moved as one.
 fn put_four(text: &mut [u8], at: usize, row: &[u8], from: usize)
     requires { (from + 4 ≤ length row.now) × (at + 4 ≤ length text.old) }
-    ensures { text.new ≡ paste text.old at (drop from row.now) 4 }
+    ensures { text.new ≡ splice text.old at (at + 4) (take 4 (drop from row.now)) }
 {
     let a = row[from];
     let b = row[from + 1];
@@ -20,16 +20,12 @@ fn put_four(text: &mut [u8], at: usize, row: &[u8], from: usize)
     text[at + 3] = d;
 }
 
-// The row's bytes from `at` on, one by one.
+// The row's bytes from `at` on.
 fn put_bytes(text: &mut [u8], at: usize, row: &[u8])
     requires { at + length row.now ≤ length text.old }
     ensures { text.new ≡ placed at row.now text.old }
 {
-    let mut i = 0;
-    while i < row.len() {
-        text[at + i] = row[i];
-        i += 1;
-    }
+    text[at..at + row.len()].copy_from_slice(row);
 }
 
 // The row's bytes from `at` on: four at a time where it has four to twelve, the last four always, so that fours may overlap.
@@ -64,6 +60,5 @@ pub fn put_comma(text: &mut [u8], at: usize)
     requires { at + 2 ≤ length text.old }
     ensures { text.new ≡ placed at (44 ∷ 10 ∷ []) text.old }
 {
-    text[at] = 44;
-    text[at + 1] = 10;
+    text[at..at + 2].copy_from_slice(b",\n");
 }

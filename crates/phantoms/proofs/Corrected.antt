@@ -1,11 +1,13 @@
 -- When a tally is counted anew, by the struct that has counted its rows.
-use mathlib.Core.Path.{◌≡◌, ap₂, sym, ◌∙◌}
-use mathlib.Core.Bool.{Bool, true, false, ◌&&◌, ◌||◌, not}
-use mathlib.Core.List.{List}
-use Prim.Native.Nat.{ℕ}
+use mathlib.Core.Path.{◌≡◌, refl, ap, ap₂, sym, ◌∙◌}
+use mathlib.Core.Bool.{Bool, ◌&&◌, ◌||◌, not, or-false, or_assoc}
+use mathlib.Core.List.{List, [], ◌∷◌, ◌++◌}
+use Prim.Native.Nat.{ℕ, zero, suc, ◌≤◌}
 use native.Mathlib.Omega.{arith}
-use borrow.Author.Tests.{lt-ltb, eq-eqb, ne_eqb}
 use lib.Dec.{eqb, ltb}
+use lib.ListN.{length, take, get_or}
+use lib.Seq.{take-suc}
+use Rattle.std.specs.List.{list_any}
 use Rattle.definitions.specs.Lists.{some_column}
 use Rattle.definitions.specs.Lines.{Row}
 use Rattle.definitions.specs.Correction.{phantom_after, phantom_met, corrects}
@@ -17,22 +19,21 @@ use Rattle.phantoms.proofs.Columns.{column-same, column-or}
 abbrev left_over : ℕ → Phantoms → Bool
 left_over L p = some_column L (λ c. ltb 0 (phantom_at p c))
 
+-- so is one of the first L depths of the struct
+pub any_left : (l : List ℕ) (n : ℕ) → n ≤ length l → list_any (λ d. ltb 0 d) (take n l) ≡ some_column n (λ c. ltb 0 (get_or l c 0))
+any_left l zero h = refl
+any_left l (suc n) h = rw (take-suc l n 0 h) (snoc (take n l) (get_or l n 0) ∙ ap (λ t. t || ltb 0 (get_or l n 0)) (any_left l n (omega arith)))
+  where
+    snoc : (xs : List ℕ) (y : ℕ) → list_any (λ d. ltb 0 d) (xs ++ (y ∷ [])) ≡ (list_any (λ d. ltb 0 d) xs || ltb 0 y)
+    snoc [] y = or-false (ltb 0 y)
+    snoc (x ∷ xs) y = ap (λ t. ltb 0 x || t) (snoc xs y) ∙ sym (or_assoc (ltb 0 x) (list_any (λ d. ltb 0 d) xs) (ltb 0 y))
+
 module _ (p : Phantoms) (L : ℕ) (rows : List Row) (k : Counts L rows p) where
   columns : some_column L (λ c. phantom_met c 0 rows || ltb 0 (phantom_after c 0 rows)) ≡ (p.met || left_over L p)
   columns =
       column-or L (λ c. phantom_met c 0 rows) (λ c. ltb 0 (phantom_after c 0 rows))
       ∙ ap₂ ◌||◌ (sym k.met) (column-same L _ _ (λ c h. rw (k.depths c h)))
 
-  by-counts : corrects L rows ≡ (ltb 0 p.heads && (not (eqb p.heads p.tails) || (p.met || left_over L p)))
+  pub by-counts : corrects L rows ≡ (ltb 0 p.heads && ((not (eqb p.heads p.tails) || p.met) || left_over L p))
   unfolding corrects
-  by-counts = rw (columns, k.heads, k.tails)
-
-  pub no-head : p.heads ≡ 0 → false ≡ corrects L rows
-  no-head e = sym (by-counts ∙ rw e)
-
-  pub uneven : (p.heads ≡ 0 → ⊥) → (p.heads ≡ p.tails → ⊥) → true ≡ corrects L rows
-  uneven n u = sym (by-counts ∙ rw (lt-ltb 0 p.heads (omega arith), ne_eqb p.heads p.tails u))
-
-  -- heads and tails are as many
-  pub by-columns : (b : Bool) → (p.heads ≡ 0 → ⊥) → p.heads ≡ p.tails → b ≡ (p.met || left_over L p) → b ≡ corrects L rows
-  by-columns b n e h = h ∙ sym (by-counts ∙ rw (lt-ltb 0 p.heads (omega arith), eq-eqb p.heads p.tails e))
+  by-counts = rw (columns, ← k.heads, ← k.tails, or_assoc) refl

@@ -1,7 +1,7 @@
 // The phantom depths of a chart's rows, its heads and tails, and whether its tally is counted anew.
 #![tactic(auto)]
 
-ghost use Rattle.std.specs.Prelude.{◌≡◌, true, List, [], ℕ, ◌-◌, ◌≤◌, ◌<◌, length, ltb};
+ghost use Rattle.std.specs.Prelude.{◌≡◌, true, List, [], ℕ, ◌≤◌, ◌<◌, length, nat_lt};
 ghost use Rattle.definitions.specs.Lists.{some_column};
 ghost use Rattle.definitions.specs.Lines.{Row};
 ghost use Rattle.definitions.specs.Correction.{corrects};
@@ -28,13 +28,6 @@ pub fn no_phantoms() -> Phantoms
         tails: 0,
         met: false,
     }
-}
-
-// One less, and 0 for 0.
-pub fn one_less(n: u32) -> u32
-    ensures { result ≡ n - 1 }
-{
-    if 0 < n { n - 1 } else { 0 }
 }
 
 // What a cell leaves of its column's phantom depth, the heads and tails that it adds, and whether it met a phantom depth.
@@ -71,7 +64,7 @@ pub fn phantom_cell(b: u8, depth: u32) -> PhantomCell
             met: false,
         },
         DepthEffect::Closes => PhantomCell {
-            depth: one_less(depth),
+            depth: depth.saturating_sub(1),
             heads: 0,
             tails: 1,
             met: false,
@@ -88,31 +81,14 @@ pub fn phantom_depths(p: Phantoms) -> [u32; 10]
 
 // Whether a phantom depth of the first columns is left over.
 fn is_left_over(p: Phantoms, lanes: Lanes) -> bool
-    ensures { result ≡ some_column lanes.count (λ c. ltb 0 (phantom_at p c)) }
+    ensures { result ≡ some_column lanes.count (λ c. nat_lt 0 (phantom_at p c)) }
 {
-    let mut left = false;
-    let mut i = 0;
-    while i < lanes.count {
-        left = left | (0 < p.depths[i]);
-        i += 1;
-    }
-    left
+    p.depths[..lanes.count].iter().any(|&depth| 0 < depth)
 }
 
 // Whether the tally of the rows that were counted, of so many lanes, is counted anew.
 pub fn is_corrected(p: Phantoms, lanes: Lanes) -> bool
     ensures { (rows : List Row) → Counts lanes.count rows p → result ≡ corrects lanes.count rows }
 {
-    let is_headless = p.heads == 0;
-    if is_headless {
-        return false;
-    }
-    if p.heads != p.tails {
-        return true;
-    }
-    let met = p.met;
-    if met {
-        return true;
-    }
-    is_left_over(p, lanes)
+    (0 < p.heads) & ((p.heads != p.tails) | p.met | is_left_over(p, lanes))
 }

@@ -12,6 +12,7 @@ ghost use Rattle.reader.specs.Reading.{LineWidth, just_row, near_row};
 use definitions::{Lanes, LineKind};
 
 // Whether a line that is nothing else is a row.
+#[tactic(auto, unfolding(definitions::specs::Lines::is_row_line))]
 pub fn is_row(line: &[u8], lanes: usize) -> bool
     ensures { result ≡ is_row_line lanes line.now }
 {
@@ -19,23 +20,16 @@ pub fn is_row(line: &[u8], lanes: usize) -> bool
 }
 
 // What a line is whose leading blanks are off.
+#[tactic(auto, unfolding(definitions::specs::Lines::kind_of))]
 pub fn line_kind(line: &[u8], lanes: usize) -> LineKind
     ensures { result ≡ kind_of lanes line.now }
 {
-    if line.is_empty() {
-        return LineKind::Passed;
-    }
-    match line[0] {
-        47 => LineKind::Passed,
-        44 => LineKind::Comma,
-        59 => LineKind::Semi,
-        _ => {
-            if is_row(line, lanes) {
-                LineKind::Row
-            } else {
-                LineKind::Passed
-            }
-        }
+    match line {
+        [] | [b'/', ..] => LineKind::Passed,
+        [b',', ..] => LineKind::Comma,
+        [b';', ..] => LineKind::Semi,
+        _ if is_row(line, lanes) => LineKind::Row,
+        _ => LineKind::Passed,
     }
 }
 

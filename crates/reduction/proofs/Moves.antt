@@ -2,33 +2,16 @@
 use mathlib.Core.Path.{◌≡◌, refl, sym, ◌∙◌, ap}
 use mathlib.Core.List.{List, ◌++◌, append_assoc}
 use Prim.Native.Nat.{ℕ, suc, ◌+◌, ◌-◌, ◌<◌, ◌≤◌}
-use native.Mathlib.Nat.{add-zero, add_assoc}
+use native.Mathlib.Nat.{add-zero, add_assoc, add-sub_cancel_left}
+use Rattle.std.specs.List.{copy_within}
 use native.Mathlib.Numerals.{add-one}
 use native.Mathlib.Omega.{arith}
 use lib.ListN.{length, take, drop, get_or, set, length-drop}
 use lib.Seq.{paste, paste-zero, paste-suc, take-paste, drop-paste, length-paste, length_paste_head, take-take, take-add, take_at, drop-drop, get_or-drop}
 
--- what has not been written over yet
-pub paste-rest : (d : List ℕ) (at : ℕ) (s : List ℕ) (n i : ℕ) → at ≤ length d → n ≤ length s → at + n ≤ i
-    → get_or (paste d at s n) i 0 ≡ get_or d i 0
-paste-rest d at s n i hd hs h =
-    ap (λ (k : ℕ). get_or (paste d at s n) k 0) place
-    ∙ sym (get_or-drop (at + n) (paste d at s n) (i - (at + n)) 0)
-    ∙ ap (λ (l : List ℕ). get_or l (i - (at + n)) 0) (drop-paste d at s n hd hs)
-    ∙ get_or-drop (at + n) d (i - (at + n)) 0
-    ∙ ap (λ (k : ℕ). get_or d k 0) (sym place)
-  where
-    place : i ≡ (at + n) + (i - (at + n))
-    place = omega arith
-
--- one byte more
-pub move-turn : (d : List ℕ) (from to i : ℕ) → to ≤ from → from + i < length d
-    → set (paste d to (drop from d) i) (to + i) (get_or (paste d to (drop from d) i) (from + i) 0) ≡ paste d to (drop from d) (i + 1)
-move-turn d from to i h l =
-    let room : i < length (drop from d) = simp length-drop (omega arith) in
-    let low : i ≤ length (drop from d) = omega arith in
-    rw (add-one, paste-rest d to (drop from d) i (from + i) (omega arith) low (omega arith), ← get_or-drop from d i 0)
-    (paste-suc d to (drop from d) i 0 (omega arith) room)
+-- what std says of a move
+pub moved-within : (t : List ℕ) (from to n : ℕ) → paste t to (drop from t) n ≡ copy_within t from (from + n) to
+moved-within t from to n = rw add-sub_cancel_left refl
 
 -- four bytes, all read before one is written
 pub four-pasted : (d : List ℕ) (at : ℕ) (r : List ℕ) (from : ℕ) → from + 4 ≤ length r → at + 4 ≤ length d

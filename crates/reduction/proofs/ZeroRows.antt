@@ -9,6 +9,7 @@ use borrow.Author.Tests.{eqb-true, eqb-false, eq-eqb, ne_eqb, ltb-false}
 use lib.Dec.{eqb, ltb}
 use lib.ListN.{length, drop, get_or, drop_of_length-le}
 use lib.Seq.{drop-cons}
+use Rattle.std.specs.List.{list_all}
 use Rattle.definitions.proofs.Columns.{zero-byte}
 use Rattle.definitions.specs.Lines.{Row}
 use Rattle.definitions.specs.Cells.{cell_of, byte_at}
@@ -19,14 +20,10 @@ use Rattle.definitions.specs.Lists.{among}
 use Rattle.lines.specs.Words.{half_word_at, word_of, Bytes}
 use Rattle.lines.proofs.RowWords.{places, picks, picks-bytes, AllBelow}
 
-pub zero_turn : (r : List ℕ) (i : ℕ) → i < length r → get_or r i 0 ≡ 48 → all_zero (drop i r) ≡ all_zero (drop (i + 1) r)
-zero_turn r i h e = rw (add-one, drop-cons r i 0, eq-eqb (get_or r i 0) 48 e)
-
-pub zero-stop : (r : List ℕ) (i : ℕ) → i < length r → (get_or r i 0 ≡ 48 → ⊥) → all_zero (drop i r) ≡ false
-zero-stop r i h e = rw (drop-cons r i 0, ne_eqb (get_or r i 0) 48 e)
-
-pub zero-end : (r : List ℕ) (i : ℕ) → length r ≤ i → all_zero (drop i r) ≡ true
-zero-end r i h = rw (drop_of_length-le)
+-- the test by std's
+pub zero-all : (r : List ℕ) → list_all (λ b. eqb b 48) r ≡ all_zero r
+zero-all [] = refl
+zero-all (b ∷ r) = ap (λ t. eqb b 48 && t) (zero-all r)
 
 -- a row of zeros opens, closes and blocks nothing
 pub zero-hold : (c : ℕ) (r : Row) → all_zero r ≡ true → hold_at (byte_at c r) ≡ Nothing

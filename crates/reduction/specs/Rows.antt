@@ -1,5 +1,6 @@
 -- Rows as they stand in a text, where document 01's minimising reads and writes them in place.
-use Rattle.std.specs.Prelude.{◌≡◌, List, [], ◌∷◌, ◌++◌, ℕ, zero, suc, ◌+◌, length, take, drop}
+use Rattle.std.specs.Prelude.{◌≡◌, List, [], ◌∷◌, ℕ, zero, suc, ◌+◌, length, take, drop}
+use Rattle.std.specs.List.{splice}
 use Rattle.definitions.specs.Lists.{joined}
 use Rattle.definitions.specs.Lines.{Row}
 use Rattle.definitions.specs.Reduction.{at_multiples, reduce}
@@ -13,7 +14,7 @@ rows_at w L (suc n) t = take L t ∷ rows_at w L n (drop w t)
 
 -- a text with other bytes from a place on
 abbrev pub placed : ℕ → List ℕ → List ℕ → List ℕ
-placed start bytes text = take start text ++ (bytes ++ drop (start + length bytes) text)
+placed start bytes text = splice text start (start + length bytes) bytes
 
 -- of n blocks of w bytes from start on, those at the multiples of s moved together; what stands past them stays
 unfoldable pub compacted : ℕ → ℕ → ℕ → ℕ → List ℕ → List ℕ

@@ -2,7 +2,7 @@
 #![tactic(auto)]
 
 ghost use Rattle.std.specs.Prelude.{◌≡◌, List, ◌+◌, ◌*◌, ◌^◌, ◌/◌, ◌%◌, ◌≤◌, ◌<◌, length, drop};
-ghost use Rattle.std.proofs.Math.Seq.{paste};
+ghost use Rattle.std.specs.List.{copy_within};
 ghost use Rattle.definitions.specs.Lines.{Row};
 ghost use Rattle.definitions.specs.Lists.{joined};
 ghost use Rattle.definitions.specs.Figures.{row_text};
@@ -16,17 +16,7 @@ use lines::words;
 fn are_all_zero(row: &[u8]) -> bool
     ensures { result ≡ all_zero row.now }
 {
-    let mut i = 0;
-    while i < row.len() {
-        match row[i] {
-            b'0' => {}
-            _ => {
-                return false;
-            }
-        }
-        i += 1;
-    }
-    true
+    row.iter().all(|&b| b == b'0')
 }
 
 // Whether every byte of a row is `0`: by one word where it has four or eight, and by its first four bytes, its last four and four between where
@@ -91,7 +81,7 @@ pub fn measure_reduce_shift(
 // Four bytes moved to another place, all read before one is written, so that they are moved as one.
 fn move_four(text: &mut [u8], from: usize, to: usize)
     requires { (from + 4 ≤ length text.old) × (to + 4 ≤ length text.old) }
-    ensures { text.new ≡ paste text.old to (drop from text.old) 4 }
+    ensures { text.new ≡ copy_within text.old from (from + 4) to }
 {
     let a = text[from];
     let b = text[from + 1];
@@ -103,23 +93,19 @@ fn move_four(text: &mut [u8], from: usize, to: usize)
     text[to + 3] = d;
 }
 
-// The `width` bytes of a row moved to an earlier place, one by one.
+// The `width` bytes of a row moved to an earlier place.
 fn move_bytes(text: &mut [u8], from: usize, to: usize, width: usize)
     requires { (to ≤ from) × (from + width ≤ length text.old) }
-    ensures { text.new ≡ paste text.old to (drop from text.old) width }
+    ensures { text.new ≡ copy_within text.old from (from + width) to }
 {
-    let mut i = 0;
-    while i < width {
-        text[to + i] = text[from + i];
-        i += 1;
-    }
+    text.copy_within(from..from + width, to);
 }
 
 // The `width` bytes of a row moved to a place before it: four at a time where it has four to twelve, the last four always, so that fours may
 // overlap.
 fn move_row(text: &mut [u8], from: usize, to: usize, width: usize)
     requires { (to + width ≤ from) × (from + width ≤ length text.old) }
-    ensures { text.new ≡ paste text.old to (drop from text.old) width }
+    ensures { text.new ≡ copy_within text.old from (from + width) to }
 {
     if (width < 4) | (12 < width) {
         move_bytes(text, from, to, width);

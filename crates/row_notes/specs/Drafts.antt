@@ -1,6 +1,6 @@
 -- The note writer's state on plain lists, row by row: drafts of notes, of which those of heads wait until a later cell of their column ends
 -- them.
-use Rattle.std.specs.Prelude.{cond, List, [], ◌∷◌, ◌++◌, map, ℕ, zero, suc, eqb}
+use Rattle.std.specs.Prelude.{if◌then◌else◌, List, [], ◌∷◌, ◌++◌, map, ℕ, zero, suc, ◌==◌}
 use Rattle.std.specs.Prelude.{Option, Some, None}
 use Rattle.definitions.specs.Lines.{Row}
 use Rattle.definitions.specs.Notes.{effect_at, plain_note, held_note}
@@ -32,7 +32,7 @@ settled o d = record { row = d.row; column = d.column; kind = d.kind; state = se
 
 -- the heads of column c end so
 abbrev pub settle : ℕ → Option ℕ → Draft → Draft
-settle c o d = cond (eqb d.column c) (settled o d) d
+settle c o d = if d.column == c then settled o d else d
 
 -- what a cell at row i and column c does to the drafts
 abbrev pub touch : NoteEffect → ℕ → ℕ → List Draft → List Draft

@@ -1,8 +1,8 @@
 -- How the drafts lie in the lent slice and in the writer's struct, and what the writer's own functions do there. Only their contracts cite
 -- these; callers go by `Written`.
-use Rattle.std.specs.Prelude.{◌≡◌, Bool, false, cond, ◌||◌, not, List, ◌++◌, map, ℕ, ◌+◌, ◌*◌, ◌<◌, ◌≤◌, eqb, length, get_or, set}
+use Rattle.std.specs.Prelude.{◌≡◌, Bool, false, if◌then◌else◌, ◌||◌, not, List, ◌++◌, map, ℕ, ◌+◌, ◌*◌, ◌<◌, ◌≤◌, ◌==◌, length, get_or, set}
 use Rattle.std.specs.Prelude.{Option, Some, None}
-use Rattle.std.proofs.lemmas.List.Edits.{sets}
+use lib.Seq.{sets}
 use Rattle.definitions.specs.Sizes.{row_numbers_bound}
 use Rattle.definitions.specs.Lists.{joined}
 use Rattle.definitions.specs.Lines.{Row}
@@ -92,7 +92,7 @@ pub record HeadThere (l : List ℕ) (s : ChartNotesScratch) (column : ℕ) : Typ
 
 -- the slice after the note of a head, if there is one, has ended so
 abbrev pub end_at : List ℕ → ℕ → ℕ → List ℕ
-end_at l head tail = cond (eqb head no_head) l (sets l (head * 10 + 4) (bytes4 tail))
+end_at l head tail = if head == no_head then l else sets l (head * 10 + 4) (bytes4 tail)
 
 -- the same of the open head of a column
 abbrev pub end_head : List ℕ → List ℕ → ℕ → ℕ → List ℕ
@@ -100,7 +100,7 @@ end_head l hs column tail = end_at l (get_or hs column 0) tail
 
 -- whether a record was dropped, after the open head of a column was
 abbrev pub invalid_after : ChartNotesScratch → ℕ → Bool
-invalid_after s column = s.has_invalid || not (eqb (get_or s.hold_heads column 0) no_head)
+invalid_after s column = s.has_invalid || not (get_or s.hold_heads column 0 == no_head)
 
 pub record HoldEnded (l : List ℕ) (s : ChartNotesScratch) (column tail : ℕ) (flag : Bool) (l' : List ℕ) (r : ChartNotesScratch) : Type 0 where
   pub bytes : l' ≡ end_head l s.hold_heads column tail

@@ -3,7 +3,7 @@
 #![tactic(auto)]
 
 ghost use Rattle.std.specs.Prelude.{◌≡◌, true, List, [], ◌∷◌, ◌++◌, ℕ, ◌+◌, ◌*◌, ◌≤◌, ◌<◌, length};
-ghost use Rattle.std.proofs.lemmas.List.Edits.{sets};
+ghost use lib.Seq.{sets};
 ghost use Rattle.definitions.specs.Lists.{number_of_bool};
 ghost use Rattle.definitions.specs.Lines.{Row};
 ghost use Rattle.definitions.specs.Records.{fields};
@@ -70,15 +70,18 @@ pub fn put_note(head: u32, count: usize, row: u32, column: usize, kind: Kind, no
 }
 
 // Ends the open head of a column, if there is one, with this tail.
-fn end_hold(s: ChartNotesScratch, column: usize, tail: u32, notes: &mut [u8]) -> ChartNotesScratch
+fn end_hold(
+    mut s: ChartNotesScratch,
+    column: usize,
+    tail: u32,
+    notes: &mut [u8],
+) -> ChartNotesScratch
     requires { HeadThere notes.old s column }
     ensures { HoldEnded notes.old s column tail s.has_invalid notes.new result }
 {
-    let mut out = s;
-    let head = out.hold_heads[column];
-    end_note(head, tail, notes);
-    out.hold_heads[column] = NO_HEAD;
-    out
+    end_note(s.hold_heads[column], tail, notes);
+    s.hold_heads[column] = NO_HEAD;
+    s
 }
 
 // Drops the open head of a column, if there is one.
@@ -86,10 +89,9 @@ fn invalidate_hold(s: ChartNotesScratch, column: usize, notes: &mut [u8]) -> Cha
     requires { HeadThere notes.old s column }
     ensures { HoldEnded notes.old s column dropped (invalid_after s column) notes.new result }
 {
-    let head = s.hold_heads[column];
-    let had = s.has_invalid;
+    let had_head = s.hold_heads[column] != NO_HEAD;
     let mut out = end_hold(s, column, INVALID_NOTE_ROW, notes);
-    out.has_invalid = had | (head != NO_HEAD);
+    out.has_invalid |= had_head;
     out
 }
 
@@ -100,7 +102,7 @@ fn push_tap(row: u32, count: usize, column: usize, tap: bool, notes: &mut [u8]) 
     ensures notes_after { notes.new ≡ sets notes.old (count * 10) (fields row no_tail column 0) }
 {
     put_record(notes, count, row, NO_TAIL_ROW, column as u8, 0);
-    count + cells::one_if(tap) as usize
+    count + usize::from(tap)
 }
 
 // The lowest column of a mask, that it is a tap's, and the rest of the mask; of an empty mask no tap, in some column.
@@ -136,7 +138,7 @@ pub fn push_mask(row: u32, number: usize, mask: u16, notes: &mut [u8]) -> usize
     requires { SomeMask row number mask notes.old }
     ensures { (s : ChartNotesScratch) (cells : Row) → MaskFits row number mask notes.old s cells → (rows : List Row) → Written rows s notes.old → Written (rows ++ (cells ∷ [])) (after_taps s result) notes.new }
 {
-    let one = low_bit(mask as u32);
+    let one = low_bit(u32::from(mask));
     let first = push_tap(row, number, one.column, one.tap, notes);
     let two = low_bit(one.rest);
     let mut count = push_tap(row, first, two.column, two.tap, notes);
@@ -150,17 +152,14 @@ pub fn push_mask(row: u32, number: usize, mask: u16, notes: &mut [u8]) -> usize
 }
 
 // Drops the heads that are still open.
-fn close_heads(s: ChartNotesScratch, notes: &mut [u8]) -> ChartNotesScratch
+fn close_heads(mut s: ChartNotesScratch, notes: &mut [u8]) -> ChartNotesScratch
     requires { SomeDrafts notes.old s }
     ensures { HeadsEnded notes.old s notes.new result }
 {
-    let mut out = s;
-    let mut column = 0;
-    while column < 10 {
-        out = invalidate_hold(out, column, notes);
-        column += 1;
+    for column in 0..10 {
+        s = invalidate_hold(s, column, notes);
     }
-    out
+    s
 }
 
 // Moves the records that are not dropped to the front, and answers their number.
@@ -169,14 +168,12 @@ fn retain_valid(count: usize, notes: &mut [u8]) -> usize
     ensures { Compacted notes.old count true notes.new result }
 {
     let mut kept = 0;
-    let mut k = 0;
-    while k < count {
+    for k in 0..count {
         let tail = get_word(notes, k * 10 + 4);
         if tail != INVALID_NOTE_ROW {
             move_record(notes, k, kept);
             kept += 1;
         }
-        k += 1;
     }
     kept
 }
@@ -186,11 +183,10 @@ fn retain(s: ChartNotesScratch, notes: &mut [u8]) -> usize
     requires { s.count * 10 ≤ length notes.old }
     ensures { Compacted notes.old s.count s.has_invalid notes.new result }
 {
-    let count = s.count;
     if s.has_invalid {
-        retain_valid(count, notes)
+        retain_valid(s.count, notes)
     } else {
-        count
+        s.count
     }
 }
 
@@ -201,7 +197,6 @@ pub fn finish(s: ChartNotesScratch, notes: &mut [u8]) -> usize
 {
     let out = close_heads(s, notes);
     let count = retain(out, notes);
-    let end = count * 10;
-    slices::zero_past(notes, end, 0);
+    slices::zero_past(notes, count * 10, 0);
     count
 }

@@ -1,5 +1,5 @@
 -- A row with only some of its heads, chosen by a mask with a bit for each column.
-use Rattle.std.specs.Prelude.{Bool, [], ◌∷◌, ℕ, suc, eqb}
+use Rattle.std.specs.Prelude.{Bool, [], ◌∷◌, ℕ, suc, ◌==◌}
 use Rattle.taps.specs.Taps.{bit}
 use Rattle.definitions.specs.Lines.{Row}
 use Rattle.definitions.specs.Cells.{cell_of}
@@ -9,7 +9,7 @@ use Rattle.definitions.specs.Correction.{head_if_paired}
 
 -- whether the mask has the bit of column c
 abbrev pub bit_is_set : ℕ → ℕ → Bool
-bit_is_set c m = eqb (bit c m) 1
+bit_is_set c m = bit c m == 1
 
 -- a byte in column c, as it is counted anew
 abbrev pub byte_by_mask : ℕ → ℕ → ℕ → ℕ

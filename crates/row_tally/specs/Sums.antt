@@ -1,5 +1,5 @@
 -- What one cell adds to its row's sum: cited by private functions alone.
-use Rattle.std.specs.Prelude.{Bool, true, false, ◌&&◌, ℕ, ◌+◌, eqb}
+use Rattle.std.specs.Prelude.{Bool, true, false, ◌&&◌, ℕ, ◌+◌, ◌==◌}
 use Rattle.definitions.specs.Lists.{number_of_bool}
 use Rattle.definitions.specs.Cells.{is_arrow}
 use Rattle.definitions.specs.Tally.{CountKind, counted_as, place, direction}
@@ -29,10 +29,10 @@ unfoldable pub add_arrow : RowSum → ℕ → Bool → RowSum
 add_arrow s c arrow =
     record {
       arrows = s.arrows + number_of_bool arrow;
-      left = s.left + number_of_bool (arrow && eqb (direction c) 0);
-      down = s.down + number_of_bool (arrow && eqb (direction c) 1);
-      up = s.up + number_of_bool (arrow && eqb (direction c) 2);
-      right = s.right + number_of_bool (arrow && eqb (direction c) 3);
+      left = s.left + number_of_bool (arrow && direction c == 0);
+      down = s.down + number_of_bool (arrow && direction c == 1);
+      up = s.up + number_of_bool (arrow && direction c == 2);
+      right = s.right + number_of_bool (arrow && direction c == 3);
       holds = s.holds;
       rolls = s.rolls;
       tails = s.tails;
@@ -42,7 +42,7 @@ add_arrow s c arrow =
     }
 
 abbrev one_of : CountKind → Cell → ℕ
-one_of k x = number_of_bool (eqb (place (counted_as x)) (place k))
+one_of k x = number_of_bool (place (counted_as x) == place k)
 
 -- with what a cell is counted as beside an arrow
 unfoldable pub add_counted : RowSum → Cell → RowSum

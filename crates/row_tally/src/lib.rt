@@ -8,7 +8,7 @@ ghost use Rattle.definitions.specs.Tracker.{hold_at};
 ghost use Rattle.definitions.specs.Tally.{empty_stats, row_sum, row_sum_by, tally_with_sum, tally_with_row};
 ghost use Rattle.definitions.specs.Correction.{head_if_paired, tally_with_steps};
 ghost use Rattle.definitions.specs.Judged.{is_judged_arrow, sum_of_fakes, judged_sum, judge_row};
-ghost use Rattle.taps.specs.Taps.{mask_of_line};
+ghost use Rattle.taps.specs.Taps.{mask_of_line, masks};
 ghost use Rattle.taps.specs.declared.Taps.TheVariants.{Mask};
 ghost use Rattle.definitions.specs.Lines.{Row};
 ghost use Rattle.definitions.specs.declared.Cell.TheVariants.{Lift};
@@ -40,20 +40,18 @@ pub fn no_sum() -> RowSum
 
 // With an arrow in a column. Column mod 4 gives left, down, up, right.
 #[tactic(auto, unfolding(crate::specs::Sums::add_arrow))]
-fn bump_dir(s: RowSum, column: usize) -> RowSum
+fn bump_dir(mut s: RowSum, column: usize) -> RowSum
     requires { Under 10 s }
     ensures { result ≡ add_arrow s column true }
 {
-    let mut t = s;
-    t.arrows += 1;
-    let direction = column % 4;
-    match direction {
-        0 => t.left += 1,
-        1 => t.down += 1,
-        2 => t.up += 1,
-        _ => t.right += 1,
+    s.arrows += 1;
+    match column % 4 {
+        0 => s.left += 1,
+        1 => s.down += 1,
+        2 => s.up += 1,
+        _ => s.right += 1,
     }
-    t
+    s
 }
 
 // With a lift, which is an arrow of a judged row.
@@ -62,14 +60,10 @@ fn add_lift(s: RowSum, column: usize, judged: bool) -> RowSum
     requires { Under 10 s }
     ensures { result ≡ add_counted (add_arrow s column judged) Lift }
 {
-    if judged {
-        let mut t = bump_dir(s, column);
-        t.lifts += 1;
-        return t;
+    RowSum {
+        lifts: s.lifts + 1,
+        ..if judged { bump_dir(s, column) } else { s }
     }
-    let mut t = s;
-    t.lifts += 1;
-    t
 }
 
 // One cell of a row, in a column, by one match: an arrow, what else it is counted as, or both. A judged row has lifts for arrows too.
@@ -80,32 +74,27 @@ fn add_cell(s: RowSum, column: usize, b: u8, judged: bool) -> RowSum
 {
     match cells::cell_of(b) {
         Cell::Tap => bump_dir(s, column),
-        Cell::Hold => {
-            let mut t = bump_dir(s, column);
-            t.holds += 1;
-            t
-        }
-        Cell::Roll => {
-            let mut t = bump_dir(s, column);
-            t.rolls += 1;
-            t
-        }
-        Cell::Tail => {
-            let mut t = s;
-            t.tails += 1;
-            t
-        }
-        Cell::Mine | Cell::LowerMine => {
-            let mut t = s;
-            t.mines += 1;
-            t
-        }
+        Cell::Hold => RowSum {
+            holds: s.holds + 1,
+            ..bump_dir(s, column)
+        },
+        Cell::Roll => RowSum {
+            rolls: s.rolls + 1,
+            ..bump_dir(s, column)
+        },
+        Cell::Tail => RowSum {
+            tails: s.tails + 1,
+            ..s
+        },
+        Cell::Mine | Cell::LowerMine => RowSum {
+            mines: s.mines + 1,
+            ..s
+        },
         Cell::Lift | Cell::LowerLift => add_lift(s, column, judged),
-        Cell::Fake | Cell::LowerFake => {
-            let mut t = s;
-            t.fakes += 1;
-            t
-        }
+        Cell::Fake | Cell::LowerFake => RowSum {
+            fakes: s.fakes + 1,
+            ..s
+        },
         Cell::Empty | Cell::KeySound => s,
     }
 }
@@ -153,18 +142,15 @@ fn add_sum(t: ArrowStats, s: RowSum, hand: bool, holding: u32) -> ArrowStats
     requires { Below count_bound t × Under 10 s }
     ensures { result ≡ tally_with_sum t s hand holding }
 {
-    let step = cells::one_if(1 <= s.arrows);
-    let jump = cells::one_if(2 <= s.arrows);
-    let hands = cells::one_if(hand);
     ArrowStats {
         total_arrows: t.total_arrows + s.arrows,
         left: t.left + s.left,
         down: t.down + s.down,
         up: t.up + s.up,
         right: t.right + s.right,
-        total_steps: t.total_steps + step,
-        jumps: t.jumps + jump,
-        hands: t.hands + hands,
+        total_steps: t.total_steps + u32::from(1 <= s.arrows),
+        jumps: t.jumps + u32::from(2 <= s.arrows),
+        hands: t.hands + u32::from(hand),
         mines: t.mines + s.mines,
         holds: t.holds + s.holds,
         rolls: t.rolls + s.rolls,
@@ -218,7 +204,7 @@ pub fn add_judged_row(t: ArrowStats, judged: bool, held: u32, s: RowSum) -> Arro
     ensures { result ≡ judge_row t judged held s }
 {
     let hand = judged & (1 <= s.arrows + s.mines + s.fakes) & (3 <= s.arrows + held);
-    let hands = t.hands + cells::one_if(hand);
+    let hands = t.hands + u32::from(hand);
     let mut r = add_row_lent(t, s);
     r.hands = hands;
     r.holding = 0;
@@ -227,7 +213,7 @@ pub fn add_judged_row(t: ArrowStats, judged: bool, held: u32, s: RowSum) -> Arro
 
 // The tally with one row of taps alone more.
 pub fn count_taps(t: ArrowStats, mask: u16, table: &TapTable) -> ArrowStats
-    requires { (mask < 2 ^ table.now.lanes.count) × Below count_bound t }
+    requires { (mask < masks table.now.wide) × Below count_bound t }
     ensures { (row : Row) → mask_of_line row ≡ Mask mask → result ≡ tally_with_row t (row_sum row) }
 {
     add_row_lent(t, table.sum(mask))
@@ -246,10 +232,8 @@ fn keep_head(b: u8, paired: bool) -> u8
     ensures { result ≡ head_if_paired (hold_at b) paired b }
 {
     match cells::hold_effect(b) {
-        DepthEffect::Opens => { if paired { b } else { b'0' } }
-        DepthEffect::Closes => b,
-        DepthEffect::Blocks => b,
-        DepthEffect::Nothing => b,
+        DepthEffect::Opens if !paired => b'0',
+        _ => b,
     }
 }
 
@@ -268,10 +252,8 @@ fn kept_sum(row: &[u8], heads: u16, judged: bool) -> RowSum
     ensures { result ≡ row_sum_by (arrow_of judged) (row_by_mask heads 0 row.now) }
 {
     let mut s = no_sum();
-    let mut i = 0;
-    while i < row.len() {
-        s = kept_cell(s, i, row[i], heads, judged);
-        i += 1;
+    for (column, &b) in row.iter().enumerate() {
+        s = kept_cell(s, column, b, heads, judged);
     }
     s
 }
@@ -288,9 +270,10 @@ pub fn count_line_masked(t: ArrowStats, row: &[u8], heads: u16) -> ArrowStats
 fn only_fakes(n: u32) -> RowSum
     ensures { result ≡ sum_of_fakes n }
 {
-    let mut s = no_sum();
-    s.fakes = n;
-    s
+    RowSum {
+        fakes: n,
+        ..no_sum()
+    }
 }
 
 // What a row adds up to, judged or not, of which only the heads of a mask count. On an unjudged row each arrow, mine and fake is one fake.
@@ -307,7 +290,7 @@ pub fn judged_sum_masked(judged: bool, row: &[u8], heads: u16) -> RowSum
 
 // What a row of taps alone adds up to, judged or not. On an unjudged row each tap is one fake.
 fn judged_taps(judged: bool, mask: u16, table: &TapTable) -> RowSum
-    requires { mask < 2 ^ table.now.lanes.count }
+    requires { mask < masks table.now.wide }
     ensures { Under 10 result × ((row : Row) → mask_of_line row ≡ Mask mask → result ≡ judged_sum judged row) }
 {
     let s = table.sum(mask);
@@ -319,7 +302,7 @@ fn judged_taps(judged: bool, mask: u16, table: &TapTable) -> RowSum
 
 // The judged tally with one row of taps alone more, before which `held` holds are open.
 pub fn judge_taps(t: ArrowStats, judged: bool, held: u32, mask: u16, table: &TapTable) -> ArrowStats
-    requires { (mask < 2 ^ table.now.lanes.count) × Below count_bound t × (held ≤ count_bound) }
+    requires { (mask < masks table.now.wide) × Below count_bound t × (held ≤ count_bound) }
     ensures { (row : Row) → mask_of_line row ≡ Mask mask → result ≡ judge_row t judged held (judged_sum judged row) }
 {
     let s = judged_taps(judged, mask, table);
@@ -330,7 +313,8 @@ pub fn judge_taps(t: ArrowStats, judged: bool, held: u32, mask: u16, table: &Tap
 pub fn with_steps(t: ArrowStats, steps: u32) -> ArrowStats
     ensures { result ≡ tally_with_steps steps t }
 {
-    let mut r = t;
-    r.total_steps = steps;
-    r
+    ArrowStats {
+        total_steps: steps,
+        ..t
+    }
 }

@@ -13,7 +13,7 @@ use Rattle.definitions.specs.Lists.{joined}
 use Rattle.definitions.specs.Lines.{Row}
 use Rattle.taps.specs.Taps.{FreeTaps, FreeAre}
 use Rattle.phantoms.proofs.Free.{free-row}
-use Rattle.objects.specs.declared.LastRow.TheVariants.{At}
+use Rattle.std.specs.Prelude.{Some}
 use Rattle.objects.specs.Rows.{RowDone}
 use Rattle.objects.specs.LastKept.{LastKept}
 use Rattle.objects.proofs.Free.{free-done}
@@ -39,7 +39,7 @@ module _ (first : ℕ) (q : Rest) (m : Marks) (r : Run) (above : first ≤ r.row
       → LastKept (record { depths = record { depths = low }; busy = busy; found = q.found; row = row_at first (cond object (r.row + 1) r.last); rows = r.row + 1 - first; midx = q.midx }) done (cur ++ (row ∷ []))
   kept_run x row low true busy w free =
       let rows : r.row + 1 - first ≡ r.row - first + 1 = omega arith in
-      let at : row_at first (r.row + 1) ≡ At (r.row - first) = rw (lt-ltb first (r.row + 1) (omega arith)) (ap At (omega arith)) in
+      let at : row_at first (r.row + 1) ≡ Some (r.row - first) = rw (lt-ltb first (r.row + 1) (omega arith)) (ap Some (omega arith)) in
       rw (rows, at) (kept-object _ done cur x row _ w busy free refl)
   kept_run x row low false busy w free =
       let rows : r.row + 1 - first ≡ r.row - first + 1 = omega arith in

@@ -1,10 +1,10 @@
 -- Ordinary rows: what one more asks, and a measure of which some rows are walked.
-use Rattle.std.specs.Prelude.{◌≡◌, cond, not, List, [], ◌∷◌, ◌++◌, ℕ, ◌+◌, ◌-◌, ◌*◌, ◌^◌, ◌<◌, ◌≤◌, eqb, length, take}
+use Rattle.std.specs.Prelude.{◌≡◌, Bool, cond, not, List, [], ◌∷◌, ◌++◌, ℕ, ◌+◌, ◌-◌, ◌*◌, ◌<◌, ◌≤◌, eqb, length, take}
 use Rattle.definitions.specs.Sizes.{count_bound, measures_bound, row_count_bound}
 use Rattle.definitions.specs.Lists.{joined}
 use Rattle.definitions.specs.Lines.{Row}
 use Rattle.definitions.specs.Tally.{row_sum, tally_with_row}
-use Rattle.taps.specs.Taps.{mask_of_line}
+use Rattle.taps.specs.Taps.{mask_of_line, masks}
 use Rattle.taps.specs.declared.Taps.TheVariants.{Mask}
 use Rattle.row_tally.specs.Bounds.{Below}
 use Rattle.row_notes.specs.declared.ChartNotesScratch.{ChartNotesScratch}
@@ -18,10 +18,10 @@ use Rattle.measure_run.specs.declared.Run.{Run}
 use Rattle.measure_run.specs.Held.{Rest, counting_of, noting_of}
 
 -- what a row of taps asks, and what is then so
-pub record TapsReady (r : Run) (mask L : ℕ) (l : List ℕ) : Type 0 where
+pub record TapsReady (r : Run) (mask : ℕ) (wide : Bool) (l : List ℕ) : Type 0 where
   pub few : Below count_bound r.stats
   pub rows : r.row < row_count_bound
-  pub fits : mask < 2 ^ L
+  pub fits : mask < masks wide
   pub some : SomeMask r.row r.count mask l
 
 pub record TapsAdded (r : Run) (mask : ℕ) (l l' : List ℕ) (t : Run) : Type 0 where

@@ -15,7 +15,7 @@ use taps::{TapTable, Taps};
 
 // One row of taps more, all in columns that are not busy.
 fn add_taps(r: Run, mask: u16, slots: &mut [u8], table: &TapTable) -> Run
-    requires { TapsReady r mask table.now.lanes.count slots.old }
+    requires { TapsReady r mask table.now.wide slots.old }
     ensures { TapsAdded r mask slots.old slots.new result }
 {
     let stats = row_tally::count_taps(r.stats, mask, table);

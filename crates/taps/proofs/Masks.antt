@@ -18,7 +18,8 @@ use Rattle.definitions.specs.declared.Cell.{Cell}
 use Rattle.definitions.specs.declared.Cell.TheVariants.{Empty, Tap}
 use Rattle.definitions.specs.Tally.{row_sum, row_sum_by, count_from, direction}
 use Rattle.definitions.specs.declared.RowSum.{RowSum}
-use Rattle.taps.specs.Taps.{Small, with_bit, tap_mask, has_mask, mask_of_line, wide_row, bit, towards, mask_counts, unpack}
+use Rattle.taps.specs.Taps.{Small, with_bit, tap_mask, has_mask, mask_of_line, wide_row, bit, towards, masks, mask_counts, unpack}
+use Rattle.taps.specs.declared.table.TapTable.{TapTable}
 use Rattle.taps.specs.declared.Taps.{Taps}
 use Rattle.taps.specs.declared.Taps.TheVariants.{Mask, Other}
 
@@ -365,17 +366,23 @@ mask-small r h m e = omega (arith, mask-few 10 r m h e)
 pub line_small : (r : Row) → Small (mask_of_line r)
 line_small r m e = omega (arith, mask-few 10 r m (line-width r m e).1 (line-taps r m e))
 
--- a mask of up to ten columns, and of up to eight where the table has it whole
+-- a mask of up to ten columns
 pub mask-below : (L m : ℕ) → L ≤ 10 → m < 2 ^ L → m < 1024
 mask-below L m h k = omega (arith, pow-le-pow_right {n = 2} (omega arith) h)
 
-pub mask-below_eight : (L m : ℕ) → wide_row L ≡ false → m < 2 ^ L → m < 256
-mask-below_eight L m w k = go (eqb L 4) (eqb L 8) (eqb-true L 4) (eqb-true L 8) w
-  where
-    few : L ≤ 8 → m < 256
-    few h = omega (arith, pow-le-pow_right {n = 2} (omega arith) h)
+-- the masks that a table counts are of up to ten columns
+pub masks-few : (wide : Bool) (m : ℕ) → m < masks wide → m < 1024
+masks-few true m h = h
+masks-few false m h = omega arith
 
-    go : (p q : Bool) → (p ≡ true → L ≡ 4) → (q ≡ true → L ≡ 8) → not (p || q) ≡ false → m < 256
-    go true q a b f = few (omega (arith, a refl))
-    go false true a b f = few (omega (arith, b refl))
-    go false false a b f = let z : ◌≡◌ {A = ℕ} 0 1 = cc in absurd (omega arith)
+-- and those of its own lane count are among them
+pub fits-table : (t : TapTable) (m : ℕ) → m < 2 ^ t.lanes.count → m < masks t.wide
+fits-table t m h = rw t.two_fives (go (eqb t.lanes.count 4) (eqb t.lanes.count 8) (eqb-true t.lanes.count 4) (eqb-true t.lanes.count 8))
+  where
+    few : t.lanes.count ≤ 8 → m < 256
+    few k = omega (arith, pow-le-pow_right {n = 2} (omega arith) k)
+
+    go : (p q : Bool) → (p ≡ true → t.lanes.count ≡ 4) → (q ≡ true → t.lanes.count ≡ 8) → m < masks (not (p || q))
+    go true q a b = few (omega (arith, a refl))
+    go false true a b = few (omega (arith, b refl))
+    go false false a b = mask-below t.lanes.count m t.lanes.within.1 h

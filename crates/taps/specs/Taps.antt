@@ -1,5 +1,5 @@
 -- Document 01, `TAP_MASK_COUNTS`: the mask of a row of `0` and `1` alone, and the counts that the table has for it.
-use Rattle.std.specs.Prelude.{Bool, true, false, cond, ◌||◌, not, ◌≡◌, List, [], ◌∷◌, ℕ, zero, suc, ◌+◌, ◌*◌, ◌/◌, ◌%◌, ◌^◌, ◌<◌, ◌≤◌, eqb, length, get_or, slice_index, if◌then◌else◌, replicate}
+use Rattle.std.specs.Prelude.{Bool, ◌||◌, not, ◌≡◌, List, [], ◌∷◌, ℕ, zero, suc, ◌+◌, ◌*◌, ◌/◌, ◌%◌, ◌^◌, ◌<◌, ◌≤◌, ◌==◌, length, get_or, slice_index, if◌then◌else◌, replicate}
 use Rattle.std.specs.Int.Bits.{bit_and}
 use Rattle.definitions.specs.Lists.{sum_columns, number_of_bool}
 use Rattle.definitions.specs.Lines.{Row}
@@ -9,7 +9,7 @@ use Rattle.taps.specs.declared.Taps.TheVariants.{Mask, Other}
 
 -- the mask of a byte and the cells after it
 abbrev pub with_bit : ℕ → Taps → Taps
-with_bit b (Mask m) = cond (eqb b 48) (Mask (2 * m)) (cond (eqb b 49) (Mask (1 + 2 * m)) Other)
+with_bit b (Mask m) = if b == 48 then Mask (2 * m) else if b == 49 then Mask (1 + 2 * m) else Other
 with_bit b Other = Other
 
 -- A row of `0` and `1` alone as a number, its first column in the lowest bit.
@@ -33,14 +33,14 @@ Tells n Other = 65536 ≤ n
 
 -- the widths of rows that have masks
 abbrev pub has_mask : ℕ → Bool
-has_mask n = eqb n 4 || eqb n 8 || eqb n 5 || eqb n 10
+has_mask n = n == 4 || n == 8 || n == 5 || n == 10
 
 unfoldable pub mask_of_line : Row → Taps
-mask_of_line r = cond (has_mask (length r)) (tap_mask r) Other
+mask_of_line r = if has_mask (length r) then tap_mask r else Other
 
 -- "Only 4 and 8 lanes use it.": rows of other widths are counted without it.
 abbrev pub wide_row : ℕ → Bool
-wide_row n = not (eqb n 4 || eqb n 8)
+wide_row n = not (n == 4 || n == 8)
 
 -- n cells `0`
 abbrev pub zero_cells : ℕ → Row
@@ -68,7 +68,7 @@ pub record FreeTaps (busy m : ℕ) (r : Row) : Type 0 where
 
 -- a mask that has no bit in common with `busy`
 abbrev pub free_of : ℕ → Taps → Taps
-free_of busy (Mask m) = cond (eqb (bit_and m busy) 0) (Mask m) Other
+free_of busy (Mask m) = if bit_and m busy == 0 then Mask m else Other
 free_of busy Other = Other
 
 -- The mask of a row that has one and no tap in a column of `busy`.
@@ -82,7 +82,7 @@ FreeAre busy n l = (c : ℕ) → c < 10 → bit c busy ≡ 0 → get_or l c 0 �
 -- Which of k numbers from place c on are not n, as a mask: the first of them in the lowest bit.
 abbrev pub unlike_from : ℕ → List ℕ → ℕ → ℕ → ℕ
 unlike_from n l c zero = 0
-unlike_from n l c (suc k) = number_of_bool (not (eqb (get_or l c 0) n)) + 2 * unlike_from n l (suc c) k
+unlike_from n l c (suc k) = number_of_bool (not (get_or l c 0 == n)) + 2 * unlike_from n l (suc c) k
 
 unfoldable pub unlike_mask : ℕ → List ℕ → ℕ
 unlike_mask n l = unlike_from n l 0 10
@@ -101,9 +101,13 @@ mask_counts m =
 abbrev pub counts_in : Bool → List ℕ → ℕ → ℕ
 counts_in wide l m = if wide then slice_index l (m % 32) + slice_index l (32 + m / 32) else slice_index l m
 
--- a list that tells what each mask of so many columns counts up to
-abbrev pub CountsMasks : Bool → ℕ → List ℕ → Type 0
-CountsMasks wide lanes l = (m : ℕ) → m < 2 ^ lanes → counts_in wide l m ≡ mask_counts m
+-- How many masks a table counts: those of up to ten columns, or of eight where it is `TAP_MASK_COUNTS`.
+abbrev pub masks : Bool → ℕ
+masks wide = if wide then 1024 else 256
+
+-- a list that tells what each of these masks counts up to
+abbrev pub CountsMasks : Bool → List ℕ → Type 0
+CountsMasks wide l = (m : ℕ) → m < masks wide → counts_in wide l m ≡ mask_counts m
 
 -- the row's sum that the counts stand for
 unfoldable pub unpack : ℕ → RowSum

@@ -149,6 +149,7 @@ pub fn tap_mask8(row: &[u8]) -> Taps
 }
 
 // The mask of a row of four, five, eight or ten cells.
+#[tactic(auto, using(crate::proofs::Masks::line_small))]
 pub fn tap_line_mask(row: &[u8]) -> Taps
     ensures { result ≡ mask_of_line row.now }
 {

@@ -1,5 +1,5 @@
-ghost use Rattle.std.specs.Prelude.{◌≡◌, ◌^◌, ◌<◌};
-ghost use Rattle.taps.specs.Taps.{wide_row, mask_counts, CountsMasks, unpack};
+ghost use Rattle.std.specs.Prelude.{◌≡◌, ◌<◌};
+ghost use Rattle.taps.specs.Taps.{wide_row, masks, mask_counts, CountsMasks, unpack};
 
 use crate::counts::TAP_MASK_COUNTS;
 use crate::five_counts::FIVE_COUNTS;
@@ -9,7 +9,7 @@ use definitions::{Lanes, RowSum};
 fn is_wide(columns: usize) -> bool
     ensures { result ≡ wide_row columns }
 {
-    (columns != 4) & (columns != 8)
+    !matches!(columns, 4 | 8)
 }
 
 /// What each mask of taps counts up to at a lane count. A pass makes one for its text and lends it: a look into a constant itself
@@ -20,7 +20,7 @@ pub struct TapTable {
     pub wide: bool,
     pub counts: [u16; 256],
     pub ghost two_fives: { wide ≡ wide_row lanes.count },
-    pub ghost rule: { CountsMasks wide lanes.count counts },
+    pub ghost rule: { CountsMasks wide counts },
 }
 
 impl TapTable {
@@ -44,10 +44,10 @@ impl TapTable {
 
     // A mask's counts: the table's entry, or the sum of two where the table is of five columns and five.
     fn entry(&self, mask: u16) -> u16
-        requires { mask < 2 ^ self.now.lanes.count }
+        requires { mask < masks self.now.wide }
         ensures { result ≡ mask_counts mask }
     {
-        let m = mask as usize;
+        let m = usize::from(mask);
         if self.wide {
             return self.counts[m % 32] + self.counts[32 + m / 32];
         }
@@ -57,10 +57,10 @@ impl TapTable {
     /// What a row of taps alone adds up to.
     #[tactic(auto, using(crate::proofs::Masks::and_15, crate::proofs::Masks::and_3), unfolding(crate::specs::Taps::unpack))]
     pub fn sum(&self, mask: u16) -> RowSum
-        requires { mask < 2 ^ self.now.lanes.count }
+        requires { mask < masks self.now.wide }
         ensures { result ≡ unpack (mask_counts mask) }
     {
-        let n = self.entry(mask) as u32;
+        let n = u32::from(self.entry(mask));
         RowSum {
             arrows: n & 15,
             left: (n >> 4) & 3,

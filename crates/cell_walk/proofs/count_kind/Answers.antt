@@ -5,15 +5,15 @@ use Rattle.cell_walk.proofs.count_kind.Goals as goal
 pub returns : goal.returns
 returns c b ek et =
     rw (
-      c.one_if.ensures.0,
-      c.one_if-2.ensures.0,
-      c.one_if-3.ensures.0,
-      c.one_if-4.ensures.0,
-      c.one_if-5.ensures.0,
-      c.one_if-6.ensures.0,
-      c.one_if-7.ensures.0,
-      c.one_if-8.ensures.0,
-      c.one_if-9.ensures.0,
-      c.one_if-10.ensures.0,
+      c.from.ensures,
+      c.from-2.ensures,
+      c.from-3.ensures,
+      c.from-4.ensures,
+      c.from-5.ensures,
+      c.from-6.ensures,
+      c.from-7.ensures,
+      c.from-8.ensures,
+      c.from-9.ensures,
+      c.from-10.ensures,
     )
     (kind-counted c.args.s c.args.column c.args.kind c.args.tails b ek et)

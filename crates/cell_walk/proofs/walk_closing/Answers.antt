@@ -5,12 +5,12 @@ use Rattle.cell_walk.proofs.walk_closing.Goals as goal
 
 pub returns : goal.returns
 returns c = record {
-  depth = c.one_less.ensures;
+  depth = c.saturating_sub.ensures;
   heads = refl;
   tails = refl;
   met = refl;
   object = refl;
-  low = c.one_less-2.ensures;
+  low = c.saturating_sub-2.ensures;
   noted = noted-closes _ _ _ _ _ c.requires.ready _ _ refl c.end_note.ensures;
   kind = refl;
 }

@@ -1,19 +1,14 @@
--- `cells::cells_have_note` meets its contract. The loop's invariant: the row is a step where `has` is true or the cells from `i` on are one.
-use mathlib.Core.Path.{sym, ◌∙◌}
-use mathlib.Core.Bool.{or-false}
-use Prim.Native.Nat.{◌≤◌}
-use native.Mathlib.Omega.{arith}
-use lib.ListN.{length, drop_of_length-le}
-use Rattle.definitions.specs.Figures.{is_step}
-use Rattle.cells.proofs.Arrows.{step-next}
+-- `cells::cells_have_note` meets its contract: a step is a row of which some cell is an arrow.
+use mathlib.Core.Path.{◌∙◌}
+use Rattle.std.proofs.Common.{rules}
+use borrow.Author.Tests.{tests}
+use Rattle.std.proofs.lemmas.Iterator.{YieldsList-from_slice}
+use Rattle.std.proofs.lemmas.Iterator.Search.{any_from_yields_List}
+use Rattle.definitions.specs.Cells.{cell_of, is_arrow}
+use Rattle.cells.proofs.Arrows.{step-any}
 use Rattle.cells.proofs.cells_have_note.Goals as goal
 
-pub loop-i-preserved : goal.loop-i-preserved
-loop-i-preserved c =
-    (omega arith, c.loop-i.invariant.1 ∙ step-next c.args.row.now c.loop-i.i c.loop-i.has _ (omega arith) c.is_note-has.ensures)
-
 pub returns : goal.returns
-unfolding is_step
 returns c =
-    let past : length c.args.row.now ≤ c.loop-i.i = omega arith in
-    sym (c.loop-i.invariant.1 ∙ rw (drop_of_length-le c.args.row.now past, or-false))
+    any_from_yields_List (λ b. is_arrow (cell_of b)) _ _ _ c.any.ensures.ran (YieldsList-from_slice c.args.row.now cc) (λ x b q k. search (rules, tests))
+    ∙ step-any c.args.row.now

@@ -1,14 +1,14 @@
 -- `corrected_tally::count_row` meets its contract: a row of taps alone and an all-zero row keep all their cells.
 use mathlib.Core.Path.{ap, sym, ◌∙◌}
 use Rattle.definitions.specs.Tally.{row_sum, tally_with_row}
-use Rattle.taps.proofs.Masks.{line-taps, below-at}
+use Rattle.taps.proofs.Masks.{line-taps, below-at, fits-table}
 use Rattle.row_tally.proofs.Zeros.{zero-adds}
 use Rattle.corrected_tally.proofs.Taps.{taps-kept, zero-kept}
 use borrow.Author.Rules.{rules}
 use Rattle.corrected_tally.proofs.count_row.Goals as goal
 
 pub count_taps-requires : goal.count_taps-requires
-count_taps-requires c = let below = below-at _ _ _ (sym c.requires.1) (sym c.tap_line_mask.ensures ∙ c.in-Mask.is) in search rules
+count_taps-requires c = let below = fits-table c.args.table.now _ (below-at _ _ _ (sym c.requires.1) (sym c.tap_line_mask.ensures ∙ c.in-Mask.is)) in search rules
 
 pub returns-in-Mask : goal.returns-in-Mask
 returns-in-Mask c =

@@ -10,7 +10,7 @@ use Rattle.definitions.specs.Lines.{Row}
 use Rattle.definitions.specs.Sizes.{count_bound}
 use Rattle.definitions.specs.ReadBack.{rows_read_back}
 use Rattle.taps.proofs.Free.{free-told}
-use Rattle.taps.proofs.Masks.{below-at}
+use Rattle.taps.proofs.Masks.{below-at, fits-table}
 use Rattle.reader.proofs.BackReading.{back-trimmed}
 use Rattle.reader.proofs.BackLoops.{BackCome, came, back-start, back-more, next-inside, next-here, next-wide, all-came, short-back}
 use Rattle.judged.proofs.Tallying.{tallying-start, tallying-few, tallying-enough, tallying-row, tallying-taps, tallying-end}
@@ -59,7 +59,7 @@ pub add_taps-requires : goal.add_taps-requires
 add_taps-requires c =
     let k = tallying-few _ _ _ _ _ _ (c.loop-cells.invariant.held _ c.requires.entries.timed) (few (goal.at.add_taps-requires c).In-Some) c.args.lanes.within.1 (short-back _ _) in
     let long = (row-here (goal.at.add_taps-requires c).In-Some).wide in (
-      rw c.for_lanes-table.ensures (below-at _ _ _ long (free-told c.free_taps.ensures c.in-Mask.is).mask),
+      fits-table c.for_lanes-table.result _ (rw c.for_lanes-table.ensures (below-at _ _ _ long (free-told c.free_taps.ensures c.in-Mask.is).mask)),
       k.0,
       k.1,
     )

@@ -2,8 +2,8 @@
 use Rattle.std.proofs.Common.{◌≡◌, ℕ, ◌+◌, ◌/◌, ◌<◌, ◌≤◌, take, drop, sym, ap, ◌∙◌, arith}
 use lib.Count.{count_trailing_zeros, trailing_of_zero}
 use Rattle.lines.specs.Words.{first_in}
-use Rattle.lines.specs.declared.Found.TheVariants.{At}
-use Rattle.lines.proofs.Search.{find-hit, find-miss, find-end}
+use Rattle.std.specs.Prelude.{Some}
+use Rattle.lines.proofs.Search.{found-position, find-hit, find-miss, find-end}
 use Rattle.lines.proofs.Hits.{trailing_lt}
 use Rattle.lines.proofs.SliceWords.{of_word, word_in, word_out}
 use Rattle.lines.proofs.find_byte.Goals as goal
@@ -20,7 +20,7 @@ pub returns-then-hits-ne0 : goal.returns-then-hits-ne0
 returns-then-hits-ne0 c =
     let e = first (goal.at.returns-then-hits-ne0 c).After-byte_hits-hits in
     let h : count_trailing_zeros 64 c.byte_hits-hits.result / 8 < 8 = omega (arith, trailing_lt 64 c.byte_hits-hits.result (omega arith) c.if-hits-ne0.true) in
-    sym (c.loop-i.invariant.1 ∙ word_in _ _ _ c.loop-i-test.true (rw e at h) ∙ ap (λ (n : ℕ). At (c.loop-i.i + n)) (sym e))
+    sym (found-position c.args.needle c.args.slice.now ∙ c.loop-i.invariant.1 ∙ word_in _ _ _ c.loop-i-test.true (rw e at h) ∙ ap (λ (n : ℕ). Some (c.loop-i.i + n)) (sym e))
 
 pub loop-i-preserved : goal.loop-i-preserved
 loop-i-preserved c =
@@ -29,10 +29,10 @@ loop-i-preserved c =
     (c.loop-i-test.true, c.loop-i.invariant.1 ∙ word_out _ _ _ c.loop-i-test.true (rw e at h))
 
 pub returns-then-slice-i : goal.returns-then-slice-i
-returns-then-slice-i c = sym (c.loop-i-2.invariant.1 ∙ find-hit _ _ _ c.loop-i-2-test.true c.if-slice-i.true)
+returns-then-slice-i c = sym (found-position c.args.needle c.args.slice.now ∙ c.loop-i-2.invariant.1 ∙ find-hit _ _ _ c.loop-i-2-test.true c.if-slice-i.true)
 
 pub loop-i-2-preserved : goal.loop-i-2-preserved
 loop-i-2-preserved c = (omega arith, c.loop-i-2.invariant.1 ∙ find-miss _ _ _ c.loop-i-2-test.true c.if-slice-i.false)
 
 pub returns : goal.returns
-returns c = sym (c.loop-i-2.invariant.1 ∙ find-end _ _ _ c.loop-i-2-test.false)
+returns c = sym (found-position c.args.needle c.args.slice.now ∙ c.loop-i-2.invariant.1 ∙ find-end _ _ _ c.loop-i-2-test.false)

@@ -1,6 +1,6 @@
 -- `lines::find_byte` meets its contract: what the search of the rest finds is what the search of the whole finds. Assumes nothing.
 use Rattle.std.proofs.Common.{◌≡◌, ◌-◌, ◌≤◌, length, drop}
-use Rattle.lines.specs.Search.{find_from}
+use Rattle.lines.proofs.Search.{find_from}
 use Rattle.lines.proofs.find_byte.Given as goal
 
 abbrev pub invariant-loop-i : goal.invariant-loop-i

@@ -18,6 +18,7 @@ use Rattle.reduction.proofs.Compaction.{
   shifted_one,
   kept-times,
 }
+use Rattle.reduction.proofs.Moves.{moved-within}
 use Rattle.reduction.proofs.compact_output_rows.Goals as goal
 
 -- the exponent is below the number of bits, since its power divides the rows, which are some
@@ -53,7 +54,7 @@ pub overflow_add-row : goal.overflow_add-row
 overflow_add-row c = omega (arith, div-le_self c.args.rows (2 ^ c.args.shift))
 
 pub loop-row-preserved : goal.loop-row-preserved
-loop-row-preserved c = (c.loop-row.invariant.0, moved-step c.loop-row.invariant.1 c.loop-row-test.true _ c.move_row.ensures)
+loop-row-preserved c = (c.loop-row.invariant.0, moved-step c.loop-row.invariant.1 c.loop-row-test.true _ (c.move_row.ensures ∙ sym (moved-within c.loop-row.text _ _ c.args.width)))
 
 pub returns-then-shift-eq0 : goal.returns-then-shift-eq0
 returns-then-shift-eq0 c =

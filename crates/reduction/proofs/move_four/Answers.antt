@@ -1,7 +1,9 @@
 -- `reduction::move_four` meets its contract.
-use Rattle.reduction.proofs.Moves.{four-pasted}
+use mathlib.Core.Path.{◌∙◌}
+use Rattle.reduction.proofs.Moves.{four-pasted, moved-within}
 use Rattle.reduction.proofs.move_four.Goals as goal
 
 pub returns : goal.returns
 returns c =
     four-pasted c.args.text.now c.args.to c.args.text.now c.args.from c.requires.0 c.requires.1
+    ∙ moved-within c.args.text.now c.args.from c.args.to 4

@@ -1,11 +1,11 @@
 -- `reduction::move_row` meets its contract: the last four bytes follow on those before them or overlap them, and all are read as they stood.
-use mathlib.Core.Path.{◌≡◌, ap, ◌∙◌}
+use mathlib.Core.Path.{◌≡◌, sym, ap, ◌∙◌}
 use mathlib.Core.List.{List}
 use Prim.Native.Nat.{ℕ, ◌+◌, ◌-◌, ◌≤◌, ◌<◌}
 use native.Mathlib.Omega.{arith}
 use lib.ListN.{length, drop, length-drop}
 use lib.Seq.{paste}
-use Rattle.reduction.proofs.Moves.{Front, front_of, front-four, front-eight, front-last, source_stays}
+use Rattle.reduction.proofs.Moves.{moved-within, Front, front_of, front-four, front-eight, front-last, source_stays}
 use Rattle.reduction.proofs.ZeroRows.{between}
 use Rattle.reduction.proofs.move_row.Goals as goal
 use Rattle.reduction.proofs.move_row.Goals.{then-width-gt8, else-width-gt8}
@@ -47,10 +47,14 @@ module _ (text : List ℕ) (from to width : ℕ) (range : (4 ≤ width) × (widt
 pub returns : goal.returns
 returns c =
     let range : (4 ≤ c.args.width) × (c.args.width ≤ 12) = between c.args.width c.if-width.false in
+    let first = c.move_four.ensures ∙ sym (moved-within c.args.text.now c.args.from c.args.to 4) in
     let front : Front c.args.text.now c.args.to (drop c.args.from c.args.text.now) c.args.width c.if-width-gt8.text =
     elim c.if-width-gt8.branch [
       | then-width-gt8 w ↦
-          eight c.args.text.now c.args.from c.args.to c.args.width range c.requires c.move_four.ensures (w.text-is ∙ w.move_four-then-width-gt8.ensures) w.if-width-gt8.true
-      | else-width-gt8 w ↦ four c.args.text.now c.args.from c.args.to c.args.width range c.requires (w.text-is ∙ c.move_four.ensures) w.if-width-gt8.false
+          eight c.args.text.now c.args.from c.args.to c.args.width range c.requires first (w.text-is ∙ w.move_four-then-width-gt8.ensures ∙ sym (moved-within _ (c.args.from + 4) (c.args.to + 4) 4)) w.if-width-gt8.true
+      | else-width-gt8 w ↦ four c.args.text.now c.args.from c.args.to c.args.width range c.requires (w.text-is ∙ first) w.if-width-gt8.false
     ] in
-    c.move_four-2.ensures ∙ with-last c.args.text.now c.args.from c.args.to c.args.width range c.requires front
+    c.move_four-2.ensures
+    ∙ sym (moved-within _ (c.args.from + (c.args.width - 4)) (c.args.to + (c.args.width - 4)) 4)
+    ∙ with-last c.args.text.now c.args.from c.args.to c.args.width range c.requires front
+    ∙ moved-within c.args.text.now c.args.from c.args.to c.args.width

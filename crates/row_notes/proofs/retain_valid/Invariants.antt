@@ -1,10 +1,7 @@
 -- The loop's invariant: the slice begins with the records that are left of the first `k`, and from record `k` on it is as it was.
-use Rattle.std.proofs.Common.{true, ◌-◌}
+use Rattle.std.proofs.Common.{true}
 use Rattle.row_notes.proofs.Retaining.{Retaining}
 use Rattle.row_notes.proofs.retain_valid.Given as goal
 
 abbrev pub invariant-loop-k : goal.invariant-loop-k
 invariant-loop-k l = Retaining l.initial.notes l.count true l.notes l.kept l.k
-
-abbrev pub decreases-loop-k : goal.decreases-loop-k
-decreases-loop-k l = l.count - l.k

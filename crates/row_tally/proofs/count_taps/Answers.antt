@@ -1,12 +1,12 @@
 -- `row_tally::count_taps` meets its contract: the mask's counts are the sum of every row that has this mask.
 use mathlib.Core.Path.{sym, ap, ◌∙◌}
 use Rattle.definitions.specs.Tally.{tally_with_row}
-use Rattle.taps.proofs.Masks.{mask-below, tap-line-sum}
+use Rattle.taps.proofs.Masks.{masks-few, tap-line-sum}
 use Rattle.row_tally.proofs.Taps.{mask_under}
 use Rattle.row_tally.proofs.count_taps.Goals as goal
 
 pub add_row_lent-requires : goal.add_row_lent-requires
-add_row_lent-requires c = (c.requires.1, rw c.sum.ensures (mask_under _ (mask-below _ _ c.args.table.now.lanes.within.1 c.requires.0)))
+add_row_lent-requires c = (c.requires.1, rw c.sum.ensures (mask_under _ (masks-few _ _ c.requires.0)))
 
 pub returns : goal.returns
 returns c row e = c.add_row_lent.ensures ∙ ap (tally_with_row _) (c.sum.ensures ∙ sym (tap-line-sum row _ e))

@@ -2,20 +2,20 @@
 use mathlib.Core.Path.{ap, ◌∙◌}
 use native.Mathlib.Omega.{arith}
 use Rattle.definitions.specs.Judged.{sum_of_fakes}
-use Rattle.taps.proofs.Masks.{mask-below}
+use Rattle.taps.proofs.Masks.{masks-few}
 use Rattle.row_tally.specs.Bounds.{Under}
 use Rattle.row_tally.proofs.Taps.{mask_under, taps-judged, taps-unjudged}
 use Rattle.row_tally.proofs.judged_taps.Goals as goal
 
 pub returns-then-judged : goal.returns-then-judged
 returns-then-judged c = (
-  rw c.sum-s.ensures (mask_under _ (mask-below _ _ c.args.table.now.lanes.within.1 c.requires)),
+  rw c.sum-s.ensures (mask_under _ (masks-few _ _ c.requires)),
   λ row e. rw c.if-judged.true (c.sum-s.ensures ∙ taps-judged row _ e),
 )
 
 pub returns : goal.returns
 returns c =
-    let u : Under 10 c.sum-s.result = rw c.sum-s.ensures (mask_under _ (mask-below _ _ c.args.table.now.lanes.within.1 c.requires)) in (
+    let u : Under 10 c.sum-s.result = rw c.sum-s.ensures (mask_under _ (masks-few _ _ c.requires)) in (
       rw c.only_fakes.ensures (omega arith),
       λ row e.
           rw c.if-judged.false

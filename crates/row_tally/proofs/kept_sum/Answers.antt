@@ -7,15 +7,15 @@ use Rattle.row_tally.proofs.Loops.{summed-start, summed-next, summed-end}
 use Rattle.row_tally.proofs.Kept.{keep-next}
 use Rattle.row_tally.proofs.kept_sum.Goals as goal
 
-pub loop-i-init : goal.loop-i-init
-loop-i-init c = summed-start (arrow_of c.args.judged) _ _ c.no_sum-s.ensures
+pub loop-column-init : goal.loop-column-init
+loop-column-init c = summed-start (arrow_of c.args.judged) _ _ c.no_sum-s.ensures
 
-pub loop-i-preserved : goal.loop-i-preserved
-loop-i-preserved c =
-    let rest = keep-next c.args.heads c.args.row.now c.loop-i.i c.loop-i-test.true in
-    summed-next (arrow_of c.args.judged) _ _ _ c.loop-i.s _ c.loop-i.i _ rest c.kept_cell-s.ensures c.loop-i.invariant
+pub loop-column-preserved : goal.loop-column-preserved
+loop-column-preserved c =
+    let rest = keep-next c.args.heads c.args.row.now c.loop-column.column c.loop-column-test.true in
+    summed-next (arrow_of c.args.judged) _ _ _ c.loop-column.s _ c.loop-column.column _ rest c.kept_cell-s.ensures c.loop-column.invariant
 
 pub returns : goal.returns
 returns c =
-    let none = ap (row_by_mask c.args.heads c.loop-i.i) (drop_of_length-le c.args.row.now c.loop-i-test.false) in
-    summed-end (arrow_of c.args.judged) _ _ _ _ none c.loop-i.invariant
+    let none = ap (row_by_mask c.args.heads c.loop-column.column) (drop_of_length-le c.args.row.now c.loop-column-test.false) in
+    summed-end (arrow_of c.args.judged) _ _ _ _ none c.loop-column.invariant

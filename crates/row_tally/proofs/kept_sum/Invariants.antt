@@ -1,14 +1,10 @@
 -- `row_tally::kept_sum` meets its contract. The loop's invariant: the sum so far, with the kept cells from column `i` on, is that of the row.
-use Prim.Native.Nat.{◌-◌}
-use lib.ListN.{length, drop}
+use lib.ListN.{drop}
 use Rattle.definitions.specs.Tally.{row_sum_by}
 use Rattle.row_tally.specs.Kept.{row_by_mask}
 use Rattle.row_tally.specs.Sums.{arrow_of}
 use Rattle.row_tally.proofs.Loops.{Summed}
 use Rattle.row_tally.proofs.kept_sum.Given as goal
 
-abbrev pub invariant-loop-i : goal.invariant-loop-i
-invariant-loop-i l = Summed (arrow_of l.judged) (row_by_mask l.heads l.i (drop l.i l.row)) (row_sum_by (arrow_of l.judged) (row_by_mask l.heads 0 l.row)) l.s l.i
-
-abbrev pub decreases-loop-i : goal.decreases-loop-i
-decreases-loop-i l = length l.row - l.i
+abbrev pub invariant-loop-column : goal.invariant-loop-column
+invariant-loop-column l = Summed (arrow_of l.judged) (row_by_mask l.heads l.column (drop l.column l.row)) (row_sum_by (arrow_of l.judged) (row_by_mask l.heads 0 l.row)) l.s l.column

@@ -7,7 +7,7 @@ use native.Mathlib.Omega.{arith}
 use lib.ListN.{length, take}
 use Rattle.definitions.specs.Sizes.{row_count_bound}
 use Rattle.definitions.specs.Lines.{Row}
-use Rattle.taps.proofs.Masks.{below-at}
+use Rattle.taps.proofs.Masks.{below-at, fits-table}
 use Rattle.taps.proofs.Free.{free-told}
 use Rattle.reduction.proofs.RowsAt.{rows-length}
 use Rattle.reduction.proofs.Powers.{next-at}
@@ -70,7 +70,7 @@ add_taps-r-requires c =
     record {
       few = stats-few c.requires.running.rest c.args.m c.loop-r.r counted.0 counted.1;
       rows = counted.0;
-      fits = rw c.requires.lanes_nonzero.5 (below-at _ _ _ (wide k) free.mask);
+      fits = fits-table c.args.table.now _ (rw c.requires.lanes_nonzero.5 (below-at _ _ _ (wide k) free.mask));
       some = record {
         scratch = (noting_of c.args.first c.requires.running.rest c.args.m c.loop-r.r).scratch;
         cells = part c.args.lanes c.args.text.now c.loop-r.at;

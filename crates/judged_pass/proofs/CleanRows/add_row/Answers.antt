@@ -2,12 +2,12 @@
 use mathlib.Core.Path.{sym}
 use borrow.Author.Rules.{rules}
 use Rattle.taps.proofs.Free.{free-told}
-use Rattle.taps.proofs.Masks.{below-at}
+use Rattle.taps.proofs.Masks.{below-at, fits-table}
 use Rattle.judged_pass.proofs.Rows.{free-whole}
 use Rattle.judged_pass.proofs.CleanRows.add_row.Goals as goal
 
 pub add_taps-requires : goal.add_taps-requires
-add_taps-requires c = let below = below-at _ _ _ (sym c.requires.1) (free-told c.free_taps.ensures c.in-Mask.is).mask in search rules
+add_taps-requires c = let below = fits-table c.args.table.now _ (below-at _ _ _ (sym c.requires.1) (free-told c.free_taps.ensures c.in-Mask.is).mask) in search rules
 
 pub returns-in-Mask-clause-clean : goal.returns-in-Mask-clause-clean
 returns-in-Mask-clause-clean c = free-whole c.args.self.now _ _ c.requires.2 (free-told c.free_taps.ensures c.in-Mask.is)

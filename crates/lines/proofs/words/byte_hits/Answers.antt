@@ -6,6 +6,6 @@ use Rattle.lines.proofs.words.byte_hits.Goals as goal
 
 pub returns : goal.returns
 returns c xs eight bytes word =
-    rw c.wide.ensures.0
+    rw c.from.ensures
     (hits-place xs c.args.word c.args.byte c.wrapping_sub_u64.result eight bytes word (omega arith) (omega arith)
-    (c.wrapping_sub_u64.ensures.value ∙ ap (λ (k : ℕ). bit_xor c.args.word (k * 72340172838076673)) c.wide.ensures.0))
+    (c.wrapping_sub_u64.ensures.value ∙ ap (λ (k : ℕ). bit_xor c.args.word (k * 72340172838076673)) c.from.ensures))

@@ -6,4 +6,4 @@ use Rattle.lines.proofs.words.byte_match_mask.Goals as goal
 
 pub returns : goal.returns
 returns c xs eight bytes word =
-    matches xs c.args.word c.args.byte _ eight bytes word (omega arith) (ap (λ (k : ℕ). bit_xor c.args.word (k * 72340172838076673)) c.wide.ensures.0)
+    matches xs c.args.word c.args.byte _ eight bytes word (omega arith) (ap (λ (k : ℕ). bit_xor c.args.word (k * 72340172838076673)) c.from.ensures)

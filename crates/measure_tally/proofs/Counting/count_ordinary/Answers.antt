@@ -2,7 +2,7 @@
 use mathlib.Core.Path.{sym, subst}
 use native.Mathlib.Omega.{arith}
 use lib.ListN.{take}
-use Rattle.taps.proofs.Masks.{below-at}
+use Rattle.taps.proofs.Masks.{below-at, fits-table}
 use Rattle.taps.proofs.Free.{free-told}
 use Rattle.reduction.proofs.RowsAt.{rows-length}
 use Rattle.reduction.proofs.Powers.{next-at}
@@ -23,7 +23,7 @@ count_taps-requires c =
     let wide = row-wide L a.rows a.text.now a.start c.requires.in_text.0 c.loop-i.i c.loop-i.at c.loop-i-test.true c.loop-i.invariant.2 in (
       omega (arith, grown, c.requires.few.0, c.loop-i.invariant.0, c.loop-i-test.true),
       x.few,
-      below-at _ _ _ wide free.mask,
+      fits-table c.args.table.now _ (below-at _ _ _ wide free.mask),
     )
 
 pub loop-i-preserved : goal.loop-i-preserved
