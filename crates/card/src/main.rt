@@ -9,63 +9,26 @@ use sheet::Page;
 use std::io;
 use std::io::{Print, Read};
 
-// Zeros, as many as a text of 4,095 bytes asks for. The contracts tell the lengths alone, so that no proof goes over the elements.
-fn room_for_text() -> [u8; 4096]
-    ensures { 4096 ≡ length result }
+// Zeros to lend. The contract tells their number alone, so that no proof goes over them one by one.
+fn zeros<T: Copy, const N: usize>(zero: T) -> [T; N]
+    ensures { N ≡ length result }
 {
-    [0; 4096]
+    [zero; N]
 }
 
-fn room_for_densities() -> [u32; 2049]
-    ensures { 2049 ≡ length result }
-{
-    [0; 2049]
-}
-
-fn room_for_spacing() -> [u8; 2049]
-    ensures { 2049 ≡ length result }
-{
-    [0; 2049]
-}
-
-fn room_for_beats() -> [f32; 819]
-    ensures { 819 ≡ length result }
-{
-    [0.0; 819]
-}
-
-fn room_for_work() -> [u16; 819]
-    ensures { 819 ≡ length result }
-{
-    [0; 819]
-}
-
-fn room_for_notes() -> [u8; 32760]
-    ensures { 32760 ≡ length result }
-{
-    [0; 32760]
-}
-
-// As many as the sheet of such a text asks for.
-fn room_for_sheet() -> [u8; 175032]
-    ensures { 175032 ≡ length result }
-{
-    [0; 175032]
-}
-
-// The sheet of a text that is short enough, from the slice's first place on.
+// The sheet of a text that is short enough, from the slice's first place on. Each slice that is lent is as long as a text of 4,095 bytes asks for.
 fn put_chart(data: &[u8], out: &mut [u8]) -> usize
-    requires data_len_bound { length «data».now ≤ 4095 }
-    requires in_bounds { 175032 ≤ length out.old }
-    ensures upper_bound { result ≤ length out.new }
-    ensures out_after { take result out.new ≡ sheet_lines 4 «data».now }
+    requires text_length { length «data».now ≤ 4095 }
+    requires room { 175032 ≤ length out.old }
+    ensures within { result ≤ length out.new }
+    ensures written { take result out.new ≡ sheet_lines 4 «data».now }
 {
-    let mut text = room_for_text();
-    let mut densities = room_for_densities();
-    let mut spacing = room_for_spacing();
-    let mut beats = room_for_beats();
-    let mut work = room_for_work();
-    let mut notes = room_for_notes();
+    let mut text = zeros::<u8, 4096>(0);
+    let mut densities = zeros::<u32, 2049>(0);
+    let mut spacing = zeros::<u8, 2049>(0);
+    let mut beats = zeros::<f32, 819>(0.0);
+    let mut work = zeros::<u16, 819>(0);
+    let mut notes = zeros::<u8, 32760>(0);
     match chart_sheet::chart_sheet(
         data,
         4,
@@ -86,8 +49,8 @@ fn put_chart(data: &[u8], out: &mut [u8]) -> usize
 // The line of a text that is too long.
 fn put_refusal(out: &mut [u8]) -> usize
     requires { 10 ≤ length out.old }
-    ensures upper_bound { result ≤ length out.new }
-    ensures out_after { take result out.new ≡ codes "refused 1\n" }
+    ensures within { result ≤ length out.new }
+    ensures written { take result out.new ≡ codes "refused 1\n" }
 {
     let mut page = Page::new(out);
     match page.text("refused 1\n") {
@@ -96,10 +59,11 @@ fn put_refusal(out: &mut [u8]) -> usize
     }
 }
 
+#[tactic(auto, unfolding(sheet::specs::Card::card))]
 fn put_card(data: &[u8], out: &mut [u8]) -> usize
     requires { 175032 ≤ length out.old }
-    ensures upper_bound { result ≤ length out.new }
-    ensures out_after { take result out.new ≡ card «data».now }
+    ensures within { result ≤ length out.new }
+    ensures written { take result out.new ≡ card «data».now }
 {
     let too_long = data.len() > 4095;
     if too_long {
@@ -112,7 +76,7 @@ fn put_card(data: &[u8], out: &mut [u8]) -> usize
 fn main(rt: HostRuntime) -> io::Result<()> {
     let mut data = Vec::new(rt.alloc());
     rt.reader().take(4096).read_to_end(&mut data)?;
-    let mut out = room_for_sheet();
+    let mut out = zeros::<u8, 175032>(0);
     let n = put_card(&data, &mut out);
     rt.write_all(&out[..n])
 }

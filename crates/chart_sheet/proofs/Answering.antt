@@ -12,6 +12,7 @@ use Rattle.definitions.specs.Notes.{notes}
 use Rattle.definitions.specs.Records.{records}
 use Rattle.sheet_answers.specs.Answers.{sheet_figures}
 use Rattle.chart_sheet.specs.Forms.{form_of, printed, json_object, sheet_in_form}
+use Rattle.chart_sheet.proofs.Fits.{FiguresFit}
 use Rattle.chart_sheet.proofs.Lines.{card-lines}
 use Rattle.chart_sheet.proofs.CardRoom.{card-room}
 use Rattle.chart_sheet.proofs.PrintRoom.{print-room}
@@ -31,12 +32,12 @@ pick-room n false true a b c p q r = q
 pick-room n false false a b c p q r = r
 
 -- every form of them has room
-pub form-room : (form lanes : ℕ) (text : List ℕ) → length text ≤ most_bytes
+pub form-room : (form lanes : ℕ) (text : List ℕ) → length text ≤ most_bytes → FiguresFit (sheet_figures (lanes_of lanes) text)
     → length (form_of form (sheet_figures (lanes_of lanes) text) (densities (lanes_of lanes) text) (spacings (lanes_of lanes) text) (records (notes (lanes_of lanes) text))) + 300
     ≤ 42 * (length text + 1) + 3000
 unfolding form_of sheet_figures
-form-room form lanes text short =
+form-room form lanes text short fit =
     pick-room (42 * (length text + 1) + 3000) (eqb form 0) (eqb form 1) _ _ _
-    (card-room lanes text short)
-    (print-room _ lanes text short)
-    (json-room _ lanes text short)
+    (card-room lanes text short fit.heads)
+    (print-room _ lanes text short fit)
+    (json-room _ lanes text short fit)

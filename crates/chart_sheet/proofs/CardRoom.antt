@@ -1,7 +1,7 @@
 -- The room that a sheet is lent is enough for the lines of the card.
 use mathlib.Core.List.{List}
 use mathlib.Core.Path.{◌≡◌, ap, ◌∙◌}
-use Prim.Native.Nat.{ℕ, ◌+◌, ◌*◌, ◌<◌, ◌≤◌}
+use Prim.Native.Nat.{ℕ, ◌+◌, ◌*◌, ◌^◌, ◌<◌, ◌≤◌}
 use native.Mathlib.Omega.{arith}
 use lib.ListN.{length, get_or, length-append}
 use Rattle.std.specs.Prelude.{codes}
@@ -19,25 +19,26 @@ use Rattle.definitions.specs.declared.Note.{Note}
 use Rattle.sheet.specs.Sheet.{line_of_figure, line_of_measure, field_of_tail, line_of_note, line_of_record, lines_of_measures, lines_of_records, lines_of_head, sheet_of}
 use Rattle.definitions.specs.declared.ChartFigures.{ChartFigures}
 use Rattle.chart_sheet.proofs.Lengths.{field-digit, field-short, field-length, listed-most}
+use Rattle.chart_sheet.proofs.Fits.{HeadsFit}
 use Rattle.chart_sheet.proofs.Counts.{measure-below, density-below, spacing-below, tail-below, reads, room-enough}
 
 -- a head line has a number of at most twenty digits
-head-line : (name : List ℕ) (n c : ℕ) → length name ≤ c → length (line_of_figure name n) ≤ c + 21
+head-line : (name : List ℕ) (n c : ℕ) → n < 2 ^ 64 → length name ≤ c → length (line_of_figure name n) ≤ c + 21
 unfolding line_of_figure
-head-line name n c h = rw length-append (omega (arith, field-length n 10))
+head-line name n c small h = rw length-append (omega (arith, field-length n 10 small))
 
-head-lines : (f : ChartFigures) → length (lines_of_head f) ≤ 164
+head-lines : (f : ChartFigures) → HeadsFit f → length (lines_of_head f) ≤ 164
 unfolding lines_of_head
-head-lines f =
+head-lines f fit =
     simp length-append
     (omega (
       arith,
-      head-line (codes "measures ") f.measures 9 (omega arith),
-      head-line (codes "rows ") f.rows 5 (omega arith),
-      head-line (codes "arrows ") f.stats.total_arrows 7 (omega arith),
-      head-line (codes "steps ") f.stats.total_steps 6 (omega arith),
-      head-line (codes "notes ") f.notes 6 (omega arith),
-      head-line (codes "last ") f.last_row 5 (omega arith),
+      head-line (codes "measures ") f.measures 9 fit.measures (omega arith),
+      head-line (codes "rows ") f.rows 5 fit.rows (omega arith),
+      head-line (codes "arrows ") f.stats.total_arrows 7 fit.arrows (omega arith),
+      head-line (codes "steps ") f.stats.total_steps 6 fit.steps (omega arith),
+      head-line (codes "notes ") f.notes 6 fit.notes (omega arith),
+      head-line (codes "last ") f.last_row 5 fit.last_row (omega arith),
     ))
 
 -- a measure's line has at most 22 bytes
@@ -77,10 +78,11 @@ module _ (lanes : ℕ) (text : List ℕ) (short : length text ≤ most_bytes) wh
       let back = reads lanes text short k h in
       rw back.read (note-line back.note back.limits)
 
-  pub card-room : length (sheet_of (figures_of_chart (lanes_of lanes) text) (densities (lanes_of lanes) text) (spacings (lanes_of lanes) text) (records (notes (lanes_of lanes) text))) + 300
+  pub card-room : HeadsFit (figures_of_chart (lanes_of lanes) text)
+      → length (sheet_of (figures_of_chart (lanes_of lanes) text) (densities (lanes_of lanes) text) (spacings (lanes_of lanes) text) (records (notes (lanes_of lanes) text))) + 300
       ≤ 42 * (length text + 1) + 3000
   unfolding figures_of_chart
-  card-room =
+  card-room fit =
       let L = lanes_of lanes in
       let f = figures_of_chart L text in
       let ds = densities L text in
@@ -96,5 +98,5 @@ module _ (lanes : ℕ) (text : List ℕ) (short : length text ≤ most_bytes) wh
         arith,
         sheet-parts f ds ss rs,
         room-enough lanes text (length (lines_of_head f)) (length (lines_of_measures ds ss (measure_count L text))) (length (lines_of_records rs n))
-            (omega (arith, head-lines f)) measures (omega (arith, lines)),
+            (omega (arith, head-lines f fit)) measures (omega (arith, lines)),
       )

@@ -2,7 +2,7 @@
 use Rattle.std.specs.Prelude.{Ok}
 use mathlib.Core.Bool.{Bool, true, false, cond}
 use mathlib.Core.List.{List, [], ◌∷◌}
-use Prim.Native.Nat.{ℕ, ◌+◌, ◌*◌, ◌/◌, ◌%◌, ◌<◌, ◌≤◌}
+use Prim.Native.Nat.{ℕ, ◌+◌, ◌*◌, ◌/◌, ◌%◌, ◌^◌, ◌<◌, ◌≤◌}
 use native.Mathlib.Omega.{arith}
 use lib.Dec.{eqb}
 use lib.ListN.{length, get_or, length-append}
@@ -21,42 +21,42 @@ use Rattle.definitions.specs.declared.ArrowStats.{ArrowStats}
 use Rattle.definitions.specs.declared.ChartFigures.{ChartFigures}
 use Rattle.sheet.specs.Sheet.{field_count, field_at}
 use Rattle.sheet.specs.declared.SheetFigures.{SheetFigures}
-use Rattle.sheet.proofs.Numbers.{number-length}
 use Rattle.sheet.proofs.Names.{field-name}
 use Rattle.sheet_json.specs.Json.{separator, named, figure, last_beat_of, json_heads, member, members, json_tallies, entry_of_density, entries_of_densities, truth, entry_of_spacing, entries_of_spacings, value_of_tail, value_of_note, entry_of_record, entries_of_records, json_lists, json_of}
-use Rattle.chart_sheet.proofs.Lengths.{number_short, field-digit, field-short, listed-most}
+use Rattle.chart_sheet.proofs.Lengths.{number-length, number_short, field-digit, field-short, listed-most}
+use Rattle.chart_sheet.proofs.Fits.{TallyFits, HeadsFit, FiguresFit, field-fits}
 use Rattle.chart_sheet.proofs.Counts.{densities-count, spacings-count, records-count, density-below, tail-below, reads, room-enough}
 
 -- ---- Heads and tallies, with numbers of at most twenty digits
-named-length : (name : List ℕ) (n c : ℕ) → length name ≤ c → length (named name n) ≤ c + 23
+named-length : (name : List ℕ) (n c : ℕ) → n < 2 ^ 64 → length name ≤ c → length (named name n) ≤ c + 23
 unfolding named
-named-length name n c h = simp length-append (omega (arith, number-length n))
+named-length name n c small h = simp length-append (omega (arith, number-length n small))
 
-figure-length : (name : List ℕ) (n c : ℕ) → length name ≤ c → length (figure name n) ≤ c + 24
+figure-length : (name : List ℕ) (n c : ℕ) → n < 2 ^ 64 → length name ≤ c → length (figure name n) ≤ c + 24
 unfolding figure
-figure-length name n c h = rw length-append (omega (arith, named-length name n c h))
+figure-length name n c small h = rw length-append (omega (arith, named-length name n c small h))
 
-last-length : (last : ℕ) → length (last_beat_of last) ≤ 106
+last-length : (last : ℕ) → last < 2 ^ 64 → length (last_beat_of last) ≤ 106
 unfolding last_beat_of
-last-length last =
+last-length last small =
     simp length-append
     (omega (
       arith,
-      named-length (codes "beats") (last / 48) 5 (omega arith),
-      figure-length (codes "over_48") (last % 48) 7 (omega arith),
-      figure-length (codes "in_48ths") last 8 (omega arith),
+      named-length (codes "beats") (last / 48) 5 (omega arith) (omega arith),
+      figure-length (codes "over_48") (last % 48) 7 (omega arith) (omega arith),
+      figure-length (codes "in_48ths") last 8 small (omega arith),
     ))
 
-json-heads : (f : ChartFigures) → length (json_heads f) ≤ 200
+json-heads : (f : ChartFigures) → HeadsFit f → length (json_heads f) ≤ 200
 unfolding json_heads
-json-heads f =
+json-heads f fit =
     simp length-append
     (omega (
       arith,
-      named-length (codes "measures") f.measures 8 (omega arith),
-      figure-length (codes "rows") f.rows 4 (omega arith),
-      figure-length (codes "notes") f.notes 5 (omega arith),
-      last-length f.last_row,
+      named-length (codes "measures") f.measures 8 fit.measures (omega arith),
+      figure-length (codes "rows") f.rows 4 fit.rows (omega arith),
+      figure-length (codes "notes") f.notes 5 fit.notes (omega arith),
+      last-length f.last_row fit.last_row,
     ))
 
 separator-length : (k : ℕ) → length (separator k) ≤ 1
@@ -66,18 +66,19 @@ separator-length k = go (eqb k 0)
     go true = omega arith
     go false = omega arith
 
-member-length : (i : ℕ) (name : List ℕ) (count : ℕ) → length name ≤ 12 → length (member i name count) ≤ 36
+member-length : (i : ℕ) (name : List ℕ) (count : ℕ) → count < 2 ^ 64 → length name ≤ 12 → length (member i name count) ≤ 36
 unfolding member
-member-length i name count h = rw length-append (omega (arith, separator-length i, named-length name count 12 h))
+member-length i name count small h = rw length-append (omega (arith, separator-length i, named-length name count 12 small h))
 
-members-length : (t : ArrowStats) → length (members t) ≤ 504
+members-length : (t : ArrowStats) → TallyFits t → length (members t) ≤ 504
 unfolding members field_count
-members-length t =
-    listed-most (λ (i : ℕ). member i (field_at t i).0 (field_at t i).1) field_count 36 (λ i h. member-length i (field_at t i).0 (field_at t i).1 (field-name t i))
+members-length t fit =
+    listed-most (λ (i : ℕ). member i (field_at t i).0 (field_at t i).1) field_count 36 (λ i h. member-length i (field_at t i).0 (field_at t i).1 (field-fits t fit i) (field-name t i))
 
-json-tallies : (f : SheetFigures) → length (json_tallies f) ≤ 1544
+json-tallies : (f : SheetFigures) → FiguresFit f → length (json_tallies f) ≤ 1544
 unfolding json_tallies
-json-tallies f = simp length-append (omega (arith, members-length f.chart.stats, members-length f.kept.stats, members-length f.judged))
+json-tallies f fit =
+    simp length-append (omega (arith, members-length f.chart.stats fit.main, members-length f.kept.stats fit.kept, members-length f.judged fit.judged))
 
 -- ---- Measures: at most nine bytes for a density and six for a spacing
 density-entry : (k density : ℕ) → density < 100000000 → length (entry_of_density k density) ≤ 9
@@ -117,14 +118,14 @@ found-entry : (k : ℕ) (n : Note) → Made n → length (entry_of_record k (Ok 
 unfolding entry_of_record
 found-entry k n made = rw length-append (omega (arith, separator-length k, note-value n made))
 
-json-parts : (f : SheetFigures) (densities spacings records : List ℕ)
+json-parts : (f : SheetFigures) (densities spacings records : List ℕ) → FiguresFit f
     → length (json_of f densities spacings records)
     ≤ 1800
     + (length (entries_of_densities densities (length densities)) + length (entries_of_spacings spacings (length spacings)))
     + length (entries_of_records records (length records / 10))
 unfolding json_of json_lists
-json-parts f densities spacings records =
-    simp length-append (omega (arith, json-heads f.chart, json-tallies f))
+json-parts f densities spacings records fit =
+    simp length-append (omega (arith, json-heads f.chart fit.heads, json-tallies f fit))
 
 module _ (f : SheetFigures) (lanes : ℕ) (text : List ℕ) (short : length text ≤ most_bytes) where
   record-entry : (k : ℕ) → k < length (notes (lanes_of lanes) text) → length (entry_of_record k (note_of_record (records (notes (lanes_of lanes) text)) k)) ≤ 24
@@ -132,9 +133,10 @@ module _ (f : SheetFigures) (lanes : ℕ) (text : List ℕ) (short : length text
       let back = reads lanes text short k h in
       rw back.read (found-entry k back.note back.limits)
 
-  pub json-room : length (json_of f (densities (lanes_of lanes) text) (spacings (lanes_of lanes) text) (records (notes (lanes_of lanes) text))) + 300
+  pub json-room : FiguresFit f
+      → length (json_of f (densities (lanes_of lanes) text) (spacings (lanes_of lanes) text) (records (notes (lanes_of lanes) text))) + 300
       ≤ 42 * (length text + 1) + 3000
-  json-room =
+  json-room fit =
       let L = lanes_of lanes in
       let ds = densities L text in
       let ss = spacings L text in
@@ -150,7 +152,7 @@ module _ (f : SheetFigures) (lanes : ℕ) (text : List ℕ) (short : length text
       in
       omega (
         arith,
-        json-parts f ds ss rs,
+        json-parts f ds ss rs fit,
         room-enough lanes text 1800 (length (entries_of_densities ds (length ds)) + length (entries_of_spacings ss (length ss))) (length (entries_of_records rs (length rs / 10)))
             (omega arith) (omega (arith, densities-count L text, spacings-count L text)) (omega (arith, records-count (notes L text))),
       )

@@ -1,5 +1,6 @@
 -- Laws that this crate's proofs cite.
 pub mod Lengths
+pub mod Fits
 pub mod Counts
 pub mod CardRoom
 pub mod PrintRoom

@@ -1,7 +1,7 @@
 -- The room that a sheet is lent is enough for the form `print`.
 use mathlib.Core.Bool.{Bool, true, false, cond}
 use mathlib.Core.List.{List, [], ◌∷◌, ◌++◌}
-use Prim.Native.Nat.{ℕ, ◌+◌, ◌*◌, ◌/◌, ◌%◌, ◌<◌, ◌≤◌}
+use Prim.Native.Nat.{ℕ, ◌+◌, ◌*◌, ◌/◌, ◌%◌, ◌^◌, ◌<◌, ◌≤◌}
 use native.Mathlib.Omega.{arith}
 use lib.Dec.{eqb}
 use lib.ListN.{length, get_or, length-append, length-replicate}
@@ -17,59 +17,61 @@ use Rattle.definitions.specs.declared.Tail.{Tail}
 use Rattle.definitions.specs.declared.Tail.TheVariants.{Without, Row}
 use Rattle.definitions.specs.declared.Note.{Note}
 use Rattle.sheet.specs.Sheet.{aligned, aligned_left, field_count, field_at}
-use Rattle.sheet.proofs.Numbers.{number-length}
 use Rattle.sheet.proofs.Names.{field-name}
 use Rattle.sheet.specs.declared.SheetFigures.{SheetFigures}
 use Rattle.definitions.specs.declared.ChartFigures.{ChartFigures}
 use Rattle.sheet_print.specs.Print.{line_of_count, three, line_of_last_beat, print_heads, line_of_tally, lines_of_tally, head_of_tally, print_tallies, start_of_line, entry_of_density, lines_of_densities, head_of_densities, word_of_held, line_of_held, held_line_of_record, lines_of_held, head_of_held, print_of}
-use Rattle.chart_sheet.proofs.Lengths.{aligned-length, aligned-short, listed-most}
+use Rattle.chart_sheet.proofs.Lengths.{number-length, aligned-length, aligned-short, listed-most}
+use Rattle.chart_sheet.proofs.Fits.{HeadsFit, FiguresFit, field-fits}
 use Rattle.chart_sheet.proofs.Counts.{densities-count, records-count, measure-below, density-below, tail-below, reads, room-enough}
 
 -- ---- Heads and tallies, with numbers of at most twenty digits
-count-line : (name : List ℕ) (n c : ℕ) → length name ≤ c → length (line_of_count name n) ≤ c + 30
+count-line : (name : List ℕ) (n c : ℕ) → n < 2 ^ 64 → length name ≤ c → length (line_of_count name n) ≤ c + 30
 unfolding line_of_count
-count-line name n c h = simp length-append (omega (arith, aligned-length 9 n))
+count-line name n c small h = simp length-append (omega (arith, aligned-length 9 n small))
 
-last_line : (last : ℕ) → length (line_of_last_beat last) ≤ 68
+last_line : (last : ℕ) → last < 2 ^ 64 → length (line_of_last_beat last) ≤ 68
 unfolding line_of_last_beat
-last_line last = simp length-append (omega (arith, aligned-length 9 (last / 48), number-length (last % 48)))
+last_line last small = simp length-append (omega (arith, aligned-length 9 (last / 48) (omega arith), number-length (last % 48) (omega arith)))
 
-print-heads : (f : ChartFigures) → length (print_heads f) ≤ 236
+print-heads : (f : ChartFigures) → HeadsFit f → length (print_heads f) ≤ 236
 unfolding print_heads
-print-heads f =
+print-heads f fit =
     simp length-append
     (omega (
       arith,
-      count-line (codes "measures    ") f.measures 12 (omega arith),
-      count-line (codes "rows        ") f.rows 12 (omega arith),
-      count-line (codes "notes       ") f.notes 12 (omega arith),
-      last_line f.last_row,
-      count-line (codes "in 48ths    ") f.last_row 12 (omega arith),
+      count-line (codes "measures    ") f.measures 12 fit.measures (omega arith),
+      count-line (codes "rows        ") f.rows 12 fit.rows (omega arith),
+      count-line (codes "notes       ") f.notes 12 fit.notes (omega arith),
+      last_line f.last_row fit.last_row,
+      count-line (codes "in 48ths    ") f.last_row 12 fit.last_row (omega arith),
     ))
 
-three-length : (a b c : ℕ) → length (three a b c) ≤ 88
+three-length : (a b c : ℕ) → a < 2 ^ 64 → b < 2 ^ 64 → c < 2 ^ 64 → length (three a b c) ≤ 88
 unfolding three
-three-length a b c = simp length-append (omega (arith, aligned-length 9 a, aligned-length 9 b, aligned-length 9 c))
+three-length a b c p q r = simp length-append (omega (arith, aligned-length 9 a p, aligned-length 9 b q, aligned-length 9 c r))
 
 -- a name of at most twelve bytes in twelve columns
 name-columns : (name : List ℕ) → length name ≤ 12 → length (aligned_left 12 name) ≤ 12
 unfolding aligned_left
 name-columns name h = rw (length-append, length-replicate) (omega arith)
 
-tally-line : (name : List ℕ) (main kept judged : ℕ) → length name ≤ 12 → length (line_of_tally name main kept judged) ≤ 100
+tally-line : (name : List ℕ) (main kept judged : ℕ) → main < 2 ^ 64 → kept < 2 ^ 64 → judged < 2 ^ 64 → length name ≤ 12
+    → length (line_of_tally name main kept judged) ≤ 100
 unfolding line_of_tally
-tally-line name main kept judged h = rw length-append (omega (arith, name-columns name h, three-length main kept judged))
+tally-line name main kept judged p q r h = rw length-append (omega (arith, name-columns name h, three-length main kept judged p q r))
 
-tally-lines : (f : SheetFigures) → length (lines_of_tally f) ≤ 1400
+tally-lines : (f : SheetFigures) → FiguresFit f → length (lines_of_tally f) ≤ 1400
 unfolding lines_of_tally field_count
-tally-lines f =
+tally-lines f fit =
     let t = f.chart.stats in
     listed-most (λ (i : ℕ). line_of_tally (field_at t i).0 (field_at t i).1 (field_at f.kept.stats i).1 (field_at f.judged i).1) field_count 100
-    (λ i h. tally-line (field_at t i).0 (field_at t i).1 (field_at f.kept.stats i).1 (field_at f.judged i).1 (field-name t i))
+    (λ i h. tally-line (field_at t i).0 (field_at t i).1 (field_at f.kept.stats i).1 (field_at f.judged i).1
+        (field-fits t fit.main i) (field-fits f.kept.stats fit.kept i) (field-fits f.judged fit.judged i) (field-name t i))
 
-print-tallies : (f : SheetFigures) → length (print_tallies f) ≤ 1441
+print-tallies : (f : SheetFigures) → FiguresFit f → length (print_tallies f) ≤ 1441
 unfolding print_tallies head_of_tally
-print-tallies f = simp length-append (omega (arith, tally-lines f))
+print-tallies f fit = simp length-append (omega (arith, tally-lines f fit))
 
 -- ---- Measures
 line-start : (k : ℕ) → k < 100000000 → length (start_of_line k) ≤ 10
@@ -115,12 +117,12 @@ held-line n (Row j) made m =
       three-short n.row n.column j (omega (arith, made.row)) (omega (arith, made.column)) (tail-below n.row n.kind j m),
     ))
 
-print-parts : (f : SheetFigures) (densities spacings records : List ℕ)
+print-parts : (f : SheetFigures) (densities spacings records : List ℕ) → FiguresFit f
     → length (print_of f densities spacings records)
     ≤ 1785 + length (lines_of_densities densities spacings (length densities)) + length (lines_of_held records (length records / 10))
 unfolding print_of head_of_densities head_of_held
-print-parts f densities spacings records =
-    simp length-append (omega (arith, print-heads f.chart, print-tallies f))
+print-parts f densities spacings records fit =
+    simp length-append (omega (arith, print-heads f.chart fit.heads, print-tallies f fit))
 
 module _ (f : SheetFigures) (lanes : ℕ) (text : List ℕ) (short : length text ≤ most_bytes) where
   held-record : (k : ℕ) → k < length (notes (lanes_of lanes) text) → length (held_line_of_record (note_of_record (records (notes (lanes_of lanes) text)) k)) ≤ 32
@@ -128,9 +130,10 @@ module _ (f : SheetFigures) (lanes : ℕ) (text : List ℕ) (short : length text
       let back = reads lanes text short k h in
       rw back.read (held-line back.note back.note.tail back.limits back.limits.tail)
 
-  pub print-room : length (print_of f (densities (lanes_of lanes) text) (spacings (lanes_of lanes) text) (records (notes (lanes_of lanes) text))) + 300
+  pub print-room : FiguresFit f
+      → length (print_of f (densities (lanes_of lanes) text) (spacings (lanes_of lanes) text) (records (notes (lanes_of lanes) text))) + 300
       ≤ 42 * (length text + 1) + 3000
-  print-room =
+  print-room fit =
       let L = lanes_of lanes in
       let ds = densities L text in
       let ss = spacings L text in
@@ -144,7 +147,7 @@ module _ (f : SheetFigures) (lanes : ℕ) (text : List ℕ) (short : length text
       in
       omega (
         arith,
-        print-parts f ds ss rs,
+        print-parts f ds ss rs fit,
         room-enough lanes text 1785 (length (lines_of_densities ds ss (length ds))) (length (lines_of_held rs (length rs / 10)))
             (omega arith) (omega (arith, densities-count L text)) (omega (arith, records-count (notes L text))),
       )

@@ -1,6 +1,6 @@
 -- The call that writes a chart's sheet: for every input what it answers, a refusal or the 32 figures, and what it leaves in each lent slice. Refusals
 -- 1 to 6 are document 01's, 19 and 20 are this call's.
-use Rattle.std.specs.Prelude.{List, [], ◌∷◌, ℕ, ◌+◌, ◌*◌, ltb, Float, length, set, Result}
+use Rattle.std.specs.Prelude.{List, [], ◌∷◌, ℕ, ◌+◌, ◌*◌, nat_lt, Float, length, set, Result}
 use Rattle.definitions.specs.Lanes.{lanes_of}
 use Rattle.definitions.specs.Refusals.{refused_if, long_text, short_text, short_measures, short_beats, short_work, short_notes, answered, leaves}
 use Rattle.definitions.specs.Figures.{minimised_text, densities, spacings}
@@ -14,11 +14,11 @@ use Rattle.chart_sheet.specs.Forms.{sheet_in_form}
 
 -- 19: the sheet slice is shorter than 42 × (len + 1) + 3,000 bytes, which every form of every text of that length has room in.
 unfoldable pub short_sheet : ℕ → ℕ → Result Unit Refusal
-short_sheet len room = refused_if (ltb room (42 * (len + 1) + 3000)) ShortSheet
+short_sheet len room = refused_if (nat_lt room (42 * (len + 1) + 3000)) ShortSheet
 
 -- 20: the form's number is over 2.
 unfoldable pub other_form : ℕ → Result Unit Refusal
-other_form form = refused_if (ltb 2 form) OtherForm
+other_form form = refused_if (nat_lt 2 form) OtherForm
 
 -- the figures of an accepted text: those of the main call, and in place 7 the bytes of the sheet
 abbrev pub places_of_sheet : ℕ → ℕ → List ℕ → List ℕ

@@ -1,5 +1,5 @@
 -- A chart's sheet in its three forms: 0 card, 1 print, 2 json.
-use Rattle.std.specs.Prelude.{cond, List, ℕ, eqb}
+use Rattle.std.specs.Prelude.{if◌then◌else◌, ◌==◌, List, ℕ}
 use Rattle.definitions.specs.Figures.{densities, spacings}
 use Rattle.definitions.specs.Notes.{notes}
 use Rattle.definitions.specs.Records.{records}
@@ -12,7 +12,7 @@ use Rattle.sheet_answers.specs.Answers.{sheet_figures}
 
 -- a form from the figures, the densities and spacings of all measures and all note records
 unfoldable pub form_of : ℕ → SheetFigures → List ℕ → List ℕ → List ℕ → List ℕ
-form_of form f ds ss rs = cond (eqb form 0) (sheet_of f.chart ds ss rs) (cond (eqb form 1) (print_of f ds ss rs) (json_of f ds ss rs))
+form_of form f ds ss rs = if form == 0 then sheet_of f.chart ds ss rs else (if form == 1 then print_of f ds ss rs else json_of f ds ss rs)
 
 -- the form `print` of a text
 unfoldable pub printed : ℕ → List ℕ → List ℕ
@@ -24,4 +24,4 @@ json_object L text = json_of (sheet_figures L text) (densities L text) (spacings
 
 -- the sheet of a text: document 01's lines, or one of the fuller forms
 unfoldable pub sheet_in_form : ℕ → ℕ → List ℕ → List ℕ
-sheet_in_form form L text = cond (eqb form 0) (sheet L text) (cond (eqb form 1) (printed L text) (json_object L text))
+sheet_in_form form L text = if form == 0 then sheet L text else (if form == 1 then printed L text else json_object L text)

@@ -30,7 +30,8 @@ fn print_form(
     spacing: &[u8],
     records: &[u8],
 ) -> Result<(), Full>
-    requires measures_in_bounds { (figures.now.chart.measures ≤ length densities.now) × (length densities.now ≤ length spacing.now) }
+    requires densities_in_bounds { figures.now.chart.measures ≤ length densities.now }
+    requires spacing_in_bounds { length densities.now ≤ length spacing.now }
     ensures { Prints page.old (form_of form figures.now densities.now spacing.now records.now) page.new result }
 {
     match form {
@@ -50,7 +51,8 @@ fn put_form(
     records: &[u8],
 ) -> usize
     requires room { length (form_of form figures.now densities.now spacing.now records.now) ≤ length out.old }
-    requires measures_in_bounds { (figures.now.chart.measures ≤ length densities.now) × (length densities.now ≤ length spacing.now) }
+    requires densities_in_bounds { figures.now.chart.measures ≤ length densities.now }
+    requires spacing_in_bounds { length densities.now ≤ length spacing.now }
     ensures value { result ≡ length (form_of form figures.now densities.now spacing.now records.now) }
     ensures within { result ≤ length out.new }
     ensures out_after { take result out.new ≡ form_of form figures.now densities.now spacing.now records.now }
@@ -75,10 +77,15 @@ fn write_sheet(
     notes: &mut [u8],
     sheet: &mut [u8],
 ) -> [u64; 32]
-    requires data_len_bound { length «data».now ≤ most_bytes }
-    requires data_in_bounds { (length «data».now + 1 ≤ length text.old) × ((length «data».now + 1) / 2 + 1 ≤ length densities.old) × ((length «data».now + 1) / 2 + 1 ≤ length spacing.old) }
-    requires data_in_bounds_2 { (most_rows_in (lanes_of lanes) (length «data».now) ≤ length beats.old) × (most_rows_in (lanes_of lanes) (length «data».now) ≤ length work.old) × (10 * lanes_of lanes * most_rows_in (lanes_of lanes) (length «data».now) ≤ length notes.old) }
-    requires data_in_bounds_3 { (42 * (length «data».now + 1) + 3000 ≤ length sheet.old) × (form ≤ 2) }
+    requires text_length { length «data».now ≤ most_bytes }
+    requires text_room { length «data».now + 1 ≤ length text.old }
+    requires densities_room { (length «data».now + 1) / 2 + 1 ≤ length densities.old }
+    requires spacing_room { (length «data».now + 1) / 2 + 1 ≤ length spacing.old }
+    requires beats_room { most_rows_in (lanes_of lanes) (length «data».now) ≤ length beats.old }
+    requires work_room { most_rows_in (lanes_of lanes) (length «data».now) ≤ length work.old }
+    requires notes_room { 10 * lanes_of lanes * most_rows_in (lanes_of lanes) (length «data».now) ≤ length notes.old }
+    requires sheet_room { 42 * (length «data».now + 1) + 3000 ≤ length sheet.old }
+    requires form_known { form ≤ 2 }
     ensures value { result ≡ places_of_sheet form (lanes_of lanes) «data».now }
     ensures text_after { text.new ≡ padded 0 (length text.old) (minimised_text (lanes_of lanes) «data».now) }
     ensures densities_after { densities.new ≡ padded 0 (length densities.old) (densities_of (lanes_of lanes) «data».now) }
@@ -91,7 +98,7 @@ fn write_sheet(
     let columns = Lanes::in_force(lanes);
     let figures = sheet_answers(
         data,
-        columns.count,
+        columns,
         text,
         densities,
         spacing,

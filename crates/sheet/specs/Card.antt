@@ -1,5 +1,6 @@
 -- Document 01, "The program card": what it prints for a text, and its example.
-use Rattle.std.specs.Prelude.{◌≡◌, refl, cond, List, ◌++◌, map, ℕ, ltb, length}
+use Rattle.std.specs.Prelude.{◌≡◌, refl, if◌then◌else◌, List, ◌++◌, map, ℕ, nat_lt, length}
+use Rattle.std.specs.Fmt.{digits}
 use Rattle.definitions.specs.Lists.{joined}
 use Rattle.std.specs.Float.Ieee.{of_int, round, add, mul, div}
 use Rattle.definitions.specs.Lines.{is_blank_byte, is_row_line, kind_of, line_kind}
@@ -17,7 +18,7 @@ use Rattle.definitions.specs.ReadBack.{rows_read_back, main_tally}
 use Rattle.definitions.specs.Entries.{measure_count, figures_of_chart}
 use Rattle.definitions.specs.Examples.{bytes}
 use Rattle.definitions.specs.declared.Note.{Note}
-use Rattle.sheet.specs.Sheet.{number, number_field, line_of_figure, lines_of_head, line_of_measure, lines_of_measures, line_of_note}
+use Rattle.sheet.specs.Sheet.{number_field, line_of_figure, lines_of_head, line_of_measure, lines_of_measures, line_of_note}
 
 -- a line for each note
 unfoldable pub note_lines : List Note → List ℕ
@@ -32,10 +33,10 @@ sheet L text =
 
 -- "The program card reads standard input, 4 lanes, at most 4,095 bytes; for more it prints `refused 1`."
 unfoldable pub card : List ℕ → List ℕ
-card text = cond (ltb 4095 (length text)) (bytes "refused 1|") (sheet 4 text)
+card text = if nat_lt 4095 (length text) then bytes "refused 1|" else sheet 4 text
 
 -- "For `1000|0000|0100|0000|;|` it prints:"
 pub card-example : card (bytes "1000|0000|0100|0000|;|")
     ≡ bytes "measures 1|rows 2|arrows 2|steps 2|notes 2|last 96|m 0 2 1|n 0 0 0 -|n 1 1 0 -|"
-unfolding card sheet figures_of_chart note_lines lines_of_head line_of_figure line_of_measure line_of_note number_field number minimised_text densities spacings is_step beat whole last_row last48 last_object object_at notes effect_at main_tally corrected corrects paired_only pairs hold_at tally tally_with_row row_sum row_sum_by rows_read_back minimised reduce stride chart line_kind kind_of is_row_line is_blank_byte cell_of of_int round add mul div
+unfolding card sheet figures_of_chart note_lines lines_of_head line_of_figure line_of_measure line_of_note number_field digits minimised_text densities spacings is_step beat whole last_row last48 last_object object_at notes effect_at main_tally corrected corrects paired_only pairs hold_at tally tally_with_row row_sum row_sum_by rows_read_back minimised reduce stride chart line_kind kind_of is_row_line is_blank_byte cell_of of_int round add mul div
 card-example = refl

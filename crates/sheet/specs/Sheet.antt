@@ -1,5 +1,5 @@
 -- Document 01, "The program card": the lines it prints.
-use Rattle.std.specs.Prelude.{cond, List, [], ◌∷◌, ◌++◌, ℕ, zero, suc, ◌+◌, ◌-◌, ◌/◌, ◌%◌, ltb, length, get_or, replicate, codes, Result, Ok, Err}
+use Rattle.std.specs.Prelude.{List, [], ◌∷◌, ◌++◌, ℕ, zero, suc, ◌-◌, length, get_or, slice_index, replicate, codes, decimal, Result, Ok, Err}
 use Rattle.definitions.specs.Records.{number_of_kind, note_of_record}
 use Rattle.definitions.specs.declared.Tail.{Tail}
 use Rattle.definitions.specs.declared.Tail.TheVariants.{Without, Row}
@@ -8,23 +8,13 @@ use Rattle.definitions.specs.declared.Refusal.{Refusal}
 use Rattle.definitions.specs.declared.ArrowStats.{ArrowStats}
 use Rattle.definitions.specs.declared.ChartFigures.{ChartFigures}
 
--- "All numbers are decimal": the digits of a number below 10 ^ most, the most significant first. They are read back as the
--- number, `digits-read` in proofs/Decimal.antt, and are std's: `digits-decimal` in proofs/Numbers.antt.
-abbrev pub digits : ℕ → ℕ → List ℕ
-digits zero n = []
-digits (suc most) n = cond (ltb n 10) ((48 + n) ∷ []) (digits most (n / 10) ++ ((48 + n % 10) ∷ []))
-
--- a number below 2 ^ 64, and so of at most 20 digits
-unfoldable pub number : ℕ → List ℕ
-number n = digits 20 n
-
--- with a byte after it: 32 within a line, 10 at its end
+-- "All numbers are decimal": a number with a byte after it, 32 within a line, 10 at its end
 unfoldable pub number_field : ℕ → ℕ → List ℕ
-number_field n after = number n ++ (after ∷ [])
+number_field n after = decimal n ++ (after ∷ [])
 
 -- a number right-aligned in so many columns; one that has more digits is written whole
 unfoldable pub aligned : ℕ → ℕ → List ℕ
-aligned width n = replicate (width - length (number n)) 32 ++ number n
+aligned width n = replicate (width - length (decimal n)) 32 ++ decimal n
 
 -- a text with as many blanks after it as its columns have left
 unfoldable pub aligned_left : ℕ → List ℕ → List ℕ
@@ -72,7 +62,7 @@ line_of_measure m density spaced = codes "m " ++ (number_field m 32 ++ (number_f
 
 -- "tail or `-`"
 abbrev pub field_of_tail : Tail → List ℕ
-field_of_tail Without = 45 ∷ 10 ∷ []
+field_of_tail Without = codes "-\n"
 field_of_tail (Row j) = number_field j 10
 
 -- "`n`: row, column, kind, tail or `-`."
@@ -86,7 +76,7 @@ line_of_record (Err k) = []
 
 -- "All `m` lines stand before the `n` lines, each in rising order": those of the first measures, by their densities and spacings
 abbrev pub lines_of_measures : List ℕ → List ℕ → ℕ → List ℕ
-lines_of_measures densities spacings n = listed (λ (k : ℕ). line_of_measure k (get_or densities k 0) (get_or spacings k 0)) n
+lines_of_measures densities spacings n = listed (λ (k : ℕ). line_of_measure k (slice_index densities k) (slice_index spacings k)) n
 
 -- those of the first note records
 abbrev pub lines_of_records : List ℕ → ℕ → List ℕ

@@ -87,7 +87,7 @@ fn record_line(page: &mut Page, records: &[u8], index: usize) -> Result<(), Full
 {
     match read_note(records, index) {
         Ok(note) => note_line(page, note),
-        Err(_) => page.text(""),
+        Err(_) => Ok(()),
     }
 }
 

@@ -1,15 +1,8 @@
 // A page of lent bytes that says when it is full.
-ghost use Rattle.std.specs.Prelude.{◌≡◌, ◌∷◌, [], ◌≤◌, length, replicate};
-ghost use Rattle.sheet.specs.Sheet.{number, number_field, aligned, aligned_left};
+ghost use Rattle.std.specs.Prelude.{◌≡◌, ◌∷◌, [], ◌≤◌, length, replicate, decimal};
+ghost use Rattle.sheet.specs.Sheet.{number_field, aligned, aligned_left};
 
 use itoa::Buffer;
-
-// A number's digits.
-fn digits(buffer: &mut Buffer, n: u64) -> &str
-    ensures { result.now ≡ number n }
-{
-    buffer.format(n)
-}
 
 // The page has no room for what was to be written.
 #[derive(Clone, Copy)]
@@ -85,11 +78,10 @@ impl<'a> Page<'a> {
 
     // A number in decimal.
     pub fn number(&mut self, n: u64) -> Result<(), Full>
-        ensures { Prints self.old (number n) self.new result }
+        ensures { Prints self.old (decimal n) self.new result }
     {
         let mut buffer = Buffer::new();
-        self.text(digits(&mut buffer, n))?;
-        Ok(())
+        self.text(buffer.format(n))
     }
 
     // A number right-aligned in so many columns; one that has more digits is written whole.
@@ -98,7 +90,7 @@ impl<'a> Page<'a> {
         ensures { Prints self.old (aligned width n) self.new result }
     {
         let mut buffer = Buffer::new();
-        let digits = digits(&mut buffer, n);
+        let digits = buffer.format(n);
         self.blanks(width.saturating_sub(digits.len()))?;
         self.text(digits)?;
         Ok(())

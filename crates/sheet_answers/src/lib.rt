@@ -18,21 +18,22 @@ use sheet::SheetFigures;
 
 // The judged tally of a minimised text. Its last byte is a newline, and the rows before it are read without it: so the text is no longer than the
 // one that it was minimised from.
-fn judge_minimised(minimised: &[u8], lanes: usize, work: &mut [u16]) -> ArrowStats
-    requires le_lanes { (4 ≤ lanes) × (lanes ≤ 10) }
-    requires minimised_len_bound { (length minimised.now - 1 ≤ most_bytes) × (most_rows_in lanes (length minimised.now - 1) ≤ length work.old) }
-    ensures value { result ≡ judged_tally lanes (take (length minimised.now - 1) minimised.now) }
+#[tactic(auto, unfolding(definitions::specs::Judged::judged_tally))]
+fn judge_minimised(minimised: &[u8], lanes: Lanes, work: &mut [u16]) -> ArrowStats
+    requires text_length { length minimised.now - 1 ≤ most_bytes }
+    requires work_room { most_rows_in lanes.count (length minimised.now - 1) ≤ length work.old }
+    ensures value { result ≡ judged_tally lanes.count (take (length minimised.now - 1) minimised.now) }
     ensures work_after { work.new ≡ padded 0 (length work.old) [] }
 {
     let end = minimised.len().saturating_sub(1);
-    judged::judge_accepted(&minimised[..end], Lanes { count: lanes }, None, work)
+    judged::judge_accepted(&minimised[..end], lanes, None, work)
 }
 
 // All answers of an accepted text, and zeros past each in the lent slices. One pass over the text serves both calls: their tallies differ only in
 // how the correction reads the minimised text back.
 pub fn sheet_answers(
     data: &[u8],
-    lanes: usize,
+    lanes: Lanes,
     text: &mut [u8],
     densities: &mut [u32],
     spacing: &mut [u8],
@@ -40,18 +41,22 @@ pub fn sheet_answers(
     work: &mut [u16],
     notes: &mut [u8],
 ) -> SheetFigures
-    requires le_lanes { (4 ≤ lanes) × (lanes ≤ 10) × (length «data».now ≤ most_bytes) }
-    requires data_in_bounds { (length «data».now + 1 ≤ length text.old) × ((length «data».now + 1) / 2 + 1 ≤ length densities.old) × ((length «data».now + 1) / 2 + 1 ≤ length spacing.old) }
-    requires data_in_bounds_2 { (most_rows_in lanes (length «data».now) ≤ length beats.old) × (most_rows_in lanes (length «data».now) ≤ length work.old) × (10 * lanes * most_rows_in lanes (length «data».now) ≤ length notes.old) }
-    ensures value { result ≡ sheet_figures lanes «data».now }
-    ensures text_after { text.new ≡ padded 0 (length text.old) (minimised_text lanes «data».now) }
-    ensures densities_after { densities.new ≡ padded 0 (length densities.old) (densities_of lanes «data».now) }
-    ensures spacing_after { spacing.new ≡ padded 0 (length spacing.old) (spacings_of lanes «data».now) }
-    ensures beats_after { beats.new ≡ padded (f32 0) (length beats.old) (beats_of lanes «data».now) }
+    requires text_length { length «data».now ≤ most_bytes }
+    requires text_room { length «data».now + 1 ≤ length text.old }
+    requires densities_room { (length «data».now + 1) / 2 + 1 ≤ length densities.old }
+    requires spacing_room { (length «data».now + 1) / 2 + 1 ≤ length spacing.old }
+    requires beats_room { most_rows_in lanes.count (length «data».now) ≤ length beats.old }
+    requires work_room { most_rows_in lanes.count (length «data».now) ≤ length work.old }
+    requires notes_room { 10 * lanes.count * most_rows_in lanes.count (length «data».now) ≤ length notes.old }
+    ensures value { result ≡ sheet_figures lanes.count «data».now }
+    ensures text_after { text.new ≡ padded 0 (length text.old) (minimised_text lanes.count «data».now) }
+    ensures densities_after { densities.new ≡ padded 0 (length densities.old) (densities_of lanes.count «data».now) }
+    ensures spacing_after { spacing.new ≡ padded 0 (length spacing.old) (spacings_of lanes.count «data».now) }
+    ensures beats_after { beats.new ≡ padded (f32 0) (length beats.old) (beats_of lanes.count «data».now) }
     ensures work_after { work.new ≡ padded 0 (length work.old) [] }
-    ensures notes_after { notes.new ≡ padded 0 (length notes.old) (records (notes_of lanes «data».now)) }
+    ensures notes_after { notes.new ≡ padded 0 (length notes.old) (records (notes_of lanes.count «data».now)) }
 {
-    let pass = chart_pass::read_chart(data, Lanes { count: lanes }, text, densities, beats, notes);
+    let pass = chart_pass::read_chart(data, lanes, text, densities, beats, notes);
     let bytes = pass.pass.out;
     let measures = pass.pass.midx + 1;
     let counting = pass.pass.counting;
@@ -59,7 +64,7 @@ pub fn sheet_answers(
         counting.stats,
         counting.phantoms,
         &text[0..bytes],
-        Lanes { count: lanes },
+        lanes,
         true,
         work,
     );
@@ -67,12 +72,12 @@ pub fn sheet_answers(
         counting.stats,
         counting.phantoms,
         &text[0..bytes],
-        Lanes { count: lanes },
+        lanes,
         false,
         work,
     );
     let judged = judge_minimised(&text[0..bytes], lanes, work);
-    spacing::fill_spacing(data, Lanes { count: lanes }, spacing);
+    spacing::fill_spacing(data, lanes, spacing);
     let last = pass.noting.last.found;
     let count = row_notes::finish(pass.noting.scratch, notes);
     slices::zero_past(text, bytes, 0);

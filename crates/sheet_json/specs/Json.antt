@@ -1,5 +1,5 @@
 -- The form `json` of a sheet: one object with stable names, on one line.
-use Rattle.std.specs.Prelude.{cond, List, [], ◌∷◌, ◌++◌, ℕ, ◌/◌, ◌%◌, eqb, length, get_or, codes, Result, Ok, Err}
+use Rattle.std.specs.Prelude.{if◌then◌else◌, ◌==◌, List, [], ◌++◌, ℕ, ◌/◌, ◌%◌, length, slice_index, codes, decimal, Result, Ok, Err}
 use Rattle.definitions.specs.Records.{number_of_kind, note_of_record}
 use Rattle.definitions.specs.declared.Tail.{Tail}
 use Rattle.definitions.specs.declared.Tail.TheVariants.{Without, Row}
@@ -7,16 +7,16 @@ use Rattle.definitions.specs.declared.Note.{Note}
 use Rattle.definitions.specs.declared.Refusal.{Refusal}
 use Rattle.definitions.specs.declared.ArrowStats.{ArrowStats}
 use Rattle.definitions.specs.declared.ChartFigures.{ChartFigures}
-use Rattle.sheet.specs.Sheet.{number, number_field, listed, field_count, field_at}
+use Rattle.sheet.specs.Sheet.{number_field, listed, field_count, field_at}
 use Rattle.sheet.specs.declared.SheetFigures.{SheetFigures}
 
 -- between two entries
 abbrev pub separator : ℕ → List ℕ
-separator k = cond (eqb k 0) [] (44 ∷ [])
+separator k = if k == 0 then [] else codes ","
 
 -- a name and a number
 unfoldable pub named : List ℕ → ℕ → List ℕ
-named name n = codes "\"" ++ (name ++ (codes "\":" ++ number n))
+named name n = codes "\"" ++ (name ++ (codes "\":" ++ decimal n))
 
 -- after another
 unfoldable pub figure : List ℕ → ℕ → List ℕ
@@ -57,26 +57,26 @@ json_tallies f =
 
 -- the density of measure k
 unfoldable pub entry_of_density : ℕ → ℕ → List ℕ
-entry_of_density k density = separator k ++ number density
+entry_of_density k density = separator k ++ decimal density
 
 abbrev pub entries_of_densities : List ℕ → ℕ → List ℕ
-entries_of_densities densities n = listed (λ (k : ℕ). entry_of_density k (get_or densities k 0)) n
+entries_of_densities densities n = listed (λ (k : ℕ). entry_of_density k (slice_index densities k)) n
 
 -- 0 is false
 abbrev pub truth : ℕ → List ℕ
-truth spaced = cond (eqb spaced 0) (codes "false") (codes "true")
+truth spaced = if spaced == 0 then codes "false" else codes "true"
 
 -- the spacing of measure k
 unfoldable pub entry_of_spacing : ℕ → ℕ → List ℕ
 entry_of_spacing k spaced = separator k ++ truth spaced
 
 abbrev pub entries_of_spacings : List ℕ → ℕ → List ℕ
-entries_of_spacings spacings n = listed (λ (k : ℕ). entry_of_spacing k (get_or spacings k 0)) n
+entries_of_spacings spacings n = listed (λ (k : ℕ). entry_of_spacing k (slice_index spacings k)) n
 
 -- a tail's row, or null
 abbrev pub value_of_tail : Tail → List ℕ
 value_of_tail Without = codes "null"
-value_of_tail (Row j) = number j
+value_of_tail (Row j) = decimal j
 
 -- row, column, kind and tail
 unfoldable pub value_of_note : Note → List ℕ

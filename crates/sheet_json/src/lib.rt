@@ -14,11 +14,10 @@ use sheet::{FIELD_COUNT, Full, Page, SheetFigures, field_at, fields_of};
 fn separator(page: &mut Page, k: usize) -> Result<(), Full>
     ensures { Prints page.old (separator k) page.new result }
 {
-    if k == 0 {
-        page.text("")
-    } else {
-        page.text(",")
+    if k != 0 {
+        page.text(",")?;
     }
+    Ok(())
 }
 
 // A name and a number.

@@ -1,5 +1,5 @@
 -- The form `print` of a sheet, for a printout: lines of at most 80 columns, as long as its numbers have no more digits than their columns.
-use Rattle.std.specs.Prelude.{cond, List, [], ◌∷◌, ◌++◌, ℕ, ◌/◌, ◌%◌, eqb, length, get_or, codes, Result, Ok, Err}
+use Rattle.std.specs.Prelude.{if◌then◌else◌, ◌==◌, List, [], ◌∷◌, ◌++◌, ℕ, ◌/◌, ◌%◌, length, slice_index, codes, decimal, Result, Ok, Err}
 use Rattle.definitions.specs.Records.{number_of_kind, note_of_record}
 use Rattle.definitions.specs.declared.Kind.{Kind}
 use Rattle.definitions.specs.declared.Tail.{Tail}
@@ -7,20 +7,20 @@ use Rattle.definitions.specs.declared.Tail.TheVariants.{Without, Row}
 use Rattle.definitions.specs.declared.Note.{Note}
 use Rattle.definitions.specs.declared.Refusal.{Refusal}
 use Rattle.definitions.specs.declared.ChartFigures.{ChartFigures}
-use Rattle.sheet.specs.Sheet.{number, aligned, aligned_left, listed, field_count, field_at}
+use Rattle.sheet.specs.Sheet.{aligned, aligned_left, listed, field_count, field_at}
 use Rattle.sheet.specs.declared.SheetFigures.{SheetFigures}
 
 -- a name and a number in nine columns
 unfoldable pub line_of_count : List ℕ → ℕ → List ℕ
-line_of_count name n = name ++ (aligned 9 n ++ (10 ∷ []))
+line_of_count name n = name ++ (aligned 9 n ++ codes "\n")
 
 -- three numbers in nine columns each
 unfoldable pub three : ℕ → ℕ → ℕ → List ℕ
-three a b c = aligned 9 a ++ (aligned 9 b ++ (aligned 9 c ++ (10 ∷ [])))
+three a b c = aligned 9 a ++ (aligned 9 b ++ (aligned 9 c ++ codes "\n"))
 
 -- the last beat in whole beats and what is left in 48ths
 unfoldable pub line_of_last_beat : ℕ → List ℕ
-line_of_last_beat last = codes "last beat   " ++ (aligned 9 (last / 48) ++ (codes " + " ++ (number (last % 48) ++ (codes "/48" ++ (10 ∷ [])))))
+line_of_last_beat last = codes "last beat   " ++ (aligned 9 (last / 48) ++ (codes " + " ++ (decimal (last % 48) ++ codes "/48\n")))
 
 -- measures, rows, notes, and the last beat in beats and in 48ths
 unfoldable pub print_heads : ChartFigures → List ℕ
@@ -42,7 +42,7 @@ first_fields f n =
 
 -- an empty line and the names of the three tallies, each in nine columns after the twelve of a field's name
 unfoldable pub head_of_tally : List ℕ
-head_of_tally = (10 ∷ []) ++ (codes "                 main     kept   judged" ++ (10 ∷ []))
+head_of_tally = codes "\n                 main     kept   judged\n"
 
 -- all fields
 unfoldable pub lines_of_tally : SheetFigures → List ℕ
@@ -53,11 +53,11 @@ print_tallies f = head_of_tally ++ lines_of_tally f
 
 -- where measure k begins a line, the end of the line before and its number
 abbrev pub start_of_line : ℕ → List ℕ
-start_of_line k = cond (eqb (k % 16) 0) (10 ∷ (aligned 7 k ++ (58 ∷ []))) []
+start_of_line k = if k % 16 == 0 then codes "\n" ++ (aligned 7 k ++ codes ":") else []
 
 -- `=` where a measure is equally spaced, else `-`
 abbrev pub mark : ℕ → ℕ
-mark spaced = cond (eqb spaced 0) 45 61
+mark spaced = if spaced == 0 then 45 else 61
 
 -- measure k: its density in three columns and its spacing
 unfoldable pub entry_of_density : ℕ → ℕ → ℕ → List ℕ
@@ -65,14 +65,14 @@ entry_of_density k density spaced = start_of_line k ++ (aligned 3 density ++ (ma
 
 -- densities, sixteen to a line
 abbrev pub lines_of_densities : List ℕ → List ℕ → ℕ → List ℕ
-lines_of_densities densities spacings n = listed (λ (k : ℕ). entry_of_density k (get_or densities k 0) (get_or spacings k 0)) n
+lines_of_densities densities spacings n = listed (λ (k : ℕ). entry_of_density k (slice_index densities k) (slice_index spacings k)) n
 
 unfoldable pub head_of_densities : List ℕ
-head_of_densities = (10 ∷ []) ++ codes "densities, 16 measures to a line; = equally spaced, - not"
+head_of_densities = codes "\ndensities, 16 measures to a line; = equally spaced, - not"
 
 -- `roll` for a roll, else `hold`
 abbrev pub word_of_held : Kind → List ℕ
-word_of_held kind = cond (eqb (number_of_kind kind) 2) (codes "roll") (codes "hold")
+word_of_held kind = if number_of_kind kind == 2 then codes "roll" else codes "hold"
 
 -- A hold or roll: row, column and tail row. They are the notes that have a tail; another note has no line.
 abbrev pub line_of_held : Note → Tail → List ℕ
@@ -89,7 +89,7 @@ lines_of_held records n = listed (λ (k : ℕ). held_line_of_record (note_of_rec
 
 -- the end of the last line of densities, an empty line, and the names of the columns
 unfoldable pub head_of_held : List ℕ
-head_of_held = (10 ∷ 10 ∷ []) ++ (codes "holds and rolls" ++ (10 ∷ (codes "          row   column     tail" ++ (10 ∷ []))))
+head_of_held = codes "\n\nholds and rolls\n          row   column     tail\n"
 
 -- the whole form, from the figures, the densities and spacings of all measures and all note records
 unfoldable pub print_of : SheetFigures → List ℕ → List ℕ → List ℕ → List ℕ

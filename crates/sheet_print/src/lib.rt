@@ -172,7 +172,7 @@ fn held_line(page: &mut Page, note: Note) -> Result<(), Full>
     ensures { Prints page.old (line_of_held note note.tail) page.new result }
 {
     match note.tail {
-        Tail::Without => page.text(""),
+        Tail::Without => Ok(()),
         Tail::Row(tail) => {
             held_word(page, note.kind)?;
             three_columns(page, note.row as u64, note.column as u64, tail as u64)
@@ -186,7 +186,7 @@ fn held_record(page: &mut Page, records: &[u8], index: usize) -> Result<(), Full
 {
     match read_note(records, index) {
         Ok(note) => held_line(page, note),
-        Err(_) => page.text(""),
+        Err(_) => Ok(()),
     }
 }
 

@@ -5,12 +5,12 @@ use Rattle.card.proofs.Sheet.{taken, not-refused, answer_is}
 use Rattle.card.proofs.put_chart.Goals as goal
 use Rattle.card.proofs.put_chart.Goals.{After-chart_sheet}
 
-accepted : (c : After-chart_sheet) → sheet_answer 4 0 c.args.data.now c.room_for_text-text.result c.room_for_densities-densities.result c.room_for_spacing-spacing.result
-    c.room_for_beats-beats.result c.room_for_work-work.result c.room_for_notes-notes.result c.args.out.now ≡ Ok (places_of_sheet 0 4 c.args.data.now)
+accepted : (c : After-chart_sheet) → sheet_answer 4 0 c.args.data.now c.zeros-text.result c.zeros-densities.result c.zeros-spacing.result
+    c.zeros-beats.result c.zeros-work.result c.zeros-notes.result c.args.out.now ≡ Ok (places_of_sheet 0 4 c.args.data.now)
 accepted c =
-    answer_is _ _ _ _ _ _ _ _ c.requires.data_len_bound
-    c.room_for_text-text.ensures c.room_for_densities-densities.ensures c.room_for_spacing-spacing.ensures c.room_for_beats-beats.ensures
-    c.room_for_work-work.ensures c.room_for_notes-notes.ensures c.requires.in_bounds
+    answer_is _ _ _ _ _ _ _ _ c.requires.text_length
+    c.zeros-text.ensures c.zeros-densities.ensures c.zeros-spacing.ensures c.zeros-beats.ensures
+    c.zeros-work.ensures c.zeros-notes.ensures c.requires.room
 
 pub unreachable-requires : goal.unreachable-requires
 unreachable-requires c =
@@ -19,4 +19,4 @@ unreachable-requires c =
 pub returns : goal.returns
 returns c =
     let all = taken _ _ _ _ _ _ _ _ (accepted (goal.at.returns c).After-chart_sheet) c.chart_sheet.ensures.value c.chart_sheet.ensures.sheet_after c.in-Ok.is c.chart_sheet.auto.sheet in
-    record { upper_bound = all.0; out_after = all.1 }
+    record { within = all.0; written = all.1 }

@@ -3,6 +3,7 @@ use mathlib.Core.Path.{refl, ap, sym, ◌∙◌}
 use mathlib.Core.List.{List}
 use Prim.Native.Nat.{ℕ, ◌*◌}
 use native.Mathlib.Omega.{arith}
+use Rattle.std.proofs.Common.{rules}
 use lib.ListN.{length, set}
 use lib.Seq.{length-take-le}
 use Rattle.definitions.specs.Lists.{padded}
@@ -10,11 +11,12 @@ use Rattle.definitions.specs.Lanes.{lanes_of, most_rows_in}
 use Rattle.definitions.specs.Figures.{densities, spacings}
 use Rattle.definitions.specs.Notes.{notes}
 use Rattle.definitions.specs.Records.{records}
-use Rattle.definitions.proofs.LaneBounds.{lanes-at-least, lanes-at-most}
 use Rattle.definitions.specs.Entries.{figures_of_chart, places_of_chart}
 use Rattle.sheet_answers.specs.Answers.{sheet_figures}
 use Rattle.slices.proofs.Zeroed.{zeroed-answer}
 use Rattle.chart_sheet.specs.Forms.{sheet_in_form}
+use Rattle.sheet.specs.Sheet.{named_fields}
+use Rattle.chart_sheet.proofs.Fits.{FiguresFit}
 use Rattle.chart_sheet.proofs.Writing.{Gathered, measures-fit, spacings-fit, notes-fit, notes-small, form-is, form-fits, chart-is}
 use Rattle.chart_sheet.proofs.write_sheet.Goals as goal
 use Rattle.chart_sheet.proofs.write_sheet.Goals.{After-sheet_answers-figures}
@@ -35,7 +37,7 @@ gathered c =
     let l = c.in_force-columns.ensures in
     let x = c.sheet_answers-figures in
     record {
-      short = c.requires.data_len_bound;
+      short = c.requires.text_length;
       answers = x.ensures.value ∙ ap (λ (L : ℕ). sheet_figures L text) l;
       densities-are = x.ensures.densities_after ∙ ap (λ (L : ℕ). padded 0 (length c.args.densities.now) (densities L text)) l;
       spacings-are = x.ensures.spacing_after ∙ ap (λ (L : ℕ). padded 0 (length c.args.spacing.now) (spacings L text)) l;
@@ -45,15 +47,30 @@ gathered c =
       notes-length = x.auto.notes;
     }
 
+-- each of the figures is a number of at most 64 bits
+fits : (c : After-sheet_answers-figures) → FiguresFit c.sheet_answers-figures.result
+unfolding named_fields
+fits c =
+    record {
+      heads = record { measures = omega arith; rows = omega arith; notes = omega arith; last_row = omega arith; arrows = omega arith; steps = omega arith };
+      main = record { fields = search rules };
+      kept = record { fields = search rules };
+      judged = record { fields = search rules };
+    }
+
 pub sheet_answers-figures-requires : goal.sheet_answers-figures-requires
 sheet_answers-figures-requires c =
     let l = c.in_force-columns.ensures in
     let rows = ap (λ (L : ℕ). most_rows_in L (length c.args.data.now)) l in
     let bytes = ap (λ (L : ℕ). 10 * L * most_rows_in L (length c.args.data.now)) l in
     record {
-      le_lanes = (omega (arith, lanes-at-least c.args.lanes), omega (arith, lanes-at-most c.args.lanes), c.requires.data_len_bound);
-      data_in_bounds = c.requires.data_in_bounds;
-      data_in_bounds_2 = (omega (arith, rows), omega (arith, rows), omega (arith, bytes));
+      text_length = c.requires.text_length;
+      text_room = c.requires.text_room;
+      densities_room = c.requires.densities_room;
+      spacing_room = c.requires.spacing_room;
+      beats_room = omega (arith, rows);
+      work_room = omega (arith, rows);
+      notes_room = omega (arith, bytes);
     }
 
 pub overflow_mul-end : goal.overflow_mul-end
@@ -83,8 +100,9 @@ put_form-bytes-requires c =
     let ds = length-take-le _ _ (measures-fit g) in
     let ss = length-take-le _ _ (spacings-fit g) in
     record {
-      room = omega (arith, form-fits g c.args.form);
-      measures_in_bounds = (omega (arith, ds), omega (arith, ds, ss));
+      room = omega (arith, form-fits g c.args.form (fits (goal.at.put_form-bytes-requires c).After-sheet_answers-figures));
+      densities_in_bounds = omega (arith, ds);
+      spacing_in_bounds = omega (arith, ds, ss);
     }
 
 pub returns-clause-value : goal.returns-clause-value

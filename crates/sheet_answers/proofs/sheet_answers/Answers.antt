@@ -17,27 +17,28 @@ use Rattle.sheet_answers.proofs.sheet_answers.Goals as goal
 
 pub corrected_stats-main-requires : goal.corrected_stats-main-requires
 corrected_stats-main-requires c =
-    let pre = c.requires.le_lanes in
-    all-recount _ _ _ _ _ c.read_chart-pass.ensures.kept _ c.args.work.now (omega arith) pre.2 c.requires.data_in_bounds_2.1
+    all-recount _ _ _ _ _ c.read_chart-pass.ensures.kept _ c.args.work.now (omega (arith, c.args.lanes.within.0)) c.requires.text_length c.requires.work_room
 
 pub corrected_stats-kept-requires : goal.corrected_stats-kept-requires
 corrected_stats-kept-requires c =
-    let pre = c.requires.le_lanes in
-    all-recount _ _ _ _ _ c.read_chart-pass.ensures.kept _ c.corrected_stats-main.new.work (omega arith) pre.2 (omega arith)
+    all-recount _ _ _ _ _ c.read_chart-pass.ensures.kept _ c.corrected_stats-main.new.work (omega (arith, c.args.lanes.within.0)) c.requires.text_length (omega arith)
 
 -- the minimised text has no more rows than the text once its last byte is left out
-pub judge_minimised-judged-requires-clause-minimised_len_bound : goal.judge_minimised-judged-requires-clause-minimised_len_bound
-judge_minimised-judged-requires-clause-minimised_len_bound c =
+pub judge_minimised-judged-requires : goal.judge_minimised-judged-requires
+judge_minimised-judged-requires c =
     let part = own-part _ _ _ _ _ c.read_chart-pass.ensures.kept in
-    let less = minimised-less c.args.lanes c.args.data.now _ part in
-    (omega (arith, less), omega (arith, rows-fewer c.args.lanes _ _ less))
+    let less = minimised-less c.args.lanes.count c.args.data.now _ part in
+    record {
+      text_length = omega (arith, less);
+      work_room = omega (arith, rows-fewer c.args.lanes.count _ _ less);
+    }
 
 pub returns : goal.returns
 unfolding of_bits of_int
 returns c =
     let x = c.read_chart-pass.ensures in
     let k = x.kept in
-    let L = c.args.lanes in
+    let L = c.args.lanes.count in
     let text = c.args.data.now in
     let part = own-part _ _ _ _ _ k in
     record {
@@ -45,8 +46,8 @@ returns c =
           figures-are L text
           (main.all-figures _ _ _ _ _ _ _ x _ _ _ _ _ (c.corrected_stats-main.ensures.value _ k.phantoms k.stats) (main.note-count _ _ _ _ _ _ _ x _ _ _ c.finish-count.ensures)
           (main.found-48 _ _ _ _ _ _ _ x) c.last_beat_bits.ensures c.last_note_row.ensures.0)
-          (kept.all-figures _ _ _ _ _ k _ (omega (arith, c.requires.le_lanes.0)) (c.corrected_stats-kept.ensures.value _ k.phantoms k.stats))
-          (judged-part L text (omega arith) part c.judge_minimised-judged.ensures.value);
+          (kept.all-figures _ _ _ _ _ k _ (omega (arith, c.args.lanes.within.0)) (c.corrected_stats-kept.ensures.value _ k.phantoms k.stats))
+          (judged-part L text (omega (arith, c.args.lanes.within.0)) part c.judge_minimised-judged.ensures.value);
       text_after = c.zero_past.ensures ∙ all-text _ _ _ _ _ k (length c.args.text.now) c.read_chart-pass.auto.text (omega arith);
       densities_after = c.zero_past-2.ensures ∙ all-densities _ _ _ _ _ k (length c.args.densities.now) c.read_chart-pass.auto.densities;
       spacing_after = c.fill_spacing.ensures.spacing_after;
