@@ -9,26 +9,11 @@ cd "$(dirname "$0")/.."
 . tests/need.sh
 need "what is built here is proved with it" rt
 
-# A static library exports what its own crate does, and no crate can stand on one, as the replays stand on padcheck. So the crate is checked here,
-# and then built in a copy of the crates in which its line says staticlib, over what that check left.
+# A static library exports what its own crate does.
 static() {
-    (cd "crates/$1" && rt check)
-    room=$(mktemp -d)
-    trap 'rm -rf "$room"' EXIT
-    for crate in crates/*; do
-        case $(basename "$crate") in card | sample | replay_*) continue ;; esac
-        mkdir -p "$room/$crate/out"
-        for part in src specs proofs out/rlib; do
-            [ ! -d "$crate/$part" ] || cp -r "$crate/$part" "$room/$crate/$part"
-        done
-    done
-    cp -r "crates/$1/out/incremental" "$room/crates/$1/out"
-    grep -v '^card:\|^sample:\|^replay_' crates.txt | sed "s/^$1:/$1 staticlib:/" >"$room/crates.txt"
-    (cd "$room/crates/$1" && rt lib)
+    (cd "crates/$1" && rt lib)
     mkdir -p target/staticlib
-    mv "$room/crates/$1/out/lib$1.a" "target/staticlib/lib$1.a"
-    rm -rf "$room"
-    trap - EXIT
+    cp "crates/$1/out/lib$1.a" "target/staticlib/lib$1.a"
 }
 
 program() {

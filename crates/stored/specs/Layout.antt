@@ -1,43 +1,52 @@
--- Where the parts of a record stand, as tests/vectors/README.md has them. A record is taken without the four bytes of its length.
-use Rattle.std.specs.Prelude.{cond, ◌&&◌, List, [], ℕ, zero, suc, ◌+◌, ◌-◌, ◌*◌, leb, ltb, length, take, drop}
-use Rattle.lines.specs.Words.{half_word_at}
+-- The bytes of what is stored, as tests/vectors/README.md has them.
+use Rattle.std.specs.Prelude.{◌≡◌, List, ◌++◌, ℕ, length}
+use Rattle.std.specs.Int.{w32, w64, to_le_bytes}
+use Rattle.stored.specs.declared.answer.Answer.{Answer}
+use Rattle.stored.specs.declared.answer.Answers.{Answers}
+use Rattle.stored.specs.declared.record.Record.{Record}
 
--- the place n bytes after another; past every record where either is larger than a record can be
-unfoldable pub after_place : ℕ → ℕ → ℕ
-after_place at n = cond (ltb at 1000000 && ltb n 1000000) (at + n) 2000000
+-- all of some bytes are a part and what follows it
+pub record Begins (all part rest : List ℕ) : Type 0 where
+  pub parts : all ≡ part ++ rest
 
--- the bytes from one place to another; none where the record has not so many
-unfoldable pub part_of : List ℕ → ℕ → ℕ → List ℕ
-part_of s start end = cond (leb end (length s) && leb start end) (take (end - start) (drop start s)) []
+-- a number of four bytes, and one of eight, low byte first
+unfoldable pub number_bytes : ℕ → List ℕ
+number_bytes n = to_le_bytes w32 n
 
--- where contents number k of the answer at a place begin and the ones before end: 256 bytes of figures, four lengths, then the contents
-abbrev pub start_of_content : List ℕ → ℕ → ℕ → ℕ
-start_of_content s at zero = after_place at 272
-start_of_content s at (suc k) = after_place (start_of_content s at k) (half_word_at s (after_place at (256 + 4 * k)))
+unfoldable pub long_bytes : ℕ → List ℕ
+long_bytes n = to_le_bytes w64 n
 
--- the figures of the answer at a place, and its contents number k: text, measures, beats, notes
-abbrev pub stored_figures : List ℕ → ℕ → List ℕ
-stored_figures s at = part_of s at (after_place at 256)
+-- an answer: figures, the lengths of the four contents, and the contents
+unfoldable pub answer_bytes : Answer → List ℕ
+answer_bytes a =
+    a.figures.now
+    ++ number_bytes (length a.text.now)
+    ++ number_bytes (length a.measures.now)
+    ++ number_bytes (length a.beats.now)
+    ++ number_bytes (length a.notes.now)
+    ++ a.text.now
+    ++ a.measures.now
+    ++ a.beats.now
+    ++ a.notes.now
 
-abbrev pub content_of : List ℕ → ℕ → ℕ → List ℕ
-content_of s at k = part_of s (start_of_content s at k) (start_of_content s at (k + 1))
+-- the eight answers
+unfoldable pub answers_bytes : Answers → List ℕ
+answers_bytes a =
+    answer_bytes a.main
+    ++ answer_bytes a.kept
+    ++ answer_bytes a.timing_rows
+    ++ answer_bytes a.densities
+    ++ answer_bytes a.spacing
+    ++ answer_bytes a.last_beat
+    ++ answer_bytes a.judged
+    ++ answer_bytes a.flagged
 
--- the number of the eight bytes from a place on; bytes past the record's end are 0
-abbrev pub long_number_at : List ℕ → ℕ → ℕ
-long_number_at s at = half_word_at s at + 4294967296 * half_word_at s (at + 4)
-
--- the lane number, the text and the flags of a record
-abbrev pub lanes_at : List ℕ → ℕ
-lanes_at s = long_number_at s 8
-
-abbrev pub end_of_text : List ℕ → ℕ
-end_of_text s = after_place 16 (half_word_at s 0)
-
-abbrev pub end_of_flags : List ℕ → ℕ
-end_of_flags s = after_place (end_of_text s) (half_word_at s 4)
-
-abbrev pub stored_text : List ℕ → List ℕ
-stored_text s = part_of s 16 (end_of_text s)
-
-abbrev pub flags_of : List ℕ → List ℕ
-flags_of s = part_of s (end_of_text s) (end_of_flags s)
+-- a record without the bytes of its length: the lengths of text and flags, the lane number, text, flags, and the answers
+unfoldable pub record_bytes : Record → List ℕ
+record_bytes r =
+    number_bytes (length r.text.now)
+    ++ number_bytes (length r.flags.now)
+    ++ long_bytes r.lanes
+    ++ r.text.now
+    ++ r.flags.now
+    ++ answers_bytes r.answers

@@ -1,0 +1,97 @@
+// Each asks its call about a record's text, with slices that hold other numbers before, and compares all that it left with what is stored.
+use chart::minimize_chart_count_rows_notes;
+use compare::{all_zero, same_bytes, same_figures, same_floats, same_numbers};
+use definitions::Refusal;
+use figures::{
+    chart_places, judged_places, kept_places, last_places, measures_places, timing_places,
+};
+use judged::{process_rows_judgable, process_timing_rows};
+use kept::process_chart_kept;
+use last_beat::chart_last_beat_impl;
+use scans::densities::measure_densities;
+use spacing::equally_spaced_impl;
+use stored::{Answer, Record, lent};
+use timing::minimize_timing_rows;
+
+pub fn main_agrees(record: &Record, stored: &Answer) -> bool {
+    let mut text = lent::text();
+    let mut densities = lent::densities();
+    let mut beats = lent::beats();
+    let mut work = lent::work();
+    let mut notes = lent::notes();
+    let answered = minimize_chart_count_rows_notes(
+        record.text,
+        record.lanes,
+        &mut text,
+        &mut densities,
+        &mut beats,
+        &mut work,
+        &mut notes,
+    );
+    has_figures(answered.map(chart_places), stored)
+        && same_bytes(&text, stored.text)
+        && same_numbers(&densities, stored.measures)
+        && same_floats(&beats, stored.beats)
+        && same_bytes(&notes, stored.notes)
+        && all_zero(&work)
+}
+
+pub fn kept_agrees(record: &Record, stored: &Answer) -> bool {
+    let mut text = lent::text();
+    let mut densities = lent::densities();
+    let mut work = lent::work();
+    let answered = process_chart_kept(
+        record.text,
+        record.lanes,
+        &mut text,
+        &mut densities,
+        &mut work,
+    );
+    has_figures(answered.map(kept_places), stored)
+        && same_bytes(&text, stored.text)
+        && same_numbers(&densities, stored.measures)
+        && all_zero(&work)
+}
+
+pub fn timing_rows_agree(record: &Record, stored: &Answer) -> bool {
+    let mut text = lent::text();
+    let mut beats = lent::beats();
+    let answered = minimize_timing_rows(record.text, record.lanes, &mut text, &mut beats);
+    has_figures(answered.map(timing_places), stored)
+        && same_bytes(&text, stored.text)
+        && same_floats(&beats, stored.beats)
+}
+
+pub fn densities_agree(record: &Record, stored: &Answer) -> bool {
+    let mut densities = lent::densities();
+    let answered = measure_densities(record.text, record.lanes, &mut densities);
+    has_figures(answered.map(measures_places), stored) && same_numbers(&densities, stored.measures)
+}
+
+pub fn spacing_agrees(record: &Record, stored: &Answer) -> bool {
+    let mut spacing = lent::spacing();
+    let answered = equally_spaced_impl(record.text, record.lanes, &mut spacing);
+    has_figures(answered.map(measures_places), stored) && same_bytes(&spacing, stored.measures)
+}
+
+pub fn last_beat_agrees(record: &Record, stored: &Answer) -> bool {
+    let answered = chart_last_beat_impl(record.text, record.lanes);
+    has_figures(answered.map(last_places), stored)
+}
+
+pub fn judged_agrees(record: &Record, stored: &Answer) -> bool {
+    let mut work = lent::work();
+    let answered = process_rows_judgable(record.text, record.lanes, &mut work);
+    has_figures(answered.map(judged_places), stored) && all_zero(&work)
+}
+
+pub fn flagged_agrees(record: &Record, stored: &Answer) -> bool {
+    let mut work = lent::work();
+    let answered = process_timing_rows(record.text, record.lanes, record.flags, &mut work);
+    has_figures(answered.map(judged_places), stored) && all_zero(&work)
+}
+
+// Whether a call was accepted, with the figures that are stored.
+fn has_figures(answered: Result<[u64; 32], Refusal>, stored: &Answer) -> bool {
+    answered.is_ok_and(|figures| same_figures(&figures, stored.figures))
+}

@@ -1,0 +1,44 @@
+// The calls on a text, and which of them answer a record otherwise than it is stored.
+use crate::{Compared, calls};
+use stored::Record;
+
+/// A call on a text. Their order is that of the stored answers.
+#[derive(Clone, Copy)]
+pub enum Call {
+    Main,
+    Kept,
+    TimingRows,
+    Densities,
+    Spacing,
+    LastBeat,
+    Judged,
+    Flagged,
+}
+
+impl Call {
+    // Whether it answers the record's text as it is stored.
+    fn agrees(self, record: &Record) -> bool {
+        let answers = &record.answers;
+        match self {
+            Call::Main => calls::main_agrees(record, &answers.main),
+            Call::Kept => calls::kept_agrees(record, &answers.kept),
+            Call::TimingRows => calls::timing_rows_agree(record, &answers.timing_rows),
+            Call::Densities => calls::densities_agree(record, &answers.densities),
+            Call::Spacing => calls::spacing_agrees(record, &answers.spacing),
+            Call::LastBeat => calls::last_beat_agrees(record, &answers.last_beat),
+            Call::Judged => calls::judged_agrees(record, &answers.judged),
+            Call::Flagged => calls::flagged_agrees(record, &answers.flagged),
+        }
+    }
+}
+
+// How the answers of these calls compare.
+pub fn compared(record: &[u8], calls: &[Call]) -> Compared {
+    let Some(record) = Record::read(record) else {
+        return Compared::Malformed;
+    };
+    match calls.iter().find(|call| !call.agrees(&record)) {
+        None => Compared::Agree(calls.len()),
+        Some(call) => Compared::Differs(*call as usize),
+    }
+}

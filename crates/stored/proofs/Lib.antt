@@ -1,0 +1,2 @@
+-- Parts that are read one after the other.
+pub mod Joined

@@ -1,0 +1,9 @@
+-- `stored::long_of` meets its contract: the bytes of the number that eight bytes say are those bytes.
+use Rattle.std.proofs.Common.{rules}
+use Rattle.std.proofs.lemmas.Nat.{le_bytes_8}
+use Rattle.stored.specs.Layout.{long_bytes}
+use Rattle.stored.proofs.long_of.Goals as goal
+
+pub returns : goal.returns
+unfolding long_bytes
+returns c = le_bytes_8 c.args.bytes _ (search rules) (search rules) c.from_le_bytes.ensures

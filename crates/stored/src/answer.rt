@@ -1,0 +1,70 @@
+ghost use Rattle.std.specs.Prelude.{IfSome};
+
+use crate::{bytes, figures, number};
+
+/// One stored answer of a call on a text: its figures, and what it left in the slices that it is lent.
+#[derive(Clone, Copy)]
+pub struct Answer<'a> {
+    pub figures: &'a [u8; 256],
+    pub text: &'a [u8],
+    pub measures: &'a [u8],
+    pub beats: &'a [u8],
+    pub notes: &'a [u8],
+}
+
+impl<'a> Answer<'a> {
+    ghost use Rattle.stored.specs.Layout.{Begins, answer_bytes};
+
+    /// The answer at the front of `rest`, which keeps what follows it.
+    #[tactic(auto, unfolding(crate::specs::Layout::answer_bytes))]
+    pub fn read(rest: &mut &'a [u8]) -> Option<Answer<'a>>
+        ensures { IfSome result (λ a. Begins rest.old.now (answer_bytes a) rest.new.now) }
+    {
+        let figures = figures(rest)?;
+        let text = number(rest)?;
+        let measures = number(rest)?;
+        let beats = number(rest)?;
+        let notes = number(rest)?;
+        Some(Answer {
+            figures,
+            text: bytes(rest, text)?,
+            measures: bytes(rest, measures)?,
+            beats: bytes(rest, beats)?,
+            notes: bytes(rest, notes)?,
+        })
+    }
+}
+
+/// What each call on a text answered, in the order in which they are stored.
+#[derive(Clone, Copy)]
+pub struct Answers<'a> {
+    pub main: Answer<'a>,
+    pub kept: Answer<'a>,
+    pub timing_rows: Answer<'a>,
+    pub densities: Answer<'a>,
+    pub spacing: Answer<'a>,
+    pub last_beat: Answer<'a>,
+    pub judged: Answer<'a>,
+    pub flagged: Answer<'a>,
+}
+
+impl<'a> Answers<'a> {
+    ghost use Rattle.stored.specs.Layout.{Begins, answers_bytes};
+
+    /// The eight answers at the front of `rest`, which keeps what follows them.
+    #[tactic(auto, unfolding(crate::specs::Layout::answers_bytes))]
+    pub fn read(rest: &mut &'a [u8]) -> Option<Answers<'a>>
+        ensures { IfSome result (λ a. Begins rest.old.now (answers_bytes a) rest.new.now) }
+    {
+        Some(Answers {
+            main: Answer::read(rest)?,
+            kept: Answer::read(rest)?,
+            timing_rows: Answer::read(rest)?,
+            densities: Answer::read(rest)?,
+            spacing: Answer::read(rest)?,
+            last_beat: Answer::read(rest)?,
+            judged: Answer::read(rest)?,
+            flagged: Answer::read(rest)?,
+        })
+    }
+}

@@ -1,0 +1,36 @@
+ghost use Rattle.std.specs.Prelude.{◌≡◌, IfSome};
+
+use crate::{Answers, bytes, long, number};
+
+/// A stored text with its lane number, its flags and the answers of each call.
+#[derive(Clone, Copy)]
+pub struct Record<'a> {
+    pub lanes: usize,
+    pub text: &'a [u8],
+    pub flags: &'a [u8],
+    pub answers: Answers<'a>,
+}
+
+impl<'a> Record<'a> {
+    ghost use Rattle.stored.specs.Layout.{record_bytes};
+
+    /// The record that all of `data` is, without the four bytes of its length.
+    #[tactic(auto, unfolding(crate::specs::Layout::record_bytes))]
+    pub fn read(data: &'a [u8]) -> Option<Record<'a>>
+        ensures { IfSome result (λ r. «data».now ≡ record_bytes r) }
+    {
+        let mut rest = data;
+        let text = number(&mut rest)?;
+        let flags = number(&mut rest)?;
+        let record = Record {
+            lanes: long(&mut rest)? as usize,
+            text: bytes(&mut rest, text)?,
+            flags: bytes(&mut rest, flags)?,
+            answers: Answers::read(&mut rest)?,
+        };
+        if !rest.is_empty() {
+            return None;
+        }
+        Some(record)
+    }
+}
