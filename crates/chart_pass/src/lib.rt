@@ -30,7 +30,7 @@ impl ChartPass {
     {
         ChartPass {
             pass: KeptPass::new(),
-            noting: measure_notes::no_noting(),
+            noting: Noting::new(),
         }
     }
 
@@ -63,18 +63,15 @@ impl ChartPass {
         let kept = reduction::reduce_output_measure(text, start, self.pass.rows, lanes);
         let before = self.pass.counting.rows;
         beats::append_row_beats(beats, before as usize, self.pass.midx as u32, kept as u32);
-        let walk = measure_walk::walk_rows(
-            self.pass.counting,
-            self.noting,
+        measure_walk::walk_rows(
+            &mut self.pass.counting,
+            &mut self.noting,
             text,
             start,
             kept,
-            lanes,
             slots,
             table,
         );
-        self.pass.counting = walk.counting;
-        self.noting = walk.noting;
         densities[self.pass.midx] = self.pass.counting.density();
         self.pass.out = start + kept * (lanes + 1);
         self.pass.rows = kept;

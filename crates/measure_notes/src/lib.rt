@@ -17,29 +17,23 @@ pub struct Noting {
     pub busy: u32,
 }
 
-// Before the first row.
-pub fn no_noting() -> Noting
-    ensures { (L : ℕ) (l : List ℕ) → Noted L result l [] }
-{
-    let scratch = row_notes::begin();
-    let last = objects::no_last();
-    Noting {
-        scratch,
-        last,
-        busy: 0,
+impl Noting {
+    // Before the first row.
+    pub fn new() -> Self
+        ensures { (L : ℕ) (l : List ℕ) → Noted L result l [] }
+    {
+        Noting {
+            scratch: row_notes::begin(),
+            last: objects::no_last(),
+            busy: 0,
+        }
     }
-}
 
-// The open measure ends.
-pub fn note_measure(n: Noting) -> Noting
-    requires { (n.last.rows < row_count_bound) × (n.last.midx ≤ measures_bound) }
-    ensures { (L : ℕ) (l : List ℕ) (done : List (List Row)) (cur : List Row) → NotedRows L n l done cur → Noted L result l (done ++ (cur ∷ [])) }
-{
-    let scratch = n.scratch;
-    let last = objects::last_measure(n.last);
-    Noting {
-        scratch,
-        last,
-        busy: n.busy,
+    // The open measure ends.
+    pub fn end_measure(&mut self)
+        requires { (self.old.last.rows < row_count_bound) × (self.old.last.midx ≤ measures_bound) }
+        ensures { (L : ℕ) (l : List ℕ) (done : List (List Row)) (cur : List Row) → NotedRows L self.old l done cur → Noted L self.new l (done ++ (cur ∷ [])) }
+    {
+        self.last = objects::last_measure(self.last);
     }
 }

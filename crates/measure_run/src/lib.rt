@@ -1,4 +1,4 @@
-// What a walk holds of a measure, taken out of the structs of the layers beneath before it and put back after it.
+// What a walk holds of a measure: numbers out of what is counted and noted before it, which change with each row, and are put back after it.
 #![tactic(auto)]
 
 ghost use Rattle.std.specs.Prelude.{◌≡◌, List, [], ◌∷◌, ◌++◌, ℕ, ◌-◌, ◌≤◌, ◌<◌, length};
@@ -11,17 +11,10 @@ ghost use Rattle.measure_run.specs.Held.{rest_of, counting_of, row_at, noting_of
 use definitions::ArrowStats;
 use measure_notes::Noting;
 use measure_tally::Counting;
-use objects::{Depths, LastScan};
+use objects::Depths;
 use phantoms::Phantoms;
 use row_notes::ChartNotesScratch;
 use row_walk::{Marks, Seen};
-
-// What is counted and noted.
-#[derive(Clone, Copy)]
-pub struct Walk {
-    pub counting: Counting,
-    pub noting: Noting,
-}
 
 // What ordinary rows change too, in plain numbers: the tally, the number of records, the number of rows, and how many of these there are up to
 // the measure's last object row; where that is no more than before the measure, it has none.
@@ -48,12 +41,11 @@ pub fn open_heads(s: ChartNotesScratch) -> [u32; 10]
 }
 
 // Before the measure.
-pub fn first_run(counting: Counting, noting: Noting) -> Run
-    ensures { result ≡ run_before counting noting }
+pub fn first_run(counting: &Counting, noting: &Noting) -> Run
+    ensures { result ≡ run_before counting.now noting.now }
 {
-    let stats = counting.stats;
     Run {
-        stats,
+        stats: counting.stats,
         count: noting.scratch.count,
         row: counting.rows,
         last: 0,
@@ -61,8 +53,8 @@ pub fn first_run(counting: Counting, noting: Noting) -> Run
 }
 
 // The same; one mask for the phantom depths, the open heads and the object depths.
-pub fn first_marks(counting: Counting, noting: Noting) -> Marks
-    ensures { result ≡ marks_before counting noting }
+pub fn first_marks(counting: &Counting, noting: &Noting) -> Marks
+    ensures { result ≡ marks_before counting.now noting.now }
 {
     Marks {
         heads: counting.phantoms.heads,
@@ -78,14 +70,12 @@ pub fn add_cells(r: Run, s: Seen) -> Run
     requires { Below count_bound r.stats × Under 10 s.sum × (r.row < row_count_bound) }
     ensures { result ≡ after_cells r s }
 {
-    let stats = row_tally::add_row_lent(r.stats, s.sum);
     let row = r.row + 1;
-    let last = if s.object { row } else { r.last };
     Run {
-        stats,
+        stats: row_tally::add_row_lent(r.stats, s.sum),
         count: s.count,
         row,
-        last,
+        last: if s.object { row } else { r.last },
     }
 }
 
@@ -100,59 +90,39 @@ fn last_row(first: u32, last: u32) -> Option<u32>
     }
 }
 
-// What is counted and noted after the measure, with these numbers of the columns.
+// The measure ends: what was walked of it is counted and noted, with these numbers of the columns.
 pub fn end_walk(
-    counting: Counting,
-    noting: Noting,
+    counting: &mut Counting,
+    noting: &mut Noting,
     r: Run,
     m: Marks,
     depths: [u32; 10],
     low: [u32; 10],
     hold_heads: [u32; 10],
-) -> Walk
-    requires { (counting.rows ≤ r.row) × (r.row - counting.rows < row_count_bound) × (noting.last.midx ≤ measures_bound) }
-    ensures counting_value { result.counting ≡ counting_of (rest_of counting noting depths low hold_heads) m r }
-    ensures by_index { (L : ℕ) (l : List ℕ) (done : List (List Row)) (cur : List Row) → NotedRows L (noting_of counting.rows (rest_of counting noting depths low hold_heads) m r) l done cur → Noted L result.noting l (done ++ (cur ∷ [])) }
+)
+    requires { (counting.old.rows ≤ r.row) × (r.row - counting.old.rows < row_count_bound) × (noting.old.last.midx ≤ measures_bound) }
+    ensures counting_after { counting.new ≡ counting_of (rest_of counting.old noting.old depths low hold_heads) m r }
+    ensures noted { (L : ℕ) (l : List ℕ) (done : List (List Row)) (cur : List Row) → NotedRows L (noting_of counting.old.rows (rest_of counting.old noting.old depths low hold_heads) m r) l done cur → Noted L noting.new l (done ++ (cur ∷ [])) }
 {
-    let stats = r.stats;
-    let busy = m.busy;
-    let phantoms = Phantoms {
-        depths,
-        heads: m.heads,
-        tails: m.tails,
-        met: m.met,
-    };
-    let counted = Counting {
-        stats,
-        phantoms,
-        rows: r.row,
-        before: counting.before,
-        busy,
-    };
-    let scratch = ChartNotesScratch {
+    noting.scratch = ChartNotesScratch {
         hold_heads,
         count: r.count,
         row_index: r.row,
         has_invalid: m.invalid,
     };
-    let after = Depths { depths: low };
-    let old = noting.last;
-    let found = old.found;
-    let last = LastScan {
-        depths: after,
-        busy,
-        found,
-        row: last_row(counting.rows, r.last),
-        rows: r.row - counting.rows,
-        midx: old.midx,
+    noting.last.depths.depths = low;
+    noting.last.row = last_row(counting.rows, r.last);
+    noting.last.rows = r.row - counting.rows;
+    noting.last.busy = m.busy;
+    noting.busy = m.busy;
+    noting.end_measure();
+    counting.stats = r.stats;
+    counting.phantoms = Phantoms {
+        depths,
+        heads: m.heads,
+        tails: m.tails,
+        met: m.met,
     };
-    let noted = Noting {
-        scratch,
-        last,
-        busy,
-    };
-    Walk {
-        counting: counted,
-        noting: measure_notes::note_measure(noted),
-    }
+    counting.rows = r.row;
+    counting.busy = m.busy;
 }

@@ -9,26 +9,25 @@ ghost use Rattle.measure_notes.specs.Noted.{Noted};
 ghost use Rattle.tap_walk.specs.Walked.{Walking};
 
 use measure_notes::Noting;
-use measure_run::Walk;
 use measure_tally::Counting;
 use taps::TapTable;
 
 // The rows of a measure that stand in a text from `start` on, each with a newline byte after it; for the notes the measure then ends.
 pub fn walk_rows(
-    counting: Counting,
-    noting: Noting,
+    counting: &mut Counting,
+    noting: &mut Noting,
     text: &[u8],
     start: usize,
     rows: usize,
-    lanes: usize,
     slots: &mut [u8],
     table: &TapTable,
-) -> Walk
-    requires lanes_nonzero { (0 < lanes) × (lanes ≤ 10) × (start + rows * (lanes + 1) ≤ length text.now) × (table.now.lanes.count ≡ lanes) }
-    requires walking { Walking lanes counting noting slots.old (rows_at (lanes + 1) lanes rows (drop start text.now)) 0 }
-    ensures counted { (done : List (List Row)) → Counted lanes counting done [] → Counted lanes result.counting done (rows_at (lanes + 1) lanes rows (drop start text.now)) }
-    ensures noted { (done : List (List Row)) → Noted lanes noting slots.old done → Noted lanes result.noting slots.new (done ++ (rows_at (lanes + 1) lanes rows (drop start text.now) ∷ [])) }
+)
+    requires in_text { start + rows * (table.now.lanes.count + 1) ≤ length text.now }
+    requires walking { Walking table.now.lanes.count counting.old noting.old slots.old (rows_at (table.now.lanes.count + 1) table.now.lanes.count rows (drop start text.now)) 0 }
+    ensures counted { (done : List (List Row)) → Counted table.now.lanes.count counting.old done [] → Counted table.now.lanes.count counting.new done (rows_at (table.now.lanes.count + 1) table.now.lanes.count rows (drop start text.now)) }
+    ensures noted { (done : List (List Row)) → Noted table.now.lanes.count noting.old slots.old done → Noted table.now.lanes.count noting.new slots.new (done ++ (rows_at (table.now.lanes.count + 1) table.now.lanes.count rows (drop start text.now) ∷ [])) }
 {
+    let lanes = table.lanes.count;
     let first = counting.rows;
     let mut depths = phantoms::phantom_depths(counting.phantoms);
     let mut low = measure_run::object_depths(noting.last.depths);
@@ -36,10 +35,11 @@ pub fn walk_rows(
     let mut m = measure_run::first_marks(counting, noting);
     let mut r = measure_run::first_run(counting, noting);
     'walk: loop {
-        r = tap_walk::walk_taps(r, m, first, text, start, rows, lanes, slots, table);
+        r = tap_walk::walk_taps(r, m, first, text, start, rows, slots, table);
         let i = (r.row - first) as usize;
         if rows <= i {
-            return measure_run::end_walk(counting, noting, r, m, depths, low, hold_heads);
+            measure_run::end_walk(counting, noting, r, m, depths, low, hold_heads);
+            return;
         }
         let at = start + i * (lanes + 1);
         let end = at + lanes;

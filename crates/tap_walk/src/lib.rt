@@ -18,15 +18,12 @@ fn add_taps(r: Run, mask: u16, slots: &mut [u8], table: &TapTable) -> Run
     requires { TapsReady r mask table.now.wide slots.old }
     ensures { TapsAdded r mask slots.old slots.new result }
 {
-    let stats = row_tally::count_taps(r.stats, mask, table);
-    let count = row_notes::push_mask(r.row, r.count, mask, slots);
     let row = r.row + 1;
-    let last = if mask != 0 { row } else { r.last };
     Run {
-        stats,
-        count,
+        stats: row_tally::count_taps(r.stats, mask, table),
+        count: row_notes::push_mask(r.row, r.count, mask, slots),
         row,
-        last,
+        last: if mask != 0 { row } else { r.last },
     }
 }
 
@@ -38,16 +35,16 @@ pub fn walk_taps(
     text: &[u8],
     start: usize,
     rows: usize,
-    lanes: usize,
     slots: &mut [u8],
     table: &TapTable,
 ) -> Run
-    requires lanes_nonzero { (0 < lanes) × (lanes ≤ 10) × (start + rows * (lanes + 1) ≤ length text.now) × (first ≤ old.row) × (old.row ≤ first + rows) × (table.now.lanes.count ≡ lanes) }
-    requires running { Running lanes first m old slots.old (rows_at (lanes + 1) lanes rows (drop start text.now)) }
-    ensures row_le_row { (old.row ≤ result.row) × (result.row ≤ first + rows) }
-    ensures counted { (q : Rest) (done : List (List Row)) → Counted lanes (counting_of q m old) done (take (old.row - first) (rows_at (lanes + 1) lanes rows (drop start text.now))) → Counted lanes (counting_of q m result) done (take (result.row - first) (rows_at (lanes + 1) lanes rows (drop start text.now))) }
-    ensures noted_rows { (q : Rest) (done : List (List Row)) → NotedRows lanes (noting_of first q m old) slots.old done (take (old.row - first) (rows_at (lanes + 1) lanes rows (drop start text.now))) → NotedRows lanes (noting_of first q m result) slots.new done (take (result.row - first) (rows_at (lanes + 1) lanes rows (drop start text.now))) }
+    requires in_text { (start + rows * (table.now.lanes.count + 1) ≤ length text.now) × (first ≤ old.row) × (old.row ≤ first + rows) }
+    requires running { Running table.now.lanes.count first m old slots.old (rows_at (table.now.lanes.count + 1) table.now.lanes.count rows (drop start text.now)) }
+    ensures onwards { (old.row ≤ result.row) × (result.row ≤ first + rows) }
+    ensures counted { (q : Rest) (done : List (List Row)) → Counted table.now.lanes.count (counting_of q m old) done (take (old.row - first) (rows_at (table.now.lanes.count + 1) table.now.lanes.count rows (drop start text.now))) → Counted table.now.lanes.count (counting_of q m result) done (take (result.row - first) (rows_at (table.now.lanes.count + 1) table.now.lanes.count rows (drop start text.now))) }
+    ensures noted_rows { (q : Rest) (done : List (List Row)) → NotedRows table.now.lanes.count (noting_of first q m old) slots.old done (take (old.row - first) (rows_at (table.now.lanes.count + 1) table.now.lanes.count rows (drop start text.now))) → NotedRows table.now.lanes.count (noting_of first q m result) slots.new done (take (result.row - first) (rows_at (table.now.lanes.count + 1) table.now.lanes.count rows (drop start text.now))) }
 {
+    let lanes = table.lanes.count;
     let mut r = old;
     let stop = first + rows as u32;
     let mut at = start + (r.row - first) as usize * (lanes + 1);

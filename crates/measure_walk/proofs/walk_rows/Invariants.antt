@@ -13,8 +13,9 @@ use Rattle.measure_walk.proofs.walk_rows.Given as goal
 abbrev pub invariant-walk : goal.invariant-walk
 invariant-walk l = (l.first ≤ l.r.row) × (l.r.row ≤ l.first + l.rows) × (length l.slots ≡ length l.initial.slots)
     × ((length l.depths ≡ 10) × (length l.low ≡ 10) × (length l.hold_heads ≡ 10))
-    × ((done : List (List Row)) → Counted l.lanes l.counting done [] → Counted l.lanes (counting_of (rest_of l.counting l.noting l.depths l.low l.hold_heads) l.m l.r) done (take (l.r.row - l.first) (rows_of l.lanes l.rows l.text l.start)))
-    × ((done : List (List Row)) → NotedRows l.lanes l.noting l.initial.slots done [] → NotedRows l.lanes (noting_of l.first (rest_of l.counting l.noting l.depths l.low l.hold_heads) l.m l.r) l.slots done (take (l.r.row - l.first) (rows_of l.lanes l.rows l.text l.start)))
+    × ((done : List (List Row)) → Counted l.lanes l.initial.counting done [] → Counted l.lanes (counting_of (rest_of l.initial.counting l.initial.noting l.depths l.low l.hold_heads) l.m l.r) done (take (l.r.row - l.first) (rows_of l.lanes l.rows l.text l.start)))
+    × ((done : List (List Row)) → NotedRows l.lanes l.initial.noting l.initial.slots done [] → NotedRows l.lanes (noting_of l.first (rest_of l.initial.counting l.initial.noting l.depths l.low l.hold_heads) l.m l.r) l.slots done (take (l.r.row - l.first) (rows_of l.lanes l.rows l.text l.start)))
+    × (l.counting ≡ l.initial.counting) × (l.noting ≡ l.initial.noting)
 
 abbrev pub decreases-walk : goal.decreases-walk
 decreases-walk l = l.first + l.rows - l.r.row

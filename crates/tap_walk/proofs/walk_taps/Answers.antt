@@ -29,33 +29,33 @@ few : {lanes first rows : ℕ} {m : Marks} {old : Run} {slots : List ℕ} {ms : 
 few below above size W = omega (arith, run-few _ _ W.rest _ _ _ _ W.walking below (omega arith))
 
 pub overflow_cast-stop : goal.overflow_cast-stop
-overflow_cast-stop c = omega (arith, few c.requires.lanes_nonzero.3 c.requires.lanes_nonzero.4 (rows-length _ _ _ _) c.requires.running)
+overflow_cast-stop c = omega (arith, few c.requires.in_text.1 c.requires.in_text.2 (rows-length _ _ _ _) c.requires.running)
 
 pub overflow_add-stop : goal.overflow_add-stop
-overflow_add-stop c = omega (arith, few c.requires.lanes_nonzero.3 c.requires.lanes_nonzero.4 (rows-length _ _ _ _) c.requires.running)
+overflow_add-stop c = omega (arith, few c.requires.in_text.1 c.requires.in_text.2 (rows-length _ _ _ _) c.requires.running)
 
 -- the measure's rows
 abbrev all : In-Mask → List Row
-all c = rows_of c.args.lanes c.args.rows c.args.text.now c.args.start
+all c = rows_of c.args.table.now.lanes.count c.args.rows c.args.text.now c.args.start
 
 -- the number of the row in the measure
 abbrev number : In-Mask → ℕ
 number c = c.loop-r.r.row - c.args.first
 
 below : (c : In-Mask) → number c < c.args.rows
-below c = omega (arith, c.loop-r-test.true, c.requires.lanes_nonzero.3, c.loop-r.invariant.0)
+below c = omega (arith, c.loop-r-test.true, c.requires.in_text.1, c.loop-r.invariant.0)
 
 -- it has `lanes` bytes
-wide : (c : In-Mask) → length (part c.args.lanes c.args.text.now c.loop-r.at) ≡ c.args.lanes
-wide c = row-wide c.args.lanes c.args.rows c.args.text.now c.args.start c.requires.lanes_nonzero.2 (number c) c.loop-r.at (below c) c.loop-r.invariant.2
+wide : (c : In-Mask) → length (part c.args.table.now.lanes.count c.args.text.now c.loop-r.at) ≡ c.args.table.now.lanes.count
+wide c = row-wide c.args.table.now.lanes.count c.args.rows c.args.text.now c.args.start c.requires.in_text.0 (number c) c.loop-r.at (below c) c.loop-r.invariant.2
 
 -- what is walked so far
 walked : (c : In-Mask) →
     let q = c.requires.running.rest in
-    Walking c.args.lanes (counting_of q c.args.m c.loop-r.r) (noting_of c.args.first q c.args.m c.loop-r.r) c.loop-r.slots (all c) (number c)
+    Walking c.args.table.now.lanes.count (counting_of q c.args.m c.loop-r.r) (noting_of c.args.first q c.args.m c.loop-r.r) c.loop-r.slots (all c) (number c)
 walked c =
     let q = c.requires.running.rest in
-    walked_on c.args.lanes _ _ _ _ _ _ _ _ _ c.requires.running.walking c.loop-r.invariant.3 (c.loop-r.invariant.4 q) (c.loop-r.invariant.5 q)
+    walked_on c.args.table.now.lanes.count _ _ _ _ _ _ _ _ _ c.requires.running.walking c.loop-r.invariant.3 (c.loop-r.invariant.4 q) (c.loop-r.invariant.5 q)
 
 -- it is one of the measure's
 within : (c : In-Mask) → number c < length (all c)
@@ -65,15 +65,15 @@ pub add_taps-r-requires : goal.add_taps-r-requires
 add_taps-r-requires c =
     let k = (goal.at.add_taps-r-requires c).In-Mask in
     let counted = count-few _ _ _ _ _ _ (walked k) (within k) in
-    let noted = note-ready _ _ _ _ _ _ (walked k) (within k) _ (wide k) c.requires.lanes_nonzero.1 in
+    let noted = note-ready _ _ _ _ _ _ (walked k) (within k) _ (wide k) c.args.table.now.lanes.within.1 in
     let free = free-told c.free_taps.ensures c.in-Mask.is in
     record {
       few = stats-few c.requires.running.rest c.args.m c.loop-r.r counted.0 counted.1;
       rows = counted.0;
-      fits = fits-table c.args.table.now _ (rw c.requires.lanes_nonzero.5 (below-at _ _ _ (wide k) free.mask));
+      fits = fits-table c.args.table.now _ (below-at _ _ _ (wide k) free.mask);
       some = record {
         scratch = (noting_of c.args.first c.requires.running.rest c.args.m c.loop-r.r).scratch;
-        cells = part c.args.lanes c.args.text.now c.loop-r.at;
+        cells = part c.args.table.now.lanes.count c.args.text.now c.loop-r.at;
         fits = record {
           row = refl;
           count = refl;
@@ -87,25 +87,27 @@ add_taps-r-requires c =
 pub loop-r-preserved : goal.loop-r-preserved
 loop-r-preserved c =
     let k = (goal.at.loop-r-preserved c).In-Mask in
-    let pre = c.requires.lanes_nonzero in
+    let pre = c.requires.in_text in
+    let L = c.args.table.now.lanes.count in
+    let narrow = c.args.table.now.lanes.within.1 in
     let v = c.loop-r in
     let a = c.args in
     let i = v.r.row - a.first in
     let ms = all k in
     let t = c.add_taps-r.ensures in
     let free = free-told c.free_taps.ensures c.in-Mask.is in
-    let next : c.add_taps-r.result.row - a.first ≡ i + 1 = omega (arith, t.row, pre.3, v.invariant.0) in
-    let more = ap (λ n. take n ms) next ∙ row_more a.lanes a.rows a.text.now a.start pre.2 i v.at (below k) v.invariant.2 in
-    let above : a.first ≤ v.r.row = omega (arith, pre.3, v.invariant.0) in
+    let next : c.add_taps-r.result.row - a.first ≡ i + 1 = omega (arith, t.row, pre.1, v.invariant.0) in
+    let more = ap (λ n. take n ms) next ∙ row_more L a.rows a.text.now a.start pre.0 i v.at (below k) v.invariant.2 in
+    let above : a.first ≤ v.r.row = omega (arith, pre.1, v.invariant.0) in
     let counted = count-few _ _ _ _ _ _ (walked k) (within k) in
     let width = wide k in
-    let noted = note-ready _ _ _ _ _ _ (walked k) (within k) (part a.lanes a.text.now v.at) width pre.1 in (
+    let noted = note-ready _ _ _ _ _ _ (walked k) (within k) (part L a.text.now v.at) width narrow in (
       omega (arith, v.invariant.0, t.row),
       omega (arith, t.row, c.loop-r-test.true),
-      next-at v.at a.start i a.lanes v.invariant.2 ∙ ap (λ n. a.start + n * (a.lanes + 1)) (sym next),
+      next-at v.at a.start i L v.invariant.2 ∙ ap (λ n. a.start + n * (L + 1)) (sym next),
       c.add_taps-r.auto.slots ∙ v.invariant.3,
-      (λ q done x. subst (Counted a.lanes _ done) (sym more)
-          (counted-taps a.lanes q a.m v.r _ _ done (take i ms) _ _ _ t free (omega (arith, width)) pre.1 (v.invariant.4 q done x))),
-      (λ q done x. subst (NotedRows a.lanes _ _ done) (sym more)
-          (noted-taps a.lanes q a.m v.r _ _ done (take i ms) _ _ _ t free (omega (arith, width)) a.first above counted.0 (omega (arith, width, pre.1)) noted.room.room (v.invariant.5 q done x))),
+      (λ q done x. subst (Counted L _ done) (sym more)
+          (counted-taps L q a.m v.r _ _ done (take i ms) _ _ _ t free (omega (arith, width)) narrow (v.invariant.4 q done x))),
+      (λ q done x. subst (NotedRows L _ _ done) (sym more)
+          (noted-taps L q a.m v.r _ _ done (take i ms) _ _ _ t free (omega (arith, width)) a.first above counted.0 (omega (arith, width, narrow)) noted.room.room (v.invariant.5 q done x))),
     )

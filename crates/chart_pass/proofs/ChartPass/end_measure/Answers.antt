@@ -26,11 +26,10 @@ append_row_beats-requires c =
     let w = ended-few _ _ _ _ _ _ c.requires.room.0 c.reduce_output_measure-kept.ensures (some-kept _ _ _ _ _ _ c.requires.charted) in
     (omega (arith, w.0, c.requires.rows_in_bounds.0), omega (arith, w.0, c.requires.room.1), c.requires.room.3)
 
-pub walk_rows-walk-requires : goal.walk_rows-walk-requires
-walk_rows-walk-requires c =
-    let lanes = c.args.table.now.lanes.within in
+pub walk_rows-requires : goal.walk_rows-requires
+walk_rows-requires c =
     let w = ended-few _ _ _ _ _ _ c.requires.room.0 c.reduce_output_measure-kept.ensures (some-kept _ _ _ _ _ _ c.requires.charted) in record {
-      lanes_nonzero = (omega (arith, lanes.0), lanes.1, omega (arith, w.1, c.requires.room.0, c.reduce_output_measure-kept.auto.text), refl);
+      in_text = omega (arith, w.1, c.requires.room.0, c.reduce_output_measure-kept.auto.text);
       walking = walk-room _ _ _ _ _ _ c.requires.charted _ _ w.0 c.requires.room.1 c.requires.rows_in_bounds.1 c.requires.room.3;
     }
 
@@ -49,7 +48,7 @@ returns c = record {
   chart_ended =
       λ done cur x.
       charted-end _ _ _ _ _ _ _ _ _
-      (λ done cur k. measure-ended _ _ _ _ _ _ c.requires.room.0 c.reduce_output_measure-kept.ensures done cur k _ c.walk_rows-walk.ensures.counted c.requires.room.2 _ (c.density.ensures _))
-      done cur x (omega (arith, c.requires.rows_in_bounds.0)) _ c.append_row_beats.ensures _ _ c.walk_rows-walk.ensures.noted;
+      (λ done cur k. measure-ended _ _ _ _ _ _ c.requires.room.0 c.reduce_output_measure-kept.ensures done cur k _ c.walk_rows.ensures.counted c.requires.room.2 _ (c.density.ensures _))
+      done cur x (omega (arith, c.requires.rows_in_bounds.0)) _ c.append_row_beats.ensures _ _ c.walk_rows.ensures.noted;
   no_more = ((ended-few _ _ _ _ _ _ c.requires.room.0 c.reduce_output_measure-kept.ensures (some-kept _ _ _ _ _ _ c.requires.charted)).1, refl);
 }

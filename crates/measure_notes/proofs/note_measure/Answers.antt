@@ -1,6 +1,0 @@
--- `measure_notes::note_measure` meets its contract.
-use Rattle.measure_notes.proofs.Rows.{noted-measure}
-use Rattle.measure_notes.proofs.note_measure.Goals as goal
-
-pub returns : goal.returns
-returns c L l done cur x = noted-measure L _ l done cur x _ (c.last_measure-last.ensures done cur x.last)
