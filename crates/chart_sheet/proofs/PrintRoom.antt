@@ -67,7 +67,7 @@ tally-lines f fit =
     let t = f.chart.stats in
     listed-most (λ (i : ℕ). line_of_tally (field_at t i).0 (field_at t i).1 (field_at f.kept.stats i).1 (field_at f.judged i).1) field_count 100
     (λ i h. tally-line (field_at t i).0 (field_at t i).1 (field_at f.kept.stats i).1 (field_at f.judged i).1
-        (field-fits t fit.main i) (field-fits f.kept.stats fit.kept i) (field-fits f.judged fit.judged i) (field-name t i))
+    (field-fits t fit.main i) (field-fits f.kept.stats fit.kept i) (field-fits f.judged fit.judged i) (field-name t i))
 
 print-tallies : (f : SheetFigures) → FiguresFit f → length (print_tallies f) ≤ 1441
 unfolding print_tallies head_of_tally

@@ -96,16 +96,7 @@ fn write_sheet(
     ensures sheet_after { sheet.new ≡ padded 0 (length sheet.old) (sheet_in_form form (lanes_of lanes) «data».now) }
 {
     let columns = Lanes::in_force(lanes);
-    let figures = sheet_answers(
-        data,
-        columns,
-        text,
-        densities,
-        spacing,
-        beats,
-        work,
-        notes,
-    );
+    let figures = sheet_answers(data, columns, text, densities, spacing, beats, work, notes);
     let measures = figures.chart.measures;
     let end = figures.chart.notes * 10;
     let bytes = put_form(
