@@ -33,7 +33,7 @@ use Rattle.chart_pass.specs.ChartPass.{ChartAll}
 module _ (L : ℕ) (data-text : List ℕ) (p : ChartPass) (text densities : List ℕ) (beats : List Float) (slots : List ℕ) (x : ChartAll L data-text p text densities beats slots) where
   pub all-beats : (n : ℕ) → length beats ≡ n → most_rows_in L (length data-text) ≤ n → zeroed (f32 0) p.pass.counting.rows beats ≡ padded (f32 0) n (beats_of L data-text)
   all-beats n size h =
-      zeroed-answer (f32 0) beats p.pass.counting.rows n (λ L. beats_of L data-text) refl size (omega (arith, x.kept.rows_few, size, h)) x.beats-are
+      zeroed-answer (f32 0) beats p.pass.counting.rows n (λ L. beats_of L data-text) refl size (omega (arith, x.kept.rows_few, size, h)) x.beats_are
 
   written : Written (joined (minimised L data-text)) p.noting.scratch slots
   written = subst (λ rs. Written rs p.noting.scratch slots) (append-nil (joined (minimised L data-text))) x.noted.written

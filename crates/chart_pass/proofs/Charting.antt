@@ -57,10 +57,10 @@ module _ (L : ℕ) (p : ChartPass) (text densities : List ℕ) (beats : List Flo
         record {
           ended = k;
           noted = subst (Noted L s slots₁) (ap (λ rs. done ++ (rs ∷ [])) (rows-there L e after dens done (reduce cur) k)) (f done x.noted);
-          beats-are =
+          beats_are =
               ap (λ n. take n beats₁) (sym rows-after)
               ∙ ap (take (p.pass.counting.rows + e.rows)) eb
-              ∙ beats-appended beats p.pass.counting.rows e.midx e.rows done (reduce cur) room x.beats-are k.midx k.rows;
+              ∙ beats-appended beats p.pass.counting.rows e.midx e.rows done (reduce cur) room x.beats_are k.midx k.rows;
         }
 
 -- there is room for the walk over the minimised rows
@@ -87,7 +87,7 @@ pub charted-next : (L : ℕ) (e : ChartPass) (text after densities : List ℕ) (
 charted-next L e text after densities beats slots done cur x q k =
     let same : q.counting.rows ≡ e.pass.counting.rows =
     k.counted.rows ∙ ap length (append-nil (joined (done ++ (cur ∷ []))) ∙ joined_snoc done cur) ∙ sym x.ended.counted.rows in
-    record { kept = k; noted = x.noted; beats-are = ap (λ n. take n beats) same ∙ x.beats-are }
+    record { kept = k; noted = x.noted; beats_are = ap (λ n. take n beats) same ∙ x.beats_are }
 
 -- a row of L bytes is one row more
 pub charted-more : (L : ℕ) (p q : ChartPass) (text after : List ℕ) (row : Row) → length row ≡ L
@@ -113,5 +113,5 @@ chart-all L e data-text text densities beats slots done cur read few x fits shor
     record {
       kept = kept-all L e.pass data-text text densities done cur read few x.ended fits short;
       noted = subst (Noted L e.noting slots) (sym all) x.noted;
-      beats-are = x.beats-are ∙ ap (λ ms. joined (beats_from 0 ms)) (sym all);
+      beats_are = x.beats_are ∙ ap (λ ms. joined (beats_from 0 ms)) (sym all);
     }

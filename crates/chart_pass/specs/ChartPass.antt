@@ -12,7 +12,7 @@ use Rattle.chart_pass.specs.declared.ChartPass.{ChartPass}
 pub record Charted (L : ℕ) (p : ChartPass) (text densities : List ℕ) (beats : List Float) (slots : List ℕ) (done : List (List Row)) (cur : List Row) : Type 0 where
   pub kept : Kept L p.pass text densities done cur
   pub noted : Noted L p.noting slots done
-  pub beats-are : take p.pass.counting.rows beats ≡ joined (beats_from 0 done)
+  pub beats_are : take p.pass.counting.rows beats ≡ joined (beats_from 0 done)
 
 pub record SomeCharted (L : ℕ) (p : ChartPass) (text densities : List ℕ) (beats : List Float) (slots : List ℕ) : Type 0 where
   pub done : List (List Row)
@@ -23,10 +23,10 @@ pub record SomeCharted (L : ℕ) (p : ChartPass) (text densities : List ℕ) (be
 pub record ChartEnded (L : ℕ) (p : ChartPass) (text densities : List ℕ) (beats : List Float) (slots : List ℕ) (done : List (List Row)) (cur : List Row) : Type 0 where
   pub ended : MeasureEnded L p.pass text densities done cur
   pub noted : Noted L p.noting slots (done ++ (cur ∷ []))
-  pub beats-are : take p.pass.counting.rows beats ≡ joined (beats_from 0 (done ++ (cur ∷ [])))
+  pub beats_are : take p.pass.counting.rows beats ≡ joined (beats_from 0 (done ++ (cur ∷ [])))
 
 -- A whole text was read: what stands in the slices and was counted and noted is that of its minimised measures.
 pub record ChartAll (L : ℕ) (chart-text : List ℕ) (p : ChartPass) (text densities : List ℕ) (beats : List Float) (slots : List ℕ) : Type 0 where
   pub kept : KeptAll L chart-text p.pass text densities
   pub noted : Noted L p.noting slots (minimised L chart-text)
-  pub beats-are : take p.pass.counting.rows beats ≡ beats_of L chart-text
+  pub beats_are : take p.pass.counting.rows beats ≡ beats_of L chart-text

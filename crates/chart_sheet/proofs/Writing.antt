@@ -28,44 +28,44 @@ use Rattle.chart_sheet.proofs.Answering.{form-sheet, form-room}
 pub record Gathered (lanes : ℕ) (text ds ss ns : List ℕ) (d s n : ℕ) (a : SheetFigures) : Type 0 where
   pub short : length text ≤ most_bytes
   pub answers : a ≡ sheet_figures (lanes_of lanes) text
-  pub densities-are : ds ≡ padded 0 d (densities (lanes_of lanes) text)
-  pub spacings-are : ss ≡ padded 0 s (spacings (lanes_of lanes) text)
-  pub notes-are : ns ≡ padded 0 n (records (notes (lanes_of lanes) text))
-  pub densities-length : length ds ≡ d
-  pub spacings-length : length ss ≡ s
-  pub notes-length : length ns ≡ n
+  pub densities_are : ds ≡ padded 0 d (densities (lanes_of lanes) text)
+  pub spacings_are : ss ≡ padded 0 s (spacings (lanes_of lanes) text)
+  pub notes_are : ns ≡ padded 0 n (records (notes (lanes_of lanes) text))
+  pub densities_length : length ds ≡ d
+  pub spacings_length : length ss ≡ s
+  pub notes_length : length ns ≡ n
 
 -- an answer that was padded to n entries has at most n
 padded-fits : (l : List ℕ) (n : ℕ) → length (padded 0 n l) ≡ n → length l ≤ n
 padded-fits l n e = omega (arith, simp (length-append, length-replicate) at e)
 
 module _ {lanes : ℕ} {text ds ss ns : List ℕ} {d s n : ℕ} {a : SheetFigures} (g : Gathered lanes text ds ss ns d s n a) where
-  pub chart-is : a.chart ≡ figures_of_chart (lanes_of lanes) text
+  pub chart_is : a.chart ≡ figures_of_chart (lanes_of lanes) text
   unfolding sheet_figures
-  chart-is = ap (λ (x : SheetFigures). x.chart) g.answers
+  chart_is = ap (λ (x : SheetFigures). x.chart) g.answers
 
   measures-count : a.chart.measures ≡ length (densities (lanes_of lanes) text)
   unfolding figures_of_chart
-  measures-count = ap (λ (f : ChartFigures). f.measures) chart-is ∙ sym (densities-count (lanes_of lanes) text)
+  measures-count = ap (λ (f : ChartFigures). f.measures) chart_is ∙ sym (densities-count (lanes_of lanes) text)
 
   notes-count : a.chart.notes ≡ length (notes (lanes_of lanes) text)
   unfolding figures_of_chart
-  notes-count = ap (λ (f : ChartFigures). f.notes) chart-is
+  notes-count = ap (λ (f : ChartFigures). f.notes) chart_is
 
   pub measures-fit : a.chart.measures ≤ length ds
   measures-fit =
-      let few : length (densities (lanes_of lanes) text) ≤ d = padded-fits (densities (lanes_of lanes) text) d (ap length (sym g.densities-are) ∙ g.densities-length) in
-      omega (arith, few, measures-count, g.densities-length)
+      let few : length (densities (lanes_of lanes) text) ≤ d = padded-fits (densities (lanes_of lanes) text) d (ap length (sym g.densities_are) ∙ g.densities_length) in
+      omega (arith, few, measures-count, g.densities_length)
 
   pub spacings-fit : a.chart.measures ≤ length ss
   spacings-fit =
-      let few : length (spacings (lanes_of lanes) text) ≤ s = padded-fits (spacings (lanes_of lanes) text) s (ap length (sym g.spacings-are) ∙ g.spacings-length) in
-      omega (arith, few, measures-count, densities-count (lanes_of lanes) text, spacings-count (lanes_of lanes) text, g.spacings-length)
+      let few : length (spacings (lanes_of lanes) text) ≤ s = padded-fits (spacings (lanes_of lanes) text) s (ap length (sym g.spacings_are) ∙ g.spacings_length) in
+      omega (arith, few, measures-count, densities-count (lanes_of lanes) text, spacings-count (lanes_of lanes) text, g.spacings_length)
 
   pub notes-fit : a.chart.notes * 10 ≤ length ns
   notes-fit =
-      let few : length (records (notes (lanes_of lanes) text)) ≤ n = padded-fits (records (notes (lanes_of lanes) text)) n (ap length (sym g.notes-are) ∙ g.notes-length) in
-      omega (arith, few, records-length (notes (lanes_of lanes) text), notes-count, g.notes-length)
+      let few : length (records (notes (lanes_of lanes) text)) ≤ n = padded-fits (records (notes (lanes_of lanes) text)) n (ap length (sym g.notes_are) ∙ g.notes_length) in
+      omega (arith, few, records-length (notes (lanes_of lanes) text), notes-count, g.notes_length)
 
   -- a bound by which ten times as many do not wrap
   pub notes-small : a.chart.notes ≤ 167772160
@@ -77,16 +77,16 @@ module _ {lanes : ℕ} {text ds ss ns : List ℕ} {d s n : ℕ} {a : SheetFigure
       omega (arith, notes-count, notes-few (lanes_of lanes) text, wide, rows_few (lanes_of lanes) text some, div-le_self (length text + 1) (lanes_of lanes + 1), g.short)
 
   densities-part : take a.chart.measures ds ≡ densities (lanes_of lanes) text
-  densities-part = ap (take a.chart.measures) g.densities-are ∙ take_at (densities (lanes_of lanes) text) _ a.chart.measures (sym measures-count)
+  densities-part = ap (take a.chart.measures) g.densities_are ∙ take_at (densities (lanes_of lanes) text) _ a.chart.measures (sym measures-count)
 
   spacings-part : take a.chart.measures ss ≡ spacings (lanes_of lanes) text
   spacings-part =
-      ap (take a.chart.measures) g.spacings-are
+      ap (take a.chart.measures) g.spacings_are
       ∙ take_at (spacings (lanes_of lanes) text) _ a.chart.measures (spacings-count (lanes_of lanes) text ∙ sym (densities-count (lanes_of lanes) text) ∙ sym measures-count)
 
   notes-part : take (a.chart.notes * 10) ns ≡ records (notes (lanes_of lanes) text)
   notes-part =
-      ap (take (a.chart.notes * 10)) g.notes-are
+      ap (take (a.chart.notes * 10)) g.notes_are
       ∙ take_at (records (notes (lanes_of lanes) text)) _ (a.chart.notes * 10) (records-length (notes (lanes_of lanes) text) ∙ ap (λ (k : ℕ). k * 10) (sym notes-count))
 
   -- the form that is put of these answers and parts

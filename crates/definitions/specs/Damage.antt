@@ -157,20 +157,20 @@ ObjectFirst rows = (c i : ℕ) → byte_in rows i c ≡ 51 → (j : ℕ) × (j <
 pub record DamageStays (L d : ℕ) (old new : List ℕ) : Type 0 where
   -- Both have the same number of measures, and every other measure has the same minimised rows, row beats, density and spacing in both.
   pub same_rows : SameBut d (minimised L old) (minimised L new)
-  pub same-beats : SameBut d (measure_beats L old) (measure_beats L new)
-  pub same-density : SameBut d (densities L old) (densities L new)
-  pub same-spacing : SameBut d (spacings L old) (spacings L new)
+  pub same_beats : SameBut d (measure_beats L old) (measure_beats L new)
+  pub same_density : SameBut d (densities L old) (densities L new)
+  pub same_spacing : SameBut d (spacings L old) (spacings L new)
   -- The notes headed in later measures are the same in number, order and every field, but for the one shift added to rows and tails.
-  pub later-notes : Each (Shifted (length (rows_of L d old)) (length (rows_of L d new))) (later L d old) (later L d new)
+  pub later_notes : Each (Shifted (length (rows_of L d old)) (length (rows_of L d new))) (later L d old) (later L d new)
   -- The notes headed earlier are the same in number, order and every field, leaving out exactly those of the heads open where d begins,
   -- which are heads of the rows before d, the same in both texts.
-  pub same-before : rows_above L d old ≡ rows_above L d new
-  pub earlier-notes : those (λ x. not (open_at L d old x)) (earlier L d old) ≡ those (λ x. not (open_at L d new x)) (earlier L d new)
+  pub same_before : rows_above L d old ≡ rows_above L d new
+  pub earlier_notes : those (λ x. not (open_at L d old x)) (earlier L d old) ≡ those (λ x. not (open_at L d new x)) (earlier L d new)
   -- The note of such a head is in each text missing or has that row, column and kind and a tail in d or later, which is a row of that text.
-  pub open-heads : (i c : ℕ)
+  pub open_heads : (i c : ℕ)
       → open_in (rows_above L d old) i c ≡ true
       → MissingOrLate (length (rows_above L d old)) (row_count L old) i c (head_kind (byte_in (rows_above L d old) i c)) (notes L old)
       × MissingOrLate (length (rows_above L d old)) (row_count L new) i c (head_kind (byte_in (rows_above L d old) i c)) (notes L new)
   -- The last beat is the same too where later measures hold a 1, M, L, F or K, and in them, in each column with a 3, such a cell stands
   -- before the first 3. "Equal floats have equal bits."
-  pub same-last : HoldObject (all_later L d old) → ObjectFirst (all_later L d old) → last_beat_of L old ≡ last_beat_of L new
+  pub same_last : HoldObject (all_later L d old) → ObjectFirst (all_later L d old) → last_beat_of L old ≡ last_beat_of L new

@@ -145,25 +145,25 @@ module _ (file : List ℕ) where
       }
 
   -- the line that it stands on is met first, and no line before it starts a block
-  tag-met : (n off : ℕ) (t : Tag) → length file < off + n → first_tag notes_tag off (lines_from file off) ≡ Some t → TagMet off t
-  tag-met zero off t b e =
+  tag_met : (n off : ℕ) (t : Tag) → length file < off + n → first_tag notes_tag off (lines_from file off) ≡ Some t → TagMet off t
+  tag_met zero off t b e =
       let none = tag-none notes_tag file off (omega arith) in
       let z : ◌≡◌ {A = ℕ} 0 1 = cc in
       absurd (omega arith)
-  tag-met (suc n) off t b e = elim (dec_lt (length file) off) [
+  tag_met (suc n) off t b e = elim (dec_lt (length file) off) [
     | yes past ↦
         let none = tag-none notes_tag file off past in
         let z : ◌≡◌ {A = ℕ} 0 1 = cc in
         absurd (omega arith)
     | no not ↦
         let within : off ≤ length file = omega arith in
-        met off t within (is_tagged notes_tag (line_at off)) refl e (tag-met n (next_at off) t (omega arith))
+        met off t within (is_tagged notes_tag (line_at off)) refl e (tag_met n (next_at off) t (omega arith))
   ]
 
   -- a tag lies on its line
-  tag-on-line : (t : Tag) {off : ℕ} → TagMet off t → (t.line < t.end) × (t.end ≤ length file)
+  tag_on_line : (t : Tag) {off : ℕ} → TagMet off t → (t.line < t.end) × (t.end ≤ length file)
   unfolding tag_of notes_tag is_tagged
-  tag-on-line t m =
+  tag_on_line t m =
       let l = line_at t.line in
       let place : t.end ≡ t.line + (length l - length (trim l)) + 7 = ap (λ (u : Tag). u.end) m.is in
       let long = starts_with-length notes_tag (trim l) m.tagged in
@@ -186,11 +186,11 @@ module _ (file : List ℕ) where
   end_after t = omega arith
 
   -- the blocks from `off` on: the one whose tag is found, and those after its lines
-  pub block-met : (off : ℕ) (t : Tag) → first_tag notes_tag off (lines_from file off) ≡ Some t → from 0 off ≡ t ∷ from 0 (line_past_block file t)
+  pub block_met : (off : ℕ) (t : Tag) → first_tag notes_tag off (lines_from file off) ≡ Some t → from 0 off ≡ t ∷ from 0 (line_past_block file t)
   unfolding line_past_block
-  block-met off t e =
-      let m = tag-met (suc (length file)) off t (omega arith) e in
-      let p = tag-on-line t m in
+  block_met off t e =
+      let m = tag_met (suc (length file)) off t (omega arith) e in
+      let p = tag_on_line t m in
       let ends : block_end file t ≤ length file = end-within file t p.1 in
       let after : t.end ≤ block_end file t = end_after t in
       let inside = sym (step-inside (block_end file t) t.line m.within (omega (arith, p.0))) in
@@ -210,11 +210,11 @@ module _ (file : List ℕ) where
       step_other 0 off h other ∙ later (sym (tag-next notes_tag file off (line_at off) (trim (line_at off)) h refl refl other) ∙ e)
 
   -- where no tag is found there is no block
-  pub none-met : (n off : ℕ) → length file < off + n → first_tag notes_tag off (lines_from file off) ≡ None → from 0 off ≡ []
-  none-met zero off b e = step_end 0 off (omega arith)
-  none-met (suc n) off b e = elim (dec_lt (length file) off) [
+  pub none_met : (n off : ℕ) → length file < off + n → first_tag notes_tag off (lines_from file off) ≡ None → from 0 off ≡ []
+  none_met zero off b e = step_end 0 off (omega arith)
+  none_met (suc n) off b e = elim (dec_lt (length file) off) [
     | yes past ↦ step_end 0 off past
     | no not ↦
         let within : off ≤ length file = omega arith in
-        unmet off within (is_tagged notes_tag (line_at off)) refl e (none-met n (next_at off) (omega arith))
+        unmet off within (is_tagged notes_tag (line_at off)) refl e (none_met n (next_at off) (omega arith))
   ]

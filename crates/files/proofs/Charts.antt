@@ -23,7 +23,7 @@ use Rattle.lines.proofs.Lines.{lines_start}
 use Rattle.files.specs.Tags.{first_tag, after_tag}
 use Rattle.files.specs.declared.sm.SmChart.{SmChart}
 use Rattle.files.specs.Sm.{BlockPart, answer_of, block_at, block_parts, line_past_block, data_part}
-use Rattle.files.proofs.Blocks.{block-met, none-met}
+use Rattle.files.proofs.Blocks.{block_met, none_met}
 use Rattle.files.proofs.Tags.{moved}
 use Rattle.files.proofs.Rest.{at_first, text-moved, end_moved, from-moved}
 
@@ -44,7 +44,7 @@ module _ (file : List ℕ) where
   blocks-none e = go (first_tag notes_tag 0 (lines_from file 0)) refl (ap (λ ls. option_map (λ (t : Tag). drop t.end file) (first_tag notes_tag 0 ls)) (lines_start file) ∙ e)
     where
       go : (o : Option Tag) → first_tag notes_tag 0 (lines_from file 0) ≡ o → option_map (λ (t : Tag). drop t.end file) o ≡ None → map (block_at file) (blocks file) ≡ []
-      go None found w = ap (map (block_at file)) (at_first file ∙ none-met file (suc (length file)) 0 (omega arith) found)
+      go None found w = ap (map (block_at file)) (at_first file ∙ none_met file (suc (length file)) 0 (omega arith) found)
       go (Some t) found w = let z : ◌≡◌ {A = ℕ} 0 1 = cc in absurd (omega arith)
 
   -- what follows a block, and the line on which it ends
@@ -80,7 +80,7 @@ module _ (file : List ℕ) where
           let tag : drop t.end file ≡ u = cc in
           let p : ℕ = line_past_block file t in
           let rest : drop p file ≡ after 10 (after 59 u) = past-is t ∙ ap (after 10) (below-is t ∙ ap (after 59) tag) in
-          ap (map (block_at file)) (at_first file ∙ block-met file 0 t found ∙ ap (λ (l : List Tag). t ∷ l) (from-moved file p))
+          ap (map (block_at file)) (at_first file ∙ block_met file 0 t found ∙ ap (λ (l : List Tag). t ∷ l) (from-moved file p))
           ∙ ap (λ (l : List BlockPart). block_at file t ∷ l) (parts-moved file p (blocks (drop p file)) ∙ ap (λ (s : List ℕ). map (block_at s) (blocks s)) rest)
           ∙ ap (λ (b : BlockPart). b ∷ map (block_at (after 10 (after 59 u))) (blocks (after 10 (after 59 u)))) (part-is t u tag)
 
@@ -148,19 +148,19 @@ module _ (file : List ℕ) (k : ℕ) (short : length file ≤ most_bytes) where
             let h = get_some (blocks file) k t (record { line = 0; end = 0 }) w in
             (h.0, ap (block_at file) h.1 ∙ cc)
 
-    text-is : sm_text file k ≡ b.text
+    text_is : sm_text file k ≡ b.text
     unfolding sm_text
-    text-is = ap (λ (x : BlockPart). x.text) here.1
+    text_is = ap (λ (x : BlockPart). x.text) here.1
 
     pub answer-few : data_part b.text ≡ None → Err FewFields ≡ sm_answer file k
     unfolding sm_answer long_text
     answer-few w =
-        simp (le-ltb most_bytes (length file) short, lt-leb (length (blocks file)) k here.0, part-few (sm_text file k) (ap data_part text-is ∙ w))
+        simp (le-ltb most_bytes (length file) short, lt-leb (length (blocks file)) k here.0, part-few (sm_text file k) (ap data_part text_is ∙ w))
 
     module _ (d : List ℕ) (ed : data_part b.text ≡ Some d) where
       enough : (ltb (colons (sm_text file k)) 5 ≡ false) × (sm_data file k ≡ d)
       unfolding data_part sm_data
-      enough = go (ltb (colons (sm_text file k)) 5) refl (ap data_part text-is ∙ ed)
+      enough = go (ltb (colons (sm_text file k)) 5) refl (ap data_part text_is ∙ ed)
         where
           go : (t : Bool) → ltb (colons (sm_text file k)) 5 ≡ t → cond t None (Some (data_of (sm_text file k))) ≡ Some d → (ltb (colons (sm_text file k)) 5 ≡ false) × (data_of (sm_text file k) ≡ d)
           go true q z = let z : ◌≡◌ {A = ℕ} 0 1 = cc in absurd (omega arith)
@@ -169,7 +169,7 @@ module _ (file : List ℕ) (k : ℕ) (short : length file ≤ most_bytes) where
       pub answer-other : lanes_of_type (type_of b.text) ≡ None → Err OtherType ≡ sm_answer file k
       unfolding sm_answer long_text sm_lanes
       answer-other w =
-          let none : lanes_of_type (type_of (sm_text file k)) ≡ None = ap (λ l. lanes_of_type (type_of l)) text-is ∙ w in
+          let none : lanes_of_type (type_of (sm_text file k)) ≡ None = ap (λ l. lanes_of_type (type_of l)) text_is ∙ w in
           simp (le-ltb most_bytes (length file) short, lt-leb (length (blocks file)) k here.0, enough.0, none)
 
       ends : block_end file (sm_tag file k) ≤ length file
@@ -187,6 +187,6 @@ module _ (file : List ℕ) (k : ℕ) (short : length file ≤ most_bytes) where
       pub answer-chart : (n : ℕ) → lanes_of_type (type_of b.text) ≡ Some n → Ok (record { lanes = n; start = length file - length b.below - length d; part = d }) ≡ sm_answer file k
       unfolding sm_answer long_text sm_lanes
       answer-chart n w =
-          let some : lanes_of_type (type_of (sm_text file k)) ≡ Some n = ap (λ l. lanes_of_type (type_of l)) text-is ∙ w in
+          let some : lanes_of_type (type_of (sm_text file k)) ≡ Some n = ap (λ l. lanes_of_type (type_of l)) text_is ∙ w in
           let start : length file - length b.below - length d ≡ sm_start file k = omega (arith, size, ends, data-to-end file k, ap length enough.1) in
           simp (le-ltb most_bytes (length file) short, lt-leb (length (blocks file)) k here.0, enough.0, some) (cc (start, enough.1))

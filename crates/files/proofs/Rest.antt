@@ -26,7 +26,7 @@ use Rattle.std.specs.Prelude.{Option}
 use Rattle.std.specs.Prelude.{Some, None}
 use Rattle.files.proofs.Words.{drop_head}
 use Rattle.files.proofs.Tags.{moved}
-use Rattle.files.proofs.Blocks.{from, any-past, block-met, none-met, step_end}
+use Rattle.files.proofs.Blocks.{from, any-past, block_met, none_met, step_end}
 
 -- tests of two places moved by p
 leb-moved : (p a b : ℕ) → leb (p + a) (p + b) ≡ leb a b
@@ -120,10 +120,10 @@ first_block file h = go (first_tag notes_tag 0 (lines_from file 0)) refl
   where
     go : (f : Option Tag) → first_tag notes_tag 0 (lines_from file 0) ≡ f → blocks file ≡ sm_tag file 0 ∷ from file 0 (line_past_block file (sm_tag file 0))
     go None e =
-        let none = at_first file ∙ none-met file (suc (length file)) 0 (omega arith) e in
+        let none = at_first file ∙ none_met file (suc (length file)) 0 (omega arith) e in
         absurd (omega (arith, ap length none))
     go (Some t) e =
-        let all = at_first file ∙ block-met file 0 t e in
+        let all = at_first file ∙ block_met file 0 t e in
         let is : get_or (blocks file) 0 (record { line = 0; end = 0 }) ≡ t = (drop_head (blocks file) 0 t (record { line = 0; end = 0 }) _ all).1 in
         all ∙ ap (λ (u : Tag). u ∷ from file 0 (line_past_block file u)) (sym is)
 

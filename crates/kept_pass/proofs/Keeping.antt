@@ -44,12 +44,12 @@ kept-all L e data-text text densities₁ done cur read few x fits short =
     let rows_are : joined (map reduce (chart L data-text)) ≡ joined (map reduce done) ++ reduce cur = ap joined all ∙ joined_snoc (map reduce done) (reduce cur) in
     let bytes : take e.out text ≡ text_of (map reduce (chart L data-text)) = x.wrote.bytes ∙ sym (ap text_of all ∙ text-done (map reduce done) (reduce cur)) in
     record {
-      text-is = bytes;
+      text_is = bytes;
       out = sym (ap length (sym bytes) ∙ length-take-le e.out text fits);
       short = short;
-      densities-are = x.stored ∙ sym (ap (map density) all);
+      densities_are = x.stored ∙ sym (ap (map density) all);
       midx = sym (ap length all ∙ length-append (map reduce done) (reduce cur ∷ []) ∙ ap (λ n. n + 1) (sym x.midx));
-      measures-few = omega (arith, few.measures, x.midx);
+      measures_few = omega (arith, few.measures, x.midx);
       stats = x.counted.stats ∙ ap tally (sym rows_are);
       phantoms = subst (λ rs. Counts L rs e.counting.phantoms) (sym rows_are) x.counted.phantoms;
       rows = x.counted.rows ∙ ap length (sym rows_are);

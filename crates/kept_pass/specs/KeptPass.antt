@@ -35,12 +35,12 @@ pub record MeasureEnded (L : ℕ) (p : KeptPass) (text densities : List ℕ) (do
 
 -- A whole text was read: the text, the densities and what is counted are those of its minimised measures.
 pub record KeptAll (L : ℕ) (chart-text : List ℕ) (p : KeptPass) (text densities : List ℕ) : Type 0 where
-  pub text-is : take p.out text ≡ minimised_text L chart-text
+  pub text_is : take p.out text ≡ minimised_text L chart-text
   pub out : p.out ≡ length (minimised_text L chart-text)
   pub short : p.out ≤ length chart-text + 1
-  pub densities-are : take (p.midx + 1) densities ≡ densities_of L chart-text
+  pub densities_are : take (p.midx + 1) densities ≡ densities_of L chart-text
   pub midx : p.midx + 1 ≡ measure_count L chart-text
-  pub measures-few : 2 * p.midx ≤ length chart-text + 1
+  pub measures_few : 2 * p.midx ≤ length chart-text + 1
   pub stats : p.counting.stats ≡ tally (joined (minimised L chart-text))
   pub phantoms : Counts L (joined (minimised L chart-text)) p.counting.phantoms
   pub rows : p.counting.rows ≡ length (joined (minimised L chart-text))

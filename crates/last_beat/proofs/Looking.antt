@@ -20,7 +20,7 @@ pub looked-last : (s t : LastScan) (L : ℕ) (text : List ℕ) → ((done : List
     → (Placed t.found) × (place_of t.found ≡ last_of (objects_from (λ c. 0) 0 (chart L text)))
 looked-last s t L text f x =
     let k = f x.done x.cur x.held in
-    (k.placed, k.found ∙ ap (λ ms. last_of (objects_from (λ c. 0) 0 ms)) (sym x.chart-is))
+    (k.placed, k.found ∙ ap (λ ms. last_of (objects_from (λ c. 0) 0 ms)) (sym x.chart_is))
 
 -- its beat in 48ths is that of the definitions
 pub looked-48 : (L : ℕ) (text : List ℕ) (o : Option RowPlace) → Placed o → place_of o ≡ last_of (objects_from (λ c. 0) 0 (chart L text)) → place48 (place_of o) ≡ last48 L text

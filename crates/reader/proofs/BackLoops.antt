@@ -40,7 +40,7 @@ rows-first trim L s h =
     let b = cut-below s in
     let below : back_rows_by trim L b.below ≡ back_rows_by trim L (cut (after 10 s)) =
     ⊎_elim (λ e. ap (back_rows_by trim L) e) (λ e. rw (e.0, e.1, none-row trim L h)) b.same in
-    rw (b.is-cut, below)
+    rw (b.is_cut, below)
 
 -- ---- rows have L bytes, and are few for a text of so many
 

@@ -126,7 +126,7 @@ pub record Holds (L : ℕ) (text : List ℕ) (K : List (List Row) → List Row �
 pub record Over (L : ℕ) (text : List ℕ) (K : List (List Row) → List Row → Type 0) : Type 0 where
   pub done : List (List Row)
   pub cur : List Row
-  pub chart-is : chart L text ≡ done ++ (cur ∷ [])
+  pub chart_is : chart L text ≡ done ++ (cur ∷ [])
   pub few : Few L (length text) done cur
   pub held : K done cur
 
@@ -184,7 +184,7 @@ module _ (L : ℕ) (text : List ℕ) where
         record {
           done = (held_of ls).done;
           cur = (held_of ls).cur;
-          chart-is = chart-held L text ∙ ap (λ ms. (held ms).done ++ ((held ms).cur ∷ [])) (sym whole.0);
+          chart_is = chart-held L text ∙ ap (λ ms. (held ms).done ++ ((held ms).cur ∷ [])) (sym whole.0);
           few = h.few;
           held = h.held;
         }

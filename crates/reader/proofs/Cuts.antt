@@ -22,17 +22,17 @@ line-front s = up_to-front 10 s
 -- The lines below the first are those of the text after its newline; where it has none, there are none.
 pub record Below (s : List ℕ) : Type 0 where
   pub below : List (List ℕ)
-  pub is-cut : cut s ≡ first_line s ∷ below
+  pub is_cut : cut s ≡ first_line s ∷ below
   pub same : (below ≡ cut (after 10 s)) ⊎ ((below ≡ []) × (after 10 s ≡ []))
 
 pub cut-below : (s : List ℕ) → Below s
 unfolding first_line up_to after
-cut-below [] = record { below = []; is-cut = refl; same = inr (refl, refl) }
+cut-below [] = record { below = []; is_cut = refl; same = inr (refl, refl) }
 cut-below (x ∷ s) = go (eqb x 10) refl (cut-below s)
   where
     go : (t : Bool) → eqb x 10 ≡ t → Below s → Below (x ∷ s)
-    go true e b = record { below = cut s; is-cut = rw e; same = inl (rw (after-cons, e)) }
-    go false e b = record { below = b.below; is-cut = rw (e, b.is-cut); same = rw (after-cons, e) b.same }
+    go true e b = record { below = cut s; is_cut = rw e; same = inl (rw (after-cons, e)) }
+    go false e b = record { below = b.below; is_cut = rw (e, b.is_cut); same = rw (after-cons, e) b.same }
 
 -- what follows a line of m bytes
 pub after-line : (m : ℕ) (s : List ℕ) → m ≤ length s → first_line s ≡ take m s → after 10 s ≡ drop (m + 1) s

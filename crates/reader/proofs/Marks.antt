@@ -26,7 +26,7 @@ unfolding chart_marks line_kind kind_of
 marks-first L s =
     let b = cut-below s in
     let below : marks L b.below ≡ marks L (cut (after 10 s)) = ⊎_elim (λ e. ap (marks L) e) (λ e. rw (e.0, e.1)) b.same in
-    rw (b.is-cut, below)
+    rw (b.is_cut, below)
 
 pub marks-none : (L : ℕ) → chart_marks L [] ≡ []
 unfolding chart_marks line_kind kind_of

@@ -25,40 +25,40 @@ module _ (f : List Row → ℕ) where
     pub room : 2 * m ≤ length text + 1
     pub figures : map f (chart L text) ≡ take m dst ++ (v ∷ [])
 
-  pub filling-start : (S : List Row → Type 0) (dst : List ℕ) → S [] → Filling S 0 dst [] []
-  filling-start S dst s = record { count = refl; stored = refl; state = s }
+  pub filling_start : (S : List Row → Type 0) (dst : List ℕ) → S [] → Filling S 0 dst [] []
+  filling_start S dst s = record { count = refl; stored = refl; state = s }
 
   module _ (S S' : List Row → Type 0) (m : ℕ) (dst : List ℕ) where
-    pub filling-row : (row : Row) → ((cur : List Row) → S cur → S' (cur ++ (row ∷ [])))
+    pub filling_row : (row : Row) → ((cur : List Row) → S cur → S' (cur ++ (row ∷ [])))
         → (done : List (List Row)) (cur : List Row) → Filling S m dst done cur → Filling S' m dst done (cur ++ (row ∷ []))
-    filling-row row g done cur x = record { count = x.count; stored = x.stored; state = g cur x.state }
+    filling_row row g done cur x = record { count = x.count; stored = x.stored; state = g cur x.state }
 
-    pub filling-comma : (v : ℕ) → m < length dst → ((cur : List Row) → S cur → v ≡ f cur) → S' []
+    pub filling_comma : (v : ℕ) → m < length dst → ((cur : List Row) → S cur → v ≡ f cur) → S' []
         → (done : List (List Row)) (cur : List Row) → Filling S m dst done cur → Filling S' (m + 1) (set dst m v) (done ++ (cur ∷ [])) []
-    filling-comma v w g s done cur x =
+    filling_comma v w g s done cur x =
         record {
           count = rw length-append (omega (arith, x.count));
           stored = rw (add-one, take-suc-set dst m v w, x.stored, g cur x.state) (sym (map-append f done (cur ∷ [])));
           state = s;
         }
 
-  pub filling-over : (S : List Row → Type 0) (L : ℕ) (text : List ℕ) (m : ℕ) (dst : List ℕ) (v : ℕ) → ((cur : List Row) → S cur → v ≡ f cur) → Over L text (Filling S m dst) → Filled L text m v dst
-  filling-over S L text m dst v g x =
+  pub filling_over : (S : List Row → Type 0) (L : ℕ) (text : List ℕ) (m : ℕ) (dst : List ℕ) (v : ℕ) → ((cur : List Row) → S cur → v ≡ f cur) → Over L text (Filling S m dst) → Filled L text m v dst
+  filling_over S L text m dst v g x =
       record {
         room = omega (arith, x.held.count, x.few.measures);
-        figures = ap (map f) x.chart-is ∙ map-append f x.done (x.cur ∷ []) ∙ rw (← g x.cur x.held.state, ← x.held.stored);
+        figures = ap (map f) x.chart_is ∙ map-append f x.done (x.cur ∷ []) ∙ rw (← g x.cur x.held.state, ← x.held.stored);
       }
 
   -- the last figure stored and zeros after it: the whole slice
   module _ (L : ℕ) (text : List ℕ) (m v : ℕ) (dst : List ℕ) (w : m < length dst) (x : Filled L text m v dst) where
-    pub filled-count : m + 1 ≡ length (map f (chart L text))
-    filled-count = sym (ap length x.figures ∙ length-append (take m dst) (v ∷ []) ∙ ap (λ k. k + 1) (length-take-le m dst (omega arith)))
+    pub filled_count : m + 1 ≡ length (map f (chart L text))
+    filled_count = sym (ap length x.figures ∙ length-append (take m dst) (v ∷ []) ∙ ap (λ k. k + 1) (length-take-le m dst (omega arith)))
 
-    pub filled-slice : (n : ℕ) → length dst ≡ n → zeroed 0 (m + 1) (set dst m v) ≡ padded 0 n (map f (chart L text))
-    filled-slice n e =
-        ap (λ k. zeroed 0 k (set dst m v)) filled-count
+    pub filled_slice : (n : ℕ) → length dst ≡ n → zeroed 0 (m + 1) (set dst m v) ≡ padded 0 n (map f (chart L text))
+    filled_slice n e =
+        ap (λ k. zeroed 0 k (set dst m v)) filled_count
         ∙ zeroed-padded 0 (map f (chart L text)) (set dst m v) front
         ∙ ap (λ k. padded 0 k (map f (chart L text))) (length-set dst m v ∙ e)
       where
         front : take (length (map f (chart L text))) (set dst m v) ≡ map f (chart L text)
-        front = rw (← filled-count, add-one, take-suc-set dst m v w) (sym x.figures)
+        front = rw (← filled_count, add-one, take-suc-set dst m v w) (sym x.figures)

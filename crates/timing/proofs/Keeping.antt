@@ -49,24 +49,24 @@ pub timed-all : (L : ℕ) (p q : TimingPass) (data-text text after : List ℕ) (
 unfolding timing_rows timing_heads minimised measure_beats beats_of
 timed-all L p q data-text text after beats beats₁ x f fits room =
     let ended : map reduce x.done ++ (reduce x.cur ∷ []) ≡ map reduce (chart L data-text) =
-    sym (ap (map reduce) x.chart-is ∙ map-append reduce x.done (x.cur ∷ [])) in
+    sym (ap (map reduce) x.chart_is ∙ map-append reduce x.done (x.cur ∷ [])) in
     let ms = map reduce (chart L data-text) in
     let k : Timed L q after beats₁ ms [] = subst (λ ms. Timed L q after beats₁ ms []) ended (f (map reduce x.done) x.cur x.held) in
     record {
-      text-is = k.wrote.bytes ∙ sym (rows-done ms []) ∙ ap joined (joined_snoc ms [] ∙ append-nil (joined ms));
-      text-room = fits;
-      beats-are = k.beats-are;
-      beats-room = room;
+      text_is = k.wrote.bytes ∙ sym (rows-done ms []) ∙ ap joined (joined_snoc ms [] ∙ append-nil (joined ms));
+      text_room = fits;
+      beats_are = k.beats_are;
+      beats_room = room;
       rows = k.kept;
       heads = k.heads;
     }
 
 module _ (L : ℕ) (data-text : List ℕ) (p : TimingPass) (text : List ℕ) (beats : List Float) (x : TimedAll L data-text p text beats) where
   pub all-bytes : p.out ≡ length (timing_rows L data-text)
-  all-bytes = sym (length-take-le p.out text x.text-room) ∙ ap length x.text-is
+  all-bytes = sym (length-take-le p.out text x.text_room) ∙ ap length x.text_is
 
   pub all-text : {n : ℕ} → length text ≡ n → zeroed 0 p.out text ≡ padded 0 n (timing_rows L data-text)
-  all-text size = zeroed-answer 0 text p.out _ (λ L. timing_rows L data-text) refl size x.text-room x.text-is
+  all-text size = zeroed-answer 0 text p.out _ (λ L. timing_rows L data-text) refl size x.text_room x.text_is
 
   pub all-beats : {n : ℕ} → length beats ≡ n → zeroed (f32 0) p.kept beats ≡ padded (f32 0) n (beats_of L data-text)
-  all-beats size = zeroed-answer (f32 0) beats p.kept _ (λ L. beats_of L data-text) refl size x.beats-room x.beats-are
+  all-beats size = zeroed-answer (f32 0) beats p.kept _ (λ L. beats_of L data-text) refl size x.beats_room x.beats_are

@@ -41,7 +41,7 @@ head-measure : (done : List (List Row)) (m : List Row) → has_some_head (joined
 head-measure done m = rw (joined_snoc done m, joined-append (joined done) m) (head-append (joined (joined done)) (joined m))
 
 pub timed-start : (L : ℕ) (text : List ℕ) (beats : List Float) → Timed L (record { start = 0; out = 0; kept = 0; rows = 0; midx = 0; heads = false }) text beats [] []
-timed-start L text beats = record { wrote = wrote-start (back-to-back L) [] text; kept = refl; rows = refl; midx = refl; beats-are = refl; heads = refl }
+timed-start L text beats = record { wrote = wrote-start (back-to-back L) [] text; kept = refl; rows = refl; midx = refl; beats_are = refl; heads = refl }
 
 pub timed-row : (p : TimingPass) (text : List ℕ) (row : Row) → p.out + length row ≤ length text → (after : List ℕ) → after ≡ placed p.out row text
     → (beats : List Float) (done : List (List Row)) (cur : List Row) → Timed (length row) p text beats done cur
@@ -55,7 +55,7 @@ timed-row p text row room after e beats done cur x =
       kept = x.kept;
       rows = rw length-append (omega (arith, x.rows));
       midx = x.midx;
-      beats-are = x.beats-are;
+      beats_are = x.beats_are;
       heads = x.heads;
     }
 
@@ -100,7 +100,7 @@ module _ (L : ℕ) (p : TimingPass) (text after : List ℕ) (beats : List Float)
           kept = rw (joined_snoc done (reduce cur), length-append, x.kept, reduced.count);
           rows = refl;
           midx = rw length-append (omega (arith, x.midx));
-          beats-are = ap (take (p.kept + kept)) eb ∙ beats-appended beats p.kept p.midx kept done (reduce cur) room x.beats-are x.midx reduced.count;
+          beats_are = ap (take (p.kept + kept)) eb ∙ beats-appended beats p.kept p.midx kept done (reduce cur) room x.beats_are x.midx reduced.count;
           heads = rw (x.heads, ef, bytes-there) (sym (head-measure done (reduce cur)));
         }
 

@@ -14,7 +14,7 @@ pub record Timed (L : ℕ) (p : TimingPass) (text : List ℕ) (beats : List Floa
   pub kept : p.kept ≡ length (joined done)
   pub rows : p.rows ≡ length cur
   pub midx : p.midx ≡ length done
-  pub beats-are : take p.kept beats ≡ joined (beats_from 0 done)
+  pub beats_are : take p.kept beats ≡ joined (beats_from 0 done)
   pub heads : p.heads ≡ has_some_head (joined (joined done))
 
 pub record SomeTimed (L : ℕ) (p : TimingPass) (text : List ℕ) (beats : List Float) : Type 0 where
@@ -24,9 +24,9 @@ pub record SomeTimed (L : ℕ) (p : TimingPass) (text : List ℕ) (beats : List 
 
 -- A whole text was read: rows, beats and heads are those of its minimised measures.
 pub record TimedAll (L : ℕ) (chart-text : List ℕ) (p : TimingPass) (text : List ℕ) (beats : List Float) : Type 0 where
-  pub text-is : take p.out text ≡ timing_rows L chart-text
-  pub text-room : p.out ≤ length text
-  pub beats-are : take p.kept beats ≡ beats_of L chart-text
-  pub beats-room : p.kept ≤ length beats
+  pub text_is : take p.out text ≡ timing_rows L chart-text
+  pub text_room : p.out ≤ length text
+  pub beats_are : take p.kept beats ≡ beats_of L chart-text
+  pub beats_room : p.kept ≤ length beats
   pub rows : p.kept ≡ row_count L chart-text
   pub heads : p.heads ≡ timing_heads L chart-text

@@ -64,6 +64,6 @@ pub returns : goal.returns
 returns c =
     let x = holds-over _ _ (come (goal.at.returns c).At-loop-line) _ _ c.next.ensures.steps c.in-None.is c.loop-line.invariant.pass in
     let r = c.end_measure.ensures in
-    chart-all _ _ _ _ _ _ _ _ _ x.chart-is (minimised-few _ _ x) (r.chart_ended _ _ x.held)
+    chart-all _ _ _ _ _ _ _ _ _ x.chart_is (minimised-few _ _ x) (r.chart_ended _ _ x.held)
     (omega (arith, r.no_more.0))
     (omega (arith, r.no_more.0))

@@ -17,7 +17,7 @@ use Rattle.slices.proofs.Zeroed.{zeroed-answer}
 use Rattle.chart_sheet.specs.Forms.{sheet_in_form}
 use Rattle.sheet.specs.Sheet.{named_fields}
 use Rattle.chart_sheet.proofs.Fits.{FiguresFit}
-use Rattle.chart_sheet.proofs.Writing.{Gathered, measures-fit, spacings-fit, notes-fit, notes-small, form-is, form-fits, chart-is}
+use Rattle.chart_sheet.proofs.Writing.{Gathered, measures-fit, spacings-fit, notes-fit, notes-small, form-is, form-fits, chart_is}
 use Rattle.chart_sheet.proofs.write_sheet.Goals as goal
 use Rattle.chart_sheet.proofs.write_sheet.Goals.{After-sheet_answers-figures}
 
@@ -39,12 +39,12 @@ gathered c =
     record {
       short = c.requires.text_length;
       answers = x.ensures.value ∙ ap (λ (L : ℕ). sheet_figures L text) l;
-      densities-are = x.ensures.densities_after ∙ ap (λ (L : ℕ). padded 0 (length c.args.densities.now) (densities L text)) l;
-      spacings-are = x.ensures.spacing_after ∙ ap (λ (L : ℕ). padded 0 (length c.args.spacing.now) (spacings L text)) l;
-      notes-are = x.ensures.notes_after ∙ ap (λ (L : ℕ). padded 0 (length c.args.notes.now) (records (notes L text))) l;
-      densities-length = x.auto.densities;
-      spacings-length = x.auto.spacing;
-      notes-length = x.auto.notes;
+      densities_are = x.ensures.densities_after ∙ ap (λ (L : ℕ). padded 0 (length c.args.densities.now) (densities L text)) l;
+      spacings_are = x.ensures.spacing_after ∙ ap (λ (L : ℕ). padded 0 (length c.args.spacing.now) (spacings L text)) l;
+      notes_are = x.ensures.notes_after ∙ ap (λ (L : ℕ). padded 0 (length c.args.notes.now) (records (notes L text))) l;
+      densities_length = x.auto.densities;
+      spacings_length = x.auto.spacing;
+      notes_length = x.auto.notes;
     }
 
 -- each of the figures is a number of at most 64 bits
@@ -110,7 +110,7 @@ returns-clause-value c =
     let g = gathered (goal.at.returns-clause-value c).After-sheet_answers-figures in
     let form = c.put_form-bytes in
     let L = lanes_of c.args.lanes in
-    let places = c.chart_places-places.ensures ∙ ap places_of_chart (chart-is g) in
+    let places = c.chart_places-places.ensures ∙ ap places_of_chart (chart_is g) in
     ap (λ (m : List ℕ). set m 7 form.result) places
     ∙ ap (set (places_of_chart (figures_of_chart L c.args.data.now)) 7) (form.ensures.value ∙ ap length (form-is g c.args.form))
 

@@ -45,4 +45,4 @@ object-first c (suc (suc (suc zero))) e = absurd (no-three (bytes "1000") c refl
 object-first c (suc (suc (suc (suc i)))) e = absurd (no-three [] c refl e)
 
 pub example-last : last_beat_of 4 old_text ≡ last_beat_of 4 new_text
-example-last = example-stays.same-last holds-object object-first
+example-last = example-stays.same_last holds-object object-first

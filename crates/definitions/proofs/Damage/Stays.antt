@@ -48,34 +48,34 @@ module _ (L d : ℕ) (old new : List ℕ) (x : Differ L d old new) where
   unfolding minimised
   but = but-map reduce (charts-but x)
 
-  same-before : rows_above L d old ≡ rows_above L d new
-  same-before = ap joined (takes but d (zero-add d))
+  same_before : rows_above L d old ≡ rows_above L d new
+  same_before = ap joined (takes but d (zero-add d))
 
   same-later : drop (suc d) (minimised L old) ≡ drop (suc d) (minimised L new)
   same-later = drops but d (zero-add d)
 
-  later-notes : Each (Shifted (length (rows_of L d old)) (length (rows_of L d new))) (later L d old) (later L d new)
-  later-notes =
+  later_notes : Each (Shifted (length (rows_of L d old)) (length (rows_of L d new))) (later L d old) (later L d new)
+  later_notes =
       let a : ℕ = length (rows_of L d old) in
       let b : ℕ = length (rows_of L d new) in
       let s : ℕ = length (rows_above L d old) in
       let t : ℕ = length (rows_above L d new) in
-      let e : s ≡ t = ap length same-before in
+      let e : s ≡ t = ap length same_before in
       subst₂ (Each (Shifted a b)) (sym (later-is L d old)) (ap (λ q. notes_from (t + b) (joined q)) same-later ∙ sym (later-is L d new))
       (notes-shift a b (s + a) (t + b) (omega arith) (rows_later L d old))
 
-  earlier-notes : those (λ x. not (open_at L d old x)) (earlier L d old) ≡ those (λ x. not (open_at L d new x)) (earlier L d new)
-  earlier-notes =
+  earlier_notes : those (λ x. not (open_at L d old x)) (earlier L d old) ≡ those (λ x. not (open_at L d new x)) (earlier L d new)
+  earlier_notes =
       let q : List Row = rows_of L d old ++ rows_later L d old in
       let q' : List Row = rows_of L d new ++ rows_later L d new in
       ap (those (λ x. not (open_at L d old x))) (earlier-is L d old)
       ∙ earlier-left (rows_above L d old) q q'
-      ∙ ap (λ ps. those (λ x. not (open_in ps x.row x.column)) (headed 0 ps q')) same-before
+      ∙ ap (λ ps. those (λ x. not (open_in ps x.row x.column)) (headed 0 ps q')) same_before
       ∙ ap (those (λ x. not (open_at L d new x))) (sym (earlier-is L d new))
 
-  open-heads : (text : List ℕ) → rows_above L d old ≡ rows_above L d text → (i c : ℕ) → open_in (rows_above L d old) i c ≡ true
+  open_heads : (text : List ℕ) → rows_above L d old ≡ rows_above L d text → (i c : ℕ) → open_in (rows_above L d old) i c ≡ true
       → MissingOrLate (length (rows_above L d old)) (row_count L text) i c (head_kind (byte_in (rows_above L d old) i c)) (notes L text)
-  open-heads text e i c h = rw (notes-parts L d text, parts d (minimised L text), ← e) (open-head i c (rows_above L d old) (rows_of L d text ++ rows_later L d text) h)
+  open_heads text e i c h = rw (notes-parts L d text, parts d (minimised L text), ← e) (open-head i c (rows_above L d old) (rows_of L d text ++ rows_later L d text) h)
 
   later-reduced : (n : ℕ) (ms : List (List Row)) → drop n (map reduce ms) ≡ map reduce (drop n ms)
   later-reduced zero ms = refl
@@ -91,21 +91,21 @@ module _ (L d : ℕ) (old new : List ℕ) (x : Differ L d old new) where
       (subst (λ q. Hold (joined q)) e (hold-minimised ms h))
       (subst (λ q. (c : ℕ) → First c (joined q)) e (first-minimised ms f))
 
-  same-last : HoldObject (all_later L d old) → ObjectFirst (all_later L d old) → last_beat_of L old ≡ last_beat_of L new
+  same_last : HoldObject (all_later L d old) → ObjectFirst (all_later L d old) → last_beat_of L old ≡ last_beat_of L new
   unfolding last_beat_of last48
-  same-last h f = ap (λ o. row_to_beat (place48 o)) (same_object h f)
+  same_last h f = ap (λ o. row_to_beat (place48 o)) (same_object h f)
 
   pub damage-stays : DamageStays L d old new
   unfolding densities spacings measure_beats
   damage-stays =
       record {
         same_rows = same-but but;
-        same-beats = same-but (but-beats but);
-        same-density = same-but (but-map density but);
-        same-spacing = same-but (but-map (λ (m : List Row). number_of_bool (spacing m)) but);
-        later-notes = later-notes;
-        same-before = same-before;
-        earlier-notes = earlier-notes;
-        open-heads = λ i c h. (open-heads old refl i c h, open-heads new same-before i c h);
-        same-last = same-last;
+        same_beats = same-but (but-beats but);
+        same_density = same-but (but-map density but);
+        same_spacing = same-but (but-map (λ (m : List Row). number_of_bool (spacing m)) but);
+        later_notes = later_notes;
+        same_before = same_before;
+        earlier_notes = earlier_notes;
+        open_heads = λ i c h. (open_heads old refl i c h, open_heads new same_before i c h);
+        same_last = same_last;
       }

@@ -62,6 +62,6 @@ end_measure-requires c =
 pub returns : goal.returns
 returns c =
     let x = holds-over _ _ (come (goal.at.returns c).At-loop-line) _ _ c.next.ensures.steps c.in-None.is c.loop-line.invariant.pass in
-    kept-all _ _ _ _ _ _ _ x.chart-is (minimised-few _ _ x) (c.end_measure.ensures.measure_ended _ _ x.held)
+    kept-all _ _ _ _ _ _ _ x.chart_is (minimised-few _ _ x) (c.end_measure.ensures.measure_ended _ _ x.held)
     (omega (arith, c.end_measure.ensures.no_more.0))
     (omega (arith, c.end_measure.ensures.no_more.0))

@@ -8,5 +8,5 @@ returns-clause-charted c =
     λ densities beats slots done cur x. record {
       kept = c.add_row.ensures.kept densities done cur x.kept;
       noted = x.noted;
-      beats-are = ap (λ n. take n beats) c.add_row.ensures.out_after.1 ∙ x.beats-are;
+      beats_are = ap (λ n. take n beats) c.add_row.ensures.out_after.1 ∙ x.beats_are;
     }

@@ -7,5 +7,5 @@ pub returns-clause-before : goal.returns-clause-before
 returns-clause-before c = λ L text densities beats slots h. record {
   kept = c.new.ensures.before L text densities h;
   noted = c.new-2.ensures L slots;
-  beats-are = ap (λ m. take m beats) c.new.ensures.nothing_written.1;
+  beats_are = ap (λ m. take m beats) c.new.ensures.nothing_written.1;
 }
