@@ -24,10 +24,10 @@ returns c =
     elim c.if-n-gt8.branch [
       | then-n-gt8 w ↦
           front_of text at row (length row) whole room
-          (w.text_is ∙ w.put_four-then-n-gt8.ensures ∙ sym (paste-spliced _ (at + 4) (drop 4 row) 4) ∙ ap (λ (t : List ℕ). paste t (at + 4) (drop 4 row) 4) first)
+          (w.text-is ∙ w.put_four-then-n-gt8.ensures ∙ sym (paste-spliced _ (at + 4) (drop 4 row) 4) ∙ ap (λ (t : List ℕ). paste t (at + 4) (drop 4 row) 4) first)
           (front-eight text at row (length row) whole room w.if-n-gt8.true range.1)
       | else-n-gt8 w ↦
-          front_of text at row (length row) whole room (w.text_is ∙ first) (front-four text at row (length row) whole room range.0 w.if-n-gt8.false)
+          front_of text at row (length row) whole room (w.text-is ∙ first) (front-four text at row (length row) whole room range.0 w.if-n-gt8.false)
     ] in
     c.put_four-2.ensures
     ∙ sym (paste-spliced _ (at + (length row - 4)) (drop (length row - 4) row) 4)
