@@ -2,7 +2,7 @@
 // compares all that they leave, stops at the first difference, and says how many answers it compared.
 #![tactic(auto)]
 
-mod calls;
+mod agreements;
 mod sm;
 mod texts;
 

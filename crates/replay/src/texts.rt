@@ -1,5 +1,5 @@
 // The calls on a text, and which of them answer a record otherwise than it is stored.
-use crate::{Compared, calls};
+use crate::{Compared, agreements};
 use stored::Record;
 
 /// A call on a text. Their order is that of the stored answers.
@@ -20,14 +20,14 @@ impl Call {
     fn agrees(self, record: &Record) -> bool {
         let answers = &record.answers;
         match self {
-            Call::Main => calls::main_agrees(record, &answers.main),
-            Call::Kept => calls::kept_agrees(record, &answers.kept),
-            Call::TimingRows => calls::timing_rows_agree(record, &answers.timing_rows),
-            Call::Densities => calls::densities_agree(record, &answers.densities),
-            Call::Spacing => calls::spacing_agrees(record, &answers.spacing),
-            Call::LastBeat => calls::last_beat_agrees(record, &answers.last_beat),
-            Call::Judged => calls::judged_agrees(record, &answers.judged),
-            Call::Flagged => calls::flagged_agrees(record, &answers.flagged),
+            Call::Main => agreements::main_agrees(record, &answers.main),
+            Call::Kept => agreements::kept_agrees(record, &answers.kept),
+            Call::TimingRows => agreements::timing_rows_agree(record, &answers.timing_rows),
+            Call::Densities => agreements::densities_agree(record, &answers.densities),
+            Call::Spacing => agreements::spacing_agrees(record, &answers.spacing),
+            Call::LastBeat => agreements::last_beat_agrees(record, &answers.last_beat),
+            Call::Judged => agreements::judged_agrees(record, &answers.judged),
+            Call::Flagged => agreements::flagged_agrees(record, &answers.flagged),
         }
     }
 }
