@@ -64,16 +64,21 @@ entry-bit c j e h = let q : 16384 * j + 1024 * e ≡ 1024 * (16 * j + e) = omega
 pub entry-ends : (j e : ℕ) → e ≤ 10 → (16384 * j + 1024 * e) / 1024 % 16 ≡ e
 entry-ends j e h = omega arith
 
-pub entry-judged : (judged : Bool) (e : ℕ) → e ≤ 10 → is_judged (16384 * number_of_bool judged + 1024 * e) ≡ judged
-entry-judged true e h = let q : (16384 * 1 + 1024 * e) / 16384 ≡ 1 = omega arith in rw q
-entry-judged false e h = let q : (16384 * 0 + 1024 * e) / 16384 ≡ 0 = omega arith in rw q
+pub entry-judged : (judged : Bool) (e : ℕ) → e ≤ 10 → (16384 * number_of_bool judged + 1024 * e) / 16384 ≡ number_of_bool judged
+entry-judged true e h = omega arith
+entry-judged false e h = omega arith
+
+-- what stands above the count tells whether the row is judged
+pub judged-told : (entry : ℕ) (judged : Bool) → entry / 16384 ≡ number_of_bool judged → is_judged entry ≡ judged
+judged-told entry true e = ap (λ x. eqb x 1) e
+judged-told entry false e = ap (λ x. eqb x 1) e
 
 -- bit 14 is the lowest that stands above the count
 high_part : (m : ℕ) → m / 16384 ≡ m / 1024 / 16
 high_part m = omega arith
 
-pub judged-same : (m n : ℕ) → m / 1024 ≡ n / 1024 → is_judged m ≡ is_judged n
-judged-same m n e = ap (λ x. eqb x 1) (high_part m ∙ ap (λ x. x / 16) e ∙ sym (high_part n))
+pub above-same : (m n : ℕ) → m / 1024 ≡ n / 1024 → m / 16384 ≡ n / 16384
+above-same m n e = high_part m ∙ ap (λ x. x / 16) e ∙ sym (high_part n)
 
 -- the columns' bits of an entry are those of its paired heads
 pub low_bit : (c m : ℕ) → c < 10 → bit c (heads_of m) ≡ bit c m

@@ -17,10 +17,9 @@ use Rattle.definitions.specs.declared.DepthEffect.{DepthEffect}
 use Rattle.definitions.specs.declared.DepthEffect.TheVariants as effect
 use Rattle.definitions.proofs.Lists.{All, none, one}
 use Rattle.taps.specs.Taps.{bit}
-use Rattle.holds.specs.Entry.{is_judged}
 use Rattle.holds.specs.Stacks.{ended_at}
 use Rattle.holds.specs.Tracks.{ends_in, marked, judged_head}
-use Rattle.holds.proofs.Bits.{or_same, or-other, or-high}
+use Rattle.holds.proofs.Bits.{or_same, or-other, or-high, judged-told}
 use Rattle.holds.proofs.Pairs.{Stacked}
 
 -- the head, where there is one, is before row n
@@ -90,11 +89,11 @@ marked-length (Some h) k work = length-set work h (bit_or (get_or work h 0) (2 ^
 
 -- the count of a judged head is that of the pair that ends
 pub judged-ends : (J : ℕ → Bool) (work : List ℕ) (row : ℕ) (ended : Option ℕ) → Below row ended
-    → ((i : ℕ) → i < row → is_judged (get_or work i 0) ≡ J i)
+    → ((i : ℕ) → i < row → get_or work i 0 / 16384 ≡ number_of_bool (J i))
     → judged_head ended work ≡ ends_in J row (ended_at row ended)
 judged-ends J work row None b judged = refl
 judged-ends J work row (Some h) b judged =
-    ap number_of_bool (judged h (b h refl)) ∙ sym (ap (λ x. number_of_bool (x && J h) + 0) (eq-eqb row row refl) ∙ plus (number_of_bool (J h)))
+    ap number_of_bool (judged-told (get_or work h 0) (J h) (judged h (b h refl))) ∙ sym (ap (λ x. number_of_bool (x && J h) + 0) (eq-eqb row row refl) ∙ plus (number_of_bool (J h)))
   where
     plus : (n : ℕ) → n + 0 ≡ n
     plus n = omega arith

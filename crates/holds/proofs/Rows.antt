@@ -12,12 +12,11 @@ use Rattle.definitions.specs.Lists.{number_of_bool}
 use Rattle.definitions.specs.Lines.{Row}
 use Rattle.definitions.specs.Tracker.{pairs, is_head_of}
 use Rattle.taps.specs.Taps.{bit}
-use Rattle.holds.specs.Entry.{is_judged}
 use Rattle.holds.specs.Stacks.{stack_of}
 use Rattle.holds.specs.Tracks.{stack_after, ends_at, Column, Tracks, CellsDone}
 use Rattle.holds.specs.declared.Tracker.{Tracker}
 use Rattle.holds.proofs.Stacks.{stack-length}
-use Rattle.holds.proofs.Bits.{high_bit, entry-bit, entry-ends, entry-judged, judged-same}
+use Rattle.holds.proofs.Bits.{high_bit, entry-bit, entry-ends, entry-judged, above-same}
 use Rattle.holds.proofs.Ends.{ends-old, ends-none}
 
 zero_bit : (c : ℕ) → c < 10 → bit c 0 ≡ 0
@@ -71,9 +70,9 @@ module _
               (entry-ends (number_of_bool judged) n d.few ∙ d.ends ∙ ap (ends_at J (rows ++ (cells ∷ []))) size)
               (λ i e. ap (λ x. x % 16) (d.high i) ∙ s.ends i ∙ sym (ends-old J rows cells i (λ q. e (q ∙ size))));
           judged =
-              by_place (λ i w. i < length (rows ++ (cells ∷ [])) → is_judged w ≡ J i)
-              (λ l. entry-judged judged n d.few ∙ sym here)
-              (λ i e l. let longer = length-append rows (cells ∷ []) in judged-same (get_or work' i 0) (get_or work i 0) (d.high i) ∙ s.judged i (omega arith));
+              by_place (λ i w. i < length (rows ++ (cells ∷ [])) → w / 16384 ≡ number_of_bool (J i))
+              (λ l. entry-judged judged n d.few ∙ ap number_of_bool (sym here))
+              (λ i e l. let longer = length-append rows (cells ∷ []) in above-same (get_or work' i 0) (get_or work i 0) (d.high i) ∙ s.judged i (omega arith));
           later =
               by_place (λ i w. length (rows ++ (cells ∷ [])) ≤ i → w ≡ 0)
               (λ l. let longer = length-append rows (cells ∷ []) in absurd (omega arith))

@@ -10,18 +10,17 @@ use native.Mathlib.Omega.{arith}
 use lib.Dec.{eqb}
 use lib.ListN.{length, get_or}
 use Rattle.std.specs.Prelude.{Option}
-use Rattle.definitions.specs.Lists.{sum_columns}
+use Rattle.definitions.specs.Lists.{number_of_bool, sum_columns}
 use Rattle.definitions.specs.Lines.{Row}
 use Rattle.definitions.specs.Cells.{byte_at}
 use Rattle.definitions.specs.Tracker.{next_stack, paired, hold_at, pairs, is_head_of}
-use Rattle.holds.specs.Entry.{is_judged}
 use Rattle.taps.specs.Taps.{FreeAre}
 use Rattle.holds.specs.Stacks.{stack_of, Sized, TrackReady, TrackStepped, ended_at}
 use Rattle.holds.specs.Tracks.{stack_after, ends_in, ends_at, Column, Tracks, Reached, CellsDone, marked, judged_head}
 use Rattle.holds.specs.declared.Tracker.{Tracker}
 use Rattle.holds.proofs.Stacks.{stack-length}
 use Rattle.holds.proofs.Pairs.{stack_snoc, pairs-snoc, stack-beyond, pairs-beyond, heads-append, stacked}
-use Rattle.holds.proofs.Bits.{judged-same}
+use Rattle.holds.proofs.Bits.{above-same}
 use Rattle.holds.proofs.Ends.{sum-beyond, ends-late, ends-new}
 use Rattle.holds.proofs.Marks.{Below, ended-below, marked-same, marked_other, marked-high, marked-later, marked-length, judged-ends, judged-one}
 
@@ -31,7 +30,7 @@ pub record Swept (J : ℕ → Bool) (rows : List Row) (cells : Row) (k : ℕ) (w
   pub left : (c : ℕ) → k ≤ c → c < 10 → Column rows c t work
   pub high : (i : ℕ) → get_or work i 0 / 1024 ≡ get_or work₀ i 0 / 1024
   pub later : (i : ℕ) → length rows ≤ i → get_or work i 0 ≡ 0
-  pub judged : (i : ℕ) → i < length rows → is_judged (get_or work i 0) ≡ J i
+  pub judged : (i : ℕ) → i < length rows → get_or work i 0 / 16384 ≡ number_of_bool (J i)
   pub ends : n ≡ sum_columns k (λ c. ends_in J (length rows) (pairs (rows ++ (cells ∷ [])) c))
   pub few : n ≤ k
 
@@ -146,7 +145,7 @@ module _
                 later = λ i h. marked-later work k i (length rows) h ended sweep-below ∙ s.later i h;
                 judged =
                     λ i h.
-                    judged-same (get_or (marked ended k work) i 0) (get_or work i 0) (marked-high work k i inside ended in-work) ∙ s.judged i h;
+                    above-same (get_or (marked ended k work) i 0) (get_or work i 0) (marked-high work k i inside ended in-work) ∙ s.judged i h;
                 ends = rw (add-one k, ← judged-here, ← s.ends);
                 few = omega (arith, s.few, sweep-one);
               }

@@ -40,7 +40,7 @@ pub record Tracks (J : ℕ → Bool) (rows : List Row) (t : Tracker) (work : Lis
   pub columns : (c : ℕ) → c < 10 → Column rows c t work
   pub busy : FreeAre t.busy 0 t.depths
   pub ends : (i : ℕ) → ends_of (slice_index work i) ≡ ends_at J rows i
-  pub judged : (i : ℕ) → i < length rows → is_judged (slice_index work i) ≡ J i
+  pub judged : (i : ℕ) → i < length rows → slice_index work i / 16384 ≡ number_of_bool (J i)
   pub later : (i : ℕ) → length rows ≤ i → slice_index work i ≡ 0
 
 -- The tracker and the work slice are what some rows have left, this many: no head is past them, and no column has more than eight.

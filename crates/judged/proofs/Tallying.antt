@@ -17,7 +17,7 @@ use Rattle.definitions.specs.Correction.{keep_row}
 use Rattle.definitions.specs.Judged.{judged_sum, judge_row, open_before, judge_from, judged_rows}
 use Rattle.holds.specs.Entry.{heads_of, ends_of, is_judged}
 use Rattle.holds.specs.Tracks.{paired_heads}
-use Rattle.holds.proofs.Bits.{low_bit}
+use Rattle.holds.proofs.Bits.{low_bit, judged-told}
 use Rattle.holds.proofs.Opens.{opens, opens-start, opens-most}
 use Rattle.holds.proofs.Heads.{kept-heads}
 use Rattle.holds.proofs.Tails.{none-ends}
@@ -64,7 +64,7 @@ module _ (J : ℕ → Bool) (L : ℕ) (all rows : List Row) (row : ℕ) (t : Tim
 
     -- the row's entry by its parts
     judged-is : is_judged entry ≡ J row
-    judged-is = w.tracks.judged row (rw (← x.size) inside)
+    judged-is = judged-told entry (J row) (w.tracks.judged row (rw (← x.size) inside))
 
     kept-is : row_by_mask (heads_of entry) 0 cells ≡ keep_row (pairs all) row 0 cells
     kept-is =

@@ -43,6 +43,7 @@ impl KeptPass {
         requires { (self.old.out + length row.now + 1 ≤ length text.old) × (self.old.rows < row_count_bound) }
         ensures kept { (densities : List ℕ) (done : List (List Row)) (cur : List Row) → Kept (length row.now) self.old text.old densities done cur → Kept (length row.now) self.new text.new densities done (cur ++ (row.now ∷ [])) }
         ensures out_after { (self.new.out ≡ self.old.out + length row.now + 1) × (self.new.counting.rows ≡ self.old.counting.rows) }
+        ensures one_more { (self.new.rows ≡ self.old.rows + 1) × (self.new.midx ≡ self.old.midx) }
     {
         output::put_line(text, self.out, row);
         self.out += row.len() + 1;

@@ -25,7 +25,8 @@ pub record Appends (old : Page) (bytes : List ℕ) (new : Page) : Type 0 where
   pub place : new.at ≡ old.at + length bytes
   pub contents : written new ≡ written old ++ bytes
 
--- the bytes are appended; or they have no room, and then some first ones of them may be written, and nothing else is
+-- the bytes are appended; or they have no room, and then what stands before the old place and from the new one on is as it was, and the bytes
+-- between the two are left open
 pub record Stops (old : Page) (bytes : List ℕ) (new : Page) : Type 0 where
   pub keeps : Keeps old new
   pub no_room : Overflows old (length bytes)
