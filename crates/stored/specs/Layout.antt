@@ -1,6 +1,6 @@
 -- The bytes of what is stored, as tests/vectors/README.md has them.
-use Rattle.std.specs.Prelude.{◌≡◌, List, ◌++◌, ℕ, length}
-use Rattle.std.specs.Int.{w32, w64, to_le_bytes}
+use Rattle.std.specs.Prelude.{◌≡◌, List, ◌++◌, ℕ, zero, suc, ◌+◌, length, take, drop}
+use Rattle.std.specs.Int.{w32, w64, to_le_bytes, from_le_bytes}
 use Rattle.stored.specs.declared.answer.Answer.{Answer}
 use Rattle.stored.specs.declared.answer.Answers.{Answers}
 use Rattle.stored.specs.declared.record.Record.{Record}
@@ -50,3 +50,21 @@ record_bytes r =
     ++ r.text.now
     ++ r.flags.now
     ++ answers_bytes r.answers
+
+-- the numbers of four and of eight bytes at a place
+unfoldable pub number_at : List ℕ → ℕ → ℕ
+number_at s place = from_le_bytes w32 (take 4 (drop place s))
+
+unfoldable pub long_at : List ℕ → ℕ → ℕ
+long_at s place = from_le_bytes w64 (take 8 (drop place s))
+
+-- how long these are, by the lengths that they say: an answer at the front of some bytes, so many answers there, and a record
+unfoldable pub answer_length : List ℕ → ℕ
+answer_length s = 272 + number_at s 256 + number_at s 260 + number_at s 264 + number_at s 268
+
+unfoldable pub answers_length : ℕ → List ℕ → ℕ
+answers_length zero s = 0
+answers_length (suc n) s = answer_length s + answers_length n (drop (answer_length s) s)
+
+unfoldable pub record_length : List ℕ → ℕ
+record_length s = 16 + number_at s 0 + number_at s 4 + answers_length 8 (drop (16 + number_at s 0 + number_at s 4) s)

@@ -1,4 +1,4 @@
-ghost use Rattle.std.specs.Prelude.{IfSome};
+ghost use Rattle.std.specs.Prelude.{◌≡◌, ◌↔◌, ◌+◌, ◌≤◌, length, drop, IsSome, IfSome};
 
 use crate::{bytes, figures, number};
 
@@ -13,12 +13,14 @@ pub struct Answer<'a> {
 }
 
 impl<'a> Answer<'a> {
-    ghost use Rattle.stored.specs.Layout.{Begins, answer_bytes};
+    ghost use Rattle.stored.specs.Layout.{Begins, answer_bytes, answer_length};
 
     /// The answer at the front of `rest`, which keeps what follows it.
     #[tactic(auto, unfolding(crate::specs::Layout::answer_bytes))]
     pub fn read(rest: &mut &'a [u8]) -> Option<Answer<'a>>
-        ensures { IfSome result (λ a. Begins rest.old.now (answer_bytes a) rest.new.now) }
+        ensures value { IfSome result (λ a. Begins rest.old.now (answer_bytes a) rest.new.now) }
+        ensures after { IfSome result (λ _. rest.new.now ≡ drop (answer_length rest.old.now) rest.old.now) }
+        ensures variant { IsSome result ↔ (answer_length rest.old.now ≤ length rest.old.now) }
     {
         let figures = figures(rest)?;
         let text = number(rest)?;
@@ -49,12 +51,14 @@ pub struct Answers<'a> {
 }
 
 impl<'a> Answers<'a> {
-    ghost use Rattle.stored.specs.Layout.{Begins, answers_bytes};
+    ghost use Rattle.stored.specs.Layout.{Begins, answers_bytes, answers_length};
 
     /// The eight answers at the front of `rest`, which keeps what follows them.
     #[tactic(auto, unfolding(crate::specs::Layout::answers_bytes))]
     pub fn read(rest: &mut &'a [u8]) -> Option<Answers<'a>>
-        ensures { IfSome result (λ a. Begins rest.old.now (answers_bytes a) rest.new.now) }
+        ensures value { IfSome result (λ a. Begins rest.old.now (answers_bytes a) rest.new.now) }
+        ensures after { IfSome result (λ _. length rest.old.now ≡ answers_length 8 rest.old.now + length rest.new.now) }
+        ensures variant { IsSome result ↔ (answers_length 8 rest.old.now ≤ length rest.old.now) }
     {
         Some(Answers {
             main: Answer::read(rest)?,

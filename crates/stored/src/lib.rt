@@ -2,7 +2,7 @@
 #![tactic(auto)]
 
 ghost use Rattle.std.specs.Prelude.{◌≡◌, ◌↔◌, ◌≤◌, length, IsSome, IfSome};
-ghost use Rattle.stored.specs.Layout.{Begins, number_bytes, long_bytes};
+ghost use Rattle.stored.specs.Layout.{Begins, number_bytes, long_bytes, number_at, long_at};
 
 mod answer;
 pub mod lent;
@@ -12,22 +12,27 @@ pub mod sample;
 pub use answer::{Answer, Answers};
 pub use record::Record;
 
-#[tactic(auto, unfolding(crate::specs::Layout::number_bytes), using(std::proofs::lemmas::Nat::le_bytes_4))]
+#[tactic(auto, unfolding(crate::specs::Layout::number_bytes, crate::specs::Layout::number_at), using(std::proofs::lemmas::Nat::le_bytes_4))]
 fn number_of(bytes: [u8; 4]) -> u32
-    ensures { number_bytes result ≡ bytes }
+    ensures bytes { number_bytes result ≡ bytes }
+    ensures number { result ≡ number_at bytes 0 }
 {
     u32::from_le_bytes(bytes)
 }
 
+#[tactic(auto, unfolding(crate::specs::Layout::long_at))]
 fn long_of(bytes: [u8; 8]) -> u64
-    ensures { long_bytes result ≡ bytes }
+    ensures bytes { long_bytes result ≡ bytes }
+    ensures number { result ≡ long_at bytes 0 }
 {
     u64::from_le_bytes(bytes)
 }
 
 /// The next number of four bytes, low byte first.
+#[tactic(auto, unfolding(crate::specs::Layout::number_at))]
 pub fn number(rest: &mut &[u8]) -> Option<u32>
     ensures value { IfSome result (λ n. Begins rest.old.now (number_bytes n) rest.new.now) }
+    ensures number { IfSome result (λ n. n ≡ number_at rest.old.now 0) }
     ensures variant { IsSome result ↔ (4 ≤ length rest.old.now) }
 {
     let (bytes, after) = rest.split_first_chunk::<4>()?;
@@ -38,6 +43,7 @@ pub fn number(rest: &mut &[u8]) -> Option<u32>
 /// The next number of eight bytes, low byte first.
 pub fn long(rest: &mut &[u8]) -> Option<u64>
     ensures value { IfSome result (λ n. Begins rest.old.now (long_bytes n) rest.new.now) }
+    ensures number { IfSome result (λ n. n ≡ long_at rest.old.now 0) }
     ensures variant { IsSome result ↔ (8 ≤ length rest.old.now) }
 {
     let (bytes, after) = rest.split_first_chunk::<8>()?;
@@ -55,7 +61,7 @@ pub fn bytes<'a>(rest: &mut &'a [u8], n: u32) -> Option<&'a [u8]>
 
 /// The next 256 bytes, which are figures.
 pub fn figures<'a>(rest: &mut &'a [u8]) -> Option<&'a [u8; 256]>
-    ensures value { IfSome result (λ f. Begins rest.old.now f.now rest.new.now) }
+    ensures value { IfSome result (λ f. (Begins rest.old.now f.now rest.new.now) × (length f.now ≡ 256)) }
     ensures variant { IsSome result ↔ (256 ≤ length rest.old.now) }
 {
     let (figures, after) = rest.split_first_chunk::<256>()?;

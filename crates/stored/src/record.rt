@@ -1,4 +1,4 @@
-ghost use Rattle.std.specs.Prelude.{◌≡◌, IfSome};
+ghost use Rattle.std.specs.Prelude.{◌≡◌, ◌↔◌, length, IsSome, IfSome};
 
 use crate::{Answers, bytes, long, number};
 
@@ -12,12 +12,13 @@ pub struct Record<'a> {
 }
 
 impl<'a> Record<'a> {
-    ghost use Rattle.stored.specs.Layout.{record_bytes};
+    ghost use Rattle.stored.specs.Layout.{record_bytes, record_length};
 
     /// The record that all of `data` is, without the four bytes of its length.
     #[tactic(auto, unfolding(crate::specs::Layout::record_bytes))]
     pub fn read(data: &'a [u8]) -> Option<Record<'a>>
-        ensures { IfSome result (λ r. «data».now ≡ record_bytes r) }
+        ensures value { IfSome result (λ r. «data».now ≡ record_bytes r) }
+        ensures variant { IsSome result ↔ (record_length «data».now ≡ length «data».now) }
     {
         let mut rest = data;
         let text = number(&mut rest)?;

@@ -1,5 +1,6 @@
 // The file of a stored sample: its head, and its records one after the other.
-ghost use Rattle.std.specs.Prelude.{◌<◌, ◌≤◌, IfOk, IfSome, vec_len};
+ghost use Rattle.std.specs.Prelude.{◌≡◌, ◌↔◌, ◌+◌, ◌^◌, ◌<◌, ◌≤◌, length, IfOk, IsSome, IfSome, vec_len};
+ghost use Rattle.stored.specs.Layout.{number_at, long_at};
 
 use crate::{long, number};
 use std::alloc::Global;
@@ -17,7 +18,10 @@ pub fn read_up_to<R: Read>(alloc: Global, reader: &mut R, n: u32) -> io::Result<
 }
 
 // The number of records in a head: mark, seed, number.
-fn records_in(head: &[u8], mark: u64) -> Option<u32> {
+fn records_in(head: &[u8], mark: u64) -> Option<u32>
+    ensures value { IfSome result (λ n. n ≡ long_at head.now 16) }
+    ensures variant { IsSome result ↔ ((24 ≤ length head.now) × (long_at head.now 0 ≡ mark) × (long_at head.now 16 < 2 ^ 32)) }
+{
     let mut rest = head;
     if long(&mut rest)? != mark {
         return None;
@@ -34,7 +38,8 @@ pub fn read_head<R: Read>(alloc: Global, reader: &mut R, mark: u64) -> io::Resul
 
 // The length of a record without the four bytes of the length itself.
 fn length_in(head: &[u8]) -> Option<u32>
-    ensures { IfSome result (λ n. n ≤ 65536) }
+    ensures value { IfSome result (λ n. n + 4 ≡ number_at head.now 0) }
+    ensures variant { IsSome result ↔ ((4 ≤ length head.now) × (4 ≤ number_at head.now 0) × (number_at head.now 0 ≤ 65540)) }
 {
     let mut rest = head;
     let len = number(&mut rest)?.checked_sub(4)?;

@@ -4,6 +4,6 @@ use Rattle.std.proofs.lemmas.Nat.{le_bytes_8}
 use Rattle.stored.specs.Layout.{long_bytes}
 use Rattle.stored.proofs.long_of.Goals as goal
 
-pub returns : goal.returns
+pub returns-clause-bytes : goal.returns-clause-bytes
 unfolding long_bytes
-returns c = le_bytes_8 c.args.bytes _ (search rules) (search rules) c.from_le_bytes.ensures
+returns-clause-bytes c = le_bytes_8 c.args.bytes _ (search rules) (search rules) c.from_le_bytes.ensures
