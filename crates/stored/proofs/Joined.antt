@@ -25,9 +25,11 @@ length-parts {p = p} {r = r} e = ap length e.parts ∙ length-append p r
 pub drop-parts : {s p r : List ℕ} (n k : ℕ) → Begins s p r → length p ≡ n → drop (n + k) s ≡ drop k r
 drop-parts {s} {p} {r} n k e h = ap (drop (n + k)) e.parts ∙ ap (λ m. drop (m + k) (p ++ r)) (sym h) ∙ drop-append-add p r k
 
+-- what is left, where the lengths say how much that is
 pub rest-parts : {s p r : List ℕ} (n : ℕ) → Begins s p r → length s ≡ n + length r → r ≡ drop n s
 rest-parts {s} n e h = sym (ap (λ (m : ℕ). drop m s) (sym (add-zero n)) ∙ drop-parts n 0 e (omega (arith, h, length-parts e)))
 
+-- a number in what is left, so many bytes on in the whole
 pub number_at-parts : {s p r : List ℕ} (n k : ℕ) → Begins s p r → length p ≡ n → number_at s (n + k) ≡ number_at r k
 unfolding number_at
 number_at-parts n k e h = rw (drop-parts n k e h) refl
@@ -36,11 +38,16 @@ pub long_at-parts : {s p r : List ℕ} (n k : ℕ) → Begins s p r → length p
 unfolding long_at
 long_at-parts n k e h = rw (drop-parts n k e h) refl
 
--- the number of bytes that a number of four takes
+-- how many bytes a number takes
 pub length-number_bytes : (n : ℕ) → length (number_bytes n) ≡ 4
 unfolding number_bytes
 length-number_bytes n = refl
 
+pub length-long_bytes : (n : ℕ) → length (long_bytes n) ≡ 8
+unfolding long_bytes
+length-long_bytes n = refl
+
+-- a part, and a number after it
 more : (p : List ℕ) {n : ℕ} (a : ℕ) → length p ≡ n → length (p ++ number_bytes a) ≡ n + 4
 more p a h = omega (arith, h, length-append p (number_bytes a), length-number_bytes a)
 
@@ -55,21 +62,18 @@ head_of_answer {a = a} {b = b} {c = c} {d = d} e l ea is_a eb is_b ec is_c ed is
       omega (arith, l, length-parts e, length-parts ea, length-parts eb, length-parts ec, length-parts ed, length-number_bytes a, length-number_bytes b, length-number_bytes c, length-number_bytes d),
     )
 
-pub answers_length-suc : (n : ℕ) (s : List ℕ) → answers_length (suc n) s ≡ answer_length s + answers_length n (drop (answer_length s) s)
-unfolding answers_length
-answers_length-suc n s = refl
-
+-- how long no answers are, and one more than n
 pub answers_length-zero : (s : List ℕ) → answers_length 0 s ≡ 0
 unfolding answers_length
 answers_length-zero s = refl
 
+pub answers_length-suc : (n : ℕ) (s : List ℕ) → answers_length (suc n) s ≡ answer_length s + answers_length n (drop (answer_length s) s)
+unfolding answers_length
+answers_length-suc n s = refl
+
 -- an answer, and those after it
 pub answers_after : (n : ℕ) (s : List ℕ) {r : List ℕ} → r ≡ drop (answer_length s) s → answer_length s ≤ length s → (answers_length (suc n) s ≡ answer_length s + answers_length n r) × (length s ≡ answer_length s + length r)
 answers_after n s e h = (answers_length-suc n s ∙ ap (λ (l : List ℕ). answer_length s + answers_length n l) (sym e), omega (arith, h, ap length e, length-drop (answer_length s) s))
-
-pub length-long_bytes : (n : ℕ) → length (long_bytes n) ≡ 8
-unfolding long_bytes
-length-long_bytes n = refl
 
 -- what the lengths at the front of a record say
 pub head_of_record : {s r q t : List ℕ} {a b : ℕ} (l : ℕ) → Begins s (number_bytes a) r → a ≡ number_at s 0 → Begins r (number_bytes b) q → b ≡ number_at r 0 → Begins q (long_bytes l) t → (number_at s 0 ≡ a) × (number_at s 4 ≡ b) × (length s ≡ 16 + length t)

@@ -1,8 +1,8 @@
-ghost use Rattle.std.specs.Prelude.{◌≡◌, ◌↔◌, ◌+◌, ◌≤◌, length, drop, IsSome, IfSome};
+ghost use Rattle.std.specs.Prelude.{◌≡◌, ◌↔◌, ◌+◌, ◌^◌, ◌<◌, ◌≤◌, length, drop, IsSome, IfSome};
 
 use crate::{bytes, figures, number};
 
-/// One stored answer of a call on a text: its figures, and what it left in the slices that it is lent.
+/// One stored answer of a call on a text: its figures, and what it left in the slices that it is lent, each of a length that four bytes say.
 #[derive(Clone, Copy)]
 pub struct Answer<'a> {
     pub figures: &'a [u8; 256],
@@ -10,13 +10,13 @@ pub struct Answer<'a> {
     pub measures: &'a [u8],
     pub beats: &'a [u8],
     pub notes: &'a [u8],
+    pub ghost lengths: { (length text.now < 2 ^ 32) × (length measures.now < 2 ^ 32) × (length beats.now < 2 ^ 32) × (length notes.now < 2 ^ 32) },
 }
 
 impl<'a> Answer<'a> {
     ghost use Rattle.stored.specs.Layout.{Begins, answer_bytes, answer_length};
 
     /// The answer at the front of `rest`, which keeps what follows it.
-    #[tactic(auto, unfolding(crate::specs::Layout::answer_bytes))]
     pub fn read(rest: &mut &'a [u8]) -> Option<Answer<'a>>
         ensures value { IfSome result (λ a. Begins rest.old.now (answer_bytes a) rest.new.now) }
         ensures after { IfSome result (λ _. rest.new.now ≡ drop (answer_length rest.old.now) rest.old.now) }
@@ -54,7 +54,6 @@ impl<'a> Answers<'a> {
     ghost use Rattle.stored.specs.Layout.{Begins, answers_bytes, answers_length};
 
     /// The eight answers at the front of `rest`, which keeps what follows them.
-    #[tactic(auto, unfolding(crate::specs::Layout::answers_bytes))]
     pub fn read(rest: &mut &'a [u8]) -> Option<Answers<'a>>
         ensures value { IfSome result (λ a. Begins rest.old.now (answers_bytes a) rest.new.now) }
         ensures after { IfSome result (λ _. length rest.old.now ≡ answers_length 8 rest.old.now + length rest.new.now) }
