@@ -10,8 +10,9 @@ use lib.ListN.{length, take, drop, get_or, length-append, length-take, take-appe
 use lib.Seq.{drop-drop, drop-append_seam, drop-append-le}
 use lib.Pointwise.{pointwise_long}
 use Rattle.std.specs.Prelude.{nat_eq}
-use Rattle.std.specs.List.{starts_with}
-use Rattle.definitions.specs.Lists.{number_of_bool, joined, only_if, those, up_to, through, after, after_each}
+use Rattle.std.specs.List.{filter, starts_with}
+use Rattle.std.proofs.lemmas.List.Elements.{filter-append}
+use Rattle.definitions.specs.Lists.{number_of_bool, joined, up_to, through, after, after_each}
 
 module _ {A : Type 0} where
   -- P holds of each
@@ -27,23 +28,19 @@ module _ {A : Type 0} where
   all_map f none = none
   all_map f (one {a = a} h p) = one (f a h) (all_map f p)
 
-  pub those-append : (p : A → Bool) (s t : List A) → those p (s ++ t) ≡ those p s ++ those p t
-  those-append p [] t = refl
-  those-append p (a ∷ s) t = ap (λ l. only_if (p a) (a ∷ []) ++ l) (those-append p s t) ∙ sym (append_assoc (only_if (p a) (a ∷ [])) (those p s) (those p t))
+  pub filter-all : (p : A → Bool) {l : List A} → All (λ a. p a ≡ true) l → filter p l ≡ l
+  filter-all p none = refl
+  filter-all p (one {a = a} h q) = rw (h, filter-all p q)
 
-  pub those-all : (p : A → Bool) {l : List A} → All (λ a. p a ≡ true) l → those p l ≡ l
-  those-all p none = refl
-  those-all p (one {a = a} h q) = rw (h, those-all p q)
+  pub filter-none : (p : A → Bool) {l : List A} → All (λ a. p a ≡ false) l → filter p l ≡ []
+  filter-none p none = refl
+  filter-none p (one {a = a} h q) = rw (h, filter-none p q)
 
-  pub those-none : (p : A → Bool) {l : List A} → All (λ a. p a ≡ false) l → those p l ≡ []
-  those-none p none = refl
-  those-none p (one {a = a} h q) = rw (h, those-none p q)
+  pub filter-left : (p : A → Bool) (s : List A) {t : List A} → All (λ a. p a ≡ false) t → filter p (s ++ t) ≡ filter p s
+  filter-left p s {t} h = rw (filter-append p s t, filter-none p h, append-nil)
 
-  pub those-left : (p : A → Bool) (s : List A) {t : List A} → All (λ a. p a ≡ false) t → those p (s ++ t) ≡ those p s
-  those-left p s {t} h = rw (those-append p s t, those-none p h, append-nil)
-
-  pub those-right : (p : A → Bool) {s : List A} (t : List A) → All (λ a. p a ≡ false) s → those p (s ++ t) ≡ those p t
-  those-right p {s} t h = rw (those-append p s t, those-none p h)
+  pub filter-right : (p : A → Bool) {s : List A} (t : List A) → All (λ a. p a ≡ false) s → filter p (s ++ t) ≡ filter p t
+  filter-right p {s} t h = rw (filter-append p s t, filter-none p h)
 
   -- lists run together, one list more
   pub joined_snoc : (ls : List (List A)) (l : List A) → joined (ls ++ (l ∷ [])) ≡ joined ls ++ l

@@ -1,7 +1,7 @@
 -- Document 01's section "Damage": when two texts differ only in lines of one measure, and what is then the same in both.
 use Rattle.std.specs.Prelude.{◌≡◌, ◌≢◌, ◌⊎◌, Bool, true, false, cond, ◌&&◌, not, List, [], ◌∷◌, ℕ, suc, ◌+◌, ◌≤◌, ◌<◌, eqb, ltb, leb, length, take, drop, get_or}
-use Rattle.std.specs.Prelude.{slice_get}
-use Rattle.definitions.specs.Lists.{among, joined, those}
+use Rattle.std.specs.Prelude.{slice_get, filter}
+use Rattle.definitions.specs.Lists.{among, joined}
 use Rattle.definitions.specs.Lines.{Row, cut, line_kind}
 use Rattle.definitions.specs.Cells.{byte_at}
 use Rattle.definitions.specs.Measures.{chart}
@@ -86,11 +86,11 @@ all_later L d text = joined (drop (suc d) (chart L text))
 
 -- The notes headed in measures before d, and in measures after d. "A note is headed in its row's measure."
 abbrev pub earlier : ℕ → ℕ → List ℕ → List Note
-earlier L d text = those (λ x. ltb x.row (length (rows_above L d text))) (notes L text)
+earlier L d text = filter (λ x. ltb x.row (length (rows_above L d text))) (notes L text)
 
 -- the notes headed in measures after d
 abbrev pub later : ℕ → ℕ → List ℕ → List Note
-later L d text = those (λ x. leb (length (rows_above L (suc d) text)) x.row) (notes L text)
+later L d text = filter (λ x. leb (length (rows_above L (suc d) text)) x.row) (notes L text)
 
 -- "The shift, from old to new, is d's minimised row count in the new text less that in the old; a note without a tail stays without one."
 -- With a rows in the old text and b in the new, x moves to y where y + a = x + b.
@@ -138,7 +138,7 @@ open_at L d text x = open_in (rows_above L d text) x.row x.column
 -- where d begins at row s, and in one of the text's n minimised rows
 unfoldable pub MissingOrLate : ℕ → ℕ → ℕ → ℕ → Kind → List Note → Type 0
 MissingOrLate s n i c k ns =
-    let here = those (λ x. eqb x.row i && eqb x.column c) ns in
+    let here = filter (λ x. eqb x.row i && eqb x.column c) ns in
     (here ≡ []) ⊎ ((j : ℕ) × (s ≤ j) × (j < n) × (here ≡ record { row = i; tail = tail.Row j; column = c; kind = k } ∷ []))
 
 -- a byte 1, M, L, F or K: "For the last beat only the capitals M, L, F count."
@@ -165,7 +165,7 @@ pub record DamageStays (L d : ℕ) (old new : List ℕ) : Type 0 where
   -- The notes headed earlier are the same in number, order and every field, leaving out exactly those of the heads open where d begins,
   -- which are heads of the rows before d, the same in both texts.
   pub same_before : rows_above L d old ≡ rows_above L d new
-  pub earlier_notes : those (λ x. not (open_at L d old x)) (earlier L d old) ≡ those (λ x. not (open_at L d new x)) (earlier L d new)
+  pub earlier_notes : filter (λ x. not (open_at L d old x)) (earlier L d old) ≡ filter (λ x. not (open_at L d new x)) (earlier L d new)
   -- The note of such a head is in each text missing or has that row, column and kind and a tail in d or later, which is a row of that text.
   pub open_heads : (i c : ℕ)
       → open_in (rows_above L d old) i c ≡ true

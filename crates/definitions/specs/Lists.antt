@@ -22,11 +22,6 @@ module _ {A : Type 0} where
   only_if true l = l
   only_if false l = []
 
-  -- those that pass a test, and how many
-  abbrev pub those : (A → Bool) → List A → List A
-  those p [] = []
-  those p (a ∷ l) = only_if (p a) (a ∷ []) ++ those p l
-
   -- how many pass a test
   abbrev pub count : (A → Bool) → List A → ℕ
   count p [] = 0

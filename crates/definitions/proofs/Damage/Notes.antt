@@ -11,7 +11,8 @@ use borrow.Author.Tests.{lt-ltb, le-ltb, le-leb, lt-leb, eq-eqb, ne_eqb, ltb-tru
 use lib.Dec.{eqb, ltb, leb}
 use lib.ListN.{length, drop, get_or, length-append, length-drop, get_or-eq_default, get_or-append}
 use lib.Seq.{drop-append-le}
-use Rattle.definitions.specs.Lists.{those}
+use Rattle.std.specs.List.{filter}
+use Rattle.std.proofs.lemmas.List.Elements.{filter-append}
 use Rattle.definitions.specs.Lines.{Row}
 use Rattle.definitions.specs.Cells.{byte_at}
 use Rattle.definitions.specs.Notes.{effect_at, meets, tail_row_of, held_note, cell_notes, row_notes, notes_from}
@@ -20,7 +21,7 @@ use Rattle.definitions.specs.declared.Note.{Note}
 use Rattle.definitions.specs.declared.NoteEffect.{NoteEffect}
 use Rattle.definitions.specs.declared.NoteEffect.TheVariants.{Nothing, Closes, Single, Head}
 use Rattle.definitions.proofs.Bools.{and_left, and_right, and-false}
-use Rattle.definitions.proofs.Lists.{All, none as all_none, one as all_one, all_append, all_map, those-append, those-all, those-left, those-right}
+use Rattle.definitions.proofs.Lists.{All, none as all_none, one as all_one, all_append, all_map, filter-all, filter-left, filter-right}
 use Rattle.definitions.specs.Damage.{Each, end, next, without, with_tail, Shifted, is_head, head_kind, untouched, byte_in, open_in, MissingOrLate}
 use Rattle.definitions.proofs.Tails.{tail_within}
 use Rattle.definitions.proofs.Damage.Bytes.{stopping, heading, stops-is, head-is, head-kind}
@@ -72,19 +73,19 @@ headed-below i (r ∷ rs) q =
     all_append (all_map (λ x h. omega arith) (row_at i 0 r (rs ++ q))) (all_map (λ x h. omega arith) (headed-below (suc i) rs q))
 
 -- Notes headed before q, and in q.
-pub before-part : (ps q : List Row) → those (λ x. ltb x.row (length ps)) (notes_from 0 (ps ++ q)) ≡ headed 0 ps q
+pub before-part : (ps q : List Row) → filter (λ x. ltb x.row (length ps)) (notes_from 0 (ps ++ q)) ≡ headed 0 ps q
 before-part ps q =
     let p : Note → Bool = λ x. ltb x.row (length ps) in
-    ap (those p) (notes-append 0 ps q)
-    ∙ those-left p (headed 0 ps q) (all_map (λ x h. le-ltb x.row (length ps) (omega arith)) (notes-from (0 + length ps) q))
-    ∙ those-all p (all_map (λ x h. lt-ltb x.row (length ps) (omega arith)) (headed-below 0 ps q))
+    ap (filter p) (notes-append 0 ps q)
+    ∙ filter-left p (headed 0 ps q) (all_map (λ x h. le-ltb x.row (length ps) (omega arith)) (notes-from (0 + length ps) q))
+    ∙ filter-all p (all_map (λ x h. lt-ltb x.row (length ps) (omega arith)) (headed-below 0 ps q))
 
-pub after-part : (ps q : List Row) → those (λ x. leb (length ps) x.row) (notes_from 0 (ps ++ q)) ≡ notes_from (length ps) q
+pub after-part : (ps q : List Row) → filter (λ x. leb (length ps) x.row) (notes_from 0 (ps ++ q)) ≡ notes_from (length ps) q
 after-part ps q =
     let p : Note → Bool = λ x. leb (length ps) x.row in
-    ap (those p) (notes-append 0 ps q ∙ ap (λ n. headed 0 ps q ++ notes_from n q) (zero-add (length ps)))
-    ∙ those-right p (notes_from (length ps) q) (all_map (λ x h. lt-leb (length ps) x.row (omega arith)) (headed-below 0 ps q))
-    ∙ those-all p (all_map (λ x h. le-leb (length ps) x.row (omega arith)) (notes-from (length ps) q))
+    ap (filter p) (notes-append 0 ps q ∙ ap (λ n. headed 0 ps q ++ notes_from n q) (zero-add (length ps)))
+    ∙ filter-right p (notes_from (length ps) q) (all_map (λ x h. lt-leb (length ps) x.row (omega arith)) (headed-below 0 ps q))
+    ∙ filter-all p (all_map (λ x h. le-leb (length ps) x.row (omega arith)) (notes-from (length ps) q))
 
 -- Later notes: the same rows under other numbers.
 module _ (a b : ℕ) where
@@ -142,41 +143,41 @@ module _ (P : ℕ → ℕ → Bool) where
   abbrev shut : Note → Bool
   shut x = not (P x.row x.column)
 
-  gone : (i c : ℕ) (k : Kind) (t : Option ℕ) → P i c ≡ true → those shut (held_note i c k t) ≡ []
+  gone : (i c : ℕ) (k : Kind) (t : Option ℕ) → P i c ≡ true → filter shut (held_note i c k t) ≡ []
   gone i c k None e = refl
   gone i c k (Some j) e = rw e
 
   cell-left : (x : NoteEffect) (i c : ℕ) (rs q q' : List Row) (u : Bool) → untouched c rs ≡ u → P i c ≡ (heading x && u)
-      → those shut (cell_notes x i c (tail_row_of c (suc i) (rs ++ q))) ≡ those shut (cell_notes x i c (tail_row_of c (suc i) (rs ++ q')))
+      → filter shut (cell_notes x i c (tail_row_of c (suc i) (rs ++ q))) ≡ filter shut (cell_notes x i c (tail_row_of c (suc i) (rs ++ q')))
   cell-left Nothing i c rs q q' u h e = refl
   cell-left Closes i c rs q q' u h e = refl
   cell-left (Single k) i c rs q q' u h e = refl
   cell-left (Head k) i c rs q q' true h e = gone i c k (tail_row_of c (suc i) (rs ++ q)) e ∙ sym (gone i c k (tail_row_of c (suc i) (rs ++ q')) e)
-  cell-left (Head k) i c rs q q' false h e = ap (λ t. those shut (held_note i c k t)) (tail-fixed c (suc i) rs q q' h)
+  cell-left (Head k) i c rs q q' false h e = ap (λ t. filter shut (held_note i c k t)) (tail-fixed c (suc i) rs q q' h)
 
   -- a row's cells from column c on
   row-left : (i c : ℕ) (bs : Row) (rs q q' : List Row)
       → ((e : ℕ) → P i (c + e) ≡ (is_head (byte_at e bs) && untouched (c + e) rs))
-      → those shut (row_notes i c bs (rs ++ q)) ≡ those shut (row_notes i c bs (rs ++ q'))
+      → filter shut (row_notes i c bs (rs ++ q)) ≡ filter shut (row_notes i c bs (rs ++ q'))
   row-left i c [] rs q q' h = refl
   row-left i c (b ∷ bs) rs q q' h =
-      those-append shut (cell_notes (effect_at b) i c (tail_row_of c (suc i) (rs ++ q))) (row_notes i (suc c) bs (rs ++ q))
-      ∙ ap (λ l. l ++ those shut (row_notes i (suc c) bs (rs ++ q))) (cell-left (effect_at b) i c rs q q' (untouched c rs) refl (rw (add-zero, head-is b) at (h 0)))
-      ∙ ap (λ l. those shut (cell_notes (effect_at b) i c (tail_row_of c (suc i) (rs ++ q'))) ++ l)
+      filter-append shut (cell_notes (effect_at b) i c (tail_row_of c (suc i) (rs ++ q))) (row_notes i (suc c) bs (rs ++ q))
+      ∙ ap (λ l. l ++ filter shut (row_notes i (suc c) bs (rs ++ q))) (cell-left (effect_at b) i c rs q q' (untouched c rs) refl (rw (add-zero, head-is b) at (h 0)))
+      ∙ ap (λ l. filter shut (cell_notes (effect_at b) i c (tail_row_of c (suc i) (rs ++ q'))) ++ l)
       (row-left i (suc c) bs rs q q' (λ e. rw (suc-add, ← add-suc) (h (suc e))))
-      ∙ sym (those-append shut (cell_notes (effect_at b) i c (tail_row_of c (suc i) (rs ++ q'))) (row_notes i (suc c) bs (rs ++ q')))
+      ∙ sym (filter-append shut (cell_notes (effect_at b) i c (tail_row_of c (suc i) (rs ++ q'))) (row_notes i (suc c) bs (rs ++ q')))
 
   headed-left : (i : ℕ) (rs q q' : List Row) → ((j c : ℕ) → P (i + j) c ≡ open_in rs j c)
-      → those shut (headed i rs q) ≡ those shut (headed i rs q')
+      → filter shut (headed i rs q) ≡ filter shut (headed i rs q')
   headed-left i [] q q' h = refl
   headed-left i (r ∷ rs) q q' h =
-      those-append shut (row_notes i 0 r (rs ++ q)) (headed (suc i) rs q)
-      ∙ ap (λ l. l ++ those shut (headed (suc i) rs q)) (row-left i 0 r rs q q' (λ e. rw zero-add (rw add-zero at (h 0 e))))
-      ∙ ap (λ l. those shut (row_notes i 0 r (rs ++ q')) ++ l) (headed-left (suc i) rs q q' (λ j c. rw (suc-add, ← add-suc) (h (suc j) c)))
-      ∙ sym (those-append shut (row_notes i 0 r (rs ++ q')) (headed (suc i) rs q'))
+      filter-append shut (row_notes i 0 r (rs ++ q)) (headed (suc i) rs q)
+      ∙ ap (λ l. l ++ filter shut (headed (suc i) rs q)) (row-left i 0 r rs q q' (λ e. rw zero-add (rw add-zero at (h 0 e))))
+      ∙ ap (λ l. filter shut (row_notes i 0 r (rs ++ q')) ++ l) (headed-left (suc i) rs q q' (λ j c. rw (suc-add, ← add-suc) (h (suc j) c)))
+      ∙ sym (filter-append shut (row_notes i 0 r (rs ++ q')) (headed (suc i) rs q'))
 
 pub earlier-left : (ps q q' : List Row)
-    → those (λ x. not (open_in ps x.row x.column)) (headed 0 ps q) ≡ those (λ x. not (open_in ps x.row x.column)) (headed 0 ps q')
+    → filter (λ x. not (open_in ps x.row x.column)) (headed 0 ps q) ≡ filter (λ x. not (open_in ps x.row x.column)) (headed 0 ps q')
 earlier-left ps q q' = headed-left (open_in ps) 0 ps q q' (λ j c. rw zero-add)
 
 -- The note headed at row i and column c: none, or what that cell and the rows after it say.
@@ -197,25 +198,25 @@ module _ (i c : ℕ) where
   headed_by rs b = cell_notes (effect_at b) i c (tail_row_of c (suc i) rs)
 
   row_here : (e j : ℕ) → e + j ≡ c → (bs : Row) (rs : List Row)
-      → (those here (row_notes i e bs rs) ≡ []) ⊎ (those here (row_notes i e bs rs) ≡ headed_by rs (byte_at j bs))
+      → (filter here (row_notes i e bs rs) ≡ []) ⊎ (filter here (row_notes i e bs rs) ≡ headed_by rs (byte_at j bs))
   row_here e j p [] rs = inl refl
   row_here e zero p (b ∷ bs) rs =
       inr
       (rw (sym (add-zero e) ∙ p)
-      (those-left here (headed_by rs b) (all_map (λ x q. off-column x (λ w. omega arith)) (row_at i (suc c) bs rs))
-      ∙ those-all here (all_map is-here (cell_at (effect_at b) i c (tail_row_of c (suc i) rs)))))
+      (filter-left here (headed_by rs b) (all_map (λ x q. off-column x (λ w. omega arith)) (row_at i (suc c) bs rs))
+      ∙ filter-all here (all_map is-here (cell_at (effect_at b) i c (tail_row_of c (suc i) rs)))))
   row_here e (suc j) p (b ∷ bs) rs =
-      rw (those-right here (row_notes i (suc e) bs rs) (all_map (λ x q. off-column x (λ w. omega arith)) (cell_at (effect_at b) i e (tail_row_of e (suc i) rs))))
+      rw (filter-right here (row_notes i (suc e) bs rs) (all_map (λ x q. off-column x (λ w. omega arith)) (cell_at (effect_at b) i e (tail_row_of e (suc i) rs))))
       (row_here (suc e) j (omega arith) bs rs)
 
   notes-here : (k j : ℕ) → k + j ≡ i → (rs : List Row)
-      → (those here (notes_from k rs) ≡ []) ⊎ (those here (notes_from k rs) ≡ headed_by (drop (suc j) rs) (byte_at c (get_or rs j [])))
+      → (filter here (notes_from k rs) ≡ []) ⊎ (filter here (notes_from k rs) ≡ headed_by (drop (suc j) rs) (byte_at c (get_or rs j [])))
   notes-here k j p [] = inl refl
   notes-here k zero p (r ∷ rs) =
-      rw (sym (add-zero k) ∙ p, those-left here (row_notes i 0 r rs) (all_map (λ x q. off-row x (λ w. omega arith)) (notes-from (suc i) rs)))
+      rw (sym (add-zero k) ∙ p, filter-left here (row_notes i 0 r rs) (all_map (λ x q. off-row x (λ w. omega arith)) (notes-from (suc i) rs)))
       (row_here 0 c (zero-add c) r rs)
   notes-here k (suc j) p (r ∷ rs) =
-      rw (those-right here (notes_from (suc k) rs) (all_map (λ x q. off-row x (λ w. omega arith)) (row_at k 0 r rs)))
+      rw (filter-right here (notes_from (suc k) rs) (all_map (λ x q. off-row x (λ w. omega arith)) (row_at k 0 r rs)))
       (notes-here (suc k) j (omega arith) rs)
 
 -- A head that nothing stops has its tail after the rows that do not stop it, if it has one.
@@ -257,7 +258,7 @@ open-head i c ps q h = go (notes-here i c 0 i (zero-add i) (ps ++ q))
     inside = head-there ps i c headed-here
 
     ns : List Note
-    ns = those (here i c) (notes_from 0 (ps ++ q))
+    ns = filter (here i c) (notes_from 0 (ps ++ q))
 
     there : headed_by i c (drop (suc i) (ps ++ q)) (byte_at c (get_or (ps ++ q) i [])) ≡ held_note i c k (tail_row_of c (length ps) q)
     there =

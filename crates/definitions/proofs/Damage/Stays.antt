@@ -7,7 +7,8 @@ use native.Mathlib.Nat.{zero-add}
 use native.Mathlib.Omega.{arith}
 use lib.Dec.{ltb, leb}
 use lib.ListN.{length, drop, length-append}
-use Rattle.definitions.specs.Lists.{number_of_bool, joined, those}
+use Rattle.std.specs.List.{filter}
+use Rattle.definitions.specs.Lists.{number_of_bool, joined}
 use Rattle.definitions.specs.Lines.{Row}
 use Rattle.definitions.specs.Measures.{chart}
 use Rattle.definitions.specs.Reduction.{reduce, minimised}
@@ -29,7 +30,7 @@ notes-parts L d text = ap (notes_from 0) (parts d (minimised L text))
 
 earlier-is : (L d : ℕ) (text : List ℕ) → earlier L d text ≡ headed 0 (rows_above L d text) (rows_of L d text ++ rows_later L d text)
 earlier-is L d text =
-    ap (those (λ x. ltb x.row (length (rows_above L d text)))) (notes-parts L d text)
+    ap (filter (λ x. ltb x.row (length (rows_above L d text)))) (notes-parts L d text)
     ∙ before-part (rows_above L d text) (rows_of L d text ++ rows_later L d text)
 
 later-is : (L d : ℕ) (text : List ℕ) → later L d text ≡ notes_from (length (rows_above L d text) + length (rows_of L d text)) (rows_later L d text)
@@ -38,7 +39,7 @@ later-is L d text =
     let ms : List (List Row) = minimised L text in
     let before : List Row = rows_above L (suc d) text in
     let after : List Row = rows_later L d text in
-    ap (λ rows. those (λ x. leb (length before) x.row) (notes_from 0 rows))
+    ap (λ rows. filter (λ x. leb (length before) x.row) (notes_from 0 rows))
     (parts d ms ∙ sym (append_assoc (rows_above L d text) (rows_of L d text) after) ∙ ap (λ r. r ++ after) (sym (parts-suc d ms)))
     ∙ after-part before after
     ∙ ap (λ n. notes_from n after) (ap length (parts-suc d ms) ∙ length-append (rows_above L d text) (rows_of L d text))
@@ -64,14 +65,14 @@ module _ (L d : ℕ) (old new : List ℕ) (x : Differ L d old new) where
       subst₂ (Each (Shifted a b)) (sym (later-is L d old)) (ap (λ q. notes_from (t + b) (joined q)) same-later ∙ sym (later-is L d new))
       (notes-shift a b (s + a) (t + b) (omega arith) (rows_later L d old))
 
-  earlier_notes : those (λ x. not (open_at L d old x)) (earlier L d old) ≡ those (λ x. not (open_at L d new x)) (earlier L d new)
+  earlier_notes : filter (λ x. not (open_at L d old x)) (earlier L d old) ≡ filter (λ x. not (open_at L d new x)) (earlier L d new)
   earlier_notes =
       let q : List Row = rows_of L d old ++ rows_later L d old in
       let q' : List Row = rows_of L d new ++ rows_later L d new in
-      ap (those (λ x. not (open_at L d old x))) (earlier-is L d old)
+      ap (filter (λ x. not (open_at L d old x))) (earlier-is L d old)
       ∙ earlier-left (rows_above L d old) q q'
-      ∙ ap (λ ps. those (λ x. not (open_in ps x.row x.column)) (headed 0 ps q')) same_before
-      ∙ ap (those (λ x. not (open_at L d new x))) (sym (earlier-is L d new))
+      ∙ ap (λ ps. filter (λ x. not (open_in ps x.row x.column)) (headed 0 ps q')) same_before
+      ∙ ap (filter (λ x. not (open_at L d new x))) (sym (earlier-is L d new))
 
   open_heads : (text : List ℕ) → rows_above L d old ≡ rows_above L d text → (i c : ℕ) → open_in (rows_above L d old) i c ≡ true
       → MissingOrLate (length (rows_above L d old)) (row_count L text) i c (head_kind (byte_in (rows_above L d old) i c)) (notes L text)
