@@ -26,8 +26,8 @@ pub record Small (L : ℕ) (p : KeptPass) (len : ℕ) : Type 0 where
   pub rows : 5 * (p.counting.rows + p.rows) ≤ len + 1
   pub midx : 2 * p.midx ≤ len + 1
 
-pub kept-few : (L : ℕ) (p : KeptPass) (text densities : List ℕ) (len : ℕ) (done : List (List Row)) (cur : List Row) → Few L len done cur → Kept L p text densities done cur → Small L p len
-kept-few L p text densities len done cur f x =
+pub kept-few : {L : ℕ} {p : KeptPass} {text densities : List ℕ} {len : ℕ} {done : List (List Row)} {cur : List Row} → Few L len done cur → Kept L p text densities done cur → Small L p len
+kept-few {done = done} f x =
     record {
       most = omega (arith, f.rows, x.rows, x.counted.rows, length-append (joined done) []);
       rows = omega (arith, f.fifth, x.rows, x.counted.rows, length-append (joined done) []);

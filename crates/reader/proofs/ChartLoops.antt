@@ -1,22 +1,19 @@
 -- A loop over the lines of a chart that count, as `charts::chart_lines` gives them: what has been read when some of them have come, how little that is
 -- for a text of so many bytes, and that it is the whole chart at the end.
 use mathlib.Core.Path.{◌≡◌, refl, ap, sym, ◌∙◌, subst}
-use mathlib.Core.List.{List, [], ◌∷◌, ◌++◌, map, map-append}
-use Prim.Native.Nat.{ℕ, zero, suc, ◌+◌, ◌*◌, ◌<◌, ◌≤◌}
+use mathlib.Core.List.{List, [], ◌∷◌, ◌++◌, map, map-append, append_assoc, append-nil}
+use Prim.Native.Nat.{ℕ, ◌+◌, ◌*◌, ◌≤◌}
 use native.Mathlib.Nat.{le_trans, mul-le-mul_right, le-div_iff_mul-le, mul_comm, le_of_eq}
 use native.Mathlib.Omega.{arith}
-use lib.ListN.{length, get_or, length-append}
+use lib.ListN.{length, length-append}
 use lib.Seq.{length-take-le}
 use Rattle.std.specs.Prelude.{Option, Some, None, fold, sum_by}
-use Rattle.std.specs.Iterator.{Yields, YieldsFirstBy}
-use Rattle.std.proofs.iter.Next.{Yields-more}
-use Rattle.std.proofs.lemmas.List.Sums.{fold_push, sum_by-cons, sum_by-take-le}
-use Rattle.std.proofs.lemmas.Iterator.Consumers.{YieldsList-from_first, YieldsList-so_far, YieldsList-turn, YieldsList-end}
+use Rattle.std.proofs.lemmas.List.Sums.{fold_push, sum_by-cons, sum_by-append}
 use Rattle.definitions.specs.Lists.{joined}
 use Rattle.definitions.specs.Lanes.{most_rows_in}
 use Rattle.definitions.specs.Lines.{Row, cut, trim, line_kind, line_row}
 use Rattle.definitions.specs.Measures.{chart}
-use Rattle.definitions.proofs.Lists.{joined_snoc}
+use Rattle.definitions.proofs.Lists.{All, none, one, joined_snoc}
 use Rattle.definitions.proofs.ChartRows.{trim-short, row-length}
 use Rattle.definitions.specs.declared.LineKind.{LineKind}
 use Rattle.definitions.specs.declared.LineKind.TheVariants as line
@@ -86,39 +83,35 @@ few-of L len h w b =
 
 -- ---- a row has L bytes
 
-marks-wide : (L : ℕ) (ls : List (List ℕ)) (k : ℕ) (m : Option Row) (r : Row) → k < length (marks L ls) → get_or (marks L ls) k m ≡ Some r → length r ≡ L
+abbrev pub Wide : ℕ → Option Row → Type 0
+Wide L None = Unit {0}
+Wide L (Some r) = length r ≡ L
+
+marks-wide : (L : ℕ) (ls : List (List ℕ)) → All (Wide L) (marks L ls)
 unfolding line_kind
-marks-wide L [] k m r h e = absurd (omega arith)
-marks-wide L (l ∷ ls) k m r h e = go (line_kind L l) refl (marks-wide L ls) k h e
+marks-wide L [] = none
+marks-wide L (l ∷ ls) = go (line_kind L l) refl (marks-wide L ls)
   where
-    go : (n : LineKind) → line_kind L l ≡ n
-        → ((k : ℕ) (m : Option Row) (r : Row) → k < length (marks L ls) → get_or (marks L ls) k m ≡ Some r → length r ≡ L)
-        → (k : ℕ) → k < length (add_mark n (line_row L l) (marks L ls)) → get_or (add_mark n (line_row L l) (marks L ls)) k m ≡ Some r → length r ≡ L
-    go line.Passed q f k h e = f k m r h e
-    go line.Comma q f zero h e = cc
-    go line.Comma q f (suc k) h e = f k m r (omega arith) e
-    go line.Semi q f k h e = absurd (omega arith)
-    go line.Row q f zero h e = let same : line_row L l ≡ r = cc in sym (ap length same) ∙ length-take-le L (trim l) (row-length L (trim l) q)
-    go line.Row q f (suc k) h e = f k m r (omega arith) e
+    go : (n : LineKind) → line_kind L l ≡ n → All (Wide L) (marks L ls) → All (Wide L) (add_mark n (line_row L l) (marks L ls))
+    go line.Passed q p = p
+    go line.Comma q p = one {a = None} tt p
+    go line.Semi q p = none
+    go line.Row q p = one {a = Some (line_row L l)} (length-take-le L (trim l) (row-length L (trim l) q)) p
 
 -- ---- the loop
-
-abbrev pub Steps : List (Option Row) → Option ChartLine → List (Option Row) → Type 0
-Steps = YieldsFirstBy mark_of (λ rest. rest)
 
 held-more : (ls : List ChartLine) (l : ChartLine) → held_of (ls ++ (l ∷ [])) ≡ held_with (held_of ls) (mark_of l)
 unfolding held
 held-more ls l = ap (fold held_with _) (map-append mark_of ls (l ∷ [])) ∙ fold_push held_with _ (map mark_of ls) (mark_of l)
 
--- Lines of a text have come, with t left to come.
-pub record Come (L : ℕ) (text : List ℕ) (ls : List ChartLine) (t : List (Option Row)) : Type 0 where
+-- Lines of a text have come, with `rest` left to come.
+pub record Come (L : ℕ) (text : List ℕ) (ls : List ChartLine) (rest : List (Option Row)) : Type 0 where
   pub lanes : 4 ≤ L
-  pub start : List (Option Row)
-  pub from : start ≡ chart_marks L text
-  pub by : Yields Steps start ls t
+  pub lines_are : chart_marks L text ≡ map mark_of ls ++ rest
 
 -- A pass holds K of the measures that have ended and of the open one's rows, which are few.
-pub record Holds (L : ℕ) (text : List ℕ) (K : List (List Row) → List Row → Type 0) (ls : List ChartLine) : Type 0 where
+pub record Holds (L : ℕ) (text : List ℕ) (K : List (List Row) → List Row → Type 0) (ls : List ChartLine) (rest : List (Option Row)) : Type 0 where
+  pub come : Come L text ls rest
   pub held : K (held_of ls).done (held_of ls).cur
   pub few : Few L (length text) (held_of ls).done (held_of ls).cur
 
@@ -141,50 +134,57 @@ bytes-none L = omega arith
 pub bytes-more : (L : ℕ) (ls : List ChartLine) (l : ChartLine) → come_bytes L (ls ++ (l ∷ [])) ≡ come_bytes L ls + bytes_of L (mark_of l)
 bytes-more L ls l = ap (bytes_of_held L) (held-more ls l) ∙ one-more L (held_of ls) (mark_of l)
 
--- no more than the text has, with a newline after it
-pub come-within : (L : ℕ) (text : List ℕ) (ls : List ChartLine) (t : List (Option Row)) → Come L text ls t → come_bytes L ls ≤ length text + 1
-unfolding chart_marks
-come-within L text ls t x =
-    let part = YieldsList-so_far (YieldsList-from_first mark_of (λ rest. rest) (chart_marks L text) x.from) ls t x.by in
-    le_trans (le_of_eq (held_bytes L (map mark_of ls) ∙ ap (sum_by (bytes_of L)) part))
-    (le_trans (sum_by-take-le (bytes_of L) (chart_marks L text) (length ls))
-    (le_trans (marks-bytes L (cut text)) (le_of_eq (cut-bytes text))))
+module _ {L : ℕ} {text : List ℕ} {ls : List ChartLine} {rest : List (Option Row)} (x : Come L text ls rest) where
+  -- no more than the text has, with a newline after it
+  pub come-within : come_bytes L ls ≤ length text + 1
+  unfolding chart_marks
+  come-within =
+      omega (arith, held_bytes L (map mark_of ls), sum_by-append (bytes_of L) (map mark_of ls) rest, ap (sum_by (bytes_of L)) x.lines_are, marks-bytes L (cut text), cut-bytes text)
 
-come-few : (L : ℕ) (text : List ℕ) (ls : List ChartLine) (t : List (Option Row)) → Come L text ls t → Few L (length text) (held_of ls).done (held_of ls).cur
-come-few L text ls t x = few-of L (length text) (held_of ls) x.lanes (come-within L text ls t x)
+  come-few : Few L (length text) (held_of ls).done (held_of ls).cur
+  come-few = few-of L (length text) (held_of ls) x.lanes come-within
 
-module _ (L : ℕ) (text : List ℕ) where
-  pub holds-start : {K : List (List Row) → List Row → Type 0} → 4 ≤ L → K [] [] → Holds L text K []
-  unfolding held
-  holds-start w k = record { held = k; few = few-of L (length text) (record { done = []; cur = [] }) w (omega arith) }
-
-  -- One line more has come, or none.
-  module _ {ls : List ChartLine} {t : List (Option Row)} (x : Come L text ls t) (r : Option ChartLine) (u : List (Option Row)) (k : Steps t r u) where
-    pub come-more : (l : ChartLine) → r ≡ Some l → Come L text (ls ++ (l ∷ [])) u
-    come-more l e = record { lanes = x.lanes; start = x.start; from = x.from; by = Yields-more Steps x.start ls t l u x.by (subst (λ r. Steps t r u) e k) }
-
-    module _ {l : ChartLine} (e : r ≡ Some l) where
-      pub row-wide : (row : _) → l ≡ chart-line.Row row → length row.now ≡ L
-      unfolding chart_marks
-      row-wide row q =
-          let next = YieldsList-turn (YieldsList-from_first mark_of (λ rest. rest) (chart_marks L text) x.from) ls t x.by r u l e k in
-          marks-wide L (cut text) (length ls) (mark_of l) row.now next.0 (sym next.1 ∙ ap mark_of q)
-
-      module _ {K K' : List (List Row) → List Row → Type 0} where
-        pub holds-row : (row : _) → l ≡ chart-line.Row row → ((done : List (List Row)) (cur : List Row) → K done cur → K' done (cur ++ (row.now ∷ [])))
-            → Holds L text K ls → Holds L text K' (ls ++ (l ∷ []))
-        holds-row row q f h = record { held = rw (held-more ls l, q) (f _ _ h.held); few = come-few L text _ u (come-more l e) }
-
-        pub holds-comma : l ≡ chart-line.Comma → ((done : List (List Row)) (cur : List Row) → K done cur → K' (done ++ (cur ∷ [])) []) → Holds L text K ls → Holds L text K' (ls ++ (l ∷ []))
-        holds-comma q f h = record { held = rw (held-more ls l, q) (f _ _ h.held); few = come-few L text _ u (come-more l e) }
-
-    pub holds-over : {K : List (List Row) → List Row → Type 0} → r ≡ None → Holds L text K ls → Over L text K
-    holds-over n h =
-        let whole = YieldsList-end (YieldsList-from_first mark_of (λ rest. rest) (chart_marks L text) x.from) ls t x.by r u n k in
+  -- One line more has come.
+  module _ {below : List (Option Row)} where
+    pub come-more : (l : ChartLine) → rest ≡ mark_of l ∷ below → Come L text (ls ++ (l ∷ [])) below
+    come-more l e =
         record {
-          done = (held_of ls).done;
-          cur = (held_of ls).cur;
-          chart_is = chart-held L text ∙ ap (λ ms. (held ms).done ++ ((held ms).cur ∷ [])) (sym whole.0);
-          few = h.few;
-          held = h.held;
+          lanes = x.lanes;
+          lines_are = x.lines_are ∙ ap (λ ms. map mark_of ls ++ ms) e ∙ sym (append_assoc (map mark_of ls) (mark_of l ∷ []) below) ∙ ap (λ ms. ms ++ below) (sym (map-append mark_of ls (l ∷ [])));
         }
+
+    -- a row has L bytes
+    pub row-wide : {l : ChartLine} → rest ≡ mark_of l ∷ below → (row : _) → l ≡ chart-line.Row row → length row.now ≡ L
+    unfolding chart_marks
+    row-wide e row q = go (map mark_of ls) (subst (All (Wide L)) (x.lines_are ∙ rw (e, q) refl) (marks-wide L (cut text)))
+      where
+        go : (ms : List (Option Row)) → All (Wide L) (ms ++ (Some row.now ∷ below)) → length row.now ≡ L
+        go [] (one h p) = h
+        go (m ∷ ms) (one h p) = go ms p
+
+pub holds-start : {L : ℕ} {text : List ℕ} {K : List (List Row) → List Row → Type 0} {rest : List (Option Row)} → rest ≡ chart_marks L text → 4 ≤ L → K [] [] → Holds L text K [] rest
+unfolding held
+holds-start {L = L} {text = text} e w k = record { come = record { lanes = w; lines_are = sym e }; held = k; few = few-of L (length text) (record { done = []; cur = [] }) w (omega arith) }
+
+module _ {L : ℕ} {text : List ℕ} {K : List (List Row) → List Row → Type 0} {ls : List ChartLine} {rest : List (Option Row)} (h : Holds L text K ls rest) where
+  -- One line more has come, or none.
+  module _ {K' : List (List Row) → List Row → Type 0} {l : ChartLine} {below : List (Option Row)} (e : rest ≡ mark_of l ∷ below) where
+    pub holds-row : (row : _) → l ≡ chart-line.Row row → ((done : List (List Row)) (cur : List Row) → K done cur → K' done (cur ++ (row.now ∷ []))) → Holds L text K' (ls ++ (l ∷ [])) below
+    holds-row row q f =
+        let more = come-more h.come l e in
+        record { come = more; held = rw (held-more ls l, q) (f _ _ h.held); few = come-few more }
+
+    pub holds-comma : l ≡ chart-line.Comma → ((done : List (List Row)) (cur : List Row) → K done cur → K' (done ++ (cur ∷ [])) []) → Holds L text K' (ls ++ (l ∷ [])) below
+    holds-comma q f =
+        let more = come-more h.come l e in
+        record { come = more; held = rw (held-more ls l, q) (f _ _ h.held); few = come-few more }
+
+  pub holds-over : rest ≡ [] → Over L text K
+  holds-over n =
+      record {
+        done = (held_of ls).done;
+        cur = (held_of ls).cur;
+        chart_is = chart-held L text ∙ ap (λ ms. (held ms).done ++ ((held ms).cur ∷ [])) (h.come.lines_are ∙ rw (n, append-nil) refl);
+        few = h.few;
+        held = h.held;
+      }

@@ -28,8 +28,8 @@ pub record Small (L : ℕ) (p : TimingPass) (len : ℕ) : Type 0 where
   pub fifth : 5 * (p.kept + p.rows) ≤ len + 1
   pub midx : 2 * p.midx ≤ len + 1
 
-pub timed-small : (L : ℕ) (p : TimingPass) (text : List ℕ) (beats : List Float) (len : ℕ) (done : List (List Row)) (cur : List Row) → Few L len done cur → Timed L p text beats done cur → Small L p len
-timed-small L p text beats len done cur f x =
+pub timed-small : {L : ℕ} {p : TimingPass} {text : List ℕ} {beats : List Float} {len : ℕ} {done : List (List Row)} {cur : List Row} → Few L len done cur → Timed L p text beats done cur → Small L p len
+timed-small f x =
     record {
       rows = omega (arith, f.rows, x.rows, x.kept);
       fifth = omega (arith, f.fifth, x.rows, x.kept);

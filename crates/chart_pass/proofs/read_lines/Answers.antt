@@ -1,40 +1,29 @@
 -- `chart_pass::read_lines` meets its contract. The loop's invariant: what the pass holds and has written is that of the lines that have come.
 use mathlib.Core.Path.{◌∙◌}
 use native.Mathlib.Omega.{arith}
-use lib.ListN.{length}
-use Rattle.kept_pass.proofs.Keeping.{Small, kept-few}
-use Rattle.reader.proofs.ChartLoops.{Come, row-wide, holds-over}
+use Rattle.kept_pass.proofs.Keeping.{kept-few}
+use Rattle.reader.proofs.ChartLoops.{row-wide, holds-over}
 use Rattle.reader.proofs.Minimising.{minimised-few, comma-room, row_room, minimising-start, minimising-comma, minimising-row}
 use Rattle.chart_pass.proofs.Charting.{slots-room, chart-all, charted-more}
-use Rattle.chart_pass.proofs.read_lines.Goals.{At-loop-line}
 use Rattle.chart_pass.proofs.read_lines.Goals as goal
-
-come : (c : At-loop-line) → Come c.args.table.now.lanes.count c.args.«data».now c.loop-line.yielded c.loop-line.line-iterator
-come c =
-    record { lanes = c.args.table.now.lanes.within.0; start = _; from = c.into_iter-line-iterator.ensures.into_iter_gives ∙ c.chart_lines-line-items.ensures; by = c.loop-line.yielded_by }
-
-small : (c : At-loop-line) → Small c.args.table.now.lanes.count c.loop-line.pass.pass (length c.args.«data».now)
-small c = kept-few _ _ _ _ _ _ _ c.loop-line.invariant.few c.loop-line.invariant.pass.held.kept
 
 pub loop-line-init : goal.loop-line-init
 loop-line-init c =
     let lanes = c.args.table.now.lanes in
-    minimising-start lanes.count c.args.«data».now lanes.within.0 _ c.new-pass.ensures.nothing_written
+    minimising-start (c.into_iter-line-iterator.ensures.into_iter_gives ∙ c.chart_lines-line-items.ensures) lanes.within.0 c.new-pass.ensures.nothing_written
     (c.new-pass.ensures.before lanes.count c.args.text.now c.args.densities.now c.args.beats.now c.args.slots.now lanes.within.1)
 
 pub add_row-requires : goal.add_row-requires
 add_row-requires c =
-    let at = (goal.at.add_row-requires c).At-loop-line in
-    let w = small at in
-    let wide = row-wide _ _ (come at) _ _ c.next.ensures.steps c.in-Some.is _ c.in-Row.is in
-    let room = row_room _ _ (come at) _ _ c.next.ensures.steps c.in-Some.is c.loop-line.invariant _ c.in-Row.is in
+    let w = kept-few c.loop-line.invariant.few c.loop-line.invariant.pass.held.kept in
+    let wide = row-wide c.loop-line.invariant.pass.come c.in-Some.ensures.steps _ c.in-Row.is in
+    let room = row_room c.loop-line.invariant c.in-Some.ensures.steps _ c.in-Row.is in
     (omega (arith, wide, room), omega (arith, w.rows))
 
 pub comma-requires : goal.comma-requires
 comma-requires c =
-    let at = (goal.at.comma-requires c).At-loop-line in
-    let w = small at in
-    let room = comma-room _ _ (come at) _ _ c.next.ensures.steps c.in-Some.is c.loop-line.invariant c.in-Comma.is in record {
+    let w = kept-few c.loop-line.invariant.few c.loop-line.invariant.pass.held.kept in
+    let room = comma-room c.loop-line.invariant c.in-Some.ensures.steps c.in-Comma.is in record {
       room = (omega (arith, room), omega (arith, w.rows), omega (arith, w.midx), omega (arith, w.midx));
       rows_in_bounds = (omega (arith, w.most), slots-room _ _ _ _ w.most (omega (arith, c.requires.data_in_bounds.3)));
       charted = record { done = _; cur = _; charted = c.loop-line.invariant.pass.held };
@@ -42,19 +31,19 @@ comma-requires c =
 
 pub loop-line-preserved-in-Row : goal.loop-line-preserved-in-Row
 loop-line-preserved-in-Row c =
-    minimising-row _ _ (come (goal.at.loop-line-preserved-in-Row c).At-loop-line) _ _ c.next.ensures.steps c.in-Some.is c.loop-line.invariant _ _ c.in-Row.is
+    minimising-row c.loop-line.invariant c.in-Some.ensures.steps _ c.in-Row.is
     (omega (arith, c.add_row.ensures.out_after))
     (λ wide. charted-more _ _ _ _ _ _ wide c.add_row.ensures.charted _ _ _)
 
 pub loop-line-preserved : goal.loop-line-preserved
 loop-line-preserved c =
-    minimising-comma _ _ (come (goal.at.loop-line-preserved c).At-loop-line) _ _ c.next.ensures.steps c.in-Some.is c.loop-line.invariant _ c.in-Comma.is
+    minimising-comma c.loop-line.invariant c.in-Some.ensures.steps c.in-Comma.is
     c.comma.ensures.out_bound
     c.comma.ensures.charted_after
 
 pub end_measure-requires : goal.end_measure-requires
 end_measure-requires c =
-    let w = small (goal.at.end_measure-requires c).At-loop-line in record {
+    let w = kept-few c.loop-line.invariant.few c.loop-line.invariant.pass.held.kept in record {
       room = (omega arith, omega (arith, w.rows), omega (arith, w.midx), omega (arith, w.midx));
       rows_in_bounds = (omega (arith, w.most), slots-room _ _ _ _ w.most (omega (arith, c.requires.data_in_bounds.3)));
       charted = record { done = _; cur = _; charted = c.loop-line.invariant.pass.held };
@@ -62,8 +51,8 @@ end_measure-requires c =
 
 pub returns : goal.returns
 returns c =
-    let x = holds-over _ _ (come (goal.at.returns c).At-loop-line) _ _ c.next.ensures.steps c.in-None.is c.loop-line.invariant.pass in
+    let x = holds-over c.loop-line.invariant.pass c.in-None.ensures.steps.0 in
     let r = c.end_measure.ensures in
-    chart-all _ _ _ _ _ _ _ _ _ x.chart_is (minimised-few _ _ x) (r.chart_ended _ _ x.held)
+    chart-all _ _ _ _ _ _ _ _ _ x.chart_is (minimised-few x) (r.chart_ended _ _ x.held)
     (omega (arith, r.no_more.0))
     (omega (arith, r.no_more.0))

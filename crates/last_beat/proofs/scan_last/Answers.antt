@@ -2,33 +2,28 @@
 use mathlib.Core.Path.{◌∙◌}
 use native.Mathlib.Omega.{arith}
 use Rattle.objects.proofs.Scan.{low-more}
-use Rattle.reader.proofs.ChartLoops.{Come, row-wide, holds-start, holds-row, holds-comma, holds-over}
+use Rattle.reader.proofs.ChartLoops.{row-wide, holds-start, holds-row, holds-comma, holds-over}
 use Rattle.last_beat.proofs.Looking.{looked-last}
-use Rattle.last_beat.proofs.scan_last.Goals.{At-loop-line}
 use Rattle.last_beat.proofs.scan_last.Goals as goal
 
-come : (c : At-loop-line) → Come c.args.lanes.count c.args.«data».now c.loop-line.yielded c.loop-line.line-iterator
-come c =
-    record { lanes = c.args.lanes.within.0; start = _; from = c.into_iter-line-iterator.ensures.into_iter_gives ∙ c.chart_lines-line-items.ensures; by = c.loop-line.yielded_by }
-
 pub loop-line-init : goal.loop-line-init
-loop-line-init c = holds-start _ _ c.args.lanes.within.0 c.no_last-s.ensures
+loop-line-init c = holds-start (c.into_iter-line-iterator.ensures.into_iter_gives ∙ c.chart_lines-line-items.ensures) c.args.lanes.within.0 c.no_last-s.ensures
 
 pub last_row-s-requires : goal.last_row-s-requires
 last_row-s-requires c =
-    let wide = row-wide _ _ (come (goal.at.last_row-s-requires c).At-loop-line) _ _ c.next.ensures.steps c.in-Some.is _ c.in-Row.is in
+    let wide = row-wide c.loop-line.invariant.come c.in-Some.ensures.steps _ c.in-Row.is in
     let x = c.loop-line.invariant in
     (omega (arith, wide), omega (arith, x.held.rows, x.few.fifth), low-more _ _ _ (omega (arith, x.few.fifth)) x.held.low)
 
 pub loop-line-preserved-in-Row : goal.loop-line-preserved-in-Row
 loop-line-preserved-in-Row c =
-    holds-row _ _ (come (goal.at.loop-line-preserved-in-Row c).At-loop-line) _ _ c.next.ensures.steps c.in-Some.is _ c.in-Row.is c.last_row-s.ensures c.loop-line.invariant
+    holds-row c.loop-line.invariant c.in-Some.ensures.steps _ c.in-Row.is c.last_row-s.ensures
 
 pub loop-line-preserved : goal.loop-line-preserved
 loop-line-preserved c =
-    holds-comma _ _ (come (goal.at.loop-line-preserved c).At-loop-line) _ _ c.next.ensures.steps c.in-Some.is c.in-Comma.is c.last_measure-s.ensures c.loop-line.invariant
+    holds-comma c.loop-line.invariant c.in-Some.ensures.steps c.in-Comma.is c.last_measure-s.ensures
 
 pub returns : goal.returns
 returns c =
     looked-last _ _ _ _ c.last_measure-s-2.ensures
-    (holds-over _ _ (come (goal.at.returns c).At-loop-line) _ _ c.next.ensures.steps c.in-None.is c.loop-line.invariant)
+    (holds-over c.loop-line.invariant c.in-None.ensures.steps.0)

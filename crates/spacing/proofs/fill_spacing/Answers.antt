@@ -6,18 +6,13 @@ use native.Mathlib.Omega.{arith}
 use lib.ListN.{length}
 use Rattle.definitions.specs.Lists.{number_of_bool, padded}
 use Rattle.spacing.specs.Spaces.{Spaces}
-use Rattle.reader.proofs.ChartLoops.{Come, holds-start, holds-row, holds-comma, holds-over}
+use Rattle.reader.proofs.ChartLoops.{holds-start, holds-row, holds-comma, holds-over}
 use Rattle.scans.proofs.Filling.{Filled, filling_start, filling_row, filling_comma, filling_over, filled_count, filled_slice}
 use Rattle.spacing.proofs.Spaces.{spaced_in, spacings-raw, spaces-few}
-use Rattle.spacing.proofs.fill_spacing.Goals.{At-loop-line}
 use Rattle.spacing.proofs.fill_spacing.Goals as goal
 
-come : (c : At-loop-line) → Come c.args.lanes.count c.args.«data».now c.loop-line.yielded c.loop-line.line-iterator
-come c =
-    record { lanes = c.args.lanes.within.0; start = _; from = c.into_iter-line-iterator.ensures.into_iter_gives ∙ c.chart_lines-line-items.ensures; by = c.loop-line.yielded_by }
-
 pub loop-line-init : goal.loop-line-init
-loop-line-init c = holds-start _ _ c.args.lanes.within.0 (filling_start spaced_in (Spaces _) _ c.new-measure.ensures)
+loop-line-init c = holds-start (c.into_iter-line-iterator.ensures.into_iter_gives ∙ c.chart_lines-line-items.ensures) c.args.lanes.within.0 (filling_start spaced_in (Spaces _) _ c.new-measure.ensures)
 
 -- the open measure's rows are few enough for their counts
 pub add_row-requires : goal.add_row-requires
@@ -28,22 +23,20 @@ add_row-requires c =
 
 pub loop-line-preserved-in-Row : goal.loop-line-preserved-in-Row
 loop-line-preserved-in-Row c =
-    holds-row _ _ (come (goal.at.loop-line-preserved-in-Row c).At-loop-line) _ _ c.next.ensures.steps c.in-Some.is _ c.in-Row.is
+    holds-row c.loop-line.invariant c.in-Some.ensures.steps _ c.in-Row.is
     (filling_row spaced_in (Spaces _) (Spaces _) _ _ _ c.add_row.ensures)
-    c.loop-line.invariant
 
 pub loop-line-preserved : goal.loop-line-preserved
 loop-line-preserved c =
     let room : c.loop-line.m < length c.loop-line.spacing = omega arith in
-    holds-comma _ _ (come (goal.at.loop-line-preserved c).At-loop-line) _ _ c.next.ensures.steps c.in-Some.is c.in-Comma.is
+    holds-comma c.loop-line.invariant c.in-Some.ensures.steps c.in-Comma.is
     (filling_comma spaced_in (Spaces _) (Spaces _) _ _ _ room (λ cur x. c.from.ensures ∙ ap number_of_bool (c.is_spaced.ensures cur x)) c.new-measure-in-Comma.ensures)
-    c.loop-line.invariant
 
 pub returns : goal.returns
 returns c =
     let last : Filled spaced_in c.args.lanes.count c.args.«data».now c.loop-line.m c.from-2.result c.loop-line.spacing
     = filling_over spaced_in (Spaces _) _ _ _ _ _ (λ cur x. c.from-2.ensures ∙ ap number_of_bool (c.is_spaced-2.ensures cur x))
-    (holds-over _ _ (come (goal.at.returns c).At-loop-line) _ _ c.next.ensures.steps c.in-None.is c.loop-line.invariant) in
+    (holds-over c.loop-line.invariant c.in-None.ensures.steps.0) in
     let room : c.loop-line.m < length c.loop-line.spacing = omega (arith, last.room) in
     let raw = spacings-raw c.args.lanes.count c.args.«data».now in
     record {

@@ -6,4 +6,4 @@ use Rattle.spacing.proofs.Spaces.{spaced_in}
 use Rattle.spacing.proofs.fill_spacing.Given as goal
 
 abbrev pub invariant-loop-line : goal.invariant-loop-line
-invariant-loop-line l = Holds l.fn.lanes.count l.data (Filling spaced_in (Spaces l.measure) l.m l.spacing) l.yielded
+invariant-loop-line l = Holds l.fn.lanes.count l.data (Filling spaced_in (Spaces l.measure) l.m l.spacing) l.yielded l.line-iterator

@@ -4,4 +4,4 @@ use Rattle.timing.specs.TimingPass.{Timed}
 use Rattle.timing.proofs.pass_chart.Given as goal
 
 abbrev pub invariant-loop-line : goal.invariant-loop-line
-invariant-loop-line l = Minimising l.fn.lanes.count l.data l.pass.out (Timed l.fn.lanes.count l.pass l.text l.beats) l.yielded
+invariant-loop-line l = Minimising l.fn.lanes.count l.data l.pass.out (Timed l.fn.lanes.count l.pass l.text l.beats) l.yielded l.line-iterator

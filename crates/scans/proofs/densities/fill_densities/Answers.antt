@@ -7,19 +7,14 @@ use lib.ListN.{length}
 use Rattle.definitions.specs.Lists.{number_of_bool, padded}
 use Rattle.definitions.specs.Figures.{density}
 use Rattle.definitions.proofs.Lists.{one-le}
-use Rattle.reader.proofs.ChartLoops.{Come, holds-start, holds-row, holds-comma, holds-over}
+use Rattle.reader.proofs.ChartLoops.{holds-start, holds-row, holds-comma, holds-over}
 use Rattle.scans.proofs.Raw.{densities-raw}
 use Rattle.scans.proofs.Filling.{Filled, filling_start, filling_row, filling_comma, filling_over, filled_count, filled_slice}
 use Rattle.scans.proofs.Steps.{Steps, steps-start, steps-more, steps-few}
-use Rattle.scans.proofs.densities.fill_densities.Goals.{At-loop-line}
 use Rattle.scans.proofs.densities.fill_densities.Goals as goal
 
-come : (c : At-loop-line) → Come c.args.lanes.count c.args.«data».now c.loop-line.yielded c.loop-line.line-iterator
-come c =
-    record { lanes = c.args.lanes.within.0; start = _; from = c.into_iter-line-iterator.ensures.into_iter_gives ∙ c.chart_lines-line-items.ensures; by = c.loop-line.yielded_by }
-
 pub loop-line-init : goal.loop-line-init
-loop-line-init c = holds-start _ _ c.args.lanes.within.0 (filling_start density (Steps 0) _ steps-start)
+loop-line-init c = holds-start (c.into_iter-line-iterator.ensures.into_iter_gives ∙ c.chart_lines-line-items.ensures) c.args.lanes.within.0 (filling_start density (Steps 0) _ steps-start)
 
 -- the open measure's rows are few enough for their count
 pub overflow_add-steps : goal.overflow_add-steps
@@ -29,23 +24,21 @@ overflow_add-steps c =
 
 pub loop-line-preserved-in-Row : goal.loop-line-preserved-in-Row
 loop-line-preserved-in-Row c =
-    holds-row _ _ (come (goal.at.loop-line-preserved-in-Row c).At-loop-line) _ _ c.next.ensures.steps c.in-Some.is _ c.in-Row.is
+    holds-row c.loop-line.invariant c.in-Some.ensures.steps _ c.in-Row.is
     (filling_row density (Steps _) (Steps _) _ _ _ (steps-more _ _ _ (c.from-steps.ensures ∙ ap number_of_bool c.row_has_note.ensures)))
-    c.loop-line.invariant
 
 pub loop-line-preserved : goal.loop-line-preserved
 loop-line-preserved c =
     -- the measures so far are few enough for the slice
     let room : c.loop-line.m < length c.loop-line.densities = omega arith in
-    holds-comma _ _ (come (goal.at.loop-line-preserved c).At-loop-line) _ _ c.next.ensures.steps c.in-Some.is c.in-Comma.is
+    holds-comma c.loop-line.invariant c.in-Some.ensures.steps c.in-Comma.is
     (filling_comma density (Steps _) (Steps 0) _ _ _ room (λ cur h. h) steps-start)
-    c.loop-line.invariant
 
 pub returns : goal.returns
 returns c =
     let last : Filled density c.args.lanes.count c.args.«data».now c.loop-line.m c.loop-line.steps c.loop-line.densities =
     filling_over density (Steps _) _ _ _ _ _ (λ cur h. h)
-    (holds-over _ _ (come (goal.at.returns c).At-loop-line) _ _ c.next.ensures.steps c.in-None.is c.loop-line.invariant) in
+    (holds-over c.loop-line.invariant c.in-None.ensures.steps.0) in
     let room : c.loop-line.m < length c.loop-line.densities = omega (arith, last.room) in
     let raw = densities-raw c.args.lanes.count c.args.«data».now in record {
       value = filled_count density _ _ _ _ _ room last ∙ sym (ap length raw);

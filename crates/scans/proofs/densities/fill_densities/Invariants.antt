@@ -6,4 +6,4 @@ use Rattle.scans.proofs.Steps.{Steps}
 use Rattle.scans.proofs.densities.fill_densities.Given as goal
 
 abbrev pub invariant-loop-line : goal.invariant-loop-line
-invariant-loop-line l = Holds l.fn.lanes.count l.data (Filling density (Steps l.steps) l.m l.densities) l.yielded
+invariant-loop-line l = Holds l.fn.lanes.count l.data (Filling density (Steps l.steps) l.m l.densities) l.yielded l.line-iterator
