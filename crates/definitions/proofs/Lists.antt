@@ -10,7 +10,7 @@ use lib.ListN.{length, take, drop, get_or, length-append, length-take, take-appe
 use lib.Seq.{drop-drop, drop-append_seam, drop-append-le}
 use lib.Pointwise.{pointwise_long}
 use Rattle.std.specs.Prelude.{nat_eq}
-use Rattle.std.specs.List.{filter, starts_with}
+use Rattle.std.specs.List.{All as AllAt, filter, starts_with}
 use Rattle.std.proofs.lemmas.List.Elements.{filter-append}
 use Rattle.definitions.specs.Lists.{number_of_bool, joined, up_to, through, after, after_each}
 
@@ -27,6 +27,16 @@ module _ {A : Type 0} where
   pub all_map : {P Q : A → Type 0} {l : List A} → ((a : A) → P a → Q a) → All P l → All Q l
   all_map f none = none
   all_map f (one {a = a} h p) = one (f a h) (all_map f p)
+
+  -- and in std's words, by index
+  pub all-by_index : (P : A → Type 0) {l : List A} → All P l → AllAt P l
+  all-by_index P none k d h = absurd (omega arith)
+  all-by_index P (one p a) zero d h = p
+  all-by_index P (one p a) (suc k) d h = all-by_index P a k d (omega arith)
+
+  pub all-from_index : (P : A → Type 0) (l : List A) → AllAt P l → All P l
+  all-from_index P [] f = none
+  all-from_index P (x ∷ l) f = one (f zero x (omega arith)) (all-from_index P l (λ k d h. f (suc k) d (omega arith)))
 
   pub filter-all : (p : A → Bool) {l : List A} → All (λ a. p a ≡ true) l → filter p l ≡ l
   filter-all p none = refl

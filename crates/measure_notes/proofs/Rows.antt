@@ -8,10 +8,11 @@ use native.Mathlib.Omega.{arith}
 use borrow.Author.Tests.{eqb-true, eqb-false}
 use lib.Dec.{eqb}
 use lib.ListN.{length, get_or, length-append}
+use Rattle.std.specs.List.{All}
 use Rattle.definitions.specs.Sizes.{row_count_bound}
 use Rattle.definitions.specs.Lists.{joined}
 use Rattle.definitions.specs.Lines.{Row}
-use Rattle.definitions.proofs.Lists.{All, none, one, all_append, joined_snoc}
+use Rattle.definitions.proofs.Lists.{none, one, all_append, all-by_index, all-from_index, joined_snoc}
 use Rattle.taps.specs.Taps.{FreeAre}
 use Rattle.row_notes.specs.declared.ChartNotesScratch.{ChartNotesScratch}
 use Rattle.row_notes.specs.Writer.{no_head}
@@ -27,7 +28,7 @@ use Rattle.measure_notes.specs.Noted.{NotedRows, Noted, RowReady}
 pub noted-start : (L : ℕ) (l : List ℕ) (s : ChartNotesScratch) (o : LastScan) → Written [] s l → LastKept o [] [] → Noted L (record { scratch = s; last = o; busy = 0 }) l []
 noted-start L l s o w kept = record {
   written = w;
-  wide = none;
+  wide = all-by_index (λ r. length r ≤ L) none;
   last = kept;
   free = λ c h e. closed c h (eqb (get_or s.hold_heads c 0) no_head) refl;
 }
@@ -43,7 +44,7 @@ noted-row L n l after row done cur w x s o busy f kept free =
     let all : (joined done ++ cur) ++ (row ∷ []) ≡ joined done ++ (cur ++ (row ∷ [])) = append_assoc (joined done) cur (row ∷ []) in
     record {
       written = subst (λ rs. Written rs s after) all (f (joined done ++ cur) x.written);
-      wide = subst (All (λ r. length r ≤ L)) all (all_append x.wide (one w none));
+      wide = subst (All (λ r. length r ≤ L)) all (all-by_index (λ r. length r ≤ L) (all_append (all-from_index (λ r. length r ≤ L) (joined done ++ cur) x.wide) (one w none)));
       last = kept;
       free = free;
     }
@@ -83,7 +84,7 @@ module _ (L : ℕ) (n : Noting) (l : List ℕ) (done : List (List Row)) (cur : L
       }
     where
       cells : n.scratch.count ≤ n.scratch.row_index * L
-      cells = subst (λ k. n.scratch.count ≤ k * L) (sym x.written.row) (le_trans x.written.cells (cells-within L (joined done ++ cur) x.wide))
+      cells = subst (λ k. n.scratch.count ≤ k * L) (sym x.written.row) (le_trans x.written.cells (cells-within L (joined done ++ cur) (all-from_index (λ r. length r ≤ L) (joined done ++ cur) x.wide)))
 
       more : (n.scratch.row_index + 1) * L ≡ n.scratch.row_index * L + L
       more = rw (add-mul, one-mul)

@@ -1,9 +1,8 @@
 -- What is noted of minimised rows of at most L bytes: `done` are the measures that have ended, `cur` the rows of the open one, l is the note slice.
-use Rattle.std.specs.Prelude.{List, [], ◌++◌, ℕ, ◌≤◌, ◌<◌, length}
+use Rattle.std.specs.Prelude.{List, [], ◌++◌, All, ℕ, ◌≤◌, ◌<◌, length}
 use Rattle.definitions.specs.Sizes.{row_numbers_bound}
 use Rattle.definitions.specs.Lists.{joined}
 use Rattle.definitions.specs.Lines.{Row}
-use Rattle.definitions.proofs.Lists.{All}
 use Rattle.taps.specs.Taps.{FreeAre}
 use Rattle.row_notes.specs.Writer.{no_head}
 use Rattle.row_notes.specs.Written.{Written, RecordRoom}

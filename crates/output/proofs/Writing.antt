@@ -12,7 +12,7 @@ use Rattle.definitions.specs.Lists.{joined}
 use Rattle.definitions.specs.Lines.{Row}
 use Rattle.definitions.specs.Figures.{row_text, text_of}
 use Rattle.definitions.specs.Reduction.{reduce}
-use Rattle.definitions.proofs.Lists.{none, one, all_append}
+use Rattle.definitions.proofs.Lists.{none, one, all_append, all-by_index, all-from_index}
 use Rattle.reduction.specs.Rows.{placed, RowsStand, Reduced}
 use Rattle.reduction.proofs.Placed.{placed-front}
 use Rattle.reduction.proofs.Blocks.{joined-append}
@@ -65,7 +65,7 @@ rows-done (x ∷ done) m =
 
 module _ {form : List Row → List ℕ} {w L : ℕ} (fm : Form form w L) (sep : List ℕ) where
   pub wrote-start : (text : List ℕ) → Wrote form sep w L text 0 0 [] []
-  wrote-start text = record { front = refl; bytes = sym (fm.is []); size = omega (arith, zero-mul w); wide = none }
+  wrote-start text = record { front = refl; bytes = sym (fm.is []); size = omega (arith, zero-mul w); wide = all-by_index (λ r. length r ≡ L) none }
 
   form-snoc : (cur : List Row) (row : Row) → form (cur ++ (row ∷ [])) ≡ form cur ++ fm.block row
   form-snoc cur row = fm.is (cur ++ (row ∷ [])) ∙ go cur ∙ ap (λ l. l ++ fm.block row) (sym (fm.is cur))
@@ -89,7 +89,7 @@ module _ {form : List Row → List ℕ} {w L : ℕ} (fm : Form form w L) (sep : 
               ∙ append_assoc (done_text form sep done) (form cur) (fm.block row)
               ∙ ap (λ l. done_text form sep done ++ l) (sym (form-snoc cur row));
           size = rw (length-append, add-mul, one-mul) (omega (arith, x.size));
-          wide = all_append x.wide (one e none);
+          wide = all-by_index (λ r. length r ≡ L) (all_append (all-from_index (λ r. length r ≡ L) cur x.wide) (one e none));
         }
 
     -- the rows stand there to be minimised, and then are
@@ -102,7 +102,7 @@ module _ {form : List Row → List ℕ} {w L : ℕ} (fm : Form form w L) (sep : 
           front = x.front;
           bytes = form-after fm (done_text form sep done) cur text x.front refl x.wide (ap (λ n. take n text) (sym x.size) ∙ x.bytes) h d;
           size = ap (λ n. start + n * w) d.count;
-          wide = reduce-all x.wide;
+          wide = all-by_index (λ r. length r ≡ L) (reduce-all (all-from_index (λ r. length r ≡ L) cur x.wide));
         }
 
     -- the measure ends
@@ -110,7 +110,7 @@ module _ {form : List Row → List ℕ} {w L : ℕ} (fm : Form form w L) (sep : 
     wrote-sep h =
         let fits : out ≤ length text = omega arith in
         record {
-          front = rw (done-snoc form sep done cur, length-append, length-append, form-length fm x.wide) (omega (arith, x.front, x.size));
+          front = rw (done-snoc form sep done cur, length-append, length-append, form-length fm cur x.wide) (omega (arith, x.front, x.size));
           bytes =
               placed-front out sep text fits
               ∙ ap (λ l. l ++ sep) x.bytes
@@ -119,5 +119,5 @@ module _ {form : List Row → List ℕ} {w L : ℕ} (fm : Form form w L) (sep : 
               ∙ ap (λ l. l ++ []) (sym (done-snoc form sep done cur))
               ∙ ap (λ l. done_text form sep (done ++ (cur ∷ [])) ++ l) (sym (fm.is []));
           size = sym (rw zero-mul (add-zero (out + length sep)));
-          wide = none;
+          wide = all-by_index (λ r. length r ≡ L) none;
         }

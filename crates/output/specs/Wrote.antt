@@ -1,8 +1,7 @@
 -- What stands in the text slice while a chart is written: the measures that have ended, minimised, then the rows of the open one.
-use Rattle.std.specs.Prelude.{◌≡◌, List, ◌++◌, map, ℕ, ◌+◌, ◌*◌, length, take}
+use Rattle.std.specs.Prelude.{◌≡◌, List, ◌++◌, All, map, ℕ, ◌+◌, ◌*◌, length, take}
 use Rattle.definitions.specs.Lists.{joined}
 use Rattle.definitions.specs.Lines.{Row}
-use Rattle.definitions.proofs.Lists.{All}
 
 -- the measures that have ended, each written by `form` and followed by `sep`
 abbrev pub done_text : (List Row → List ℕ) → List ℕ → List (List Row) → List ℕ

@@ -6,11 +6,12 @@ use native.Mathlib.Nat.{add-zero, zero-mul, suc-mul, add_comm}
 use native.Mathlib.Omega.{arith}
 use lib.ListN.{length, take, drop, length-append, take-append-drop}
 use lib.Seq.{take_all, take-take, take-add, take_at, drop_at}
+use Rattle.std.specs.List.{All}
 use Rattle.definitions.specs.Lists.{joined}
 use Rattle.definitions.specs.Lines.{Row}
 use Rattle.definitions.specs.Reduction.{at_multiples, stride, reduce}
 use Rattle.definitions.specs.Figures.{row_text}
-use Rattle.definitions.proofs.Lists.{All, none, one, all_map}
+use Rattle.definitions.proofs.Lists.{All as Each, none, one, all_map, all-by_index, all-from_index}
 use Rattle.reduction.specs.Rows.{rows_at, placed, compacted, RowsStand, Reduced}
 use Rattle.reduction.proofs.Powers.{power_pos}
 use Rattle.reduction.proofs.Placed.{placed-front}
@@ -93,7 +94,7 @@ back-to-back L =
     same (r ∷ rs) = ap (λ (b : List ℕ). r ++ b) (same rs)
 
 module _ (f : Row → Row) (w L : ℕ) where
-  blocks-are : {rs : List Row} (t : List ℕ) → All (λ r. length (f r) ≡ w) rs → take (length (joined (map f rs))) t ≡ joined (map f rs)
+  blocks-are : {rs : List Row} (t : List ℕ) → Each (λ r. length (f r) ≡ w) rs → take (length (joined (map f rs))) t ≡ joined (map f rs)
       → rows_at w w (length rs) t ≡ map f rs
   blocks-are t none e = refl
   blocks-are t (one {a = r} {l = rs} h q) e =
@@ -104,28 +105,28 @@ module _ (f : Row → Row) (w L : ℕ) where
       ap (λ (k : ℕ). take (length (joined (map f rs))) (drop k t)) (sym h) ∙ parts.1 in
       rw (front, blocks-are (drop w t) q rest)
 
-  rows_are : {rs : List Row} → All (λ r. take L (f r) ≡ r) rs → map (take L) (map f rs) ≡ rs
+  rows_are : {rs : List Row} → Each (λ r. take L (f r) ≡ r) rs → map (take L) (map f rs) ≡ rs
   rows_are none = refl
   rows_are (one {a = r} h q) = rw (h, rows_are q)
 
-  written-length : {rs : List Row} → All (λ r. length (f r) ≡ w) rs → length (joined (map f rs)) ≡ length rs * w
+  written-length : {rs : List Row} → Each (λ r. length (f r) ≡ w) rs → length (joined (map f rs)) ≡ length rs * w
   written-length none = rw (zero-mul)
   written-length (one {a = r} {l = rs} h q) = rw (length-append, h, written-length q, suc-mul) (add_comm w (length rs * w))
 
 module _ {form : List Row → List ℕ} {w L : ℕ} (fm : Form form w L) where
-  pub form-length : {rs : List Row} → All (λ r. length r ≡ L) rs → length (form rs) ≡ length rs * w
-  form-length {rs} h = ap length (fm.is rs) ∙ written-length fm.block w L (all_map fm.size h)
+  pub form-length : (rs : List Row) → All (λ r. length r ≡ L) rs → length (form rs) ≡ length rs * w
+  form-length rs h = ap length (fm.is rs) ∙ written-length fm.block w L (all_map fm.size (all-from_index (λ r. length r ≡ L) rs h))
 
   form-blocks : {n start : ℕ} {rs : List Row} {text : List ℕ} → RowsStand form L n start rs text → rows_at w w n (drop start text) ≡ map fm.block rs
   form-blocks {n} {start} {rs} {text} h =
       ap (λ (k : ℕ). rows_at w w k (drop start text)) (sym h.count)
-      ∙ blocks-are fm.block w L (drop start text) (all_map fm.size h.wide)
+      ∙ blocks-are fm.block w L (drop start text) (all_map fm.size (all-from_index (λ r. length r ≡ L) rs h.wide))
       (ap (λ (b : List ℕ). take (length b) (drop start text)) (sym (fm.is rs)) ∙ h.bytes ∙ fm.is rs)
 
   -- the rows that are read where rows were written
   pub form-rows : {n start : ℕ} {rs : List Row} {text : List ℕ} → RowsStand form L n start rs text → rows_at w L n (drop start text) ≡ rs
   form-rows {n} {start} {rs} {text} h =
-      rows-of-blocks w L n (drop start text) fm.low ∙ ap (map (take L)) (form-blocks h) ∙ rows_are fm.block w L (all_map fm.row h.wide)
+      rows-of-blocks w L n (drop start text) fm.low ∙ ap (map (take L)) (form-blocks h) ∙ rows_are fm.block w L (all_map fm.row (all-from_index (λ r. length r ≡ L) rs h.wide))
 
   -- what search and compaction make of them
   pub form-reduced : {n start r : ℕ} {rs : List Row} {text after : List ℕ} → RowsStand form L n start rs text
@@ -150,7 +151,7 @@ module _ {form : List Row → List ℕ} {w L : ℕ} (fm : Form form w L) where
     parts = begins before (form rs) text (ap (λ (k : ℕ). take k text) size ∙ holds)
       where
         size : length before + length (form rs) ≡ start + n * w
-        size = rw (front, form-length wide, count)
+        size = rw (front, form-length rs wide, count)
 
     pub form-holds : RowsStand form L n start rs text
     form-holds = record { count = count; wide = wide; bytes = ap (λ (k : ℕ). take (length (form rs)) (drop k text)) (sym front) ∙ parts.1 }
@@ -165,4 +166,4 @@ module _ {form : List Row → List ℕ} {w L : ℕ} (fm : Form form w L) where
         ∙ ap (λ (l : List ℕ). l ++ form (reduce rs)) (ap (λ (k : ℕ). take k text) (sym front) ∙ parts.0)
       where
         size : length (form (reduce rs)) ≡ r * w
-        size = form-length (reduce-all wide) ∙ ap (λ (k : ℕ). k * w) (sym h.count)
+        size = form-length (reduce rs) (all-by_index (λ r. length r ≡ L) (reduce-all (all-from_index (λ r. length r ≡ L) rs wide))) ∙ ap (λ (k : ℕ). k * w) (sym h.count)

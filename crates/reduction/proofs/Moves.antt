@@ -4,7 +4,6 @@ use mathlib.Core.List.{List, ◌++◌, append_assoc}
 use Prim.Native.Nat.{ℕ, suc, ◌+◌, ◌-◌, ◌<◌, ◌≤◌}
 use native.Mathlib.Nat.{add-zero, add_assoc, add-sub_cancel_left}
 use Rattle.std.specs.List.{copy_within}
-use native.Mathlib.Numerals.{add-one}
 use native.Mathlib.Omega.{arith}
 use lib.ListN.{length, take, drop, get_or, set, length-drop}
 use lib.Seq.{paste, paste-zero, paste-suc, take-paste, drop-paste, length-paste, length_paste_head, take-take, take-add, take_at, drop-drop, get_or-drop}

@@ -1,10 +1,9 @@
 -- Rows as they stand in a text, where document 01's minimising reads and writes them in place.
-use Rattle.std.specs.Prelude.{◌≡◌, List, [], ◌∷◌, ℕ, zero, suc, ◌+◌, length, take, drop}
+use Rattle.std.specs.Prelude.{◌≡◌, List, [], ◌∷◌, All, ℕ, zero, suc, ◌+◌, length, take, drop}
 use Rattle.std.specs.List.{splice}
 use Rattle.definitions.specs.Lists.{joined}
 use Rattle.definitions.specs.Lines.{Row}
 use Rattle.definitions.specs.Reduction.{at_multiples, reduce}
-use Rattle.definitions.proofs.Lists.{All}
 
 -- the first L bytes at each of n places, w bytes apart: with w = L + 1 the rows of a text, each with byte 10 after it, with w = L rows back
 -- to back, and with L = w all of the text, in blocks of w bytes

@@ -76,7 +76,7 @@ module _ (L : ℕ) (p : TimingPass) (text after : List ℕ) (beats : List Float)
     bytes-there : take (p.start + kept * L - p.start) (drop p.start after) ≡ joined (reduce cur)
     bytes-there =
         ap (λ n. take n (drop p.start after))
-        (add-sub_cancel_left p.start (kept * L) ∙ ap (λ n. n * L) reduced.count ∙ sym (form-length (back-to-back L) wrote.wide))
+        (add-sub_cancel_left p.start (kept * L) ∙ ap (λ n. n * L) reduced.count ∙ sym (form-length (back-to-back L) (reduce cur) wrote.wide))
         ∙ (wrote-holds (back-to-back L) [] after p.start (p.start + kept * L) done (reduce cur) wrote).bytes
 
     kept-few : kept ≤ p.rows
