@@ -25,7 +25,7 @@ use Rattle.measure_notes.specs.declared.Noting.{Noting}
 use Rattle.measure_notes.specs.Noted.{NotedRows, Noted, RowReady}
 
 -- before the first row no column has an open head
-pub noted-start : (L : ℕ) (l : List ℕ) (s : ChartNotesScratch) (o : LastScan) → Written [] s l → LastKept o [] [] → Noted L (record { scratch = s; last = o; busy = 0 }) l []
+pub noted-start : (L : ℕ) (l : List ℕ) (s : ChartNotesScratch) (o : LastScan) → Written [] s l → LastKept o [] [] → Noted L (record { scratch = s; last = o }) l []
 noted-start L l s o w kept = record {
   written = w;
   wide = all-by_index (λ r. length r ≤ L) none;
@@ -38,9 +38,9 @@ noted-start L l s o w kept = record {
     closed c h false e = absurd (omega (arith, (w.holds.heads c h (eqb-false (get_or s.hold_heads c 0) no_head e)).0, w.holds.count))
 
 pub noted-row : (L : ℕ) (n : Noting) (l after : List ℕ) (row : Row) (done : List (List Row)) (cur : List Row) → length row ≤ L → NotedRows L n l done cur
-    → (s : ChartNotesScratch) (o : LastScan) (busy : ℕ) → ((rows : List Row) → Written rows n.scratch l → Written (rows ++ (row ∷ [])) s after)
-    → LastKept o done (cur ++ (row ∷ [])) → FreeAre busy no_head s.hold_heads → NotedRows L (record { scratch = s; last = o; busy = busy }) after done (cur ++ (row ∷ []))
-noted-row L n l after row done cur w x s o busy f kept free =
+    → (s : ChartNotesScratch) (o : LastScan) → ((rows : List Row) → Written rows n.scratch l → Written (rows ++ (row ∷ [])) s after)
+    → LastKept o done (cur ++ (row ∷ [])) → FreeAre o.busy no_head s.hold_heads → NotedRows L (record { scratch = s; last = o }) after done (cur ++ (row ∷ []))
+noted-row L n l after row done cur w x s o f kept free =
     let all : (joined done ++ cur) ++ (row ∷ []) ≡ joined done ++ (cur ++ (row ∷ [])) = append_assoc (joined done) cur (row ∷ []) in
     record {
       written = subst (λ rs. Written rs s after) all (f (joined done ++ cur) x.written);
@@ -51,14 +51,14 @@ noted-row L n l after row done cur w x s o busy f kept free =
 
 -- the measure ends
 pub noted-measure : (L : ℕ) (n : Noting) (l : List ℕ) (done : List (List Row)) (cur : List Row) → NotedRows L n l done cur
-    → (o : LastScan) → LastKept o (done ++ (cur ∷ [])) [] → Noted L (record { scratch = n.scratch; last = o; busy = n.busy }) l (done ++ (cur ∷ []))
-noted-measure L n l done cur x o kept =
+    → (o : LastScan) → LastKept o (done ++ (cur ∷ [])) [] → o.busy ≡ n.last.busy → Noted L (record { scratch = n.scratch; last = o }) l (done ++ (cur ∷ []))
+noted-measure L n l done cur x o kept same =
     let all : joined done ++ cur ≡ joined (done ++ (cur ∷ [])) ++ [] = sym (append-nil (joined (done ++ (cur ∷ []))) ∙ joined_snoc done cur) in
     record {
       written = subst (λ rs. Written rs n.scratch l) all x.written;
       wide = subst (All (λ r. length r ≤ L)) all x.wide;
       last = kept;
-      free = x.free;
+      free = rw same x.free;
     }
 
 module _ (L : ℕ) (n : Noting) (l : List ℕ) (done : List (List Row)) (cur : List Row) (x : NotedRows L n l done cur) where

@@ -14,7 +14,7 @@ pub record NotedRows (L : ℕ) (n : Noting) (l : List ℕ) (done : List (List Ro
   pub written : Written (joined done ++ cur) n.scratch l
   pub wide : All (λ r. length r ≤ L) (joined done ++ cur)
   pub last : LastKept n.last done cur
-  pub free : FreeAre n.busy no_head n.scratch.hold_heads
+  pub free : FreeAre n.last.busy no_head n.scratch.hold_heads
 
 -- no measure is open
 abbrev pub Noted : ℕ → Noting → List ℕ → List (List Row) → Type 0
@@ -25,4 +25,4 @@ pub record RowReady (n : Noting) (row l : List ℕ) : Type 0 where
   pub room : RecordRoom n.scratch row l
   pub rows : n.last.rows < row_numbers_bound
   pub low : DepthsLow 4294967294 n.last.depths
-  pub free : FreeAre n.busy no_head n.scratch.hold_heads
+  pub free : FreeAre n.last.busy no_head n.scratch.hold_heads

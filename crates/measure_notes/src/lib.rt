@@ -9,12 +9,11 @@ ghost use Rattle.measure_notes.specs.Noted.{Noted, NotedRows};
 use objects::LastScan;
 use row_notes::ChartNotesScratch;
 
-// A column without its bit in `busy` has no open head.
+// A column without its bit in `last.busy` has no open head, beside the depth 0.
 #[derive(Clone, Copy)]
 pub struct Noting {
     pub scratch: ChartNotesScratch,
     pub last: LastScan,
-    pub busy: u32,
 }
 
 impl Noting {
@@ -25,7 +24,6 @@ impl Noting {
         Noting {
             scratch: row_notes::begin(),
             last: objects::no_last(),
-            busy: 0,
         }
     }
 

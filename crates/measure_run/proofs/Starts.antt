@@ -37,7 +37,7 @@ module _ (L : ℕ) (c : Counting) (n : Noting) (l : List ℕ) (done : List (List
     rows = x.rows;
     steps = x.steps;
     few = record { stats = x.few.stats; phantoms = x.few.phantoms };
-    free = free-left c.busy (bit_or n.busy n.last.busy) 0 c.phantoms.depths x.free;
+    free = free-left c.busy n.last.busy 0 c.phantoms.depths x.free;
   }
 
   noted-first : n.scratch.row_index ≡ c.rows → NotedRows L n l done [] → NotedRows L (noting_of c.rows first (marks_before c n) (run_before c n)) l done []
@@ -55,9 +55,9 @@ module _ (L : ℕ) (c : Counting) (n : Noting) (l : List ℕ) (done : List (List
           inside = λ r q. let z : ◌≡◌ {A = ℕ} 0 1 = cc in absurd (omega arith);
           rows = omega arith;
           midx = x.last.midx;
-          free = free-right c.busy (bit_or n.busy n.last.busy) 0 n.last.depths.depths (free-right n.busy n.last.busy 0 n.last.depths.depths x.last.free);
+          free = free-right c.busy n.last.busy 0 n.last.depths.depths x.last.free;
         };
-        free = free-right c.busy (bit_or n.busy n.last.busy) no_head n.scratch.hold_heads (free-left n.busy n.last.busy no_head n.scratch.hold_heads x.free);
+        free = free-right c.busy n.last.busy no_head n.scratch.hold_heads x.free;
       }
 
 -- the same of what the functions answer

@@ -34,7 +34,6 @@ abbrev pub noting_of : ℕ → Rest → Marks → Run → Noting
 noting_of first q m r = record {
   scratch = notes_of q.heads r.count r.row m;
   last = record { depths = record { depths = q.low }; busy = m.busy; found = q.found; row = row_at first r.last; rows = r.row - first; midx = q.midx };
-  busy = m.busy;
 }
 
 -- before the measure
@@ -47,7 +46,7 @@ marks_before c n = record {
   tails = c.phantoms.tails;
   met = c.phantoms.met;
   invalid = n.scratch.has_invalid;
-  busy = bit_or c.busy (bit_or n.busy n.last.busy);
+  busy = bit_or c.busy n.last.busy;
 }
 
 -- after a row whose cells have come to this

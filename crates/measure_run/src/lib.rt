@@ -52,7 +52,7 @@ pub fn first_run(counting: &Counting, noting: &Noting) -> Run
     }
 }
 
-// The same; one mask for the phantom depths, the open heads and the object depths.
+// The same; one mask for the phantom depths, the object depths and the open heads.
 pub fn first_marks(counting: &Counting, noting: &Noting) -> Marks
     ensures { result ≡ marks_before counting.now noting.now }
 {
@@ -61,7 +61,7 @@ pub fn first_marks(counting: &Counting, noting: &Noting) -> Marks
         tails: counting.phantoms.tails,
         met: counting.phantoms.met,
         invalid: noting.scratch.has_invalid,
-        busy: counting.busy | (noting.busy | noting.last.busy),
+        busy: counting.busy | noting.last.busy,
     }
 }
 
@@ -114,7 +114,6 @@ pub fn end_walk(
     noting.last.row = last_row(counting.rows, r.last);
     noting.last.rows = r.row - counting.rows;
     noting.last.busy = m.busy;
-    noting.busy = m.busy;
     noting.end_measure();
     counting.stats = r.stats;
     counting.phantoms = Phantoms {

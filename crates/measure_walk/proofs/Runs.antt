@@ -32,7 +32,7 @@ module _ (L : ℕ) (q : Rest) (m : Marks) (r : Run) (l l' : List ℕ) (done : Li
     pub noted-cells : (first : ℕ) → first ≤ r.row → NotedRows L (noting_of first q m r) l done cur → NotedRows L (noting_of first after s.marks t) l' done (cur ++ (row ∷ []))
     noted-cells first above x =
         rw e
-        (noted-row L _ l l' row done cur w x _ _ _ W.written
+        (noted-row L _ l l' row done cur w x _ _ W.written
         (kept_run first q m r above done cur x.last row low s.object s.marks.busy W.tested (W.lows x.last.free))
         (W.heads x.free))
 

@@ -165,7 +165,8 @@ pub fn last_seen(s: LastScan, o: Objects, busy: u32) -> LastScan
 // The open measure ends.
 pub fn last_measure(s: LastScan) -> LastScan
     requires { (s.rows < row_count_bound) × (s.midx ≤ measures_bound) }
-    ensures { (done : List (List Row)) (cur : List Row) → LastKept s done cur → LastKept result (done ++ (cur ∷ [])) [] }
+    ensures kept { (done : List (List Row)) (cur : List Row) → LastKept s done cur → LastKept result (done ++ (cur ∷ [])) [] }
+    ensures busy_stays { result.busy ≡ s.busy }
 {
     let after = LastScan {
         row: None,

@@ -57,7 +57,7 @@ module _ (L : ℕ) (q : Rest) (m : Marks) (r : Run) (l l' : List ℕ) (done : Li
     noted-taps first above few narrow space x =
         let room : RecordRoom (noting_of first q m r).scratch row l = record { rows = joined done ++ cur; written = x.written; few = omega (arith, x.written.row); narrow = narrow; room = space } in
         rw (A.row, A.last)
-        (noted-row L _ l l' row done cur w x _ _ _
+        (noted-row L _ l l' row done cur w x _ _
         (A.written (noting_of first q m r).scratch row (record { row = refl; count = refl; room = room; heads = record { busy = m.busy; mask = mask; taps = free; free = x.free }; mask = free.mask }))
         (kept_run first q m r above done cur x.last row q.low (not (eqb mask 0)) m.busy (free-done _ _ row _ free x.last.free) x.last.free)
         x.free)

@@ -21,9 +21,9 @@ loop-line-preserved-in-Row c =
 
 pub loop-line-preserved : goal.loop-line-preserved
 loop-line-preserved c =
-    holds-comma c.loop-line.invariant c.in-Some.ensures.steps c.in-Comma.is c.last_measure-s.ensures
+    holds-comma c.loop-line.invariant c.in-Some.ensures.steps c.in-Comma.is c.last_measure-s.ensures.kept
 
 pub returns : goal.returns
 returns c =
-    looked-last _ _ _ _ c.last_measure-s-2.ensures
+    looked-last _ _ _ _ c.last_measure-s-2.ensures.kept
     (holds-over c.loop-line.invariant c.in-None.ensures.steps.0)
