@@ -114,7 +114,7 @@ $groups"
 cp crates.txt "$room"
 if [ -f HANDLES ]; then cp HANDLES "$room"; fi
 for folder in crates/*/; do copy "$(basename "$folder")"; done
-if [ $# = 0 ]; then set -- $(ls tests/twins crates | sort -u | grep -v -e : -e run.sh); fi
+if [ $# = 0 ]; then set -- $(ls tests/twins crates | sort -u | grep -v -e : -e '[.]sh$'); fi
 for crate; do
     twins=''
     for edit in "crates/$crate/must-fail"/*.edit; do
