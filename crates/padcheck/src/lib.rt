@@ -1,4 +1,6 @@
-// The entries for callers in Rust and C. Each returns the papers' number, 0 for accepted, and is thin over the proved crates below.
+// The entries for callers in Rust and C, each thin over the proved call of the same work. `lanes` is the lane number as the caller has it: 5, 8 and 10
+// are these, any other is 4. An entry returns 0 for accepted, else the number of a refusal, and then it has written nothing; 1 to 6, 19 and 20 are
+// mistakes of whoever wires up the call. After an accepted call zeros follow each answer in its slice. `figures` has the places of crate `figures`.
 #![tactic(auto)]
 
 ghost use Rattle.std.specs.Prelude.{◌≡◌};
@@ -14,6 +16,8 @@ use figures::{
 };
 use note_records::read_note;
 
+/// The main call, the Rust's `minimize_chart_count_rows_notes`: minimised text in bytes, densities in steps a measure, row beats, note records of ten
+/// bytes each, and in the figures the last beat and the corrected tally. Refusals: 1 to 6.
 #[unsafe(no_mangle)]
 pub extern "C" fn padcheck_minimize_chart_count_rows_notes(
     data: &[u8],
@@ -42,6 +46,8 @@ pub extern "C" fn padcheck_minimize_chart_count_rows_notes(
     }
 }
 
+/// The kept-row call, the Rust's `process_chart_in_impl` with its rows kept: minimised text, densities, and the tally corrected over the pass's own
+/// rows. Refusals: 1, 2, 3 and 5.
 #[unsafe(no_mangle)]
 pub extern "C" fn padcheck_process_chart_kept(
     data: &[u8],
@@ -66,6 +72,8 @@ pub extern "C" fn padcheck_process_chart_kept(
     }
 }
 
+/// The Rust's `minimize_timing_rows`: minimised rows, L bytes each, back to back in `text`, their beats, and whether any has a 2 or 4. Refusals: 1, 2
+/// and 4.
 #[unsafe(no_mangle)]
 pub extern "C" fn padcheck_minimize_timing_rows(
     data: &[u8],
@@ -88,6 +96,7 @@ pub extern "C" fn padcheck_minimize_timing_rows(
     }
 }
 
+/// The Rust's `measure_densities`: for each measure how many of its minimised rows are steps. Refusals: 1 and 3.
 #[unsafe(no_mangle)]
 pub extern "C" fn padcheck_measure_densities(
     data: &[u8],
@@ -108,6 +117,7 @@ pub extern "C" fn padcheck_measure_densities(
     }
 }
 
+/// The Rust's `equally_spaced_impl`: for each measure 1 where it has no rows or each of its minimised rows is a step, else 0. Refusals: 1 and 3.
 #[unsafe(no_mangle)]
 pub extern "C" fn padcheck_equally_spaced(
     data: &[u8],
@@ -128,6 +138,7 @@ pub extern "C" fn padcheck_equally_spaced(
     }
 }
 
+/// The Rust's `chart_last_beat_impl`: the beat of the last object row, as the bits of an f64 and in 48ths of a beat. Refusal: 1.
 #[unsafe(no_mangle)]
 pub extern "C" fn padcheck_chart_last_beat(
     data: &[u8],
@@ -146,6 +157,7 @@ pub extern "C" fn padcheck_chart_last_beat(
     }
 }
 
+/// The Rust's `process_rows_judgable`: the tally of minimised text with every row judged. Refusals: 1 and 5.
 #[unsafe(no_mangle)]
 pub extern "C" fn padcheck_process_rows_judgable(
     data: &[u8],
@@ -166,6 +178,8 @@ pub extern "C" fn padcheck_process_rows_judgable(
     }
 }
 
+/// The Rust's `process_timing_rows` with a flag byte a row in place of its timing data: 0 unjudged, else judged, and judged where there is no flag.
+/// Refusals: 1 and 5.
 #[unsafe(no_mangle)]
 pub extern "C" fn padcheck_process_timing_rows(
     data: &[u8],
@@ -187,6 +201,8 @@ pub extern "C" fn padcheck_process_timing_rows(
     }
 }
 
+/// Note record number `index`, counted from 0: row, tail row or 4,294,967,295, column and kind. Refusals: 7 and 8, mistakes of whoever stores note
+/// records.
 #[unsafe(no_mangle)]
 pub extern "C" fn padcheck_read_note(records: &[u8], index: usize, note: &mut [u64; 4]) -> u32
     ensures value { result ≡ number_told (note_of_record records.now index) }
@@ -201,6 +217,8 @@ pub extern "C" fn padcheck_read_note(records: &[u8], index: usize, note: &mut [u
     }
 }
 
+/// Chart number `k`, counted from 0, of an SM file: lane count, and the place and length of its note data in bytes. Refusals in this order: 1, 11, 9
+/// and 10; 9 and 10 are mistakes of the file's author, 11 of whoever asks.
 #[unsafe(no_mangle)]
 pub extern "C" fn padcheck_sm_chart(file: &[u8], k: usize, chart: &mut [u64; 3]) -> u32
     ensures value { result ≡ sm_number file.now k }
@@ -215,6 +233,8 @@ pub extern "C" fn padcheck_sm_chart(file: &[u8], k: usize, chart: &mut [u64; 3])
     }
 }
 
+/// The sheet of a chart as bytes of ASCII, in form 0 (the card), 1 (print) or 2 (JSON), and all answers that it is made of. Refusals: 1 to 6, 19 and
+/// 20, where 3 is of the densities or the spacing.
 #[unsafe(no_mangle)]
 pub extern "C" fn padcheck_chart_sheet(
     data: &[u8],
