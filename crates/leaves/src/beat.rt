@@ -19,6 +19,7 @@ fn row_taken(m: u32, r: u32, n: u32) -> bool
     r < n && measure_taken(m, n)
 }
 
+/// The beat of row r of n in measure m as an f32. It answers 0, or 1 where there is no such row, and then writes nothing.
 #[tactic(auto, unfolding(crate::specs::Answers::measure_fits, crate::specs::Answers::row_fits, crate::specs::Answers::beat_number, crate::specs::Answers::beat_left))]
 #[unsafe(no_mangle)]
 pub extern "C" fn leaves_row_beat(m: u32, r: u32, n: u32, beat: &mut [f32; 1]) -> u32
@@ -40,6 +41,7 @@ fn beats_taken(len: usize, at: usize, m: u32, n: u32) -> bool
     at <= len && n as usize <= len - at && measure_taken(m, n)
 }
 
+/// The beats of the rows of a measure, from place `at` on. It answers 0, or 1 where they have no room, and then writes nothing.
 #[tactic(auto, unfolding(crate::specs::Answers::measure_fits, crate::specs::Answers::beats_fit, crate::specs::Answers::beats_number, crate::specs::Answers::beats_left))]
 #[unsafe(no_mangle)]
 pub extern "C" fn leaves_append_row_beats(beats: &mut [f32], at: usize, midx: u32, rows: u32) -> u32

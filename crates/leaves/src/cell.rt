@@ -10,6 +10,7 @@ ghost use Rattle.leaves.specs.Answers.{number_of_cell, number_of_effect, number_
 use definitions::Lanes;
 use taps::{TapTable, Taps};
 
+/// The number of the cell that a byte is, in the order of `Cell`.
 #[unsafe(no_mangle)]
 pub extern "C" fn leaves_cell_of(b: u8) -> u32
     ensures { result ≡ number_of_cell (cell_of b) }
@@ -17,6 +18,7 @@ pub extern "C" fn leaves_cell_of(b: u8) -> u32
     cells::cell_of(b) as u32
 }
 
+/// The number of what a byte does to an open head, in the order of `DepthEffect`.
 #[unsafe(no_mangle)]
 pub extern "C" fn leaves_hold_effect(b: u8) -> u32
     ensures { result ≡ number_of_effect (hold_at b) }
@@ -24,6 +26,7 @@ pub extern "C" fn leaves_hold_effect(b: u8) -> u32
     cells::hold_effect(b) as u32
 }
 
+/// The number of what a byte does to an object depth, in the order of `DepthEffect`.
 #[unsafe(no_mangle)]
 pub extern "C" fn leaves_object_effect(b: u8) -> u32
     ensures { result ≡ number_of_effect (object_at b) }
@@ -31,6 +34,7 @@ pub extern "C" fn leaves_object_effect(b: u8) -> u32
     cells::object_effect(b) as u32
 }
 
+/// Whether a row has a 1, 2 or 4.
 #[unsafe(no_mangle)]
 pub extern "C" fn leaves_row_has_note(row: &[u8]) -> bool
     ensures { result ≡ is_step row.now }
@@ -60,6 +64,7 @@ pub extern "C" fn leaves_tap_mask4(row: &[u8]) -> u32
     taps_number(taps::tap_mask4(row))
 }
 
+/// The mask of eight cells: 256 for another row, 257 for fewer cells.
 #[tactic(auto, unfolding(crate::specs::Answers::mask_number))]
 #[unsafe(no_mangle)]
 pub extern "C" fn leaves_tap_mask8(row: &[u8]) -> u32

@@ -6,6 +6,7 @@ ghost use Rattle.lines.specs.Search.{count_of};
 ghost use Rattle.lines.specs.Lines.{first_line};
 ghost use Rattle.leaves.specs.Answers.{number_of_found};
 
+/// How long the line is without its leading blanks.
 #[unsafe(no_mangle)]
 pub extern "C" fn leaves_skip_ws(line: &[u8]) -> usize
     ensures { result ≡ length (trim line.now) }
@@ -13,6 +14,7 @@ pub extern "C" fn leaves_skip_ws(line: &[u8]) -> usize
     lines::skip_ws(line).len()
 }
 
+/// How long the line is without a byte 13 at its end.
 #[unsafe(no_mangle)]
 pub extern "C" fn leaves_trim_cr(line: &[u8]) -> usize
     ensures { result ≡ length (without_cr line.now) }
@@ -30,6 +32,7 @@ fn found_number(found: Option<usize>) -> usize
     }
 }
 
+/// The place of the first `needle`, or the largest number.
 #[unsafe(no_mangle)]
 pub extern "C" fn leaves_find_byte(slice: &[u8], needle: u8) -> usize
     ensures { result ≡ number_of_found (position (λ x. x == needle) slice.now) }
@@ -37,6 +40,7 @@ pub extern "C" fn leaves_find_byte(slice: &[u8], needle: u8) -> usize
     found_number(lines::find_byte(slice, needle))
 }
 
+/// How many bytes are `needle`.
 #[unsafe(no_mangle)]
 pub extern "C" fn leaves_count_byte(slice: &[u8], needle: u8) -> usize
     ensures { result ≡ count_of needle slice.now }
@@ -44,6 +48,7 @@ pub extern "C" fn leaves_count_byte(slice: &[u8], needle: u8) -> usize
     lines::count_byte(slice, needle)
 }
 
+/// How long the line is that begins at `start`.
 #[unsafe(no_mangle)]
 pub extern "C" fn leaves_next_line(data: &[u8], start: usize) -> usize
     ensures { result ≡ length (first_line (drop start «data».now)) }

@@ -6,6 +6,7 @@ ghost use Rattle.leaves.specs.Answers.{rows_in_bounds, stride_number, blocks_in_
 
 use definitions::Lanes;
 
+/// Whether every byte of a row is `0`.
 #[unsafe(no_mangle)]
 pub extern "C" fn leaves_is_all_zero(row: &[u8]) -> bool
     ensures { result ≡ all_zero row.now }
@@ -13,6 +14,7 @@ pub extern "C" fn leaves_is_all_zero(row: &[u8]) -> bool
     reduction::is_all_zero(row)
 }
 
+/// The lane count that a caller's number means.
 #[unsafe(no_mangle)]
 pub extern "C" fn leaves_lanes_of(lanes: usize) -> usize
     ensures { result ≡ lanes_of lanes }

@@ -2,6 +2,7 @@
 ghost use Rattle.std.specs.Prelude.{◌≡◌, length};
 ghost use Rattle.stored.specs.Lent.{lent_text, lent_densities, lent_spacing, lent_beats, lent_work, lent_notes, lent_figures, lent_chart};
 
+/// For minimised text.
 #[tactic(auto, unfolding(crate::specs::Lent::lent_text))]
 pub fn text() -> [u8; 4096]
     ensures { (result ≡ lent_text) × (4096 ≡ length result) }
@@ -9,6 +10,7 @@ pub fn text() -> [u8; 4096]
     [165; 4096]
 }
 
+/// For densities, one a measure.
 #[tactic(auto, unfolding(crate::specs::Lent::lent_densities))]
 pub fn densities() -> [u32; 2049]
     ensures { (result ≡ lent_densities) × (2049 ≡ length result) }
@@ -16,6 +18,7 @@ pub fn densities() -> [u32; 2049]
     [2779096485; 2049]
 }
 
+/// For the spacing, a byte a measure.
 #[tactic(auto, unfolding(crate::specs::Lent::lent_spacing))]
 pub fn spacing() -> [u8; 2049]
     ensures { (result ≡ lent_spacing) × (2049 ≡ length result) }
@@ -23,6 +26,7 @@ pub fn spacing() -> [u8; 2049]
     [165; 2049]
 }
 
+/// For the beats of rows.
 #[tactic(auto, unfolding(crate::specs::Lent::lent_beats))]
 pub fn beats() -> [f32; 820]
     ensures { (result ≡ lent_beats) × (820 ≡ length result) }
@@ -30,6 +34,7 @@ pub fn beats() -> [f32; 820]
     [1.5; 820]
 }
 
+/// The work slice.
 #[tactic(auto, unfolding(crate::specs::Lent::lent_work))]
 pub fn work() -> [u16; 820]
     ensures { (result ≡ lent_work) × (820 ≡ length result) }
@@ -37,6 +42,7 @@ pub fn work() -> [u16; 820]
     [42405; 820]
 }
 
+/// For note records of ten bytes.
 #[tactic(auto, unfolding(crate::specs::Lent::lent_notes))]
 pub fn notes() -> [u8; 40960]
     ensures { (result ≡ lent_notes) × (40960 ≡ length result) }
@@ -44,6 +50,7 @@ pub fn notes() -> [u8; 40960]
     [165; 40960]
 }
 
+/// For the 32 figures of a call on a text.
 #[tactic(auto, unfolding(crate::specs::Lent::lent_figures))]
 pub fn figures() -> [u64; 32]
     ensures { (result ≡ lent_figures) × (32 ≡ length result) }
@@ -51,6 +58,7 @@ pub fn figures() -> [u64; 32]
     [165; 32]
 }
 
+/// For the three numbers of a chart inside an SM file.
 #[tactic(auto, unfolding(crate::specs::Lent::lent_chart))]
 pub fn chart() -> [u64; 3]
     ensures { (result ≡ lent_chart) × (3 ≡ length result) }
