@@ -23,7 +23,7 @@ impl Noting {
     {
         Noting {
             scratch: row_notes::begin(),
-            last: objects::no_last(),
+            last: LastScan::new(),
         }
     }
 
@@ -32,6 +32,6 @@ impl Noting {
         requires { (self.old.last.rows < row_count_bound) × (self.old.last.midx ≤ measures_bound) }
         ensures { (L : ℕ) (l : List ℕ) (done : List (List Row)) (cur : List Row) → NotedRows L self.old l done cur → Noted L self.new l (done ++ (cur ∷ [])) }
     {
-        self.last = objects::last_measure(self.last);
+        self.last.end_measure();
     }
 }

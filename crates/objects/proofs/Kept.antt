@@ -20,7 +20,7 @@ use Rattle.objects.specs.declared.Objects.{Objects}
 use Rattle.objects.specs.Rows.{DepthsHeld, DepthsLow, NoDepths, RowDone}
 use Rattle.objects.proofs.Scan.{low-more}
 use Rattle.objects.specs.declared.LastScan.{LastScan}
-use Rattle.objects.specs.LastKept.{row_last, depths_after, LastKept}
+use Rattle.objects.specs.LastKept.{row_last, depths_after, LastKept, counted}
 use Rattle.objects.proofs.Zeros.{zero-after, zero-object}
 
 -- one row more
@@ -118,7 +118,7 @@ kept-start d n =
 
 module _ (s : LastScan) (done : List (List Row)) (cur : List Row) (x : LastKept s done cur) where
   -- a row that is all zero
-  pub kept-zero : (row : Row) → all_zero row ≡ true → LastKept (record { depths = s.depths; busy = s.busy; found = s.found; row = s.row; rows = s.rows + 1; midx = s.midx }) done (cur ++ (row ∷ []))
+  pub kept-zero : (row : Row) → all_zero row ≡ true → LastKept (counted s false) done (cur ++ (row ∷ []))
   kept-zero row z =
       record {
         depths = subst (λ E. DepthsHeld E s.depths) (sym (rows_snoc (depths_after done) cur row ∙ zero-after (after_rows (depths_after done) cur) row z)) x.depths;
@@ -171,6 +171,13 @@ module _ (s : LastScan) (done : List (List Row)) (cur : List Row) (x : LastKept 
           free = free;
         }
 
+    pub kept-row : LastKept (counted (record { depths = o.depths; busy = busy; found = s.found; row = s.row; rows = s.rows; midx = s.midx }) o.object) done (cur ++ (row ∷ []))
+    kept-row = go o.object refl
+      where
+        go : (t : Bool) → o.object ≡ t → LastKept (counted (record { depths = o.depths; busy = busy; found = s.found; row = s.row; rows = s.rows; midx = s.midx }) t) done (cur ++ (row ∷ []))
+        go true e = kept-object e
+        go false e = kept-other e
+
   -- the measure ends, with an object row or without one
   depths-kept : DepthsHeld (after_rows (depths_after (done ++ (cur ∷ []))) []) s.depths
   depths-kept = subst (λ E. DepthsHeld E s.depths) (sym (ap (after_rows (λ c. 0)) (joined_snoc done cur) ∙ rows_append (λ c. 0) (joined done) cur)) x.depths
@@ -184,12 +191,16 @@ module _ (s : LastScan) (done : List (List Row)) (cur : List Row) (x : LastKept 
   nothing-inside : (r : ℕ) → ◌≡◌ {A = Option ℕ} None (Some r) → r < 0
   nothing-inside r e = let z : ◌≡◌ {A = ℕ} 0 1 = cc in absurd (omega arith)
 
-  pub kept-none : s.row ≡ None → LastKept (record { depths = s.depths; busy = s.busy; found = s.found; row = None; rows = 0; midx = s.midx + 1 }) (done ++ (cur ∷ [])) []
+  no-row : (o : Option ℕ) → ((r : ℕ) → o ≡ Some r → ⊥) → o ≡ None
+  no-row None f = refl
+  no-row (Some r) f = absurd (f r refl)
+
+  pub kept-none : ((r : ℕ) → s.row ≡ Some r → ⊥) → LastKept (record { depths = s.depths; busy = s.busy; found = s.found; row = None; rows = 0; midx = s.midx + 1 }) (done ++ (cur ∷ [])) []
   kept-none e =
       record {
         depths = depths-kept;
         low = low-kept;
-        found = x.found ∙ sym (measure-last done cur ∙ rw (sym x.row ∙ e));
+        found = x.found ∙ sym (measure-last done cur ∙ rw (sym x.row ∙ no-row s.row e));
         placed = x.placed;
         row = refl;
         inside = nothing-inside;

@@ -1,5 +1,5 @@
 -- What is kept of the last object row: `done` are the measures that have ended, `cur` the rows of the open one.
-use Rattle.std.specs.Prelude.{◌≡◌, List, [], ◌∷◌, ℕ, suc, ◌+◌, ◌<◌, length, Option, Some, None, if◌then◌else◌}
+use Rattle.std.specs.Prelude.{◌≡◌, List, [], ◌∷◌, ℕ, suc, ◌+◌, ◌<◌, length, Bool, Option, Some, None, if◌then◌else◌}
 use Rattle.definitions.specs.Lists.{joined}
 use Rattle.definitions.specs.Lines.{Row}
 use Rattle.definitions.specs.Objects.{Depths, after_row, after_rows, object_row, objects_from, last_of}
@@ -27,3 +27,8 @@ pub record LastKept (s : LastScan) (done : List (List Row)) (cur : List Row) : T
   pub rows : s.rows ≡ length cur
   pub midx : s.midx ≡ length done
   pub free : FreeAre s.busy 0 s.depths.depths
+
+-- one row more, an object row or not
+abbrev pub counted : LastScan → Bool → LastScan
+counted s object =
+    record { depths = s.depths; busy = s.busy; found = s.found; row = if object then Some s.rows else s.row; rows = s.rows + 1; midx = s.midx }

@@ -1,16 +1,15 @@
 // The object rows of the last beat, and the last of them, one row after the other and measure by measure.
 #![tactic(auto)]
 
-ghost use Rattle.std.specs.Prelude.{◌≡◌, true, List, [], ◌∷◌, ◌++◌, ◌≤◌, ◌<◌, length};
+ghost use Rattle.std.specs.Prelude.{◌≡◌, List, [], ◌∷◌, ◌++◌, ◌≤◌, ◌<◌, length};
 ghost use Rattle.definitions.specs.Sizes.{measures_bound, row_numbers_bound, row_count_bound};
 ghost use Rattle.definitions.specs.Lines.{Row};
-ghost use Rattle.definitions.specs.Reduction.{all_zero};
-ghost use Rattle.taps.specs.Taps.{FreeTaps, FreeAre};
 ghost use Rattle.objects.specs.Rows.{DepthsLow, NoDepths, CellDone, RowDone};
-ghost use Rattle.objects.specs.LastKept.{LastKept};
+ghost use Rattle.objects.specs.LastKept.{counted, LastKept};
 
 use beats::RowPlace;
 use definitions::DepthEffect;
+use taps::Taps;
 
 // The depth of each column, of up to ten.
 #[derive(Clone, Copy)]
@@ -100,89 +99,79 @@ pub struct LastScan {
     pub midx: u32,
 }
 
-// Before the first row.
-pub fn no_last() -> LastScan
-    ensures { LastKept result [] [] }
-{
-    LastScan {
-        depths: no_depths(),
-        busy: 0,
-        found: None,
-        row: None,
-        rows: 0,
-        midx: 0,
+impl LastScan {
+    // Before the first row.
+    pub fn new() -> Self
+        ensures { LastKept result [] [] }
+    {
+        LastScan {
+            depths: no_depths(),
+            busy: 0,
+            found: None,
+            row: None,
+            rows: 0,
+            midx: 0,
+        }
     }
-}
 
-// One row of taps more, all in columns of the depth 0: it is an object row where it has one, and leaves the depths.
-pub fn last_taps(s: LastScan, mask: u16) -> LastScan
-    requires { s.rows < row_numbers_bound }
-    ensures { (row : Row) → FreeTaps s.busy mask row → (done : List (List Row)) (cur : List Row) → LastKept s done cur → LastKept result done (cur ++ (row ∷ [])) }
-{
-    let is_empty = mask == 0;
-    if is_empty {
-        return LastScan {
-            rows: s.rows + 1,
-            ..s
-        };
+    // One row more, an object row or not.
+    fn count_row(&mut self, is_object: bool)
+        requires { self.old.rows < row_numbers_bound }
+        ensures { self.new ≡ counted self.old is_object }
+    {
+        if is_object {
+            self.row = Some(self.rows);
+        }
+        self.rows += 1;
     }
-    LastScan {
-        row: Some(s.rows),
-        rows: s.rows + 1,
-        ..s
+
+    // One row more, by its cells. One that is all zero is no object row and changes no depth.
+    fn add_cells(&mut self, cells: &[u8])
+        requires { (length cells.now ≤ 10) × (self.old.rows < row_numbers_bound) × DepthsLow 4294967294 self.old.depths }
+        ensures { (done : List (List Row)) (cur : List Row) → LastKept self.old done cur → LastKept self.new done (cur ++ (cells.now ∷ [])) }
+    {
+        if reduction::is_all_zero(cells) {
+            self.count_row(false);
+            return;
+        }
+        let row = row_has_object(cells, self.depths);
+        self.busy = taps::unlike(&row.depths.depths, 0);
+        self.depths = row.depths;
+        self.count_row(row.object);
     }
-}
 
-// One row more that is all zero: it is no object row and changes no depth.
-pub fn last_zero(mut s: LastScan) -> LastScan
-    requires { s.rows < row_numbers_bound }
-    ensures { (row : Row) → all_zero row ≡ true → (done : List (List Row)) (cur : List Row) → LastKept s done cur → LastKept result done (cur ++ (row ∷ [])) }
-{
-    s.rows += 1;
-    s
-}
-
-// One row more, of which the object row's test says this; a column without its bit in `busy` has the depth 0 after it.
-pub fn last_seen(s: LastScan, o: Objects, busy: u32) -> LastScan
-    requires { s.rows < row_numbers_bound }
-    ensures { (row : Row) → RowDone row s.depths o → FreeAre busy 0 o.depths.depths → (done : List (List Row)) (cur : List Row) → LastKept s done cur → LastKept result done (cur ++ (row ∷ [])) }
-{
-    let after = LastScan {
-        depths: o.depths,
-        busy,
-        rows: s.rows + 1,
-        ..s
-    };
-    if o.object {
-        return LastScan {
-            row: Some(s.rows),
-            ..after
-        };
+    // One row more. One of taps alone, all in columns of the depth 0, is an object row where it has one, and leaves the depths.
+    pub fn add_row(&mut self, cells: &[u8])
+        requires { (length cells.now ≤ 10) × (self.old.rows < row_numbers_bound) × DepthsLow 4294967294 self.old.depths }
+        ensures { (done : List (List Row)) (cur : List Row) → LastKept self.old done cur → LastKept self.new done (cur ++ (cells.now ∷ [])) }
+    {
+        match taps::free_taps(cells, self.busy) {
+            Taps::Mask(mask) => self.count_row(mask != 0),
+            Taps::Other => self.add_cells(cells),
+        }
     }
-    after
-}
 
-// The open measure ends.
-pub fn last_measure(s: LastScan) -> LastScan
-    requires { (s.rows < row_count_bound) × (s.midx ≤ measures_bound) }
-    ensures kept { (done : List (List Row)) (cur : List Row) → LastKept s done cur → LastKept result (done ++ (cur ∷ [])) [] }
-    ensures busy_stays { result.busy ≡ s.busy }
-{
-    let after = LastScan {
-        row: None,
-        rows: 0,
-        midx: s.midx + 1,
-        ..s
-    };
-    match s.row {
-        None => after,
-        Some(row) => LastScan {
-            found: Some(RowPlace {
-                measure: s.midx,
+    // The open measure ends.
+    pub fn end_measure(&mut self)
+        requires { (self.old.rows < row_count_bound) × (self.old.midx ≤ measures_bound) }
+        ensures kept { (done : List (List Row)) (cur : List Row) → LastKept self.old done cur → LastKept self.new (done ++ (cur ∷ [])) [] }
+        ensures busy_stays { self.new.busy ≡ self.old.busy }
+    {
+        let LastScan {
+            row,
+            rows,
+            midx,
+            ..
+        } = *self;
+        self.row = None;
+        self.rows = 0;
+        self.midx += 1;
+        if let Some(row) = row {
+            self.found = Some(RowPlace {
+                measure: midx,
                 row,
-                rows: s.rows,
-            }),
-            ..after
-        },
+                rows,
+            });
+        }
     }
 }

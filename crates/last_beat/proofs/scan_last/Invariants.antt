@@ -4,4 +4,4 @@ use Rattle.objects.specs.LastKept.{LastKept}
 use Rattle.last_beat.proofs.scan_last.Given as goal
 
 abbrev pub invariant-loop-line : goal.invariant-loop-line
-invariant-loop-line l = Holds l.fn.lanes.count l.data (LastKept l.s) l.yielded l.line-iterator
+invariant-loop-line l = Holds l.fn.lanes.count l.data (LastKept l.last) l.yielded l.line-iterator
