@@ -94,7 +94,7 @@ pub enum NoteEffect {
 }
 
 // What one row adds to a tally. `arrows` counts the row's arrows, and the four after it those of each direction.
-#[derive(Clone, Copy)]
+#[derive(Clone, Copy, Default)]
 pub struct RowSum {
     pub arrows: u32,
     pub left: u32,
@@ -110,7 +110,7 @@ pub struct RowSum {
 }
 
 // The tally, with the fields of the Rust's `ArrowStats` in their order.
-#[derive(Clone, Copy)]
+#[derive(Clone, Copy, Default)]
 pub struct ArrowStats {
     pub total_arrows: u32,
     pub left: u32,

@@ -23,19 +23,7 @@ use taps::TapTable;
 pub fn no_sum() -> RowSum
     ensures { result ≡ empty_sum }
 {
-    RowSum {
-        arrows: 0,
-        left: 0,
-        down: 0,
-        up: 0,
-        right: 0,
-        holds: 0,
-        rolls: 0,
-        tails: 0,
-        mines: 0,
-        lifts: 0,
-        fakes: 0,
-    }
+    RowSum::default()
 }
 
 // With an arrow in a column. Column mod 4 gives left, down, up, right.
@@ -119,22 +107,7 @@ pub fn judged_cell(s: RowSum, column: usize, b: u8) -> RowSum
 pub fn no_stats() -> ArrowStats
     ensures { result ≡ empty_stats }
 {
-    ArrowStats {
-        total_arrows: 0,
-        left: 0,
-        down: 0,
-        up: 0,
-        right: 0,
-        total_steps: 0,
-        jumps: 0,
-        hands: 0,
-        mines: 0,
-        holds: 0,
-        rolls: 0,
-        lifts: 0,
-        fakes: 0,
-        holding: 0,
-    }
+    ArrowStats::default()
 }
 
 // The tally with one row more, where `hand` says whether it is a hand and `holding` what is held after it.
