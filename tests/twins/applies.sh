@@ -1,7 +1,7 @@
 #!/bin/sh
 # Shows in a second, with no proof, that each must-fail edit and each twin (`run.sh`) can be applied, and that none is without the other. Each
-# old text must stand exactly once in its file, the pairs before it applied: so no line that an edit or a twin quotes is changed unseen. It is a
-# check before the gate, which finds an edit that cannot be applied too, but late and without the twins.
+# old text must stand exactly once in its file, the pairs before it applied: so no line that an edit or a twin quotes is changed unseen. The gate
+# begins with it, since proofs would find an edit that cannot be applied late, and no twin.
 # `sh tests/twins/applies.sh [CRATE..]` looks at the crates named, or at all. The last line is 'N passed, M failed'.
 set -eu
 cd "$(dirname "$0")/../.."
