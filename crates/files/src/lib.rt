@@ -88,8 +88,8 @@ pub fn next_tag<'a>(text: &'a [u8], word: &[u8]) -> Option<&'a [u8]>
     loop {
         let line = lines::next_line(rest, 0);
         let bare = lines::skip_ws(line);
-        if bare.starts_with(word) {
-            return Some(&rest[line.len() - bare.len() + word.len()..]);
+        if let Some(after) = bare.strip_prefix(word) {
+            return Some(&rest[line.len() - after.len()..]);
         }
         if line.len() == rest.len() {
             return None;
