@@ -58,7 +58,7 @@ impl ChartPass {
         ensures chart_ended { (done : List (List Row)) (cur : List Row) → Charted table.now.lanes.count self.old text.old densities.old beats.old slots.old done cur → ChartEnded table.now.lanes.count self.new text.new densities.new beats.new slots.new done (reduce cur) }
         ensures no_more { (self.new.pass.out ≤ self.old.pass.out) × (self.new.pass.midx ≡ self.old.pass.midx) }
     {
-        let lanes = table.lanes.count;
+        let lanes = table.lanes;
         let start = self.pass.start;
         let kept = reduction::reduce_output_measure(text, start, self.pass.rows, lanes);
         let before = self.pass.counting.rows;
@@ -73,7 +73,7 @@ impl ChartPass {
             table,
         );
         densities[self.pass.midx] = self.pass.counting.density();
-        self.pass.out = start + kept * (lanes + 1);
+        self.pass.out = start + kept * (lanes.count + 1);
         self.pass.rows = kept;
     }
 

@@ -57,11 +57,11 @@ impl KeptPass {
         ensures measure_ended { (done : List (List Row)) (cur : List Row) → Kept table.now.lanes.count self.old text.old densities.old done cur → MeasureEnded table.now.lanes.count self.new text.new densities.new done (reduce cur) }
         ensures no_more { (self.new.out ≤ self.old.out) × (self.new.midx ≡ self.old.midx) }
     {
-        let lanes = table.lanes.count;
+        let lanes = table.lanes;
         let kept = reduction::reduce_output_measure(text, self.start, self.rows, lanes);
         self.counting.count_rows(text, self.start, kept, table);
         densities[self.midx] = self.counting.density();
-        self.out = self.start + kept * (lanes + 1);
+        self.out = self.start + kept * (lanes.count + 1);
         self.rows = kept;
     }
 

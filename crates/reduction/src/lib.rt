@@ -161,12 +161,11 @@ fn reduce_measure(text: &mut [u8], start: usize, rows: usize, width: usize, lane
 }
 
 // A measure minimised in the text that is written: each row has byte 10 after it.
-pub fn reduce_output_measure(text: &mut [u8], start: usize, rows: usize, lanes: usize) -> usize
-    requires lanes_nonzero { (0 < lanes) × (lanes ≤ 10) }
-    requires lanes_in_bounds { start + rows * (lanes + 1) ≤ length text.old }
-    ensures { (rs : List Row) → RowsStand row_text lanes rows start rs text.old → Reduced row_text start rs text.old result text.new }
+pub fn reduce_output_measure(text: &mut [u8], start: usize, rows: usize, lanes: Lanes) -> usize
+    requires { start + rows * (lanes.count + 1) ≤ length text.old }
+    ensures { (rs : List Row) → RowsStand row_text lanes.count rows start rs text.old → Reduced row_text start rs text.old result text.new }
 {
-    reduce_measure(text, start, rows, lanes + 1, lanes)
+    reduce_measure(text, start, rows, lanes.count + 1, lanes.count)
 }
 
 // A measure minimised whose rows stand back to back.
