@@ -6,7 +6,8 @@ use Prim.Native.Nat.{ℕ, zero, suc, ◌+◌, ◌*◌, ◌/◌, ◌≤◌}
 use native.Mathlib.Nat.{mul-suc}
 use native.Mathlib.Omega.{arith}
 use lib.ListN.{length, get_or, length-append, length-map}
-use Rattle.definitions.specs.Lists.{joined, number_of_bool, count}
+use Rattle.std.proofs.lemmas.List.Sums.{count_by-le-length}
+use Rattle.definitions.specs.Lists.{joined, number_of_bool}
 use Rattle.definitions.specs.Lanes.{most_rows_in}
 use Rattle.definitions.specs.Lines.{Row, cut}
 use Rattle.definitions.specs.Measures.{measures, chart}
@@ -38,15 +39,10 @@ pub rows_few : (L : ℕ) (text : List ℕ) → 1 ≤ L → row_count L text ≤ 
 rows_few L text w = minimised-rows-few L text w
 
 -- ---- Densities and spacings
--- no more pass a test than there are
-pub count-few : {A : Type 0} (p : A → Bool) (l : List A) → count p l ≤ length l
-count-few p [] = omega arith
-count-few p (a ∷ l) = omega (arith, one-le (p a), count-few p l)
-
 -- the rows of a measure are rows of the text
 measure-few : (ms : List (List Row)) (k : ℕ) → get_or (map density ms) k 0 ≤ length (joined ms)
 measure-few [] k = omega arith
-measure-few (m ∷ ms) zero = omega (arith, count-few is_step m, length-append m (joined ms))
+measure-few (m ∷ ms) zero = omega (arith, count_by-le-length is_step m, length-append m (joined ms))
 measure-few (m ∷ ms) (suc k) = omega (arith, measure-few ms k, length-append m (joined ms))
 
 -- no density is over the count of the rows

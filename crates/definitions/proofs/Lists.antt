@@ -10,9 +10,14 @@ use lib.ListN.{length, take, drop, get_or, length-append, length-take, take-appe
 use lib.Seq.{drop-drop, drop-append_seam, drop-append-le}
 use lib.Pointwise.{pointwise_long}
 use Rattle.std.specs.Prelude.{nat_eq}
-use Rattle.std.specs.List.{All as AllAt, filter, starts_with}
+use Rattle.std.specs.List.{All as AllAt, filter, count_by, starts_with}
 use Rattle.std.proofs.lemmas.List.Elements.{filter-append}
+use Rattle.std.proofs.lemmas.List.Sums.{sum_by-cons, sum_by_push, sum_by-append}
 use Rattle.definitions.specs.Lists.{number_of_bool, joined, up_to, through, after, after_each}
+
+number-cond : (b : Bool) → cond b 1 0 ≡ number_of_bool b
+number-cond true = refl
+number-cond false = refl
 
 module _ {A : Type 0} where
   -- P holds of each
@@ -51,6 +56,16 @@ module _ {A : Type 0} where
 
   pub filter-right : (p : A → Bool) {s : List A} (t : List A) → All (λ a. p a ≡ false) s → filter p (s ++ t) ≡ filter p t
   filter-right p {s} t h = rw (filter-append p s t, filter-none p h)
+
+  -- one more that may pass a test
+  pub count-cons : (p : A → Bool) (a : A) (l : List A) → count_by p (a ∷ l) ≡ number_of_bool (p a) + count_by p l
+  count-cons p a l = sum_by-cons (λ x. cond (p x) 1 0) a l ∙ ap (λ n. n + count_by p l) (number-cond (p a))
+
+  pub count-snoc : (p : A → Bool) (l : List A) (a : A) → count_by p (l ++ (a ∷ [])) ≡ count_by p l + number_of_bool (p a)
+  count-snoc p l a = sum_by_push (λ x. cond (p x) 1 0) l a ∙ ap (λ n. count_by p l + n) (number-cond (p a))
+
+  pub count-append : (p : A → Bool) (s t : List A) → count_by p (s ++ t) ≡ count_by p s + count_by p t
+  count-append p s t = sum_by-append (λ x. cond (p x) 1 0) s t
 
   -- lists run together, one list more
   pub joined_snoc : (ls : List (List A)) (l : List A) → joined (ls ++ (l ∷ [])) ≡ joined ls ++ l

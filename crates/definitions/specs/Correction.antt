@@ -1,6 +1,6 @@
 -- Document 01, "Correction": the phantom depths, when a tally is counted anew, and with which heads.
-use Rattle.std.specs.Prelude.{Bool, true, false, cond, ◌&&◌, ◌||◌, not, List, [], ◌∷◌, ℕ, suc, ◌-◌, eqb, ltb}
-use Rattle.definitions.specs.Lists.{count, joined, some_column}
+use Rattle.std.specs.Prelude.{Bool, true, false, cond, ◌&&◌, ◌||◌, not, List, [], ◌∷◌, ℕ, suc, ◌-◌, eqb, ltb, count_by}
+use Rattle.definitions.specs.Lists.{joined, some_column}
 use Rattle.definitions.specs.Lines.{Row}
 use Rattle.definitions.specs.Cells.{byte_at}
 use Rattle.definitions.specs.Tracker.{Pair, pairs, is_head_of, hold_at}
@@ -49,11 +49,11 @@ is_closing Closes = true
 
 -- the heads and the tails of rows
 abbrev pub head_count : List Row → ℕ
-head_count rows = count (λ b. is_opening (hold_at b)) (joined rows)
+head_count rows = count_by (λ b. is_opening (hold_at b)) (joined rows)
 
 -- the tails of rows
 abbrev pub tail_count : List Row → ℕ
-tail_count rows = count (λ b. is_closing (hold_at b)) (joined rows)
+tail_count rows = count_by (λ b. is_closing (hold_at b)) (joined rows)
 
 -- "if there is a head, and besides one of these holds (heads ≠ tails; a 1, M, L or F met in a column whose phantom depth is not 0; a phantom
 -- depth left over)", of rows of L bytes

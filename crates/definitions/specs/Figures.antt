@@ -1,6 +1,6 @@
 -- Document 01: minimised text, density and spacing. Each is a function of the measures' minimised rows.
-use Rattle.std.specs.Prelude.{Bool, true, false, ◌&&◌, ◌||◌, List, [], ◌∷◌, ◌++◌, map, ℕ}
-use Rattle.definitions.specs.Lists.{number_of_bool, count}
+use Rattle.std.specs.Prelude.{Bool, true, false, ◌&&◌, ◌||◌, List, [], ◌∷◌, ◌++◌, map, ℕ, count_by}
+use Rattle.definitions.specs.Lists.{number_of_bool}
 use Rattle.definitions.specs.Lines.{Row}
 use Rattle.definitions.specs.Cells.{cell_of, is_arrow}
 use Rattle.definitions.specs.Reduction.{minimised}
@@ -27,7 +27,7 @@ is_step (b ∷ r) = is_arrow (cell_of b) || is_step r
 
 -- "Density: minimised rows with a 1, 2 or 4."
 abbrev pub density : List Row → ℕ
-density rs = count is_step rs
+density rs = count_by is_step rs
 
 -- "Spacing: true where the measure has no rows or each minimised row has a 1, 2 or 4."
 abbrev pub spacing : List Row → Bool

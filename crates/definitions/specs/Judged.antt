@@ -1,6 +1,6 @@
 -- Document 01, "Judged tally".
-use Rattle.std.specs.Prelude.{Bool, true, false, ◌&&◌, not, List, [], ◌∷◌, ℕ, suc, ◌+◌, eqb, ltb, leb, get_or}
-use Rattle.definitions.specs.Lists.{count, sum_columns}
+use Rattle.std.specs.Prelude.{Bool, true, false, ◌&&◌, not, List, [], ◌∷◌, ℕ, suc, ◌+◌, eqb, ltb, leb, get_or, count_by}
+use Rattle.definitions.specs.Lists.{sum_columns}
 use Rattle.definitions.specs.Lines.{Row}
 use Rattle.definitions.specs.Cells.{cell_of}
 use Rattle.definitions.specs.Tracker.{Pair, pairs}
@@ -66,7 +66,7 @@ sum_of_fakes n =
 -- what a row adds up to, judged or not
 unfoldable pub judged_sum : Bool → Row → RowSum
 judged_sum true r = row_sum_by is_judged_arrow r
-judged_sum false r = sum_of_fakes (count (λ b. is_unjudged_fake (cell_of b)) r)
+judged_sum false r = sum_of_fakes (count_by (λ b. is_unjudged_fake (cell_of b)) r)
 
 -- "It is a hand if it has an arrow, mine or fake and its arrows plus the holds open before it make 3 or more." "`holding` stays 0."
 unfoldable pub judge_row : ArrowStats → Bool → ℕ → RowSum → ArrowStats
@@ -76,7 +76,7 @@ judge_row t judged held s =
 -- The holds of a column's pairs that are open before row i, where J says which rows are judged. "Only heads on judged rows open holds, each
 -- through its tail's row."
 abbrev pub open_of : (ℕ → Bool) → ℕ → List Pair → ℕ
-open_of J i ps = count (λ (p : Pair). J p.head && (ltb p.head i && leb i p.tail)) ps
+open_of J i ps = count_by (λ (p : Pair). J p.head && (ltb p.head i && leb i p.tail)) ps
 
 -- of all L columns
 unfoldable pub open_before : ℕ → (ℕ → Bool) → (ℕ → List Pair) → ℕ → ℕ

@@ -22,11 +22,6 @@ module _ {A : Type 0} where
   only_if true l = l
   only_if false l = []
 
-  -- how many pass a test
-  abbrev pub count : (A → Bool) → List A → ℕ
-  count p [] = 0
-  count p (a ∷ l) = number_of_bool (p a) + count p l
-
   -- the answer, and z in every place after it, n in all
   abbrev pub padded : A → ℕ → List A → List A
   padded z n l = l ++ replicate (n - length l) z

@@ -1,8 +1,8 @@
 -- Document 02, E1: the charts inside an SM file. What is answered for block k of a file: a refusal's number, or the lane count and the data as a
 -- part of the file. 58 is `:` and 59 `;`.
-use Rattle.std.specs.Prelude.{Bool, if◌then◌else◌, ◌&&◌, List, [], ◌∷◌, ◌++◌, ℕ, ◌+◌, ◌-◌, ◌==◌, nat_eq, nat_le, nat_lt, length, drop, get_or, codes, bytes_eq, Option, Some, None, is_none, unwrap_or, Result}
+use Rattle.std.specs.Prelude.{Bool, if◌then◌else◌, ◌&&◌, List, [], ◌∷◌, ◌++◌, ℕ, ◌+◌, ◌-◌, ◌==◌, nat_eq, nat_le, nat_lt, length, drop, get_or, codes, bytes_eq, Option, Some, None, is_none, unwrap_or, Result, count_by}
 use Rattle.std.specs.List.{starts_with}
-use Rattle.definitions.specs.Lists.{only_if, count, up_to, through, after_each}
+use Rattle.definitions.specs.Lists.{only_if, up_to, through, after_each}
 use Rattle.definitions.specs.Lines.{cut, is_blank_byte, trim}
 use Rattle.definitions.specs.Refusals.{refused_if, long_text, answered, number_told, replaces}
 use Rattle.definitions.specs.declared.Refusal.{Refusal}
@@ -67,7 +67,7 @@ blocks file = blocks_from file 0 0 (cut file)
 
 -- how many `:` stand in a block after its tag
 unfoldable pub colons : List ℕ → ℕ
-colons text = count (λ b. b == 58) text
+colons text = count_by (λ b. b == 58) text
 
 -- "After that tag five fields each ended by `:` stand before the note data": the data, "its `;` included if there is one"
 unfoldable pub data_of : List ℕ → List ℕ

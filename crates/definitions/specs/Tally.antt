@@ -1,6 +1,6 @@
 -- Document 01, "Tally": what one row adds up to, and the plain tally of rows.
-use Rattle.std.specs.Prelude.{Bool, ◌&&◌, List, [], ◌∷◌, ℕ, suc, ◌+◌, ◌-◌, ◌%◌, eqb, leb}
-use Rattle.definitions.specs.Lists.{number_of_bool, count}
+use Rattle.std.specs.Prelude.{Bool, ◌&&◌, List, [], ◌∷◌, ℕ, suc, ◌+◌, ◌-◌, ◌%◌, eqb, leb, count_by}
+use Rattle.definitions.specs.Lists.{number_of_bool}
 use Rattle.definitions.specs.Lines.{Row}
 use Rattle.definitions.specs.Cells.{cell_of, is_arrow}
 use Rattle.definitions.specs.declared.Cell.{Cell}
@@ -39,7 +39,7 @@ place fake = 6
 
 -- the cells of a row that are counted so
 abbrev pub counted : CountKind → Row → ℕ
-counted k r = count (λ b. eqb (place (counted_as (cell_of b))) (place k)) r
+counted k r = count_by (λ b. eqb (place (counted_as (cell_of b))) (place k)) r
 
 -- the cells of a row, from column c on, that pass a test of column and cell
 abbrev pub count_from : (ℕ → Cell → Bool) → ℕ → Row → ℕ

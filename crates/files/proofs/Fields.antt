@@ -10,7 +10,7 @@ use borrow.Author.Tests.{lt-ltb, le-ltb}
 use Rattle.std.specs.Prelude.{Option, Some, None}
 use Rattle.definitions.specs.Lists.{number_of_bool, after, after_each}
 use Rattle.definitions.specs.SmFile.{colons, data_of}
-use Rattle.definitions.proofs.Lists.{after-cons}
+use Rattle.definitions.proofs.Lists.{after-cons, count-cons}
 use Rattle.files.specs.Tags.{after_first}
 use Rattle.files.specs.Sm.{data_part}
 
@@ -29,7 +29,7 @@ part-none s = simp (le-ltb (colons s) 0 (omega arith))
 colons-none : (s : List ℕ) → after_first 58 s ≡ None → colons s ≡ 0
 unfolding colons
 colons-none [] e = refl
-colons-none (x ∷ s) e = go (eqb x 58) (colons-none s) e
+colons-none (x ∷ s) e = rw (count-cons (λ x. eqb x 58) x s) (go (eqb x 58) (colons-none s) e)
   where
     go : (t : Bool) → (after_first 58 s ≡ None → colons s ≡ 0) → cond t (Some s) (after_first 58 s) ≡ None → number_of_bool t + colons s ≡ 0
     go true ih w = let z : ◌≡◌ {A = ℕ} 0 1 = cc in absurd (omega arith)
@@ -42,7 +42,7 @@ part-few n s h e = simp (lt-ltb (colons s) n (omega (arith, colons-none s e)))
 colons-some : (s t : List ℕ) → after_first 58 s ≡ Some t → (colons s ≡ suc (colons t)) × (after 58 s ≡ t)
 unfolding colons
 colons-some [] t e = let z : ◌≡◌ {A = ℕ} 0 1 = cc in absurd (omega arith)
-colons-some (x ∷ s) t e = rw (after-cons 58 x s) (go (eqb x 58) (colons-some s t) e)
+colons-some (x ∷ s) t e = rw (after-cons 58 x s, count-cons (λ x. eqb x 58) x s) (go (eqb x 58) (colons-some s t) e)
   where
     go : (b : Bool) → (after_first 58 s ≡ Some t → (colons s ≡ suc (colons t)) × (after 58 s ≡ t)) → cond b (Some s) (after_first 58 s) ≡ Some t
         → (number_of_bool b + colons s ≡ suc (colons t)) × (cond b s (after 58 s) ≡ t)

@@ -14,9 +14,9 @@ use Rattle.definitions.specs.Cells.{byte_at}
 use Rattle.definitions.specs.Tracker.{Pair, paired, hold_at, pairs}
 use Rattle.definitions.specs.declared.DepthEffect.{DepthEffect}
 use Rattle.definitions.specs.declared.DepthEffect.TheVariants.{Nothing, Blocks, Opens, Closes}
-use Rattle.definitions.proofs.Lists.{All, none, one, all_map}
+use Rattle.definitions.proofs.Lists.{All, none, one, all_map, count-append}
 use Rattle.holds.specs.Tracks.{stack_after, ends_in, ends_at}
-use Rattle.holds.proofs.Pairs.{pairs-snoc, count-append, count_none, Placed, placed}
+use Rattle.holds.proofs.Pairs.{pairs-snoc, count_none, Placed, placed}
 
 -- a sum of the same numbers, and of none past column k
 pub sum_same : (m : ℕ) (f g : ℕ → ℕ) → ((c : ℕ) → c < m → f c ≡ g c) → sum_columns m f ≡ sum_columns m g

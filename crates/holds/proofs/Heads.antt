@@ -18,7 +18,7 @@ use Rattle.definitions.specs.declared.Cell.{Cell}
 use Rattle.definitions.specs.declared.Cell.TheVariants as cell
 use Rattle.definitions.specs.declared.DepthEffect.{DepthEffect}
 use Rattle.definitions.specs.declared.DepthEffect.TheVariants.{Nothing, Blocks, Opens, Closes}
-use Rattle.definitions.proofs.Lists.{All, none, one, all_append}
+use Rattle.definitions.proofs.Lists.{All, none, one, all_append, count-cons}
 use Rattle.holds.specs.Tracks.{paired_heads}
 use Rattle.holds.proofs.Ends.{sum_same}
 
@@ -126,7 +126,12 @@ heads-kept ps i c (b ∷ r) h =
     let same =
     sum_same (length r) (λ k. number_of_bool (is_head_of i (ps (c + suc k)))) (λ k. number_of_bool (is_head_of i (ps (suc c + k))))
     (λ k l. ap (λ n. number_of_bool (is_head_of i (ps n))) (further k)) in
-    omega arith
+    let kept : ℕ = head_if_paired (hold_at b) (is_head_of i (ps c)) b in
+    omega (
+      arith,
+      count-cons (λ x. eqb (place (counted_as (cell_of x))) 1) kept (keep_row ps i (suc c) r),
+      count-cons (λ x. eqb (place (counted_as (cell_of x))) 2) kept (keep_row ps i (suc c) r),
+    )
   where
     further : (k : ℕ) → c + suc k ≡ suc c + k
     further k = omega arith

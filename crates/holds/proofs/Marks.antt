@@ -11,11 +11,12 @@ use lib.Bits.{bit_or}
 use lib.ListN.{length, get_or, length-set}
 use lib.Seq.{get_or-set_same, get_or-set_other}
 use Rattle.std.specs.Prelude.{Option, Some, None}
+use Rattle.std.proofs.lemmas.List.Sums.{count_by-le-length}
 use Rattle.definitions.specs.Lists.{number_of_bool}
 use Rattle.definitions.specs.Tracker.{Pair, paired, is_head_of}
 use Rattle.definitions.specs.declared.DepthEffect.{DepthEffect}
 use Rattle.definitions.specs.declared.DepthEffect.TheVariants as effect
-use Rattle.definitions.proofs.Lists.{All, none, one}
+use Rattle.definitions.proofs.Lists.{All, none, one, count-cons}
 use Rattle.taps.specs.Taps.{bit}
 use Rattle.holds.specs.Stacks.{ended_at}
 use Rattle.holds.specs.Tracks.{ends_in, marked, judged_head}
@@ -93,15 +94,12 @@ pub judged-ends : (J : ℕ → Bool) (work : List ℕ) (row : ℕ) (ended : Opti
     → judged_head ended work ≡ ends_in J row (ended_at row ended)
 judged-ends J work row None b judged = refl
 judged-ends J work row (Some h) b judged =
-    ap number_of_bool (judged-told (get_or work h 0) (J h) (judged h (b h refl))) ∙ sym (ap (λ x. number_of_bool (x && J h) + 0) (eq-eqb row row refl) ∙ plus (number_of_bool (J h)))
+    ap number_of_bool (judged-told (get_or work h 0) (J h) (judged h (b h refl)))
+    ∙ sym (count-cons (λ (p : Pair). eqb p.tail row && J p.head) (record { head = h; tail = row }) [] ∙ ap (λ x. number_of_bool (x && J h) + 0) (eq-eqb row row refl) ∙ plus (number_of_bool (J h)))
   where
     plus : (n : ℕ) → n + 0 ≡ n
     plus n = omega arith
 
 pub judged-one : (J : ℕ → Bool) (row : ℕ) (ended : Option ℕ) → ends_in J row (ended_at row ended) ≤ 1
 judged-one J row None = omega arith
-judged-one J row (Some h) = go (eqb row row && J h)
-  where
-    go : (b : Bool) → number_of_bool b + 0 ≤ 1
-    go true = omega arith
-    go false = omega arith
+judged-one J row (Some h) = count_by-le-length (λ (p : Pair). eqb p.tail row && J p.head) (record { head = h; tail = row } ∷ [])

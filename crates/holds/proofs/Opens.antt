@@ -11,16 +11,17 @@ use borrow.Author.Tests.{lt-ltb, le-ltb, le-leb, lt-leb, eq-eqb, ne_eqb, eqb-tru
 use lib.Dec.{eqb, ltb, leb}
 use lib.ListN.{length}
 use Rattle.definitions.proofs.Bools.{equal-turned}
-use Rattle.definitions.specs.Lists.{number_of_bool, count, sum_columns}
+use Rattle.std.specs.List.{count_by}
+use Rattle.definitions.specs.Lists.{number_of_bool, sum_columns}
 use Rattle.definitions.specs.Lines.{Row}
 use Rattle.definitions.specs.Cells.{byte_at}
 use Rattle.definitions.specs.Tracker.{Pair, next_stack, paired, hold_at, pairs_from, pairs, is_head_of}
 use Rattle.definitions.specs.Judged.{open_of, open_before}
 use Rattle.definitions.specs.declared.DepthEffect.{DepthEffect}
 use Rattle.definitions.specs.declared.DepthEffect.TheVariants.{Nothing, Blocks, Opens, Closes}
-use Rattle.definitions.proofs.Lists.{one-le, All, none, one}
+use Rattle.definitions.proofs.Lists.{one-le, All, none, one, count-cons, count-append}
 use Rattle.holds.specs.Tracks.{ends_in, ends_at, paired_heads}
-use Rattle.holds.proofs.Pairs.{count-append, Placed, placed, pairs-narrow}
+use Rattle.holds.proofs.Pairs.{Placed, placed, pairs-narrow}
 use Rattle.holds.proofs.Ends.{sum-beyond}
 
 -- One pair, of a head before its tail.
@@ -84,25 +85,31 @@ one-pair true h t i l =
 
 -- the pairs whose head is at row i, and of these the judged ones
 abbrev heads_in : ℕ → List Pair → ℕ
-heads_in i ps = count (λ (p : Pair). eqb p.head i) ps
+heads_in i ps = count_by (λ (p : Pair). eqb p.head i) ps
 
 abbrev judged_in : (ℕ → Bool) → ℕ → List Pair → ℕ
-judged_in J i ps = count (λ (p : Pair). J p.head && eqb p.head i) ps
+judged_in J i ps = count_by (λ (p : Pair). J p.head && eqb p.head i) ps
 
 open_step : (J : ℕ → Bool) (i n : ℕ) {ps : List Pair} → All (Placed n) ps
     → open_of J (i + 1) ps + ends_in J i ps ≡ open_of J i ps + judged_in J i ps
 open_step J i n none = refl
-open_step J i n (one {a = p} h q) =
+open_step J i n (one {a = p} {l = ps} h q) =
     let a = one-pair (J p.head) p.head p.tail i h.proper in
     let b = open_step J i n q in
-    omega arith
+    omega (
+      arith,
+      count-cons (λ (x : Pair). J x.head && (ltb x.head (i + 1) && leb (i + 1) x.tail)) p ps,
+      count-cons (λ (x : Pair). eqb x.tail i && J x.head) p ps,
+      count-cons (λ (x : Pair). J x.head && (ltb x.head i && leb i x.tail)) p ps,
+      count-cons (λ (x : Pair). J x.head && eqb x.head i) p ps,
+    )
 
 -- ---- No head has two pairs
 abbrev times : ℕ → List ℕ → ℕ
-times k st = count (λ h. eqb h k) st
+times k st = count_by (λ h. eqb h k) st
 
 push-times : (b : Bool) (k i : ℕ) (st : List ℕ) → times k (cond b (i ∷ st) st) ≤ times k st + number_of_bool (eqb i k)
-push-times true k i st = omega arith
+push-times true k i st = omega (arith, count-cons (λ h. eqb h k) i st)
 push-times false k i st = omega arith
 
 next-times : (e : DepthEffect) (k i : ℕ) (st : List ℕ) → heads_in k (paired e i st) + times k (next_stack e i st) ≤ times k st + number_of_bool (eqb i k)
@@ -110,7 +117,7 @@ next-times Nothing k i st = omega arith
 next-times Blocks k i st = omega arith
 next-times Opens k i st = omega (arith, push-times (ltb (length st) 8) k i st)
 next-times Closes k i [] = omega arith
-next-times Closes k i (h ∷ st) = omega arith
+next-times Closes k i (h ∷ st) = omega (arith, count-cons (λ h. eqb h k) h st, count-cons (λ (p : Pair). eqb p.head k) (record { head = h; tail = i }) [])
 
 from-here : (i k : ℕ) → number_of_bool (eqb i k) + number_of_bool (leb (suc i) k) ≡ number_of_bool (leb i k)
 from-here i k =
@@ -140,12 +147,15 @@ once rows c k = let a = once-from c rows 0 k [] in let b = one-le (leb 0 k) in o
 -- so row i is a head as often as it is one
 head-count : (i : ℕ) (ps : List Pair) → heads_in i ps ≤ 1 → heads_in i ps ≡ number_of_bool (is_head_of i ps)
 head-count i [] h = refl
-head-count i (p ∷ ps) h = go (equal-turned p.head i) (eqb i p.head) refl (head-count i ps (omega arith))
+head-count i (p ∷ ps) h = go (equal-turned p.head i) (eqb i p.head) refl (head-count i ps (omega (arith, more)))
   where
+    more : heads_in i (p ∷ ps) ≡ number_of_bool (eqb p.head i) + heads_in i ps
+    more = count-cons (λ (x : Pair). eqb x.head i) p ps
+
     go : eqb p.head i ≡ eqb i p.head → (b : Bool) → eqb i p.head ≡ b → heads_in i ps ≡ number_of_bool (is_head_of i ps)
         → heads_in i (p ∷ ps) ≡ number_of_bool (b || is_head_of i ps)
-    go f true e q = let a = ap number_of_bool (f ∙ e) in omega arith
-    go f false e q = let a = ap number_of_bool (f ∙ e) in omega arith
+    go f true e q = let a = ap number_of_bool (f ∙ e) in omega (arith, more)
+    go f false e q = let a = ap number_of_bool (f ∙ e) in omega (arith, more)
 
 cond-zero : (a : Bool) → ◌≡◌ {A = ℕ} (cond a 0 0) 0
 cond-zero true = refl
@@ -167,8 +177,10 @@ cond-add false x y = refl
 judged-count : (J : ℕ → Bool) (i : ℕ) (ps : List Pair) → judged_in J i ps ≡ cond (J i) (heads_in i ps) 0
 judged-count J i [] = sym (cond-zero (J i))
 judged-count J i (p ∷ ps) =
-    ap₂ (λ (x y : ℕ). x + y) (judged-one J p.head i (eqb p.head i) refl) (judged-count J i ps)
+    count-cons (λ (x : Pair). J x.head && eqb x.head i) p ps
+    ∙ ap₂ (λ (x y : ℕ). x + y) (judged-one J p.head i (eqb p.head i) refl) (judged-count J i ps)
     ∙ cond-add (J i) (number_of_bool (eqb p.head i)) (heads_in i ps)
+    ∙ ap (λ n. cond (J i) n 0) (sym (count-cons (λ (x : Pair). eqb x.head i) p ps))
 
 headed : (J : ℕ → Bool) (rows : List Row) (c i : ℕ) → judged_in J i (pairs rows c) ≡ cond (J i) (number_of_bool (is_head_of i (pairs rows c))) 0
 headed J rows c i = judged-count J i (pairs rows c) ∙ ap (λ n. cond (J i) n 0) (head-count i (pairs rows c) (once rows c i))

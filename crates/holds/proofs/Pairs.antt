@@ -9,7 +9,7 @@ use borrow.Author.Tests.{ltb-true}
 use lib.Dec.{eqb, ltb}
 use lib.ListN.{length}
 use Rattle.definitions.proofs.Columns.{past_end}
-use Rattle.definitions.specs.Lists.{count}
+use Rattle.std.specs.List.{count_by}
 use Rattle.definitions.specs.Lines.{Row}
 use Rattle.definitions.specs.Cells.{byte_at}
 use Rattle.definitions.specs.Tracker.{Pair, next_stack, paired, hold_at, pairs_from, pairs, is_head_of}
@@ -63,11 +63,7 @@ heads-append i [] qs = refl
 heads-append i (p ∷ ps) qs =
     ap (λ b. eqb i p.head || b) (heads-append i ps qs) ∙ sym (or_assoc (eqb i p.head) (is_head_of i ps) (is_head_of i qs))
 
-pub count-append : {A : Type 0} (p : A → Bool) (s t : List A) → count p (s ++ t) ≡ count p s + count p t
-count-append p [] t = omega arith
-count-append p (a ∷ s) t = let e = count-append p s t in omega arith
-
-pub count_none : {A : Type 0} (p : A → Bool) {l : List A} → All (λ a. p a ≡ false) l → count p l ≡ 0
+pub count_none : {A : Type 0} (p : A → Bool) {l : List A} → All (λ a. p a ≡ false) l → count_by p l ≡ 0
 count_none p none = refl
 count_none p (one {a = a} h q) = rw (h, count_none p q)
 

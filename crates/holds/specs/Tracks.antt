@@ -1,7 +1,7 @@
 -- What the tracker and the work slice hold after rows.
-use Rattle.std.specs.Prelude.{◌≡◌, Option, Some, None, Bool, ◌&&◌, List, [], ◌∷◌, ◌++◌, ℕ, suc, ◌/◌, ◌^◌, ◌≤◌, ◌<◌, ◌==◌, length, slice_index, slice_set}
+use Rattle.std.specs.Prelude.{◌≡◌, Option, Some, None, Bool, ◌&&◌, List, [], ◌∷◌, ◌++◌, ℕ, suc, ◌/◌, ◌^◌, ◌≤◌, ◌<◌, ◌==◌, length, slice_index, slice_set, count_by}
 use Rattle.std.specs.Int.Bits.{bit_or}
-use Rattle.definitions.specs.Lists.{number_of_bool, count, sum_columns}
+use Rattle.definitions.specs.Lists.{number_of_bool, sum_columns}
 use Rattle.definitions.specs.Lines.{Row}
 use Rattle.definitions.specs.Cells.{byte_at}
 use Rattle.definitions.specs.Tracker.{Pair, next_stack, hold_at, pairs, is_head_of}
@@ -20,7 +20,7 @@ stack_after rows c = stack_from c 0 [] rows
 
 -- The pairs whose tail is at row i and whose head is on a row that J calls judged.
 abbrev pub ends_in : (ℕ → Bool) → ℕ → List Pair → ℕ
-ends_in J i ps = count (λ (p : Pair). p.tail == i && J p.head) ps
+ends_in J i ps = count_by (λ (p : Pair). p.tail == i && J p.head) ps
 
 unfoldable pub ends_at : (ℕ → Bool) → List Row → ℕ → ℕ
 ends_at J rows i = sum_columns 10 (λ c. ends_in J i (pairs rows c))

@@ -8,7 +8,8 @@ use native.Mathlib.Omega.{arith}
 use borrow.Author.Tests.{ltb-false, leb-false, lt-ltb, le-ltb, le-leb, lt-leb, eq-eqb}
 use lib.Dec.{ltb, leb}
 use lib.ListN.{length}
-use Rattle.definitions.specs.Lists.{count, sum_columns}
+use Rattle.std.specs.List.{count_by}
+use Rattle.definitions.specs.Lists.{sum_columns}
 use Rattle.definitions.specs.Lines.{Row}
 use Rattle.definitions.specs.Cells.{byte_at}
 use Rattle.definitions.specs.Tracker.{Pair, next_stack, paired, hold_at, pairs_from, pairs, is_head_of}
@@ -16,9 +17,9 @@ use Rattle.definitions.specs.Correction.{phantom_step, phantom_after, keep_row}
 use Rattle.definitions.specs.Judged.{open_of, open_before}
 use Rattle.definitions.specs.declared.DepthEffect.{DepthEffect}
 use Rattle.definitions.specs.declared.DepthEffect.TheVariants.{Nothing, Blocks, Opens, Closes}
-use Rattle.definitions.proofs.Lists.{All, none, one, all_map}
+use Rattle.definitions.proofs.Lists.{All, none, one, all_map, count-cons, count-append}
 use Rattle.holds.specs.Tracks.{stack_from, stack_after}
-use Rattle.holds.proofs.Pairs.{heads-append, count-append, stacked, pairs-narrow}
+use Rattle.holds.proofs.Pairs.{heads-append, stacked, pairs-narrow}
 use Rattle.holds.proofs.Ends.{sum_same, sum-beyond}
 use Rattle.row_tally.proofs.Kept.{keep-whole}
 use Rattle.judged_pass.specs.Clean.{unpairs, unpairs_from, every}
@@ -140,15 +141,21 @@ clean-kept rows r rest m k =
 -- ---- The open holds
 -- the heads of a stack before row k
 abbrev before : ℕ → List ℕ → ℕ
-before k st = count (λ h. ltb h k) st
+before k st = count_by (λ h. ltb h k) st
 
 open-cell : (e : DepthEffect) (i k : ℕ) (st : List ℕ) → k ≤ i → unpairs e (length st) ≡ false
     → open_of every k (paired e i st) + before k (next_stack e i st) ≡ before k st
 open-cell Nothing i k st h s = zero-add (before k st)
 open-cell Blocks i k st h s = rw (blocks-none st s)
-open-cell Opens i k st h s = rw (opens-pushed i st s, le-ltb i k h) (omega arith)
+open-cell Opens i k st h s = rw (opens-pushed i st s, count-cons (λ x. ltb x k) i st, le-ltb i k h) (omega arith)
 open-cell Closes i k [] h s = refl
-open-cell Closes i k (x ∷ st) h s = rw (le-leb k i h, and-true (ltb x k)) (omega arith)
+open-cell Closes i k (x ∷ st) h s = rw (
+  count-cons (λ (p : Pair). every p.head && (ltb p.head k && leb k p.tail)) (record { head = x; tail = i }) [],
+  count-cons (λ y. ltb y k) x st,
+  le-leb k i h,
+  and-true (ltb x k),
+)
+    (omega arith)
 
 -- of the open heads before row i, those before row k stay open to the tail
 open-here : (c i k : ℕ) (st : List ℕ) (rs : List Row) → k ≤ i → Clean c (length st) rs → open_of every k (pairs_from c i st rs) ≡ before k st
@@ -193,7 +200,7 @@ depth-from c i st (r ∷ rs) rest k =
 
 all-before : {k : ℕ} {st : List ℕ} → All (λ h. h < k) st → before k st ≡ length st
 all-before none = refl
-all-before {k} (one {a = h} l a) = rw (lt-ltb h k l, all-before a) (omega arith)
+all-before {k} (one {a = h} {l = st} l a) = rw (count-cons (λ x. ltb x k) h st, lt-ltb h k l, all-before a) (omega arith)
 
 -- The holds of a clean column that are open before a row are its open heads there.
 pub clean-open : (c : ℕ) (rows rest : List Row) → Clean c 0 (rows ++ rest) → open_of every (length rows) (pairs (rows ++ rest) c) ≡ phantom_after c 0 rows

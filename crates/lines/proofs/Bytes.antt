@@ -3,6 +3,7 @@ use Rattle.std.proofs.Common.{◌≡◌, ℕ, zero, suc, ◌+◌, ◌*◌, ◌<�
 use lib.Bits.{bit_and, bit_xor, xor_block, and_comm, and_shifted, and_le_l, and_le_r, xor_self, xor_lt, xor_zero_l, xor_add_and}
 use borrow.Author.Tests.{eqb-false}
 use Rattle.lines.specs.Search.{count_of}
+use Rattle.lines.proofs.Search.{count-cons}
 use Rattle.lines.specs.Words.{word_of, Bytes, first_in}
 
 -- at n bytes: the numbers below it, a one in each byte, the seven low bits of each byte, the high bit of each byte
@@ -69,7 +70,7 @@ xor_first b (x ∷ xs) = rw (xor-eqb, xor_first b xs)
 pub xor_count : (b : ℕ) (xs : List ℕ) → count_of 0 (xor_all b xs) ≡ count_of b xs
 unfolding count_of
 xor_count b [] = refl
-xor_count b (x ∷ xs) = rw (xor-eqb, xor_count b xs)
+xor_count b (x ∷ xs) = rw (count-cons 0 (bit_xor x b) (xor_all b xs), count-cons b x xs, xor-eqb, xor_count b xs)
 
 -- a word of eight
 module _ (xs : List ℕ) (w b : ℕ) (eight : length xs ≡ 8) (hx : Bytes xs) (hw : word_of xs ≡ w) (hb : b < 256) where

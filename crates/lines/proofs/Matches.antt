@@ -4,6 +4,7 @@ use lib.Bits.{bit_and, bit_or, bit_xor, and_block, or_block, and_le_l, and_le_r,
 use lib.Count.{ones, ones_cat}
 use Rattle.definitions.specs.Lists.{number_of_bool}
 use Rattle.lines.specs.Search.{count_of}
+use Rattle.lines.proofs.Search.{count-cons}
 use Rattle.lines.specs.Words.{word_of, Bytes}
 use Rattle.lines.proofs.Bytes.{cap, low, hi, small, xor_all, xor_bytes, xor_count, xor_is, xor-eight}
 
@@ -73,7 +74,7 @@ zeros (r ∷ xs) h =
     let e : cap n * 256 - 1 - (F * 256 + fill r) ≡ (cap n - 1 - F) * 256 + (255 - fill r) = omega arith in
     let s : 255 - fill r < 256 = omega arith in
     let t : bit_and (255 - fill r) 128 < 256 = omega (arith, and_le_r (255 - fill r) 128) in
-    rw (filled-step n (word_of xs) r h.0, e, and_block 8 (cap n - 1 - F) (hi n) (255 - fill r) 128 s (lit< tt), ones_cat 8 (bit_and (cap n - 1 - F) (hi n)) (bit_and (255 - fill r) 128) t, one_byte r h.0, zeros xs h.1) (omega arith)
+    rw (filled-step n (word_of xs) r h.0, e, and_block 8 (cap n - 1 - F) (hi n) (255 - fill r) 128 s (lit< tt), ones_cat 8 (bit_and (cap n - 1 - F) (hi n)) (bit_and (255 - fill r) 128) t, one_byte r h.0, zeros xs h.1) (omega (arith, count-cons 0 r xs))
 
 -- a word of eight bytes w, where the bytes have been put together with b by exclusive or
 pub matches : (xs : List ℕ) (w b x : ℕ) → length xs ≡ 8 → Bytes xs → word_of xs ≡ w → b < 256 → x ≡ bit_xor w (b * 72340172838076673)

@@ -1,14 +1,15 @@
 -- Laws of the search for a byte and of `count_of`: one turn of the loop over a slice's last bytes, lists put together, and what the search's answer shows of
 -- the list before the byte.
 use Rattle.std.proofs.Common.{◌≡◌, ℕ, suc, ◌+◌, ◌-◌, ◌<◌, ◌≤◌, Bool, true, false, cond, eqb, List, [], ◌∷◌, ◌++◌, length, get_or, take, drop, refl, sym, ap, ◌∙◌, add-one, arith, drop_of_length-le, drop-cons, eq-eqb, ne_eqb}
-use Rattle.definitions.specs.Lists.{up_to, after}
-use Rattle.definitions.proofs.Lists.{one-le}
+use Rattle.definitions.specs.Lists.{number_of_bool, up_to, after}
+use Rattle.definitions.proofs.Lists.{count-cons as one_more}
 use Rattle.lines.proofs.Trims.{part-all}
 use native.Mathlib.Nat.{sub-zero}
 use lib.ListN.{length-take}
 use Rattle.std.proofs.lemmas.Iterator.Adapters.{position_from-zero}
 use Rattle.std.specs.Prelude.{Option, Some, None, position, ◌==◌}
 use Rattle.std.specs.List.{position_from}
+use Rattle.std.proofs.lemmas.List.Sums.{sum_by-append, count_by-le-length}
 use Rattle.lines.specs.Search.{count_of}
 
 -- where b stands first in a list whose first element has the place k
@@ -35,14 +36,17 @@ find-miss b s i h e = rw (add-one, drop-cons s i 0) (simp (ne_eqb _ _ e))
 pub find-end : (b : ℕ) (s : List ℕ) (i : ℕ) → length s ≤ i → find_from b i (drop i s) ≡ None
 find-end b s i h = rw (drop_of_length-le s h)
 
+-- one byte more that may be b
+pub count-cons : (b x : ℕ) (s : List ℕ) → count_of b (x ∷ s) ≡ number_of_bool (eqb x b) + count_of b s
+unfolding count_of
+count-cons b x s = one_more (λ y. eqb y b) x s
+
 -- the same of the count
 pub count-hit : (b : ℕ) (s : List ℕ) (i : ℕ) → i < length s → get_or s i 0 ≡ b → count_of b (drop i s) ≡ 1 + count_of b (drop (i + 1) s)
-unfolding count_of
-count-hit b s i h e = rw (add-one, drop-cons s i 0) (simp (eq-eqb _ _ e))
+count-hit b s i h e = rw (add-one, drop-cons s i 0 h, count-cons, eq-eqb _ _ e)
 
 pub count-miss : (b : ℕ) (s : List ℕ) (i : ℕ) → i < length s → (get_or s i 0 ≡ b → ⊥) → count_of b (drop i s) ≡ count_of b (drop (i + 1) s)
-unfolding count_of
-count-miss b s i h e = rw (add-one, drop-cons s i 0) (simp (ne_eqb _ _ e) (omega arith))
+count-miss b s i h e = rw (add-one, drop-cons s i 0 h, count-cons, ne_eqb _ _ e) (omega arith)
 
 pub count-end : (b : ℕ) (s : List ℕ) (i : ℕ) → length s ≤ i → count_of b (drop i s) ≡ 0
 unfolding count_of
@@ -50,14 +54,12 @@ count-end b s i h = rw (drop_of_length-le s h)
 
 pub count-append : (b : ℕ) (s t : List ℕ) → count_of b (s ++ t) ≡ count_of b s + count_of b t
 unfolding count_of
-count-append b [] t = omega arith
-count-append b (x ∷ s) t = let ih = count-append b s t in rw ih (omega arith)
+count-append b s t = sum_by-append (λ x. cond (eqb x b) 1 0) s t
 
 -- a byte stands in a list no more often than the list is long
 pub count-le : (b : ℕ) (s : List ℕ) → count_of b s ≤ length s
 unfolding count_of
-count-le b [] = omega arith
-count-le b (x ∷ s) = let ih = count-le b s in omega (arith, one-le (eqb x b))
+count-le b s = count_by-le-length (λ x. eqb x b) s
 
 -- What the search's answer shows of the list before the byte: `Some r` is its length, counted from k.
 abbrev pub FrontFound : ℕ → ℕ → List ℕ → List ℕ → Type 0

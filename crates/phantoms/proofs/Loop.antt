@@ -2,7 +2,7 @@
 use mathlib.Core.Path.{◌≡◌, refl, ap, sym, ◌∙◌}
 use mathlib.Core.Bool.{Bool, false, ◌||◌, or_assoc, or-false}
 use mathlib.Core.List.{List, [], ◌∷◌, ◌++◌}
-use Prim.Native.Nat.{ℕ, ◌+◌, ◌*◌, ◌-◌, ◌<◌, ◌≤◌}
+use Prim.Native.Nat.{ℕ, suc, ◌+◌, ◌*◌, ◌-◌, ◌<◌, ◌≤◌}
 use native.Mathlib.Decide.{dec_lt, ℕ_discrete}
 use native.Mathlib.Numerals.{add-one}
 use native.Mathlib.Nat.{add-zero, not-suc-le-zero}
@@ -10,8 +10,9 @@ use native.Mathlib.Omega.{arith}
 use lib.ListN.{length, get_or, set, drop, length-set, length-append, drop_of_length-le}
 use lib.Seq.{drop-cons, set-get_or, get_or-set_same, get_or-set_other}
 use Rattle.definitions.proofs.Columns.{past_end, step-most}
-use Rattle.definitions.proofs.Lists.{any-default, one-le}
-use Rattle.definitions.specs.Lists.{number_of_bool, count, some_column}
+use Rattle.definitions.proofs.Lists.{any-default, one-le, count-cons}
+use Rattle.std.specs.List.{count_by}
+use Rattle.definitions.specs.Lists.{number_of_bool, some_column}
 use Rattle.definitions.specs.Lines.{Row}
 use Rattle.definitions.specs.Cells.{byte_at, cell_of, hold_effect}
 use Rattle.definitions.specs.declared.Cell.TheVariants.{Empty}
@@ -51,8 +52,8 @@ pub record Passed (row : Row) (p r : Phantoms) (i : ℕ) : Type 0 where
   pub size : length r.depths ≡ 10
   pub done : (c : ℕ) → c < i → phantom_at r c ≡ after row p c
   pub left : (c : ℕ) → i ≤ c → phantom_at r c ≡ phantom_at p c
-  pub heads : r.heads + count is_head (drop i row) ≡ p.heads + count is_head row
-  pub tails : r.tails + count is_tail (drop i row) ≡ p.tails + count is_tail row
+  pub heads : r.heads + count_by is_head (drop i row) ≡ p.heads + count_by is_head row
+  pub tails : r.tails + count_by is_tail (drop i row) ≡ p.tails + count_by is_tail row
   pub met : r.met ≡ (p.met || some_column i (meets row p))
   pub low : (k : ℕ) → Low k p → Low (k + i) r
 
@@ -78,15 +79,15 @@ module _ (b d : ℕ) (q : PhantomCell) (cell : CellCounted b d q) where
   one-tail = omega (arith, cell.tails, one-le (is_tail b))
 
 -- one cell more of a count
-count_next : (p : ℕ → Bool) (row : Row) (i n m k : ℕ) → i < length row → m ≡ number_of_bool (p (get_or row i 0)) → n + count p (drop i row) ≡ k
-    → (n + m) + count p (drop (i + 1) row) ≡ k
+count_next : (p : ℕ → Bool) (row : Row) (i n m k : ℕ) → i < length row → m ≡ number_of_bool (p (get_or row i 0)) → n + count_by p (drop i row) ≡ k
+    → (n + m) + count_by p (drop (i + 1) row) ≡ k
 count_next p row i n m k h e f =
-    let d : count p (drop i row) ≡ number_of_bool (p (get_or row i 0)) + count p (drop (i + 1) row) = rw (add-one, drop-cons row i 0) in
+    let d : count_by p (drop i row) ≡ number_of_bool (p (get_or row i 0)) + count_by p (drop (i + 1) row) = rw (add-one, drop-cons row i 0 h) (count-cons p (get_or row i 0) (drop (suc i) row)) in
     omega arith
 
 -- no cell is left to count
-count-end : (p : ℕ → Bool) (row : Row) (i n k : ℕ) → length row ≤ i → n + count p (drop i row) ≡ k → n ≡ k
-count-end p row i n k h f = let d : count p (drop i row) ≡ 0 = rw (drop_of_length-le row h) in omega arith
+count-end : (p : ℕ → Bool) (row : Row) (i n k : ℕ) → length row ≤ i → n + count_by p (drop i row) ≡ k → n ≡ k
+count-end p row i n k h f = let d : count_by p (drop i row) ≡ 0 = rw (drop_of_length-le row h) in omega arith
 
 -- after a cell in column i
 abbrev next : Phantoms → ℕ → PhantomCell → Phantoms

@@ -4,7 +4,9 @@ use mathlib.Core.Bool.{Bool, ◌||◌, or_assoc, or-false}
 use mathlib.Core.List.{List, [], ◌∷◌, ◌++◌, append-nil}
 use Prim.Native.Nat.{ℕ, ◌+◌}
 use native.Mathlib.Nat.{zero-add, add_assoc}
-use Rattle.definitions.specs.Lists.{number_of_bool, count, joined}
+use Rattle.std.specs.List.{count_by}
+use Rattle.definitions.proofs.Lists.{count-append}
+use Rattle.definitions.specs.Lists.{joined}
 use Rattle.definitions.specs.Lines.{Row}
 use Rattle.definitions.specs.Cells.{byte_at}
 use Rattle.definitions.specs.Tracker.{hold_at}
@@ -22,17 +24,13 @@ met-snoc c d (q ∷ rows) r =
     rw or_assoc (ap (λ t. meets_phantom (hold_at (byte_at c q)) d || t) (met-snoc c (phantom_step (hold_at (byte_at c q)) d) rows r))
 
 module _ (p : ℕ → Bool) where
-  count-append : (s t : Row) → count p (s ++ t) ≡ count p s + count p t
-  count-append [] t = sym (zero-add (count p t))
-  count-append (b ∷ s) t = rw (count-append s t) (sym (add_assoc (number_of_bool (p b)) (count p s) (count p t)))
-
-  pub count-snoc : (rows : List Row) (r : Row) → count p (joined (rows ++ (r ∷ []))) ≡ count p (joined rows) + count p r
-  count-snoc [] r = rw (append-nil r) (sym (zero-add (count p r)))
+  pub count-snoc : (rows : List Row) (r : Row) → count_by p (joined (rows ++ (r ∷ []))) ≡ count_by p (joined rows) + count_by p r
+  count-snoc [] r = rw (append-nil r) (sym (zero-add (count_by p r)))
   count-snoc (q ∷ rows) r =
-      rw (count-append q (joined (rows ++ (r ∷ []))), count-append q (joined rows), count-snoc rows r, add_assoc)
+      rw (count-append p q (joined (rows ++ (r ∷ []))), count-append p q (joined rows), count-snoc rows r, add_assoc)
 
-pub heads-snoc : (rows : List Row) (r : Row) → head_count (rows ++ (r ∷ [])) ≡ head_count rows + count (λ b. is_opening (hold_at b)) r
+pub heads-snoc : (rows : List Row) (r : Row) → head_count (rows ++ (r ∷ [])) ≡ head_count rows + count_by (λ b. is_opening (hold_at b)) r
 heads-snoc rows r = count-snoc (λ b. is_opening (hold_at b)) rows r
 
-pub tails-snoc : (rows : List Row) (r : Row) → tail_count (rows ++ (r ∷ [])) ≡ tail_count rows + count (λ b. is_closing (hold_at b)) r
+pub tails-snoc : (rows : List Row) (r : Row) → tail_count (rows ++ (r ∷ [])) ≡ tail_count rows + count_by (λ b. is_closing (hold_at b)) r
 tails-snoc rows r = count-snoc (λ b. is_closing (hold_at b)) rows r

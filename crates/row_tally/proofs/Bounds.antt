@@ -6,7 +6,8 @@ use native.Mathlib.Omega.{arith}
 use lib.Dec.{eqb, leb}
 use lib.ListN.{length}
 use Rattle.definitions.proofs.Lists.{one-le}
-use Rattle.definitions.specs.Lists.{number_of_bool, count}
+use Rattle.std.proofs.lemmas.List.Sums.{count_by-le-length}
+use Rattle.definitions.specs.Lists.{number_of_bool}
 use Rattle.definitions.specs.Lines.{Row}
 use Rattle.definitions.specs.Cells.{cell_of}
 use Rattle.definitions.specs.Tally.{CountKind, counted_as, place, row_sum, row_sum_by, empty_stats, tally_with_row}
@@ -66,10 +67,6 @@ under-by arrow r =
     rw (← sum-start arrow r)
     (under_more (0 + length r) (length r) _ (omega arith) (under-from arrow 0 empty_sum 0 r (omega arith)))
 
-count-le : (p : ℕ → Bool) (r : Row) → count p r ≤ length r
-count-le p [] = omega arith
-count-le p (b ∷ r) = omega (arith, one-le (p b), count-le p r)
-
 -- the counts of a row of at most n cells
 pub under-row : (n : ℕ) (r : Row) → length r ≤ n → Under n (row_sum r)
 unfolding row_sum
@@ -78,7 +75,7 @@ under-row n r h = under_more (length r) n _ h (under-by _ r)
 pub under-judged : (n : ℕ) (judged : Bool) (r : Row) → length r ≤ n → Under n (judged_sum judged r)
 unfolding judged_sum
 under-judged n true r h = under_more (length r) n _ h (under-by is_judged_arrow r)
-under-judged n false r h = omega (arith, count-le (λ b. is_unjudged_fake (cell_of b)) r)
+under-judged n false r h = omega (arith, count_by-le-length (λ b. is_unjudged_fake (cell_of b)) r)
 
 module _ (k n : ℕ) (t : ArrowStats) (s : RowSum) (b : Below k t) (u : Under n s) (pos : 1 ≤ n) where
   -- a row adds at most n to each count of a tally

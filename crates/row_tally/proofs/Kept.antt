@@ -8,7 +8,9 @@ use native.Mathlib.Omega.{arith}
 use lib.Dec.{eqb}
 use lib.ListN.{length, get_or, drop}
 use lib.Seq.{drop-cons}
-use Rattle.definitions.specs.Lists.{number_of_bool, count}
+use Rattle.std.specs.List.{count_by}
+use Rattle.definitions.specs.Lists.{number_of_bool}
+use Rattle.definitions.proofs.Lists.{count-cons}
 use Rattle.definitions.specs.Lines.{Row}
 use Rattle.definitions.specs.Cells.{cell_of, byte_at}
 use Rattle.definitions.specs.Tracker.{Pair, is_head_of, hold_at}
@@ -82,9 +84,17 @@ fake-cell LowerLift = refl
 fake-cell LowerFake = refl
 
 fake-from : (c : ℕ) (r : Row)
-    → count (λ b. is_unjudged_fake (cell_of b)) r ≡ count_from (λ c x. is_judged_arrow x) c r + counted mine r + counted fake r
+    → count_by (λ b. is_unjudged_fake (cell_of b)) r ≡ count_from (λ c x. is_judged_arrow x) c r + counted mine r + counted fake r
 fake-from c [] = refl
-fake-from c (b ∷ r) = omega (arith, fake-cell (cell_of b), fake-from (suc c) r)
+fake-from c (b ∷ r) =
+    omega (
+      arith,
+      count-cons (λ x. is_unjudged_fake (cell_of x)) b r,
+      count-cons (λ x. eqb (place (counted_as (cell_of x))) 4) b r,
+      count-cons (λ x. eqb (place (counted_as (cell_of x))) 6) b r,
+      fake-cell (cell_of b),
+      fake-from (suc c) r,
+    )
 
 pub unjudged : (r : Row) → sum_of_fakes (sum_fakes (row_sum_by is_judged_arrow r)) ≡ judged_sum false r
 unfolding row_sum_by judged_sum

@@ -5,9 +5,11 @@ use mathlib.Core.List.{[], ◌∷◌}
 use Prim.Native.Nat.{ℕ, suc, ◌+◌}
 use native.Mathlib.Nat.{zero-add, add-zero, add_assoc}
 use lib.Dec.{eqb}
+use Rattle.definitions.specs.Lists.{number_of_bool}
+use Rattle.definitions.proofs.Lists.{count-cons}
 use Rattle.definitions.specs.Lines.{Row}
 use Rattle.definitions.specs.Cells.{cell_of}
-use Rattle.definitions.specs.Tally.{count_from, counted, direction, row_sum_by}
+use Rattle.definitions.specs.Tally.{CountKind, counted_as, place, count_from, counted, direction, row_sum_by}
 use Rattle.definitions.specs.Tally.{hold, roll, tail, mine, lift, fake}
 use Rattle.definitions.specs.declared.Cell.{Cell}
 use Rattle.definitions.specs.declared.Cell.TheVariants.{Empty}
@@ -39,10 +41,15 @@ pub sum-end : (arrow : Cell → Bool) (s : RowSum) (c : ℕ) → sum_from arrow 
 unfolding sum_from
 sum-end arrow s c = simp add-zero
 
+counted-cons : (k : CountKind) (b : ℕ) (r : Row) → counted k (b ∷ r) ≡ number_of_bool (eqb (place (counted_as (cell_of b))) (place k)) + counted k r
+counted-cons k b r = count-cons (λ x. eqb (place (counted_as (cell_of x))) (place k)) b r
+
 pub sum-next : (arrow : Cell → Bool) (s : RowSum) (c b : ℕ) (r : Row)
     → sum_from arrow s c (b ∷ r) ≡ sum_from arrow (sum_with_cell s c (cell_of b) (arrow (cell_of b))) (suc c) r
 unfolding sum_from add_arrow add_counted
-sum-next arrow s c b r = simp add_assoc
+sum-next arrow s c b r =
+    rw (counted-cons hold b r, counted-cons roll b r, counted-cons tail b r, counted-cons mine b r, counted-cons lift b r, counted-cons fake b r)
+    (simp add_assoc)
 
 pub no_cell : (s : RowSum) (c : ℕ) → sum_with_cell s c Empty false ≡ s
 unfolding add_arrow add_counted

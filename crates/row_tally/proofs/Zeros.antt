@@ -7,7 +7,8 @@ use native.Mathlib.Nat.{add-zero, zero-add, sub-zero}
 use native.Mathlib.Omega.{arith}
 use borrow.Author.Tests.{eqb-true, le-leb}
 use lib.Dec.{eqb, leb}
-use Rattle.definitions.specs.Lists.{number_of_bool, count}
+use Rattle.std.specs.List.{count_by}
+use Rattle.definitions.specs.Lists.{number_of_bool}
 use Rattle.definitions.specs.Lines.{Row}
 use Rattle.definitions.specs.Cells.{cell_of, is_arrow}
 use Rattle.definitions.specs.Figures.{is_step}
@@ -27,7 +28,7 @@ zero-kept ps i c [] z = refl
 zero-kept ps i c (b ∷ r) z =
     ap₂ (λ (x : ℕ) (xs : Row). x ∷ xs) (rw (eqb-true b 48 (and_left (eqb b 48) (all_zero r) z))) (zero-kept ps i (suc c) r (and_right (eqb b 48) (all_zero r) z))
 
-pub zero-count : (p : ℕ → Bool) → p 48 ≡ false → (r : Row) → all_zero r ≡ true → count p r ≡ 0
+pub zero-count : (p : ℕ → Bool) → p 48 ≡ false → (r : Row) → all_zero r ≡ true → count_by p r ≡ 0
 zero-count p n [] z = refl
 zero-count p n (b ∷ r) z = rw (eqb-true b 48 (and_left (eqb b 48) (all_zero r) z), n, zero-count p n r (and_right (eqb b 48) (all_zero r) z))
 
@@ -46,7 +47,7 @@ module _ (r : Row) (z : all_zero r ≡ true) where
       towards : (d : ℕ) → count_from (λ c x. arrow x && eqb (direction c) d) 0 r ≡ 0
       towards d = zero-from (λ c x. arrow x && eqb (direction c) d) (λ c. ap (λ t. t && eqb (direction c) d) n) 0 r z
 
-      others : (k : ℕ) → eqb 0 k ≡ false → count (λ b. eqb (place (counted_as (cell_of b))) k) r ≡ 0
+      others : (k : ℕ) → eqb 0 k ≡ false → count_by (λ b. eqb (place (counted_as (cell_of b))) k) r ≡ 0
       others k n = zero-count (λ b. eqb (place (counted_as (cell_of b))) k) n r z
 
 pub zero-adds : (t : ArrowStats) (r : Row) → all_zero r ≡ true → tally_with_row t (row_sum r) ≡ t

@@ -2,19 +2,22 @@
 use mathlib.Core.Path.{◌≡◌, refl, ap, sym, ◌∙◌}
 use mathlib.Core.Bool.{Bool, true, false, ◌&&◌, false≢true}
 use mathlib.Core.List.{List, [], ◌∷◌, map}
-use Prim.Native.Nat.{ℕ, suc, ◌+◌, ◌≤◌}
+use Prim.Native.Nat.{ℕ, suc, ◌+◌}
 use native.Mathlib.Nat.{zero-add}
 use native.Mathlib.Omega.{arith}
 use borrow.Author.Tests.{eqb-true, eq-eqb, ne_eqb}
 use lib.Dec.{eqb}
 use lib.ListN.{length, length-map}
-use Rattle.definitions.specs.Lists.{number_of_bool, count}
+use Rattle.std.specs.List.{count_by}
+use Rattle.definitions.specs.Lists.{number_of_bool}
+use Rattle.std.proofs.lemmas.List.Sums.{count_by-le-length}
 use Rattle.definitions.specs.Lines.{Row}
 use Rattle.definitions.specs.Cells.{cell_of}
 use Rattle.definitions.specs.Measures.{chart}
 use Rattle.definitions.specs.Reduction.{all_zero, reduce, minimised}
 use Rattle.definitions.specs.Figures.{is_step, density, spacing, densities, spacings}
 use Rattle.definitions.specs.Entries.{measure_count}
+use Rattle.definitions.proofs.Lists.{count-cons}
 use Rattle.definitions.proofs.Bools.{and_left, and_right}
 use Rattle.definitions.proofs.Thinned.{Thinned, none, keep, leave, reduce-thin}
 
@@ -25,9 +28,9 @@ zero-step [] z = refl
 zero-step (b ∷ r) z =
     rw (eqb-true b 48 (and_left (eqb b 48) (all_zero r) z), zero-step r (and_right (eqb b 48) (all_zero r) z))
 
-thin-steps : {s t : List Row} → Thinned s t → count is_step s ≡ count is_step t
+thin-steps : {s t : List Row} → Thinned s t → count_by is_step s ≡ count_by is_step t
 thin-steps none = refl
-thin-steps (keep {r = r} p) = ap (λ n. number_of_bool (is_step r) + n) (thin-steps p)
+thin-steps (keep {r = r} {s = s} {t = t} p) = rw (count-cons is_step r s, count-cons is_step r t) (ap (λ n. number_of_bool (is_step r) + n) (thin-steps p))
 thin-steps (leave {r = r} z p) = rw (zero-step r z, zero-add) (thin-steps p)
 
 pub density-raw : (rs : List Row) → density (reduce rs) ≡ density rs
@@ -52,17 +55,9 @@ unfolding spacings
 spacings_count L text = length-map (minimised L text) (λ (m : List Row). number_of_bool (spacing m))
 
 -- Each of some rows is a step where as many are steps as there are rows.
-pub steps-most : (rs : List Row) → count is_step rs ≤ length rs
-steps-most [] = omega arith
-steps-most (r ∷ rs) = go (is_step r) (steps-most rs)
-  where
-    go : (t : Bool) → count is_step rs ≤ length rs → number_of_bool t + count is_step rs ≤ suc (length rs)
-    go true h = omega arith
-    go false h = omega arith
-
 pub spacing-count : (rs : List Row) → spacing rs ≡ eqb (density rs) (length rs)
 spacing-count [] = refl
-spacing-count (r ∷ rs) = go (is_step r) (spacing-count rs)
+spacing-count (r ∷ rs) = rw (count-cons is_step r rs) (go (is_step r) (spacing-count rs))
   where
     same : (a b : ℕ) → eqb (1 + a) (suc b) ≡ eqb a b
     same a b = to (eqb a b) refl
@@ -71,9 +66,9 @@ spacing-count (r ∷ rs) = go (is_step r) (spacing-count rs)
         to true e = eq-eqb (1 + a) (suc b) (omega (arith, eqb-true a b e))
         to false e = ne_eqb (1 + a) (suc b) (λ q. false≢true (sym e ∙ eq-eqb a b (omega arith)))
 
-    go : (t : Bool) → spacing rs ≡ eqb (count is_step rs) (length rs) → (t && spacing rs) ≡ eqb (number_of_bool t + count is_step rs) (suc (length rs))
-    go true h = h ∙ sym (same (count is_step rs) (length rs))
-    go false h = sym (ne_eqb (0 + count is_step rs) (suc (length rs)) (λ q. absurd (omega (arith, steps-most rs))))
+    go : (t : Bool) → spacing rs ≡ eqb (count_by is_step rs) (length rs) → (t && spacing rs) ≡ eqb (number_of_bool t + count_by is_step rs) (suc (length rs))
+    go true h = h ∙ sym (same (count_by is_step rs) (length rs))
+    go false h = sym (ne_eqb (0 + count_by is_step rs) (suc (length rs)) (λ q. absurd (omega (arith, count_by-le-length is_step rs))))
 
 -- The spacing of a measure by its steps and the count of its minimised rows.
 pub spacing-raw : (rs : List Row) → spacing (reduce rs) ≡ eqb (density rs) (length (reduce rs))

@@ -21,7 +21,8 @@ use Rattle.definitions.proofs.Lists.{one-le}
 use Rattle.definitions.proofs.Figures.{density-snoc}
 use Rattle.spacing.specs.declared.MeasureSpacing.{MeasureSpacing}
 use Rattle.spacing.specs.Spaces.{Spaces}
-use Rattle.scans.proofs.Raw.{spacing-raw, steps-most}
+use Rattle.std.proofs.lemmas.List.Sums.{count_by-le-length}
+use Rattle.scans.proofs.Raw.{spacing-raw}
 use Rattle.scans.proofs.Strides.{off-zero-row, off-other-row, stride-shift, reduce-length}
 
 -- the figure of a measure as the scan stores it
@@ -69,7 +70,7 @@ module _ (s : MeasureSpacing) (cur : List Row) (x : Spaces s cur) (row : Row) wh
       few : (s.steps < s.rows + 1) × (density cur < s.rows)
       few =
           ⊎_elim
-          (λ e. (omega (arith, e, x.rows, steps-most cur), omega (arith, e, x.rows, steps-most cur, ne)))
+          (λ e. (omega (arith, e, x.rows, count_by-le-length is_step cur), omega (arith, e, x.rows, count_by-le-length is_step cur, ne)))
           (λ y. (omega (arith, y.1, x.rows), omega (arith, y.2, x.rows)))
           x.steps
 
@@ -103,7 +104,7 @@ module _ (s : MeasureSpacing) (cur : List Row) (x : Spaces s cur) (hope : (s.shi
 -- its counts are at most that of its rows
 pub spaces-few : (s : MeasureSpacing) (cur : List Row) → Spaces s cur → (b : ℕ) → 5 * length cur ≤ b → (5 * s.rows ≤ b) × (5 * s.steps ≤ b)
 spaces-few s cur x b h =
-    (omega (arith, x.rows), ⊎_elim (λ e. omega (arith, e, steps-most cur)) (λ y. omega (arith, y.1)) x.steps)
+    (omega (arith, x.rows), ⊎_elim (λ e. omega (arith, e, count_by-le-length is_step cur)) (λ y. omega (arith, y.1)) x.steps)
 
 -- without rows it is spaced
 pub spaced-none : (s : MeasureSpacing) (cur : List Row) → Spaces s cur → s.rows ≡ 0 → true ≡ spacing (reduce cur)

@@ -12,7 +12,7 @@ use borrow.Author.Tests.{eqb-true, ltb-true, lt-ltb}
 use lib.Pow.{shr-shr}
 use Rattle.definitions.proofs.Bools.{and_left, and_right}
 use Rattle.definitions.proofs.Lists.{any-default}
-use Rattle.definitions.specs.Lists.{count}
+use Rattle.std.specs.List.{count_by}
 use Rattle.definitions.specs.Lines.{Row}
 use Rattle.definitions.specs.Cells.{byte_at}
 use Rattle.taps.specs.Taps.{Tells, tap_mask, mask_of_line, bit, FreeTaps, free_of, taps_if_free}
@@ -103,7 +103,7 @@ tap-cell (b ∷ r) m (suc c) e =
     tap-cell r s.rest c s.after ∙ ap (λ n. 48 + n) (sym (ap (bit (suc c)) s.whole ∙ bit-next s.first s.rest c s.small))
 
 -- cells of which neither a `0` nor a `1` is one
-pub taps-count : (f : ℕ → Bool) → f 48 ≡ false → f 49 ≡ false → (r : Row) (m : ℕ) → tap_mask r ≡ Mask m → count f r ≡ 0
+pub taps-count : (f : ℕ → Bool) → f 48 ≡ false → f 49 ≡ false → (r : Row) (m : ℕ) → tap_mask r ≡ Mask m → count_by f r ≡ 0
 unfolding tap_mask
 taps-count f x y [] m e = refl
 taps-count f x y (b ∷ r) m e =

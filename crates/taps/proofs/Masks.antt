@@ -13,12 +13,14 @@ use lib.Pow.{pow-lt}
 use borrow.Author.Tests.{eqb-true}
 use Rattle.definitions.specs.Lines.{Row}
 use Rattle.definitions.specs.Cells.{cell_of, is_arrow}
-use Rattle.definitions.specs.Lists.{number_of_bool, count, sum_columns}
+use Rattle.std.specs.List.{count_by}
+use Rattle.definitions.specs.Lists.{number_of_bool, sum_columns}
+use Rattle.definitions.proofs.Lists.{count-cons}
 use Rattle.definitions.specs.declared.Cell.{Cell}
 use Rattle.definitions.specs.declared.Cell.TheVariants.{Empty, Tap}
 use Rattle.definitions.specs.Tally.{row_sum, row_sum_by, count_from, direction}
 use Rattle.definitions.specs.declared.RowSum.{RowSum}
-use Rattle.taps.specs.Taps.{Small, with_bit, tap_mask, has_mask, mask_of_line, wide_row, bit, towards, masks, mask_counts, unpack}
+use Rattle.taps.specs.Taps.{Small, with_bit, tap_mask, has_mask, mask_of_line, bit, towards, masks, mask_counts, unpack}
 use Rattle.taps.specs.declared.table.TapTable.{TapTable}
 use Rattle.taps.specs.declared.Taps.{Taps}
 use Rattle.taps.specs.declared.Taps.TheVariants.{Mask, Other}
@@ -110,9 +112,9 @@ module _ (p : ℕ → Cell → Bool) (q : ℕ → Bool) (zeros : (c : ℕ) → p
       (ap (λ n. count_from p (suc c) (row_of w n)) (halved m c) ∙ counts-from (suc c) w)
 
 -- a test that fails on `0` and `1` counts nothing
-counts-none : (p : ℕ → Bool) → p 48 ≡ false → p 49 ≡ false → (w m : ℕ) → count p (row_of w m) ≡ 0
+counts-none : (p : ℕ → Bool) → p 48 ≡ false → p 49 ≡ false → (w m : ℕ) → count_by p (row_of w m) ≡ 0
 counts-none p e k zero m = refl
-counts-none p e k (suc w) m = ap₂ ◌+◌ (go (m % 2) (omega arith)) (counts-none p e k w (m / 2))
+counts-none p e k (suc w) m = count-cons p (48 + m % 2) (row_of w (m / 2)) ∙ ap₂ ◌+◌ (go (m % 2) (omega arith)) (counts-none p e k w (m / 2))
   where
     go : (b : ℕ) → b ≤ 1 → number_of_bool (p (48 + b)) ≡ 0
     go zero h = ap number_of_bool e

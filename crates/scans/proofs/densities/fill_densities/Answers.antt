@@ -1,6 +1,6 @@
 -- `scans::fill_densities` meets its contract: each line that has come takes what is held on as `Filling` says, and at the end one measure is still
 -- open, with `steps`.
-use Prim.Native.Nat.{◌<◌, ◌+◌}
+use Prim.Native.Nat.{◌<◌}
 use mathlib.Core.Path.{sym, ap, ◌∙◌}
 use native.Mathlib.Omega.{arith}
 use lib.ListN.{length}
@@ -20,7 +20,7 @@ loop-line-init c = holds-start (c.into_iter-line-iterator.ensures.into_iter_give
 pub overflow_add-steps : goal.overflow_add-steps
 overflow_add-steps c =
     let x = c.loop-line.invariant in
-    omega (arith, c.from-steps.ensures, one-le c.row_has_note.result, steps-few _ (length c.args.«data».now + 1) _ x.held.state (omega (arith, x.few.fifth)))
+    omega (arith, c.from-steps.ensures, one-le c.row_has_note.result, steps-few _ _ _ _ _ x.few x.held.state)
 
 pub loop-line-preserved-in-Row : goal.loop-line-preserved-in-Row
 loop-line-preserved-in-Row c =
