@@ -5,7 +5,7 @@ ghost use Rattle.std.specs.Prelude.{◌≡◌, ◌≤◌, length, take, codes};
 ghost use Rattle.sheet.specs.Card.{card};
 ghost use Rattle.sheet.specs.Card.{sheet as sheet_lines};
 
-use sheet::Page;
+use page::Page;
 use std::io;
 use std::io::{Print, Read};
 

@@ -1,6 +1,6 @@
 -- The room that a sheet is lent is enough for the lines of the card.
 use mathlib.Core.List.{List}
-use mathlib.Core.Path.{◌≡◌, ap, ◌∙◌}
+use mathlib.Core.Path.{◌≡◌}
 use Prim.Native.Nat.{ℕ, ◌+◌, ◌*◌, ◌^◌, ◌<◌, ◌≤◌}
 use native.Mathlib.Omega.{arith}
 use lib.ListN.{length, get_or, length-append}
@@ -69,8 +69,7 @@ note-line n made =
 sheet-parts : (f : ChartFigures) (densities spacings records : List ℕ)
     → length (sheet_of f densities spacings records) ≡ length (lines_of_head f) + (length (lines_of_measures densities spacings f.measures) + length (lines_of_records records f.notes))
 unfolding sheet_of
-sheet-parts f densities spacings records =
-    length-append (lines_of_head f) _ ∙ ap (λ (k : ℕ). length (lines_of_head f) + k) (length-append (lines_of_measures densities spacings f.measures) _)
+sheet-parts f densities spacings records = simp length-append (omega arith)
 
 module _ (lanes : ℕ) (text : List ℕ) (short : length text ≤ most_bytes) where
   record-line : (k : ℕ) → k < length (notes (lanes_of lanes) text) → length (line_of_record (note_of_record (records (notes (lanes_of lanes) text)) k)) ≤ 24

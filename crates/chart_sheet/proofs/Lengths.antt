@@ -4,7 +4,7 @@ use lib.ListN.{length-replicate}
 use Rattle.std.specs.Prelude.{decimal}
 use Rattle.std.proofs.lemmas.Fmt.{length-decimal-le}
 use native.Mathlib.Nat.{mul-suc}
-use Rattle.sheet.specs.Sheet.{number_field, aligned, listed}
+use Rattle.page.specs.Texts.{number_field, aligned, listed}
 
 pub number-digit : (n : ℕ) → n < 10 → length (decimal n) ≤ 1
 number-digit n h = length-decimal-le 1 n (omega arith) (omega arith) (omega arith)

@@ -16,7 +16,8 @@ use Rattle.definitions.specs.declared.Kind.{Kind}
 use Rattle.definitions.specs.declared.Tail.{Tail}
 use Rattle.definitions.specs.declared.Tail.TheVariants.{Without, Row}
 use Rattle.definitions.specs.declared.Note.{Note}
-use Rattle.sheet.specs.Sheet.{aligned, aligned_left, field_count, field_at}
+use Rattle.page.specs.Texts.{aligned, aligned_left}
+use Rattle.sheet.specs.Sheet.{field_count, field_at}
 use Rattle.sheet.proofs.Names.{field-name}
 use Rattle.sheet.specs.declared.SheetFigures.{SheetFigures}
 use Rattle.definitions.specs.declared.ChartFigures.{ChartFigures}

@@ -9,13 +9,14 @@ ghost use Rattle.definitions.specs.Figures.{minimised_text, densities as densiti
 ghost use Rattle.definitions.specs.Beats.{f32, beats as beats_of};
 ghost use Rattle.definitions.specs.Notes.{notes as notes_of};
 ghost use Rattle.definitions.specs.Records.{records as records_of};
-ghost use Rattle.sheet.specs.Page.{Prints};
+ghost use Rattle.page.specs.Prints.{Prints};
 ghost use Rattle.chart_sheet.specs.Forms.{form_of, sheet_in_form};
 ghost use Rattle.chart_sheet.specs.Entry.{short_sheet, other_form, places_of_sheet, sheet_answer, sheet_text, sheet_densities, sheet_spacings, sheet_beats, sheet_work, sheet_notes, sheet_left};
 
 use definitions::{Lanes, Refusal};
 use figures::chart_places;
-use sheet::{Full, Page, SheetFigures, print_card};
+use page::{Full, Page};
+use sheet::{SheetFigures, print_card};
 use sheet_answers::sheet_answers;
 use sheet_json::print_json;
 use sheet_print::print_columns;

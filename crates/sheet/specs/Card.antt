@@ -18,7 +18,8 @@ use Rattle.definitions.specs.ReadBack.{rows_read_back, main_tally}
 use Rattle.definitions.specs.Entries.{measure_count, figures_of_chart}
 use Rattle.definitions.specs.Examples.{bytes}
 use Rattle.definitions.specs.declared.Note.{Note}
-use Rattle.sheet.specs.Sheet.{number_field, line_of_figure, lines_of_head, line_of_measure, lines_of_measures, line_of_note}
+use Rattle.page.specs.Texts.{number_field}
+use Rattle.sheet.specs.Sheet.{line_of_figure, lines_of_head, line_of_measure, lines_of_measures, line_of_note}
 
 -- a line for each note
 unfoldable pub note_lines : List Note → List ℕ
@@ -29,7 +30,7 @@ note_lines ns = joined (map line_of_note ns)
 unfoldable pub sheet : ℕ → List ℕ → List ℕ
 sheet L text =
     lines_of_head (figures_of_chart L text)
-    ++ (lines_of_measures (densities L text) (spacings L text) (measure_count L text) ++ note_lines (notes L text))
+    ++ lines_of_measures (densities L text) (spacings L text) (measure_count L text) ++ note_lines (notes L text)
 
 -- "The program card reads standard input, 4 lanes, at most 4,095 bytes; for more it prints `refused 1`."
 unfoldable pub card : List ℕ → List ℕ

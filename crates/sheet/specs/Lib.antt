@@ -1,4 +1,3 @@
 -- The card's lines, and what the contracts of this crate cite.
 pub mod Sheet
-pub mod Page
 pub mod Card

@@ -1,5 +1,5 @@
 -- Document 01, "The program card": the lines it prints.
-use Rattle.std.specs.Prelude.{List, [], ◌∷◌, ◌++◌, ℕ, zero, suc, ◌-◌, length, get_or, slice_index, replicate, codes, decimal, Result, Ok, Err}
+use Rattle.std.specs.Prelude.{List, [], ◌∷◌, ◌++◌, ℕ, get_or, slice_index, codes, Result, Ok, Err}
 use Rattle.definitions.specs.Records.{number_of_kind, note_of_record}
 use Rattle.definitions.specs.declared.Tail.{Tail}
 use Rattle.definitions.specs.declared.Tail.TheVariants.{Without, Row}
@@ -7,23 +7,7 @@ use Rattle.definitions.specs.declared.Note.{Note}
 use Rattle.definitions.specs.declared.Refusal.{Refusal}
 use Rattle.definitions.specs.declared.ArrowStats.{ArrowStats}
 use Rattle.definitions.specs.declared.ChartFigures.{ChartFigures}
-
--- "All numbers are decimal": a number with a byte after it, 32 within a line, 10 at its end
-unfoldable pub number_field : ℕ → ℕ → List ℕ
-number_field n after = decimal n ++ (after ∷ [])
-
--- a number right-aligned in so many columns; one that has more digits is written whole
-unfoldable pub aligned : ℕ → ℕ → List ℕ
-aligned width n = replicate (width - length (decimal n)) 32 ++ decimal n
-
--- a text with as many blanks after it as its columns have left
-unfoldable pub aligned_left : ℕ → List ℕ → List ℕ
-aligned_left width text = text ++ replicate (width - length text) 32
-
--- what f gives for 0 to n - 1, one after the other
-abbrev pub listed : (ℕ → List ℕ) → ℕ → List ℕ
-listed f zero = []
-listed f (suc k) = listed f k ++ f k
+use Rattle.page.specs.Texts.{number_field, listed}
 
 -- a tally's fields in their order, each with its name
 unfoldable pub named_fields : ArrowStats → List (List ℕ × ℕ)
@@ -58,7 +42,7 @@ line_of_figure name n = name ++ number_field n 10
 
 -- "`m`: measure, density, spacing (1 or 0)."
 unfoldable pub line_of_measure : ℕ → ℕ → ℕ → List ℕ
-line_of_measure m density spaced = codes "m " ++ (number_field m 32 ++ (number_field density 32 ++ number_field spaced 10))
+line_of_measure m density spaced = codes "m " ++ number_field m 32 ++ number_field density 32 ++ number_field spaced 10
 
 -- "tail or `-`"
 abbrev pub field_of_tail : Tail → List ℕ
@@ -67,7 +51,7 @@ field_of_tail (Row j) = number_field j 10
 
 -- "`n`: row, column, kind, tail or `-`."
 unfoldable pub line_of_note : Note → List ℕ
-line_of_note n = codes "n " ++ (number_field n.row 32 ++ (number_field n.column 32 ++ (number_field (number_of_kind n.kind) 32 ++ field_of_tail n.tail)))
+line_of_note n = codes "n " ++ number_field n.row 32 ++ number_field n.column 32 ++ number_field (number_of_kind n.kind) 32 ++ field_of_tail n.tail
 
 -- the line of a record; one that cannot be read has none
 abbrev pub line_of_record : Result Note Refusal → List ℕ
@@ -86,13 +70,13 @@ lines_of_records records n = listed (λ (k : ℕ). line_of_record (note_of_recor
 unfoldable pub lines_of_head : ChartFigures → List ℕ
 lines_of_head f =
     line_of_figure (codes "measures ") f.measures
-    ++ (line_of_figure (codes "rows ") f.rows
-    ++ (line_of_figure (codes "arrows ") f.stats.total_arrows
-    ++ (line_of_figure (codes "steps ") f.stats.total_steps
-    ++ (line_of_figure (codes "notes ") f.notes
-    ++ line_of_figure (codes "last ") f.last_row))))
+    ++ line_of_figure (codes "rows ") f.rows
+    ++ line_of_figure (codes "arrows ") f.stats.total_arrows
+    ++ line_of_figure (codes "steps ") f.stats.total_steps
+    ++ line_of_figure (codes "notes ") f.notes
+    ++ line_of_figure (codes "last ") f.last_row
 
 -- the whole sheet of these figures, with the densities and spacings of as many measures and as many note records
 unfoldable pub sheet_of : ChartFigures → List ℕ → List ℕ → List ℕ → List ℕ
 sheet_of f densities spacings records =
-    lines_of_head f ++ (lines_of_measures densities spacings f.measures ++ lines_of_records records f.notes)
+    lines_of_head f ++ lines_of_measures densities spacings f.measures ++ lines_of_records records f.notes

@@ -1,18 +1,17 @@
-// A page of lent bytes that says when it is full, and the lines that the program card prints on it.
+// The lines that the program card prints on a page, and the figures and fields that every form of a sheet prints.
 #![tactic(auto)]
 
 ghost use Rattle.std.specs.Prelude.{◌≤◌, length};
 ghost use Rattle.definitions.specs.Records.{note_of_record};
 ghost use Rattle.sheet.specs.Sheet.{line_of_figure, line_of_measure, field_of_tail, line_of_note, line_of_record, lines_of_measures, lines_of_records, lines_of_head, sheet_of};
-ghost use Rattle.sheet.specs.Page.{Prints};
+ghost use Rattle.page.specs.Prints.{Prints};
 
 mod fields;
-mod writing;
 
 use definitions::{ArrowStats, ChartFigures, KeptFigures, Note, Tail};
 pub use fields::{FIELD_COUNT, Field, field_at, fields_of};
 use note_records::{kind_number, read_note};
-pub use writing::{Full, Page};
+use page::{Full, Page};
 
 // What the forms of a sheet print of a text: the main call's answer, the kept-row call's, and the judged tally of the minimised text.
 #[derive(Clone, Copy)]
@@ -23,7 +22,7 @@ pub struct SheetFigures {
 }
 
 // A name, with its blank, and a number.
-#[tactic(auto, unfolding(crate::specs::Sheet::line_of_figure))]
+#[tactic(auto, using(page::proofs::Pages::keeps_then), unfolding(crate::specs::Sheet::line_of_figure))]
 fn figure_line(page: &mut Page, name: &str, n: u64) -> Result<(), Full>
     ensures { Prints page.old (line_of_figure name.now n) page.new result }
 {
@@ -33,7 +32,7 @@ fn figure_line(page: &mut Page, name: &str, n: u64) -> Result<(), Full>
 }
 
 // The six figures at the head.
-#[tactic(auto, unfolding(crate::specs::Sheet::lines_of_head))]
+#[tactic(auto, using(page::proofs::Pages::keeps_then), unfolding(crate::specs::Sheet::lines_of_head))]
 fn head_lines(page: &mut Page, figures: &ChartFigures) -> Result<(), Full>
     ensures { Prints page.old (lines_of_head figures.now) page.new result }
 {
@@ -47,7 +46,7 @@ fn head_lines(page: &mut Page, figures: &ChartFigures) -> Result<(), Full>
 }
 
 // A measure: its number, density and spacing.
-#[tactic(auto, unfolding(crate::specs::Sheet::line_of_measure))]
+#[tactic(auto, using(page::proofs::Pages::keeps_then), unfolding(crate::specs::Sheet::line_of_measure))]
 fn measure_line(page: &mut Page, m: u64, density: u64, spaced: u64) -> Result<(), Full>
     ensures { Prints page.old (line_of_measure m density spaced) page.new result }
 {
@@ -69,7 +68,7 @@ fn tail_field(page: &mut Page, tail: Tail) -> Result<(), Full>
 }
 
 // A note: its row, column, kind and tail.
-#[tactic(auto, unfolding(crate::specs::Sheet::line_of_note))]
+#[tactic(auto, using(page::proofs::Pages::keeps_then), unfolding(crate::specs::Sheet::line_of_note))]
 fn note_line(page: &mut Page, note: Note) -> Result<(), Full>
     ensures { Prints page.old (line_of_note note) page.new result }
 {
@@ -91,7 +90,7 @@ fn record_line(page: &mut Page, records: &[u8], index: usize) -> Result<(), Full
     }
 }
 
-#[tactic(auto, using(crate::proofs::Listing::listed_next))]
+#[tactic(auto, using(page::proofs::Listing::in_list))]
 fn measure_lines(
     page: &mut Page,
     densities: &[u32],
@@ -108,7 +107,7 @@ fn measure_lines(
     Ok(())
 }
 
-#[tactic(auto, using(crate::proofs::Listing::listed_next))]
+#[tactic(auto, using(page::proofs::Listing::in_list))]
 fn record_lines(page: &mut Page, records: &[u8], count: usize) -> Result<(), Full>
     ensures { Prints page.old (lines_of_records records.now count) page.new result }
 {
@@ -119,7 +118,7 @@ fn record_lines(page: &mut Page, records: &[u8], count: usize) -> Result<(), Ful
 }
 
 // The whole card.
-#[tactic(auto, unfolding(crate::specs::Sheet::sheet_of))]
+#[tactic(auto, using(page::proofs::Pages::keeps_then), unfolding(crate::specs::Sheet::sheet_of))]
 pub fn print_card(
     page: &mut Page,
     figures: &ChartFigures,

@@ -4,7 +4,8 @@ use mathlib.Core.List.{[], ◌∷◌}
 use Rattle.std.specs.Prelude.{codes}
 use Rattle.definitions.specs.Records.{word, note_of, note_of_record}
 use Rattle.std.specs.Fmt.{digits}
-use Rattle.sheet.specs.Sheet.{field_count, number_field, named_fields}
+use Rattle.page.specs.Texts.{number_field}
+use Rattle.sheet.specs.Sheet.{field_count, named_fields}
 use Rattle.sheet_json.specs.Json.{named, figure, last_beat_of, json_heads, member, members, json_tallies, entry_of_density, entry_of_spacing, value_of_note, entry_of_record, json_lists, json_of}
 use Rattle.sheet.proofs.ExampleFigures.{figures, records}
 

@@ -7,7 +7,8 @@ use Rattle.definitions.specs.declared.Note.{Note}
 use Rattle.definitions.specs.declared.Refusal.{Refusal}
 use Rattle.definitions.specs.declared.ArrowStats.{ArrowStats}
 use Rattle.definitions.specs.declared.ChartFigures.{ChartFigures}
-use Rattle.sheet.specs.Sheet.{number_field, listed, field_count, field_at}
+use Rattle.page.specs.Texts.{number_field, listed}
+use Rattle.sheet.specs.Sheet.{field_count, field_at}
 use Rattle.sheet.specs.declared.SheetFigures.{SheetFigures}
 
 -- between two entries
@@ -16,7 +17,7 @@ separator k = if k == 0 then [] else codes ","
 
 -- a name and a number
 unfoldable pub named : List ℕ → ℕ → List ℕ
-named name n = codes "\"" ++ (name ++ (codes "\":" ++ decimal n))
+named name n = codes "\"" ++ name ++ codes "\":" ++ decimal n
 
 -- after another
 unfoldable pub figure : List ℕ → ℕ → List ℕ
@@ -26,12 +27,12 @@ figure name n = codes "," ++ named name n
 unfoldable pub last_beat_of : ℕ → List ℕ
 last_beat_of last =
     codes ",\"last_beat\":{"
-    ++ (named (codes "beats") (last / 48) ++ (figure (codes "over_48") (last % 48) ++ figure (codes "in_48ths") last))
+    ++ named (codes "beats") (last / 48) ++ figure (codes "over_48") (last % 48) ++ figure (codes "in_48ths") last
 
 -- measures, rows, notes and the last beat
 unfoldable pub json_heads : ChartFigures → List ℕ
 json_heads f =
-    codes "{" ++ (named (codes "measures") f.measures ++ (figure (codes "rows") f.rows ++ (figure (codes "notes") f.notes ++ last_beat_of f.last_row)))
+    codes "{" ++ named (codes "measures") f.measures ++ figure (codes "rows") f.rows ++ figure (codes "notes") f.notes ++ last_beat_of f.last_row
 
 -- field i of a tally
 unfoldable pub member : ℕ → List ℕ → ℕ → List ℕ
@@ -49,11 +50,11 @@ members t = first_members t field_count
 unfoldable pub json_tallies : SheetFigures → List ℕ
 json_tallies f =
     codes "},\"main\":{"
-    ++ (members f.chart.stats
-    ++ (codes "},\"kept\":{"
-    ++ (members f.kept.stats
-    ++ (codes "},\"judged\":{"
-    ++ members f.judged))))
+    ++ members f.chart.stats
+    ++ codes "},\"kept\":{"
+    ++ members f.kept.stats
+    ++ codes "},\"judged\":{"
+    ++ members f.judged
 
 -- the density of measure k
 unfoldable pub entry_of_density : ℕ → ℕ → List ℕ
@@ -80,7 +81,7 @@ value_of_tail (Row j) = decimal j
 
 -- row, column, kind and tail
 unfoldable pub value_of_note : Note → List ℕ
-value_of_note n = codes "[" ++ (number_field n.row 44 ++ (number_field n.column 44 ++ (number_field (number_of_kind n.kind) 44 ++ (value_of_tail n.tail ++ codes "]"))))
+value_of_note n = codes "[" ++ number_field n.row 44 ++ number_field n.column 44 ++ number_field (number_of_kind n.kind) 44 ++ value_of_tail n.tail ++ codes "]"
 
 -- of a record; one that cannot be read is null
 abbrev pub value_of_record : Result Note Refusal → List ℕ
@@ -98,13 +99,13 @@ entries_of_records records n = listed (λ (k : ℕ). entry_of_record k (note_of_
 unfoldable pub json_lists : List ℕ → List ℕ → List ℕ → List ℕ
 json_lists densities spacings records =
     codes "},\"densities\":["
-    ++ (entries_of_densities densities (length densities)
-    ++ (codes "],\"equally_spaced\":["
-    ++ (entries_of_spacings spacings (length spacings)
-    ++ (codes "],\"note_records\":["
-    ++ (entries_of_records records (length records / 10)
-    ++ codes "]}")))))
+    ++ entries_of_densities densities (length densities)
+    ++ codes "],\"equally_spaced\":["
+    ++ entries_of_spacings spacings (length spacings)
+    ++ codes "],\"note_records\":["
+    ++ entries_of_records records (length records / 10)
+    ++ codes "]}"
 
 -- the whole form, from the figures, the densities and spacings of all measures and all note records
 unfoldable pub json_of : SheetFigures → List ℕ → List ℕ → List ℕ → List ℕ
-json_of f densities spacings records = json_heads f.chart ++ (json_tallies f ++ json_lists densities spacings records)
+json_of f densities spacings records = json_heads f.chart ++ json_tallies f ++ json_lists densities spacings records

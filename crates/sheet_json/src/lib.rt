@@ -3,12 +3,13 @@
 
 ghost use Rattle.std.specs.Prelude.{◌≡◌, ◌/◌, length};
 ghost use Rattle.definitions.specs.Records.{note_of_record};
-ghost use Rattle.sheet.specs.Page.{Prints};
+ghost use Rattle.page.specs.Prints.{Prints};
 ghost use Rattle.sheet_json.specs.Json.{separator, named, figure, last_beat_of, json_heads, member, members, json_tallies, entry_of_density, entries_of_densities, truth, entry_of_spacing, entries_of_spacings, value_of_tail, value_of_note, value_of_record, entry_of_record, entries_of_records, json_lists, json_of};
 
 use definitions::{ArrowStats, ChartFigures, Note, Tail};
 use note_records::{kind_number, read_note};
-use sheet::{FIELD_COUNT, Full, Page, SheetFigures, field_at, fields_of};
+use page::{Full, Page};
+use sheet::{FIELD_COUNT, SheetFigures, field_at, fields_of};
 
 // Between two entries.
 fn separator(page: &mut Page, k: usize) -> Result<(), Full>
@@ -21,7 +22,7 @@ fn separator(page: &mut Page, k: usize) -> Result<(), Full>
 }
 
 // A name and a number.
-#[tactic(auto, unfolding(crate::specs::Json::named))]
+#[tactic(auto, using(page::proofs::Pages::keeps_then), unfolding(crate::specs::Json::named))]
 fn named(page: &mut Page, name: &str, n: u64) -> Result<(), Full>
     ensures { Prints page.old (named name.now n) page.new result }
 {
@@ -33,7 +34,7 @@ fn named(page: &mut Page, name: &str, n: u64) -> Result<(), Full>
 }
 
 // After another.
-#[tactic(auto, unfolding(crate::specs::Json::figure))]
+#[tactic(auto, using(page::proofs::Pages::keeps_then), unfolding(crate::specs::Json::figure))]
 fn figure(page: &mut Page, name: &str, n: u64) -> Result<(), Full>
     ensures { Prints page.old (figure name.now n) page.new result }
 {
@@ -43,7 +44,7 @@ fn figure(page: &mut Page, name: &str, n: u64) -> Result<(), Full>
 }
 
 // The last beat in whole beats, what is left in 48ths, and all in 48ths.
-#[tactic(auto, unfolding(crate::specs::Json::last_beat_of))]
+#[tactic(auto, using(page::proofs::Pages::keeps_then), unfolding(crate::specs::Json::last_beat_of))]
 fn last_beat(page: &mut Page, last: u64) -> Result<(), Full>
     ensures { Prints page.old (last_beat_of last) page.new result }
 {
@@ -54,7 +55,7 @@ fn last_beat(page: &mut Page, last: u64) -> Result<(), Full>
     Ok(())
 }
 
-#[tactic(auto, unfolding(crate::specs::Json::json_heads))]
+#[tactic(auto, using(page::proofs::Pages::keeps_then), unfolding(crate::specs::Json::json_heads))]
 fn heads(page: &mut Page, figures: &ChartFigures) -> Result<(), Full>
     ensures { Prints page.old (json_heads figures.now) page.new result }
 {
@@ -67,7 +68,7 @@ fn heads(page: &mut Page, figures: &ChartFigures) -> Result<(), Full>
 }
 
 // Field i of a tally.
-#[tactic(auto, unfolding(crate::specs::Json::member))]
+#[tactic(auto, using(page::proofs::Pages::keeps_then), unfolding(crate::specs::Json::member))]
 fn member(page: &mut Page, i: usize, name: &str, count: u64) -> Result<(), Full>
     ensures { Prints page.old (member i name.now count) page.new result }
 {
@@ -76,7 +77,7 @@ fn member(page: &mut Page, i: usize, name: &str, count: u64) -> Result<(), Full>
     Ok(())
 }
 
-#[tactic(auto, unfolding(crate::specs::Json::members, sheet::specs::Sheet::field_count))]
+#[tactic(auto, using(page::proofs::Listing::in_list), unfolding(crate::specs::Json::members, sheet::specs::Sheet::field_count))]
 fn members(page: &mut Page, stats: &ArrowStats) -> Result<(), Full>
     ensures { Prints page.old (members stats.now) page.new result }
 {
@@ -89,7 +90,7 @@ fn members(page: &mut Page, stats: &ArrowStats) -> Result<(), Full>
 }
 
 // The three tallies.
-#[tactic(auto, unfolding(crate::specs::Json::json_tallies))]
+#[tactic(auto, using(page::proofs::Pages::keeps_then), unfolding(crate::specs::Json::json_tallies))]
 fn tallies(page: &mut Page, figures: &SheetFigures) -> Result<(), Full>
     ensures { Prints page.old (json_tallies figures.now) page.new result }
 {
@@ -102,7 +103,7 @@ fn tallies(page: &mut Page, figures: &SheetFigures) -> Result<(), Full>
     Ok(())
 }
 
-#[tactic(auto, unfolding(crate::specs::Json::entry_of_density))]
+#[tactic(auto, using(page::proofs::Pages::keeps_then), unfolding(crate::specs::Json::entry_of_density))]
 fn density_entry(page: &mut Page, k: usize, density: u64) -> Result<(), Full>
     ensures { Prints page.old (entry_of_density k density) page.new result }
 {
@@ -111,6 +112,7 @@ fn density_entry(page: &mut Page, k: usize, density: u64) -> Result<(), Full>
     Ok(())
 }
 
+#[tactic(auto, using(page::proofs::Listing::in_list))]
 fn density_entries(page: &mut Page, densities: &[u32]) -> Result<(), Full>
     ensures { Prints page.old (entries_of_densities densities.now (length densities.now)) page.new result }
 {
@@ -130,7 +132,7 @@ fn truth(page: &mut Page, spaced: u64) -> Result<(), Full>
     }
 }
 
-#[tactic(auto, unfolding(crate::specs::Json::entry_of_spacing))]
+#[tactic(auto, using(page::proofs::Pages::keeps_then), unfolding(crate::specs::Json::entry_of_spacing))]
 fn spacing_entry(page: &mut Page, k: usize, spaced: u64) -> Result<(), Full>
     ensures { Prints page.old (entry_of_spacing k spaced) page.new result }
 {
@@ -139,6 +141,7 @@ fn spacing_entry(page: &mut Page, k: usize, spaced: u64) -> Result<(), Full>
     Ok(())
 }
 
+#[tactic(auto, using(page::proofs::Listing::in_list))]
 fn spacing_entries(page: &mut Page, spacing: &[u8]) -> Result<(), Full>
     ensures { Prints page.old (entries_of_spacings spacing.now (length spacing.now)) page.new result }
 {
@@ -159,7 +162,7 @@ fn tail_value(page: &mut Page, tail: Tail) -> Result<(), Full>
 }
 
 // Row, column, kind and tail.
-#[tactic(auto, unfolding(crate::specs::Json::value_of_note))]
+#[tactic(auto, using(page::proofs::Pages::keeps_then), unfolding(crate::specs::Json::value_of_note))]
 fn note_value(page: &mut Page, note: Note) -> Result<(), Full>
     ensures { Prints page.old (value_of_note note) page.new result }
 {
@@ -182,7 +185,7 @@ fn record_value(page: &mut Page, records: &[u8], index: usize) -> Result<(), Ful
     }
 }
 
-#[tactic(auto, unfolding(crate::specs::Json::entry_of_record))]
+#[tactic(auto, using(page::proofs::Pages::keeps_then), unfolding(crate::specs::Json::entry_of_record))]
 fn record_entry(page: &mut Page, records: &[u8], index: usize) -> Result<(), Full>
     ensures { Prints page.old (entry_of_record index (note_of_record records.now index)) page.new result }
 {
@@ -191,6 +194,7 @@ fn record_entry(page: &mut Page, records: &[u8], index: usize) -> Result<(), Ful
     Ok(())
 }
 
+#[tactic(auto, using(page::proofs::Listing::in_list))]
 fn record_entries(page: &mut Page, records: &[u8], count: usize) -> Result<(), Full>
     ensures { Prints page.old (entries_of_records records.now count) page.new result }
 {
@@ -201,7 +205,7 @@ fn record_entries(page: &mut Page, records: &[u8], count: usize) -> Result<(), F
 }
 
 // The three lists, and the end of the object.
-#[tactic(auto, unfolding(crate::specs::Json::json_lists))]
+#[tactic(auto, using(page::proofs::Pages::keeps_then), unfolding(crate::specs::Json::json_lists))]
 fn lists(page: &mut Page, densities: &[u32], spacing: &[u8], records: &[u8]) -> Result<(), Full>
     ensures { Prints page.old (json_lists densities.now spacing.now records.now) page.new result }
 {
@@ -216,7 +220,7 @@ fn lists(page: &mut Page, densities: &[u32], spacing: &[u8], records: &[u8]) -> 
 }
 
 // The whole form.
-#[tactic(auto, unfolding(crate::specs::Json::json_of))]
+#[tactic(auto, using(page::proofs::Pages::keeps_then), unfolding(crate::specs::Json::json_of))]
 pub fn print_json(
     page: &mut Page,
     figures: &SheetFigures,

@@ -4,7 +4,8 @@ use mathlib.Core.List.{[], ◌∷◌}
 use Rattle.definitions.specs.Records.{word, note_of, note_of_record}
 use Rattle.definitions.specs.Examples.{bytes}
 use Rattle.std.specs.Fmt.{digits}
-use Rattle.sheet.specs.Sheet.{field_count, aligned, aligned_left, named_fields}
+use Rattle.page.specs.Texts.{aligned, aligned_left}
+use Rattle.sheet.specs.Sheet.{field_count, named_fields}
 use Rattle.sheet_print.specs.Print.{line_of_count, three, line_of_last_beat, print_heads, line_of_tally, lines_of_tally, head_of_tally, print_tallies, entry_of_density, head_of_densities, head_of_held, print_of}
 use Rattle.sheet.proofs.ExampleFigures.{figures, records}
 

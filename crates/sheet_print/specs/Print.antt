@@ -7,29 +7,30 @@ use Rattle.definitions.specs.declared.Tail.TheVariants.{Without, Row}
 use Rattle.definitions.specs.declared.Note.{Note}
 use Rattle.definitions.specs.declared.Refusal.{Refusal}
 use Rattle.definitions.specs.declared.ChartFigures.{ChartFigures}
-use Rattle.sheet.specs.Sheet.{aligned, aligned_left, listed, field_count, field_at}
+use Rattle.page.specs.Texts.{aligned, aligned_left, listed}
+use Rattle.sheet.specs.Sheet.{field_count, field_at}
 use Rattle.sheet.specs.declared.SheetFigures.{SheetFigures}
 
 -- a name and a number in nine columns
 unfoldable pub line_of_count : List ℕ → ℕ → List ℕ
-line_of_count name n = name ++ (aligned 9 n ++ codes "\n")
+line_of_count name n = name ++ aligned 9 n ++ codes "\n"
 
 -- three numbers in nine columns each
 unfoldable pub three : ℕ → ℕ → ℕ → List ℕ
-three a b c = aligned 9 a ++ (aligned 9 b ++ (aligned 9 c ++ codes "\n"))
+three a b c = aligned 9 a ++ aligned 9 b ++ aligned 9 c ++ codes "\n"
 
 -- the last beat in whole beats and what is left in 48ths
 unfoldable pub line_of_last_beat : ℕ → List ℕ
-line_of_last_beat last = codes "last beat   " ++ (aligned 9 (last / 48) ++ (codes " + " ++ (decimal (last % 48) ++ codes "/48\n")))
+line_of_last_beat last = codes "last beat   " ++ aligned 9 (last / 48) ++ codes " + " ++ decimal (last % 48) ++ codes "/48\n"
 
 -- measures, rows, notes, and the last beat in beats and in 48ths
 unfoldable pub print_heads : ChartFigures → List ℕ
 print_heads f =
     line_of_count (codes "measures    ") f.measures
-    ++ (line_of_count (codes "rows        ") f.rows
-    ++ (line_of_count (codes "notes       ") f.notes
-    ++ (line_of_last_beat f.last_row
-    ++ line_of_count (codes "in 48ths    ") f.last_row)))
+    ++ line_of_count (codes "rows        ") f.rows
+    ++ line_of_count (codes "notes       ") f.notes
+    ++ line_of_last_beat f.last_row
+    ++ line_of_count (codes "in 48ths    ") f.last_row
 
 -- a field of the three tallies: its name in twelve columns, and its counts
 unfoldable pub line_of_tally : List ℕ → ℕ → ℕ → ℕ → List ℕ
@@ -53,7 +54,7 @@ print_tallies f = head_of_tally ++ lines_of_tally f
 
 -- where measure k begins a line, the end of the line before and its number
 abbrev pub start_of_line : ℕ → List ℕ
-start_of_line k = if k % 16 == 0 then codes "\n" ++ (aligned 7 k ++ codes ":") else []
+start_of_line k = if k % 16 == 0 then codes "\n" ++ aligned 7 k ++ codes ":" else []
 
 -- `=` where a measure is equally spaced, else `-`
 abbrev pub mark : ℕ → ℕ
@@ -61,7 +62,7 @@ mark spaced = if spaced == 0 then 45 else 61
 
 -- measure k: its density in three columns and its spacing
 unfoldable pub entry_of_density : ℕ → ℕ → ℕ → List ℕ
-entry_of_density k density spaced = start_of_line k ++ (aligned 3 density ++ (mark spaced ∷ []))
+entry_of_density k density spaced = start_of_line k ++ aligned 3 density ++ (mark spaced ∷ [])
 
 -- densities, sixteen to a line
 abbrev pub lines_of_densities : List ℕ → List ℕ → ℕ → List ℕ
@@ -95,8 +96,8 @@ head_of_held = codes "\n\nholds and rolls\n          row   column     tail\n"
 unfoldable pub print_of : SheetFigures → List ℕ → List ℕ → List ℕ → List ℕ
 print_of f densities spacings records =
     print_heads f.chart
-    ++ (print_tallies f
-    ++ (head_of_densities
-    ++ (lines_of_densities densities spacings (length densities)
-    ++ (head_of_held
-    ++ lines_of_held records (length records / 10)))))
+    ++ print_tallies f
+    ++ head_of_densities
+    ++ lines_of_densities densities spacings (length densities)
+    ++ head_of_held
+    ++ lines_of_held records (length records / 10)

@@ -3,15 +3,16 @@
 
 ghost use Rattle.std.specs.Prelude.{◌≡◌, ◌/◌, ◌≤◌, length};
 ghost use Rattle.definitions.specs.Records.{note_of_record};
-ghost use Rattle.sheet.specs.Page.{Prints};
+ghost use Rattle.page.specs.Prints.{Prints};
 ghost use Rattle.sheet_print.specs.Print.{line_of_count, three, line_of_last_beat, print_heads, line_of_tally, lines_of_tally, head_of_tally, print_tallies, start_of_line, mark, entry_of_density, lines_of_densities, head_of_densities, word_of_held, line_of_held, held_line_of_record, lines_of_held, head_of_held, print_of};
 
 use definitions::{ChartFigures, Kind, Note, Tail};
 use note_records::{kind_number, read_note};
-use sheet::{FIELD_COUNT, Full, Page, SheetFigures, field_at, fields_of};
+use page::{Full, Page};
+use sheet::{FIELD_COUNT, SheetFigures, field_at, fields_of};
 
 // A name and a number in nine columns.
-#[tactic(auto, unfolding(crate::specs::Print::line_of_count))]
+#[tactic(auto, using(page::proofs::Pages::keeps_then), unfolding(crate::specs::Print::line_of_count))]
 fn count_line(page: &mut Page, name: &str, n: u64) -> Result<(), Full>
     ensures { Prints page.old (line_of_count name.now n) page.new result }
 {
@@ -22,7 +23,7 @@ fn count_line(page: &mut Page, name: &str, n: u64) -> Result<(), Full>
 }
 
 // Three numbers in nine columns each.
-#[tactic(auto, unfolding(crate::specs::Print::three))]
+#[tactic(auto, using(page::proofs::Pages::keeps_then), unfolding(crate::specs::Print::three))]
 fn three_columns(page: &mut Page, a: u64, b: u64, c: u64) -> Result<(), Full>
     ensures { Prints page.old (three a b c) page.new result }
 {
@@ -34,7 +35,7 @@ fn three_columns(page: &mut Page, a: u64, b: u64, c: u64) -> Result<(), Full>
 }
 
 // The last beat in whole beats and what is left in 48ths.
-#[tactic(auto, unfolding(crate::specs::Print::line_of_last_beat))]
+#[tactic(auto, using(page::proofs::Pages::keeps_then), unfolding(crate::specs::Print::line_of_last_beat))]
 fn last_line(page: &mut Page, last: u64) -> Result<(), Full>
     ensures { Prints page.old (line_of_last_beat last) page.new result }
 {
@@ -46,7 +47,7 @@ fn last_line(page: &mut Page, last: u64) -> Result<(), Full>
     Ok(())
 }
 
-#[tactic(auto, unfolding(crate::specs::Print::print_heads))]
+#[tactic(auto, using(page::proofs::Pages::keeps_then), unfolding(crate::specs::Print::print_heads))]
 fn head_lines(page: &mut Page, figures: &ChartFigures) -> Result<(), Full>
     ensures { Prints page.old (print_heads figures.now) page.new result }
 {
@@ -59,7 +60,7 @@ fn head_lines(page: &mut Page, figures: &ChartFigures) -> Result<(), Full>
 }
 
 // A field of the three tallies.
-#[tactic(auto, unfolding(crate::specs::Print::line_of_tally))]
+#[tactic(auto, using(page::proofs::Pages::keeps_then), unfolding(crate::specs::Print::line_of_tally))]
 fn tally_line(page: &mut Page, name: &str, main: u64, kept: u64, judged: u64) -> Result<(), Full>
     ensures { Prints page.old (line_of_tally name.now main kept judged) page.new result }
 {
@@ -68,7 +69,7 @@ fn tally_line(page: &mut Page, name: &str, main: u64, kept: u64, judged: u64) ->
     Ok(())
 }
 
-#[tactic(auto, unfolding(crate::specs::Print::lines_of_tally, sheet::specs::Sheet::field_count))]
+#[tactic(auto, using(page::proofs::Listing::in_list), unfolding(crate::specs::Print::lines_of_tally, sheet::specs::Sheet::field_count))]
 fn tally_lines(page: &mut Page, figures: &SheetFigures) -> Result<(), Full>
     ensures { Prints page.old (lines_of_tally figures.now) page.new result }
 {
@@ -88,14 +89,14 @@ fn tally_lines(page: &mut Page, figures: &SheetFigures) -> Result<(), Full>
     Ok(())
 }
 
-#[tactic(auto, unfolding(crate::specs::Print::head_of_tally))]
+#[tactic(auto, using(page::proofs::Pages::keeps_then), unfolding(crate::specs::Print::head_of_tally))]
 fn tally_head(page: &mut Page) -> Result<(), Full>
     ensures { Prints page.old head_of_tally page.new result }
 {
     page.text("\n                 main     kept   judged\n")
 }
 
-#[tactic(auto, unfolding(crate::specs::Print::print_tallies))]
+#[tactic(auto, using(page::proofs::Pages::keeps_then), unfolding(crate::specs::Print::print_tallies))]
 fn tallies(page: &mut Page, figures: &SheetFigures) -> Result<(), Full>
     ensures { Prints page.old (print_tallies figures.now) page.new result }
 {
@@ -104,7 +105,7 @@ fn tallies(page: &mut Page, figures: &SheetFigures) -> Result<(), Full>
     Ok(())
 }
 
-#[tactic(auto, unfolding(crate::specs::Print::head_of_densities))]
+#[tactic(auto, using(page::proofs::Pages::keeps_then), unfolding(crate::specs::Print::head_of_densities))]
 fn density_head(page: &mut Page) -> Result<(), Full>
     ensures { Prints page.old head_of_densities page.new result }
 {
@@ -130,7 +131,7 @@ fn spacing_mark(spaced: u64) -> u8
 }
 
 // A measure: its density and spacing.
-#[tactic(auto, unfolding(crate::specs::Print::entry_of_density))]
+#[tactic(auto, using(page::proofs::Pages::keeps_then), unfolding(crate::specs::Print::entry_of_density))]
 fn density_entry(page: &mut Page, k: u64, density: u64, spaced: u64) -> Result<(), Full>
     ensures { Prints page.old (entry_of_density k density spaced) page.new result }
 {
@@ -140,6 +141,7 @@ fn density_entry(page: &mut Page, k: u64, density: u64, spaced: u64) -> Result<(
     Ok(())
 }
 
+#[tactic(auto, using(page::proofs::Listing::in_list))]
 fn density_lines(page: &mut Page, densities: &[u32], spacing: &[u8]) -> Result<(), Full>
     requires { length densities.now ≤ length spacing.now }
     ensures { Prints page.old (lines_of_densities densities.now spacing.now (length densities.now)) page.new result }
@@ -150,7 +152,7 @@ fn density_lines(page: &mut Page, densities: &[u32], spacing: &[u8]) -> Result<(
     Ok(())
 }
 
-#[tactic(auto, unfolding(crate::specs::Print::head_of_held))]
+#[tactic(auto, using(page::proofs::Pages::keeps_then), unfolding(crate::specs::Print::head_of_held))]
 fn held_head(page: &mut Page) -> Result<(), Full>
     ensures { Prints page.old head_of_held page.new result }
 {
@@ -190,6 +192,7 @@ fn held_record(page: &mut Page, records: &[u8], index: usize) -> Result<(), Full
     }
 }
 
+#[tactic(auto, using(page::proofs::Listing::in_list))]
 fn held_lines(page: &mut Page, records: &[u8], count: usize) -> Result<(), Full>
     ensures { Prints page.old (lines_of_held records.now count) page.new result }
 {
@@ -200,7 +203,7 @@ fn held_lines(page: &mut Page, records: &[u8], count: usize) -> Result<(), Full>
 }
 
 // The whole form.
-#[tactic(auto, unfolding(crate::specs::Print::print_of))]
+#[tactic(auto, using(page::proofs::Pages::keeps_then), unfolding(crate::specs::Print::print_of))]
 pub fn print_columns(
     page: &mut Page,
     figures: &SheetFigures,

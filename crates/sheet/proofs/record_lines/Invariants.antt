@@ -1,6 +1,6 @@
 -- The lines so far are on the page.
 use Rattle.sheet.specs.Sheet.{lines_of_records}
-use Rattle.sheet.specs.Page.{Appends}
+use Rattle.page.specs.Prints.{Appends}
 use Rattle.sheet.proofs.record_lines.Given as goal
 
 abbrev pub invariant-loop-k : goal.invariant-loop-k

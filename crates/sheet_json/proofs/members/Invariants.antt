@@ -1,6 +1,6 @@
 -- The entries so far are on the page.
 use Rattle.sheet_json.specs.Json.{first_members}
-use Rattle.sheet.specs.Page.{Appends}
+use Rattle.page.specs.Prints.{Appends}
 use Rattle.sheet_json.proofs.members.Given as goal
 
 abbrev pub invariant-loop-i : goal.invariant-loop-i

@@ -1,6 +1,6 @@
 -- The entries so far are on the page.
 use Rattle.sheet_json.specs.Json.{entries_of_records}
-use Rattle.sheet.specs.Page.{Appends}
+use Rattle.page.specs.Prints.{Appends}
 use Rattle.sheet_json.proofs.record_entries.Given as goal
 
 abbrev pub invariant-loop-k : goal.invariant-loop-k

@@ -1,6 +1,6 @@
 -- The lines so far are on the page.
 use Rattle.sheet_print.specs.Print.{lines_of_densities}
-use Rattle.sheet.specs.Page.{Appends}
+use Rattle.page.specs.Prints.{Appends}
 use Rattle.sheet_print.proofs.density_lines.Given as goal
 
 abbrev pub invariant-loop-k : goal.invariant-loop-k

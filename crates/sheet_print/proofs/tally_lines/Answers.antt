@@ -1,7 +1,7 @@
 -- Where a line has no room, all lines have none.
 use Rattle.std.proofs.Common.{ℕ, arith, rules}
 use Rattle.sheet.specs.Sheet.{field_count, field_at}
-use Rattle.sheet.proofs.Listing.{listed_next}
+use Rattle.page.proofs.Listing.{listed_next}
 use Rattle.sheet_print.specs.Print.{line_of_tally, lines_of_tally}
 use Rattle.sheet_print.proofs.tally_lines.Goals as goal
 

@@ -1,6 +1,6 @@
 -- The lines so far are on the page.
 use Rattle.sheet_print.specs.Print.{first_fields}
-use Rattle.sheet.specs.Page.{Appends}
+use Rattle.page.specs.Prints.{Appends}
 use Rattle.sheet_print.proofs.tally_lines.Given as goal
 
 abbrev pub invariant-loop-i : goal.invariant-loop-i

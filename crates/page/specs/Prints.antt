@@ -1,7 +1,7 @@
 -- What printing on a page promises: the bytes appended, or that they have no room.
 use Rattle.std.specs.Prelude.{◌≡◌, List, ℕ, ◌+◌, ◌<◌, ◌≤◌, ◌++◌, length, take, slice_index, Result, MatchResult}
-use Rattle.sheet.specs.declared.writing.Page.{Page}
-use Rattle.sheet.specs.declared.writing.Full.{Full}
+use Rattle.page.specs.declared.Page.{Page}
+use Rattle.page.specs.declared.Full.{Full}
 
 -- what is written so far
 abbrev pub written : Page → List ℕ

@@ -1,6 +1,8 @@
 // A page of lent bytes that says when it is full.
+#![tactic(auto)]
+
 ghost use Rattle.std.specs.Prelude.{◌≡◌, ◌∷◌, [], ◌≤◌, length, replicate, decimal};
-ghost use Rattle.sheet.specs.Sheet.{number_field, aligned, aligned_left};
+ghost use Rattle.page.specs.Texts.{number_field, aligned, aligned_left};
 
 use itoa::Buffer;
 
@@ -17,7 +19,7 @@ pub struct Page<'a> {
 }
 
 impl<'a> Page<'a> {
-    ghost use Rattle.sheet.specs.Page.{Prints};
+    ghost use Rattle.page.specs.Prints.{Prints};
 
     pub fn new(out: &'a mut [u8]) -> Page<'a>
         ensures same_slice { result.out.ghost_name ≡ out.entry.ghost_name }
@@ -85,7 +87,7 @@ impl<'a> Page<'a> {
     }
 
     // A number right-aligned in so many columns; one that has more digits is written whole.
-    #[tactic(auto, unfolding(crate::specs::Sheet::aligned))]
+    #[tactic(auto, using(crate::proofs::Pages::keeps_then), unfolding(crate::specs::Texts::aligned))]
     pub fn aligned(&mut self, n: u64, width: usize) -> Result<(), Full>
         ensures { Prints self.old (aligned width n) self.new result }
     {
@@ -97,7 +99,7 @@ impl<'a> Page<'a> {
     }
 
     // A text with as many blanks after it as its columns have left.
-    #[tactic(auto, unfolding(crate::specs::Sheet::aligned_left))]
+    #[tactic(auto, using(crate::proofs::Pages::keeps_then), unfolding(crate::specs::Texts::aligned_left))]
     pub fn left_aligned(&mut self, text: &str, width: usize) -> Result<(), Full>
         ensures { Prints self.old (aligned_left width text.now) self.new result }
     {
@@ -107,7 +109,7 @@ impl<'a> Page<'a> {
     }
 
     // A number with a byte after it.
-    #[tactic(auto, unfolding(crate::specs::Sheet::number_field))]
+    #[tactic(auto, using(crate::proofs::Pages::keeps_then), unfolding(crate::specs::Texts::number_field))]
     pub fn field(&mut self, n: u64, after: u8) -> Result<(), Full>
         ensures { Prints self.old (number_field n after) self.new result }
     {

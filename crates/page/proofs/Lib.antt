@@ -1,0 +1,3 @@
+-- Laws of printing.
+pub mod Pages
+pub mod Listing

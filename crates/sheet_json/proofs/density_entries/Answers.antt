@@ -1,9 +1,0 @@
--- Where an entry has no room, all entries have none.
-use Rattle.std.proofs.Common.{ℕ, length, get_or, arith, rules}
-use Rattle.sheet.proofs.Listing.{listed_next}
-use Rattle.sheet_json.specs.Json.{entry_of_density}
-use Rattle.sheet_json.proofs.density_entries.Goals as goal
-
-pub returns-in_err-density_entry : goal.returns-in_err-density_entry
-returns-in_err-density_entry c =
-    search (rules, arith, listed_next (λ (k : ℕ). entry_of_density k (get_or c.args.densities.now k 0)) c.loop-k.k (length c.args.densities.now))
