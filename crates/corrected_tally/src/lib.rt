@@ -30,18 +30,16 @@ fn mark_heads(text: &[u8], lanes: Lanes, trim: bool, work: &mut [u16])
     }
 }
 
-// The tally with one row more, of which only the heads of a mask count: a row of taps alone by the table, and an all-zero row adds nothing.
-fn count_row(t: ArrowStats, row: &[u8], heads: u16, table: &TapTable) -> ArrowStats
-    requires { (length row.now ≤ 10) × (table.now.lanes.count ≡ length row.now) × Below count_bound t }
-    ensures { result ≡ tally_with_row t (row_sum (row_by_mask heads 0 row.now)) }
+// One row more, of which only the heads of a mask count: a row of taps alone by the table, and an all-zero row adds nothing.
+fn count_row(stats: &mut ArrowStats, row: &[u8], heads: u16, table: &TapTable)
+    requires { (table.now.lanes.count ≡ length row.now) × Below count_bound stats.old }
+    ensures { stats.new ≡ tally_with_row stats.old (row_sum (row_by_mask heads 0 row.now)) }
 {
     match taps::tap_line_mask(row) {
-        Taps::Mask(mask) => row_tally::count_taps(t, mask, table),
+        Taps::Mask(mask) => row_tally::count_taps(stats, mask, table),
         Taps::Other => {
-            if reduction::is_all_zero(row) {
-                t
-            } else {
-                row_tally::count_line_masked(t, row, heads)
+            if !reduction::is_all_zero(row) {
+                row_tally::count_line_masked(stats, row, heads);
             }
         }
     }
@@ -56,7 +54,7 @@ fn count_kept(text: &[u8], lanes: Lanes, trim: bool, work: &[u16]) -> ArrowStats
     let mut stats = row_tally::no_stats();
     let mut i = 0;
     for cells in reader::back::back_rows(text, lanes, trim) {
-        stats = count_row(stats, cells, entry::heads(work[i]), &table);
+        count_row(&mut stats, cells, entry::heads(work[i]), &table);
         i += 1;
     }
     stats

@@ -45,7 +45,7 @@ impl TimingStats {
     {
         let judged = entry::is_judged(entry);
         let sum = row_tally::judged_sum_masked(judged, cells, entry::heads(entry));
-        self.stats = row_tally::add_judged_row(self.stats, judged, self.active, sum);
+        row_tally::add_judged_row(&mut self.stats, judged, self.active, sum);
         self.active += sum.holds + sum.rolls;
         self.active -= entry::ends(entry);
     }
@@ -56,7 +56,7 @@ impl TimingStats {
         ensures { (row : Row) → mask_of_line row ≡ Mask mask → self.new ≡ timing_taps self.old entry row }
     {
         let judged = entry::is_judged(entry);
-        self.stats = row_tally::judge_taps(self.stats, judged, self.active, mask, table);
+        row_tally::judge_taps(&mut self.stats, judged, self.active, mask, table);
     }
 }
 

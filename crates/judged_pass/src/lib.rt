@@ -47,7 +47,7 @@ impl CleanRows {
         ensures passed { OnSome result (RowPassed row.now self.old self.new) }
     {
         let sum = clean_cells(&mut self.depths, row)?;
-        self.stats = row_tally::add_judged_row(self.stats, true, self.active, sum);
+        row_tally::add_judged_row(&mut self.stats, true, self.active, sum);
         self.active = self.depths.iter().sum();
         self.busy = taps::unlike(&self.depths, 0);
         Some(())
@@ -59,12 +59,12 @@ impl CleanRows {
         requires { (mask < masks table.now.wide) × Ready self.old × Below count_bound self.old.stats }
         ensures { (row : Row) → FreeTaps self.old.busy mask row → RowPassed row self.old self.new }
     {
-        self.stats = row_tally::judge_taps(self.stats, true, self.active, mask, table);
+        row_tally::judge_taps(&mut self.stats, true, self.active, mask, table);
     }
 
     // One row more, unless it leaves a head unpaired.
     fn add_row(&mut self, row: &[u8], table: &TapTable) -> Option<()>
-        requires { (length row.now ≤ 10) × (table.now.lanes.count ≡ length row.now) × Ready self.old × Below count_bound self.old.stats }
+        requires { (table.now.lanes.count ≡ length row.now) × Ready self.old × Below count_bound self.old.stats }
         ensures clean { is_some result ≡ not (row_unpairs row.now self.old.depths) }
         ensures passed { OnSome result (RowPassed row.now self.old self.new) }
     {

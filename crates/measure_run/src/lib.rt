@@ -66,16 +66,17 @@ pub fn first_marks(counting: &Counting, noting: &Noting) -> Marks
 }
 
 // One row more, whose cells have come to this.
-pub fn add_cells(r: Run, s: Seen) -> Run
+pub fn add_cells(mut r: Run, s: Seen) -> Run
     requires { Below count_bound r.stats × Under 10 s.sum × (r.row < row_count_bound) }
     ensures { result ≡ after_cells r s }
 {
+    row_tally::add_row_into(&mut r.stats, s.sum);
     let row = r.row + 1;
     Run {
-        stats: row_tally::add_row_lent(r.stats, s.sum),
         count: s.count,
         row,
         last: if s.object { row } else { r.last },
+        ..r
     }
 }
 

@@ -43,7 +43,7 @@ impl Counting {
         requires { (self.old.rows < row_count_bound) × Few self.old × (mask < masks table.now.wide) }
         ensures { (row : Row) → FreeTaps self.old.busy mask row → (L : ℕ) (done : List (List Row)) (cur : List Row) → length row ≤ L → L ≤ 10 → Counted L self.old done cur → Counted L self.new done (cur ++ (row ∷ [])) }
     {
-        self.stats = row_tally::count_taps(self.stats, mask, table);
+        row_tally::count_taps(&mut self.stats, mask, table);
         self.rows += 1;
     }
 
@@ -70,7 +70,7 @@ impl Counting {
             }
             i += 1;
         }
-        self.stats = row_tally::add_row_lent(self.stats, sum);
+        row_tally::add_row_into(&mut self.stats, sum);
         self.busy = taps::unlike(&phantoms.depths, 0);
         self.phantoms = phantoms;
         self.rows += 1;

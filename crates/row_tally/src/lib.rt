@@ -153,43 +153,32 @@ fn add_row(t: ArrowStats, s: RowSum) -> ArrowStats
 }
 
 // The running tally is lent by the caller and altered there.
-fn add_row_into(stats: &mut ArrowStats, s: RowSum)
+pub fn add_row_into(stats: &mut ArrowStats, s: RowSum)
     requires { Below count_bound stats.old × Under 10 s }
     ensures { stats.new ≡ tally_with_row stats.old s }
 {
     *stats = add_row(*stats, s);
 }
 
-// The tally with one row more: it is lent to the row count, and handed back.
-pub fn add_row_lent(t: ArrowStats, s: RowSum) -> ArrowStats
-    requires { Below count_bound t × Under 10 s }
-    ensures { result ≡ tally_with_row t s }
-{
-    let mut stats = t;
-    add_row_into(&mut stats, s);
-    stats
-}
-
-// The judged tally with one row more, before which `held` holds are open: a hand is told otherwise than on a plain row, and nothing is held.
+// One row more in a judged tally, before which `held` holds are open: a hand is told otherwise than on a plain row, and nothing is held.
 #[tactic(auto, unfolding(definitions::specs::Tally::tally_with_row, definitions::specs::Judged::judge_row))]
-pub fn add_judged_row(t: ArrowStats, judged: bool, held: u32, s: RowSum) -> ArrowStats
-    requires { Below count_bound t × Under 10 s × (held ≤ count_bound) }
-    ensures { result ≡ judge_row t judged held s }
+pub fn add_judged_row(stats: &mut ArrowStats, judged: bool, held: u32, s: RowSum)
+    requires { Below count_bound stats.old × Under 10 s × (held ≤ count_bound) }
+    ensures { stats.new ≡ judge_row stats.old judged held s }
 {
     let hand = judged & (1 <= s.arrows + s.mines + s.fakes) & (3 <= s.arrows + held);
-    let hands = t.hands + u32::from(hand);
-    let mut r = add_row_lent(t, s);
-    r.hands = hands;
-    r.holding = 0;
-    r
+    let hands = stats.hands + u32::from(hand);
+    add_row_into(stats, s);
+    stats.hands = hands;
+    stats.holding = 0;
 }
 
-// The tally with one row of taps alone more.
-pub fn count_taps(t: ArrowStats, mask: u16, table: &TapTable) -> ArrowStats
-    requires { (mask < masks table.now.wide) × Below count_bound t }
-    ensures { (row : Row) → mask_of_line row ≡ Mask mask → result ≡ tally_with_row t (row_sum row) }
+// One row of taps alone more.
+pub fn count_taps(stats: &mut ArrowStats, mask: u16, table: &TapTable)
+    requires { (mask < masks table.now.wide) × Below count_bound stats.old }
+    ensures { (row : Row) → mask_of_line row ≡ Mask mask → stats.new ≡ tally_with_row stats.old (row_sum row) }
 {
-    add_row_lent(t, table.sum(mask))
+    add_row_into(stats, table.sum(mask));
 }
 
 // Whether the mask has the bit of a column.
@@ -231,12 +220,12 @@ fn kept_sum(row: &[u8], heads: u16, judged: bool) -> RowSum
     s
 }
 
-// The tally with one row more, of which only the heads of a mask count.
-pub fn count_line_masked(t: ArrowStats, row: &[u8], heads: u16) -> ArrowStats
-    requires { (length row.now ≤ 10) × Below count_bound t }
-    ensures { result ≡ tally_with_row t (row_sum (row_by_mask heads 0 row.now)) }
+// One row more, of which only the heads of a mask count.
+pub fn count_line_masked(stats: &mut ArrowStats, row: &[u8], heads: u16)
+    requires { (length row.now ≤ 10) × Below count_bound stats.old }
+    ensures { stats.new ≡ tally_with_row stats.old (row_sum (row_by_mask heads 0 row.now)) }
 {
-    add_row_lent(t, kept_sum(row, heads, false))
+    add_row_into(stats, kept_sum(row, heads, false));
 }
 
 // A sum of fakes alone.
@@ -273,13 +262,13 @@ fn judged_taps(judged: bool, mask: u16, table: &TapTable) -> RowSum
     only_fakes(s.arrows)
 }
 
-// The judged tally with one row of taps alone more, before which `held` holds are open.
-pub fn judge_taps(t: ArrowStats, judged: bool, held: u32, mask: u16, table: &TapTable) -> ArrowStats
-    requires { (mask < masks table.now.wide) × Below count_bound t × (held ≤ count_bound) }
-    ensures { (row : Row) → mask_of_line row ≡ Mask mask → result ≡ judge_row t judged held (judged_sum judged row) }
+// One row of taps alone more in a judged tally, before which `held` holds are open.
+pub fn judge_taps(stats: &mut ArrowStats, judged: bool, held: u32, mask: u16, table: &TapTable)
+    requires { (mask < masks table.now.wide) × Below count_bound stats.old × (held ≤ count_bound) }
+    ensures { (row : Row) → mask_of_line row ≡ Mask mask → stats.new ≡ judge_row stats.old judged held (judged_sum judged row) }
 {
     let s = judged_taps(judged, mask, table);
-    add_judged_row(t, judged, held, s)
+    add_judged_row(stats, judged, held, s);
 }
 
 // A tally that keeps the steps of another.

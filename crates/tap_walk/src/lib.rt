@@ -14,16 +14,17 @@ use row_walk::Marks;
 use taps::{TapTable, Taps};
 
 // One row of taps more, all in columns that are not busy.
-fn add_taps(r: Run, mask: u16, slots: &mut [u8], table: &TapTable) -> Run
+fn add_taps(mut r: Run, mask: u16, slots: &mut [u8], table: &TapTable) -> Run
     requires { TapsReady r mask table.now.wide slots.old }
     ensures { TapsAdded r mask slots.old slots.new result }
 {
+    row_tally::count_taps(&mut r.stats, mask, table);
     let row = r.row + 1;
     Run {
-        stats: row_tally::count_taps(r.stats, mask, table),
         count: row_notes::push_mask(r.row, r.count, mask, slots),
         row,
         last: if mask != 0 { row } else { r.last },
+        ..r
     }
 }
 

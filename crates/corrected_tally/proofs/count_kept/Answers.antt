@@ -21,12 +21,12 @@ bounds-work-i c =
 pub offset_bounds-work-i : goal.offset_bounds-work-i
 offset_bounds-work-i c = omega (arith, c.loop-cells.invariant.held.size, c.loop-cells.invariant.come.few, c.requires.0.short)
 
-pub count_row-stats-requires : goal.count_row-stats-requires
-count_row-stats-requires c =
+pub count_row-requires : goal.count_row-requires
+count_row-requires c =
     let x = c.loop-cells.invariant.come in
     let wide = next-wide x c.in-Some.ensures.steps in
     let small : 10 * c.loop-cells.i ≤ count_bound = omega (arith, c.loop-cells.invariant.held.size, x.few, c.requires.0.short) in
-    (omega (arith, c.args.lanes.within.1, wide), c.for_lanes-table.ensures ∙ sym wide, below_more _ _ _ small c.loop-cells.invariant.held.low)
+    (c.for_lanes-table.ensures ∙ sym wide, below_more _ _ _ small c.loop-cells.invariant.held.low)
 
 pub overflow_add-i : goal.overflow_add-i
 overflow_add-i c = omega (arith, c.loop-cells.invariant.held.size, c.loop-cells.invariant.come.few, c.requires.0.short)
@@ -36,7 +36,7 @@ loop-cells-preserved c =
     back-more c.loop-cells.invariant _ c.in-Some.ensures.steps
     (counting-row _ _ _ _ c.loop-cells.invariant.held c.args.work.now c.requires.1 _
     (omega (arith, c.args.lanes.within.1, next-wide c.loop-cells.invariant.come c.in-Some.ensures.steps))
-    _ (rw c.heads.ensures at c.count_row-stats.ensures))
+    _ (rw c.heads.ensures at c.count_row.ensures))
 
 pub returns : goal.returns
 returns c =

@@ -8,14 +8,14 @@ use borrow.Author.Rules.{rules}
 use Rattle.corrected_tally.proofs.count_row.Goals as goal
 
 pub count_taps-requires : goal.count_taps-requires
-count_taps-requires c = let below = fits-table c.args.table.now _ (below-at _ _ _ (sym c.requires.1) (sym c.tap_line_mask.ensures ∙ c.in-Mask.is)) in search rules
+count_taps-requires c = let below = fits-table c.args.table.now _ (below-at _ _ _ (sym c.requires.0) (sym c.tap_line_mask.ensures ∙ c.in-Mask.is)) in search rules
 
 pub returns-in-Mask : goal.returns-in-Mask
 returns-in-Mask c =
     let mask = sym c.tap_line_mask.ensures ∙ c.in-Mask.is in
-    c.count_taps.ensures _ mask ∙ ap (λ r. tally_with_row c.args.t (row_sum r)) (sym (taps-kept c.args.heads 0 _ _ (line-taps _ _ mask)))
+    c.count_taps.ensures _ mask ∙ ap (λ r. tally_with_row c.args.stats.now (row_sum r)) (sym (taps-kept c.args.heads 0 _ _ (line-taps _ _ mask)))
 
-pub returns-then-is_all_zero : goal.returns-then-is_all_zero
-returns-then-is_all_zero c =
-    let zero = sym c.is_all_zero.ensures ∙ c.if-is_all_zero.true in
-    sym (ap (λ r. tally_with_row c.args.t (row_sum r)) (zero-kept c.args.heads 0 c.args.row.now zero) ∙ zero-adds c.args.t c.args.row.now zero)
+pub returns-else-not-is_all_zero : goal.returns-else-not-is_all_zero
+returns-else-not-is_all_zero c =
+    let zero = sym c.is_all_zero.ensures ∙ c.if-not-is_all_zero.false in
+    sym (ap (λ r. tally_with_row c.args.stats.now (row_sum r)) (zero-kept c.args.heads 0 c.args.row.now zero) ∙ zero-adds c.args.stats.now c.args.row.now zero)

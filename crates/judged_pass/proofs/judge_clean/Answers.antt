@@ -19,7 +19,7 @@ pub add_row-requires : goal.add_row-requires
 add_row-requires c =
     let x = c.loop-row.invariant.come in
     let wide = next-wide x c.in-Some.ensures.steps in
-    (omega (arith, wide), c.for_lanes-table.ensures ∙ sym wide, c.loop-row.invariant.held.ready, passes-few _ _ _ _ c.loop-row.invariant.held (omega (arith, x.few)))
+    (c.for_lanes-table.ensures ∙ sym wide, c.loop-row.invariant.held.ready, passes-few _ _ _ _ c.loop-row.invariant.held (omega (arith, x.few)))
 
 pub returns-in_err-add_row : goal.returns-in_err-add_row
 returns-in_err-add_row c =

@@ -6,12 +6,12 @@ use Rattle.row_tally.proofs.Bounds.{under-row}
 use Rattle.row_tally.proofs.Kept.{keep-length}
 use Rattle.row_tally.proofs.count_line_masked.Goals as goal
 
-pub add_row_lent-requires : goal.add_row_lent-requires
+pub add_row_into-requires : goal.add_row_into-requires
 unfolding row_sum
-add_row_lent-requires c =
+add_row_into-requires c =
     let kept = row_by_mask c.args.heads 0 c.args.row.now in
     (c.requires.1, rw c.kept_sum.ensures (under-row 10 kept (rw keep-length c.requires.0)))
 
 pub returns : goal.returns
 unfolding row_sum
-returns c = c.add_row_lent.ensures ∙ rw c.kept_sum.ensures
+returns c = c.add_row_into.ensures ∙ rw c.kept_sum.ensures

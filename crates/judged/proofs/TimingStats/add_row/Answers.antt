@@ -16,9 +16,9 @@ sum_is c = rw (← c.is_judged-judged.ensures, ← c.heads.ensures) c.judged_sum
 under : (c : After-judged_sum_masked-sum) → Under 10 c.judged_sum_masked-sum.result
 under c = rw c.judged_sum_masked-sum.ensures (under-judged 10 _ _ (rw keep-length c.requires.tally_room.0))
 
-pub add_judged_row-self-requires : goal.add_judged_row-self-requires
-add_judged_row-self-requires c =
-    (c.requires.tally_room.1, under (goal.at.add_judged_row-self-requires c).After-judged_sum_masked-sum, c.requires.tally_room.2)
+pub add_judged_row-requires : goal.add_judged_row-requires
+add_judged_row-requires c =
+    (c.requires.tally_room.1, under (goal.at.add_judged_row-requires c).After-judged_sum_masked-sum, c.requires.tally_room.2)
 
 pub overflow_add-self : goal.overflow_add-self
 overflow_add-self c = omega (arith, (under (goal.at.overflow_add-self c).After-judged_sum_masked-sum).heads)
@@ -34,4 +34,4 @@ overflow_sub-self c = rw (c.ends.ensures, sum_is (goal.at.overflow_sub-self c).A
 pub returns : goal.returns
 unfolding timing_row new_holds
 returns c =
-    rw (c.add_judged_row-self.ensures, c.ends.ensures, c.is_judged-judged.ensures, sum_is (goal.at.returns c).After-judged_sum_masked-sum)
+    rw (c.add_judged_row.ensures, c.ends.ensures, c.is_judged-judged.ensures, sum_is (goal.at.returns c).After-judged_sum_masked-sum)

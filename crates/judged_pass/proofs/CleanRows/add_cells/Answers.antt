@@ -17,8 +17,8 @@ use Rattle.definitions.proofs.Columns.{step-most}
 use Rattle.judged_pass.proofs.Rows.{active_few, few-open, cells-ready}
 use Rattle.judged_pass.proofs.CleanRows.add_cells.Goals as goal
 
-pub add_judged_row-self-requires : goal.add_judged_row-self-requires
-add_judged_row-self-requires c = (
+pub add_judged_row-requires : goal.add_judged_row-requires
+add_judged_row-requires c = (
   c.requires.2,
   rw c.in_ok-sum.ensures.sum (under-judged 10 true _ c.requires.0),
   le_trans (active_few _ c.requires.1) (omega arith),
@@ -39,7 +39,7 @@ pub returns-clause-passed : goal.returns-clause-passed
 returns-clause-passed c =
     record {
       depths = c.in_ok-sum.ensures.depths_after;
-      stats = c.add_judged_row-self.ensures ∙ ap (judge_row _ _ _) c.in_ok-sum.ensures.sum;
+      stats = c.add_judged_row.ensures ∙ ap (judge_row _ _ _) c.in_ok-sum.ensures.sum;
       ready =
           cells-ready _ c.args.self.now _ c.requires.1 (not-true _ (sym c.in_ok-sum.ensures.clean)) c.in_ok-sum.ensures.depths_after c.clean_cells.array_long (search rules)
           (rw c.unlike-self.ensures (unlike-free 0 _));

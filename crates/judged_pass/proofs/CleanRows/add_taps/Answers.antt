@@ -7,6 +7,6 @@ returns c =
     λ row f.
     record {
       depths = free-passed c.args.self.now _ row c.requires.1 f;
-      stats = c.judge_taps-self.ensures row f.mask;
+      stats = c.judge_taps.ensures row f.mask;
       ready = record { ten = c.requires.1.ten; low = c.requires.1.low; active = c.requires.1.active; busy = c.requires.1.busy };
     }

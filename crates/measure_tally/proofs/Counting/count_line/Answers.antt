@@ -51,6 +51,6 @@ returns c =
     let left = c.loop-i-test.false in
     λ L done cur w v x.
     counted-row L _ done cur x _ w v _ _ _
-    (c.add_row_lent-self.ensures ∙ ap (tally_with_row c.args.self.now.stats) (summed-end is_arrow _ _ _ _ (drop_of_length-le row left) c.loop-i.invariant.summed))
+    (c.add_row_into.ensures ∙ ap (tally_with_row c.args.self.now.stats) (summed-end is_arrow _ _ _ _ (drop_of_length-le row left) c.loop-i.invariant.summed))
     (λ L rows wide narrow counts. passed-end _ _ _ _ c.loop-i.invariant.passed left L rows wide narrow counts)
     (rw c.unlike-self.ensures (unlike-free 0 _))
