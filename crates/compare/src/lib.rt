@@ -1,21 +1,21 @@
 // What an entry left in what it was lent, beside the stored bytes of an answer. Each says true where the two are equal, else false.
 #![tactic(auto)]
 
-ghost use Rattle.std.specs.Prelude.{◌≡◌, [], get_or};
+ghost use Rattle.std.specs.Prelude.{◌≡◌, [], slice_index};
 ghost use Rattle.compare.specs.Agreement.{has_answer, same_stored_figures, numbers, longs, float_bits, bits_of_floats};
 
 use lines::words;
 
 // Byte `i` of an answer; past its end 0.
 fn wanted_byte(want: &[u8], i: usize) -> u8
-    ensures { result ≡ get_or want.now i 0 }
+    ensures { result ≡ slice_index want.now i }
 {
     if i < want.len() { want[i] } else { 0 }
 }
 
 // Number `i` of an answer, of four bytes; past its end 0.
 fn wanted_number(want: &[u8], i: usize) -> u64
-    ensures { result ≡ get_or (numbers want.now) i 0 }
+    ensures { result ≡ slice_index (numbers want.now) i }
 {
     if i < want.len() / 4 {
         words::half_at(want, 4 * i)
@@ -26,7 +26,7 @@ fn wanted_number(want: &[u8], i: usize) -> u64
 
 // Number `i` of an answer, of eight bytes; past its end 0.
 fn wanted_long(want: &[u8], i: usize) -> u64
-    ensures { result ≡ get_or (longs want.now) i 0 }
+    ensures { result ≡ slice_index (longs want.now) i }
 {
     if i < want.len() / 8 {
         words::halves_at(want, 8 * i)

@@ -1,6 +1,6 @@
 -- Document 01, "Cells": what a byte of a row stands for, and what cells do. "cell letters from the StepMania SM and SSC format pages. Where they
 -- differ the Rust decides and the difference is recorded": docs/DIFFERENCES.md, "The format pages and the Rust".
-use Rattle.std.specs.Prelude.{Bool, true, false, cond, ℕ, eqb, get_or}
+use Rattle.std.specs.Prelude.{Bool, true, false, if◌then◌else◌, ℕ, ◌==◌, slice_index_or}
 use Rattle.definitions.specs.Lines.{Row}
 use Rattle.definitions.specs.declared.Cell.{Cell}
 use Rattle.definitions.specs.declared.Cell.TheVariants.{Empty, Tap, Hold, Tail, Roll, Mine, Lift, Fake, KeySound, LowerMine, LowerLift, LowerFake}
@@ -11,22 +11,22 @@ use Rattle.definitions.specs.declared.DepthEffect.TheVariants.{Nothing, Blocks, 
 -- [..] Any other byte is empty for counting"
 unfoldable pub cell_of : ℕ → Cell
 cell_of b =
-    cond (eqb b 49) Tap
-    (cond (eqb b 50) Hold
-    (cond (eqb b 51) Tail
-    (cond (eqb b 52) Roll
-    (cond (eqb b 77) Mine
-    (cond (eqb b 76) Lift
-    (cond (eqb b 70) Fake
-    (cond (eqb b 75) KeySound
-    (cond (eqb b 109) LowerMine
-    (cond (eqb b 108) LowerLift
-    (cond (eqb b 102) LowerFake
-    Empty))))))))))
+    if b == 49 then Tap
+    else if b == 50 then Hold
+    else if b == 51 then Tail
+    else if b == 52 then Roll
+    else if b == 77 then Mine
+    else if b == 76 then Lift
+    else if b == 70 then Fake
+    else if b == 75 then KeySound
+    else if b == 109 then LowerMine
+    else if b == 108 then LowerLift
+    else if b == 102 then LowerFake
+    else Empty
 
 -- the byte of a row in a column, and a `0` past its end
 abbrev pub byte_at : ℕ → Row → ℕ
-byte_at c r = get_or r c 48
+byte_at c r = slice_index_or r c 48
 
 -- "The arrows are the cells 1, 2 and 4."
 abbrev pub is_arrow : Cell → Bool

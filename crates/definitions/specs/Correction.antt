@@ -1,5 +1,5 @@
 -- Document 01, "Correction": the phantom depths, when a tally is counted anew, and with which heads.
-use Rattle.std.specs.Prelude.{Bool, true, false, cond, ◌&&◌, ◌||◌, not, List, [], ◌∷◌, ℕ, suc, ◌-◌, eqb, ltb, count_by}
+use Rattle.std.specs.Prelude.{Bool, true, false, if◌then◌else◌, ◌&&◌, ◌||◌, not, List, [], ◌∷◌, ℕ, suc, ◌-◌, ◌==◌, nat_lt, count_by}
 use Rattle.definitions.specs.Lists.{joined, some_column}
 use Rattle.definitions.specs.Lines.{Row}
 use Rattle.definitions.specs.Cells.{byte_at}
@@ -24,7 +24,7 @@ phantom_after c d (r ∷ rs) = phantom_after c (phantom_step (hold_at (byte_at c
 -- "a 1, M, L or F met in a column whose phantom depth is not 0"
 abbrev pub meets_phantom : DepthEffect → ℕ → Bool
 meets_phantom Nothing d = false
-meets_phantom Blocks d = ltb 0 d
+meets_phantom Blocks d = nat_lt 0 d
 meets_phantom Opens d = false
 meets_phantom Closes d = false
 
@@ -59,15 +59,15 @@ tail_count rows = count_by (λ b. is_closing (hold_at b)) (joined rows)
 -- depth left over)", of rows of L bytes
 unfoldable pub corrects : ℕ → List Row → Bool
 corrects L rows =
-    ltb 0 (head_count rows)
-    && (not (eqb (head_count rows) (tail_count rows))
-    || some_column L (λ c. phantom_met c 0 rows || ltb 0 (phantom_after c 0 rows)))
+    nat_lt 0 (head_count rows)
+    && (not (head_count rows == tail_count rows)
+    || some_column L (λ c. phantom_met c 0 rows || nat_lt 0 (phantom_after c 0 rows)))
 
 -- a cell as it is counted anew: a head that is not paired is an empty cell, a `0`
 abbrev pub head_if_paired : DepthEffect → Bool → ℕ → ℕ
 head_if_paired Nothing p b = b
 head_if_paired Blocks p b = b
-head_if_paired Opens p b = cond p b 48
+head_if_paired Opens p b = if p then b else 48
 head_if_paired Closes p b = b
 
 -- row i from column c on, where ps has the pairs of each column
@@ -107,4 +107,4 @@ tally_with_steps n t =
 -- the tally of rows, corrected over `back`, the rows as that pass reads them again
 unfoldable pub corrected : ℕ → List Row → List Row → ArrowStats
 corrected L rows back =
-    cond (corrects L rows) (tally_with_steps (tally rows).total_steps (tally (paired_only back))) (tally rows)
+    if corrects L rows then tally_with_steps (tally rows).total_steps (tally (paired_only back)) else tally rows

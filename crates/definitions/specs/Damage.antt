@@ -1,6 +1,5 @@
 -- Document 01's section "Damage": when two texts differ only in lines of one measure, and what is then the same in both.
-use Rattle.std.specs.Prelude.{◌≡◌, ◌≢◌, ◌⊎◌, Bool, true, false, cond, ◌&&◌, not, List, [], ◌∷◌, ℕ, suc, ◌+◌, ◌≤◌, ◌<◌, eqb, ltb, leb, length, take, drop, get_or}
-use Rattle.std.specs.Prelude.{slice_get, filter}
+use Rattle.std.specs.Prelude.{◌≡◌, ◌≢◌, ◌⊎◌, Bool, true, false, if◌then◌else◌, ◌&&◌, not, List, [], ◌∷◌, ℕ, suc, ◌+◌, ◌≤◌, ◌<◌, ◌==◌, nat_lt, nat_le, length, take, drop, slice_get, slice_index_or, filter}
 use Rattle.definitions.specs.Lists.{among, joined}
 use Rattle.definitions.specs.Lines.{Row, cut, line_kind}
 use Rattle.definitions.specs.Cells.{byte_at}
@@ -74,7 +73,7 @@ rows_above L d text = joined (take d (minimised L text))
 
 -- the minimised rows of measure d
 abbrev pub rows_of : ℕ → ℕ → List ℕ → List Row
-rows_of L d text = get_or (minimised L text) d []
+rows_of L d text = slice_index_or (minimised L text) d []
 
 -- those of the measures after d
 abbrev pub rows_later : ℕ → ℕ → List ℕ → List Row
@@ -86,11 +85,11 @@ all_later L d text = joined (drop (suc d) (chart L text))
 
 -- The notes headed in measures before d, and in measures after d. "A note is headed in its row's measure."
 abbrev pub earlier : ℕ → ℕ → List ℕ → List Note
-earlier L d text = filter (λ x. ltb x.row (length (rows_above L d text))) (notes L text)
+earlier L d text = filter (λ x. nat_lt x.row (length (rows_above L d text))) (notes L text)
 
 -- the notes headed in measures after d
 abbrev pub later : ℕ → ℕ → List ℕ → List Note
-later L d text = filter (λ x. leb (length (rows_above L (suc d) text)) x.row) (notes L text)
+later L d text = filter (λ x. nat_le (length (rows_above L (suc d) text)) x.row) (notes L text)
 
 -- "The shift, from old to new, is d's minimised row count in the new text less that in the old; a note without a tail stays without one."
 -- With a rows in the old text and b in the new, x moves to y where y + a = x + b.
@@ -115,7 +114,7 @@ is_head b = among b (50 ∷ 52 ∷ [])
 
 -- the kind of the note that a 2 or a 4 heads
 unfoldable pub head_kind : ℕ → Kind
-head_kind b = cond (eqb b 50) Hold Roll
+head_kind b = if b == 50 then Hold else Roll
 
 -- no 1 2 3 4 M L F m l f stands in column c of rows
 abbrev pub untouched : ℕ → List Row → Bool
@@ -124,7 +123,7 @@ untouched c (r ∷ rs) = not (stops (byte_at c r)) && untouched c rs
 
 -- the byte at row i and column c of rows
 abbrev pub byte_in : List Row → ℕ → ℕ → ℕ
-byte_in rows i c = byte_at c (get_or rows i [])
+byte_in rows i c = byte_at c (slice_index_or rows i [])
 
 -- "A 2 or 4 before d is open where d begins if no 1 2 3 4 M L F m l f follows it in its column before d": rows are those before d
 abbrev pub open_in : List Row → ℕ → ℕ → Bool
@@ -138,7 +137,7 @@ open_at L d text x = open_in (rows_above L d text) x.row x.column
 -- where d begins at row s, and in one of the text's n minimised rows
 unfoldable pub MissingOrLate : ℕ → ℕ → ℕ → ℕ → Kind → List Note → Type 0
 MissingOrLate s n i c k ns =
-    let here = filter (λ x. eqb x.row i && eqb x.column c) ns in
+    let here = filter (λ x. x.row == i && x.column == c) ns in
     (here ≡ []) ⊎ ((j : ℕ) × (s ≤ j) × (j < n) × (here ≡ record { row = i; tail = tail.Row j; column = c; kind = k } ∷ []))
 
 -- a byte 1, M, L, F or K: "For the last beat only the capitals M, L, F count."

@@ -1,7 +1,7 @@
 -- Two texts that differ only in lines of measure 1, two rows in the old one, a row and a comment in the new one. Before it stand a closed hold, a
 -- tap and a head that is open where measure 1 begins, which the old text closes and the new one drops; after it a hold, whose rows shift by one.
 -- The last measure meets the condition for the last beat.
-use Rattle.std.specs.Prelude.{◌≡◌, refl, true, ◌&&◌, not, List, [], ◌∷◌, map, filter, ℕ, eqb}
+use Rattle.std.specs.Prelude.{◌≡◌, refl, true, ◌&&◌, not, List, [], ◌∷◌, map, filter, ℕ, ◌==◌}
 use Rattle.definitions.specs.Lines.{is_blank_byte, is_row_line, kind_of, line_kind}
 use Rattle.definitions.specs.Cells.{cell_of}
 use Rattle.definitions.specs.Measures.{chart}
@@ -38,7 +38,7 @@ head-open = refl
 abbrev pub parts : List ℕ → List (List (List ℕ))
 parts text =
     map figures_of_note (filter (λ x. not (open_at 4 1 text x)) (earlier 4 1 text))
-    ∷ map figures_of_note (filter (λ x. eqb x.row 1 && eqb x.column 3) (notes 4 text))
+    ∷ map figures_of_note (filter (λ x. x.row == 1 && x.column == 3) (notes 4 text))
     ∷ map figures_of_note (later 4 1 text)
     ∷ []
 

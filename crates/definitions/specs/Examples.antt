@@ -1,5 +1,5 @@
 -- Document 01's examples P1 to P11 as one table with a single claim, `examples-hold`. In a text `|` is byte 10 and `^` is byte 13.
-use Rattle.std.specs.Prelude.{◌≡◌, refl, cond, List, [], ◌∷◌, map, ℕ, eqb, length}
+use Rattle.std.specs.Prelude.{◌≡◌, refl, if◌then◌else◌, List, [], ◌∷◌, map, ℕ, ◌==◌, length}
 use Prim.Native.Char.{code}
 use Prim.Native.String.{String, [] as end, ◌∷◌ as ◌then◌}
 use Rattle.std.specs.Float.{binary32, binary64}
@@ -24,7 +24,7 @@ use Rattle.definitions.specs.declared.ArrowStats.{ArrowStats}
 -- the bytes of a text in ASCII, `|` (124) for byte 10 and `^` (94) for byte 13
 abbrev pub bytes : String → List ℕ
 bytes end = []
-bytes (◌then◌ c s) = cond (eqb (code c) 124) 10 (cond (eqb (code c) 94) 13 (code c)) ∷ bytes s
+bytes (◌then◌ c s) = (if code c == 124 then 10 else if code c == 94 then 13 else code c) ∷ bytes s
 
 -- The fields of a tally that the examples name.
 pub data Field : Type 0 where

@@ -1,5 +1,5 @@
 -- Document 01, "Judged tally".
-use Rattle.std.specs.Prelude.{Bool, true, false, ◌&&◌, not, List, [], ◌∷◌, ℕ, suc, ◌+◌, eqb, ltb, leb, get_or, count_by}
+use Rattle.std.specs.Prelude.{Bool, true, false, ◌&&◌, not, List, [], ◌∷◌, ℕ, suc, ◌+◌, ◌==◌, nat_lt, nat_le, slice_index_or, count_by}
 use Rattle.definitions.specs.Lists.{sum_columns}
 use Rattle.definitions.specs.Lines.{Row}
 use Rattle.definitions.specs.Cells.{cell_of}
@@ -14,7 +14,7 @@ use Rattle.definitions.specs.declared.ArrowStats.{ArrowStats}
 
 -- "one flag byte a row (0 unjudged, else judged). A row past the flags is judged."
 unfoldable pub judged_at : List ℕ → ℕ → Bool
-judged_at flags i = not (eqb (get_or flags i 1) 0)
+judged_at flags i = not (slice_index_or flags i 1 == 0)
 
 -- "On a judged row the arrows are 1, L, l and tracker-paired heads": of a row that has only such heads left
 abbrev pub is_judged_arrow : Cell → Bool
@@ -71,12 +71,12 @@ judged_sum false r = sum_of_fakes (count_by (λ b. is_unjudged_fake (cell_of b))
 -- "It is a hand if it has an arrow, mine or fake and its arrows plus the holds open before it make 3 or more." "`holding` stays 0."
 unfoldable pub judge_row : ArrowStats → Bool → ℕ → RowSum → ArrowStats
 judge_row t judged held s =
-    tally_with_sum t s (judged && (leb 1 (s.arrows + s.mines + s.fakes) && leb 3 (s.arrows + held))) 0
+    tally_with_sum t s (judged && (nat_le 1 (s.arrows + s.mines + s.fakes) && nat_le 3 (s.arrows + held))) 0
 
 -- The holds of a column's pairs that are open before row i, where J says which rows are judged. "Only heads on judged rows open holds, each
 -- through its tail's row."
 abbrev pub open_of : (ℕ → Bool) → ℕ → List Pair → ℕ
-open_of J i ps = count_by (λ (p : Pair). J p.head && (ltb p.head i && leb i p.tail)) ps
+open_of J i ps = count_by (λ (p : Pair). J p.head && (nat_lt p.head i && nat_le i p.tail)) ps
 
 -- of all L columns
 unfoldable pub open_before : ℕ → (ℕ → Bool) → (ℕ → List Pair) → ℕ → ℕ

@@ -1,5 +1,5 @@
 -- Document 01, "Lines, cells, measures": the lines of a text, and what a line is.
-use Rattle.std.specs.Prelude.{Bool, true, false, cond, List, [], ◌∷◌, ℕ, eqb, leb, length, take}
+use Rattle.std.specs.Prelude.{Bool, true, false, if◌then◌else◌, List, [], ◌∷◌, ℕ, ◌==◌, nat_le, length, take}
 use Rattle.definitions.specs.Lists.{to_first, among}
 use Rattle.definitions.specs.declared.LineKind.{LineKind}
 use Rattle.definitions.specs.declared.LineKind.TheVariants as kind
@@ -16,7 +16,7 @@ cut_at false b ls = to_first b ls
 -- the lines of a text
 abbrev pub cut : List ℕ → List (List ℕ)
 cut [] = [] ∷ []
-cut (b ∷ s) = cut_at (eqb b 10) b (cut s)
+cut (b ∷ s) = cut_at (b == 10) b (cut s)
 
 -- "leading blanks (9, 10, 12, 13, 32) taken off by `skip_ws`"
 unfoldable pub is_blank_byte : ℕ → Bool
@@ -25,11 +25,11 @@ is_blank_byte b = among b (9 ∷ 10 ∷ 12 ∷ 13 ∷ 32 ∷ [])
 -- a line without its leading blanks
 abbrev pub trim : List ℕ → List ℕ
 trim [] = []
-trim (b ∷ s) = cond (is_blank_byte b) (trim s) (b ∷ s)
+trim (b ∷ s) = if is_blank_byte b then trim s else b ∷ s
 
 -- "a line of at least L bytes is a row, its first L bytes": the row test, of a line that is nothing else
 unfoldable pub is_row_line : ℕ → List ℕ → Bool
-is_row_line L l = leb L (length l)
+is_row_line L l = nat_le L (length l)
 
 -- What a line is whose leading blanks are off. "An empty line, or one starting with `/`, is passed over. One starting with `,` ends a
 -- measure, and the rest of that line is ignored. One starting with `;` ends the last measure and the reading. Otherwise a line of at least
@@ -37,10 +37,10 @@ is_row_line L l = leb L (length l)
 unfoldable pub kind_of : ℕ → List ℕ → LineKind
 kind_of L [] = kind.Passed
 kind_of L (b ∷ s) =
-    cond (eqb b 47) kind.Passed
-    (cond (eqb b 44) kind.Comma
-    (cond (eqb b 59) kind.Semi
-    (cond (is_row_line L (b ∷ s)) kind.Row kind.Passed)))
+    if b == 47 then kind.Passed
+    else if b == 44 then kind.Comma
+    else if b == 59 then kind.Semi
+    else if is_row_line L (b ∷ s) then kind.Row else kind.Passed
 
 -- the kind of a line, and its row where it is one
 unfoldable pub line_kind : ℕ → List ℕ → LineKind

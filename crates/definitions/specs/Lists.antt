@@ -1,5 +1,5 @@
 -- Words on lists that the other files use.
-use Rattle.std.specs.Prelude.{Bool, true, false, cond, ◌||◌, List, [], ◌∷◌, ◌++◌, ℕ, zero, suc, ◌+◌, ◌-◌, eqb, length, take, drop, replicate}
+use Rattle.std.specs.Prelude.{Bool, true, false, if◌then◌else◌, ◌||◌, List, [], ◌∷◌, ◌++◌, ℕ, zero, suc, ◌+◌, ◌-◌, ◌==◌, length, take, drop, replicate}
 
 -- 1 where the test holds, else 0
 abbrev pub number_of_bool : Bool → ℕ
@@ -39,12 +39,12 @@ sum_columns (suc n) f = sum_columns n f + f n
 -- a byte is among these
 abbrev pub among : ℕ → List ℕ → Bool
 among b [] = false
-among b (x ∷ xs) = eqb b x || among b xs
+among b (x ∷ xs) = b == x || among b xs
 
 -- a list up to the first b in it, or all of it
 unfoldable pub up_to : ℕ → List ℕ → List ℕ
 up_to b [] = []
-up_to b (x ∷ s) = cond (eqb x b) [] (x ∷ up_to b s)
+up_to b (x ∷ s) = if x == b then [] else x ∷ up_to b s
 
 -- a list through the first b in it, or all of it
 unfoldable pub through : ℕ → List ℕ → List ℕ

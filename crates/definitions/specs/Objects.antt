@@ -1,5 +1,5 @@
 -- Document 01, "Last beat": the object rows, the last of them, and its beat.
-use Rattle.std.specs.Prelude.{Bool, true, false, ◌||◌, List, [], ◌∷◌, ◌++◌, ℕ, suc, ◌-◌, ltb, length, Float}
+use Rattle.std.specs.Prelude.{Bool, true, false, ◌||◌, List, [], ◌∷◌, ◌++◌, ℕ, suc, ◌-◌, nat_lt, length, Float}
 use Rattle.std.specs.Prelude.{Option, None, Some}
 use Rattle.definitions.specs.Lists.{only_if}
 use Rattle.definitions.specs.Lines.{Row}
@@ -21,7 +21,7 @@ abbrev pub is_object : DepthEffect → ℕ → Bool
 is_object Nothing d = false
 is_object Blocks d = true
 is_object Opens d = false
-is_object Closes d = ltb 0 d
+is_object Closes d = nat_lt 0 d
 
 -- the effect of a byte
 unfoldable pub object_at : ℕ → DepthEffect

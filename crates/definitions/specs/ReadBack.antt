@@ -1,5 +1,5 @@
 -- Document 01: the rows of a text read by `parse_minimized_rows`, and the tallies of the main and the kept-row pass.
-use Rattle.std.specs.Prelude.{Bool, false, cond, ◌&&◌, not, List, [], ◌∷◌, ◌++◌, ℕ, eqb, take}
+use Rattle.std.specs.Prelude.{Bool, false, if◌then◌else◌, ◌&&◌, not, List, [], ◌∷◌, ◌++◌, ℕ, ◌==◌, take}
 use Rattle.definitions.specs.Lists.{among, joined, only_if}
 use Rattle.definitions.specs.Lines.{Row, cut, is_row_line}
 use Rattle.definitions.specs.Reduction.{minimised}
@@ -10,7 +10,7 @@ use Rattle.definitions.specs.declared.ArrowStats.{ArrowStats}
 -- "drops one byte 13 at a line's end" (`trim_cr`)
 abbrev pub without_cr : List ℕ → List ℕ
 without_cr [] = []
-without_cr (b ∷ []) = cond (eqb b 13) [] (b ∷ [])
+without_cr (b ∷ []) = if b == 13 then [] else b ∷ []
 without_cr (b ∷ b' ∷ s) = b ∷ without_cr (b' ∷ s)
 
 -- "begin with `,` or `;`"

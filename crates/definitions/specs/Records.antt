@@ -1,5 +1,5 @@
 -- Document 01's note records: ten bytes each, and reading one back with the refusals 7 and 8.
-use Rattle.std.specs.Prelude.{cond, List, [], ◌∷◌, ◌++◌, map, ℕ, ◌+◌, ◌*◌, ◌/◌, ◌%◌, eqb, ltb, leb, length, get_or, Result, Ok, Err}
+use Rattle.std.specs.Prelude.{if◌then◌else◌, List, [], ◌∷◌, ◌++◌, map, ℕ, ◌+◌, ◌*◌, ◌/◌, ◌%◌, ◌==◌, nat_lt, nat_le, length, slice_index, Result, Ok, Err}
 use Rattle.definitions.specs.Sizes.{row_numbers_bound}
 use Rattle.definitions.specs.Lists.{joined}
 use Rattle.definitions.specs.declared.Kind.{Kind}
@@ -16,7 +16,7 @@ bytes4 x = x % 256 ∷ x / 256 % 256 ∷ x / 65536 % 256 ∷ x / 16777216 % 256 
 
 -- the number of the four bytes at a place
 unfoldable pub word : List ℕ → ℕ → ℕ
-word s at = get_or s at 0 + 256 * get_or s (at + 1) 0 + 65536 * get_or s (at + 2) 0 + 16777216 * get_or s (at + 3) 0
+word s at = slice_index s at + 256 * slice_index s (at + 1) + 65536 * slice_index s (at + 2) + 16777216 * slice_index s (at + 3)
 
 -- "0 tap, 1 hold, 2 roll, 3 mine, 4 lift, 5 fake"
 abbrev pub number_of_kind : Kind → ℕ
@@ -48,33 +48,31 @@ records ns = joined (map encode ns)
 -- its row for kinds 1 and 2, none for the others." "8: that record breaks one of the limits"
 abbrev pub plain_of : ℕ → ℕ → ℕ → Kind → Result Note Refusal
 plain_of row tail column kind =
-    cond (eqb tail 4294967295) (Ok (record { row = row; tail = Without; column = column; kind = kind })) (Err BadRecord)
+    if tail == 4294967295 then Ok (record { row = row; tail = Without; column = column; kind = kind }) else Err BadRecord
 
 -- of kinds 1 and 2: a tail above its row
 abbrev pub held_of : ℕ → ℕ → ℕ → Kind → Result Note Refusal
 held_of row tail column kind =
-    cond (ltb row tail)
-    (cond (ltb tail row_numbers_bound) (Ok (record { row = row; tail = Row tail; column = column; kind = kind })) (Err BadRecord))
-    (Err BadRecord)
+    if nat_lt row tail then (if nat_lt tail row_numbers_bound then Ok (record { row = row; tail = Row tail; column = column; kind = kind }) else Err BadRecord)
+    else Err BadRecord
 
 -- of any fields
 unfoldable pub note_of : ℕ → ℕ → ℕ → ℕ → Result Note Refusal
 note_of row tail column kind =
-    cond (leb 10 column) (Err BadRecord)
-    (cond (leb row_numbers_bound row) (Err BadRecord)
-    (cond (eqb kind 0) (plain_of row tail column Tap)
-    (cond (eqb kind 1) (held_of row tail column Hold)
-    (cond (eqb kind 2) (held_of row tail column Roll)
-    (cond (eqb kind 3) (plain_of row tail column Mine)
-    (cond (eqb kind 4) (plain_of row tail column Lift)
-    (cond (eqb kind 5) (plain_of row tail column Fake)
-    (Err BadRecord))))))))
+    if nat_le 10 column then Err BadRecord
+    else if nat_le row_numbers_bound row then Err BadRecord
+    else if kind == 0 then plain_of row tail column Tap
+    else if kind == 1 then held_of row tail column Hold
+    else if kind == 2 then held_of row tail column Roll
+    else if kind == 3 then plain_of row tail column Mine
+    else if kind == 4 then plain_of row tail column Lift
+    else if kind == 5 then plain_of row tail column Fake
+    else Err BadRecord
 
 -- "7: the records' length is not a multiple of 10, or the asked record's number is not below length div 10."
 unfoldable pub note_of_record : List ℕ → ℕ → Result Note Refusal
 note_of_record s k =
-    cond (eqb (length s % 10) 0)
-    (cond (ltb k (length s / 10))
-    (note_of (word s (k * 10)) (word s (k * 10 + 4)) (get_or s (k * 10 + 8) 0) (get_or s (k * 10 + 9) 0))
-    (Err NoRecord))
-    (Err NoRecord)
+    if length s % 10 == 0 then
+    (if nat_lt k (length s / 10) then note_of (word s (k * 10)) (word s (k * 10 + 4)) (slice_index s (k * 10 + 8)) (slice_index s (k * 10 + 9))
+    else Err NoRecord)
+    else Err NoRecord

@@ -1,5 +1,5 @@
 -- Document 01, "Minimising": the stride and the rows that stay.
-use Rattle.std.specs.Prelude.{Bool, true, cond, ◌&&◌, ◌||◌, List, [], ◌∷◌, ◌++◌, map, ℕ, zero, suc, ◌^◌, ◌%◌, eqb, length}
+use Rattle.std.specs.Prelude.{Bool, true, if◌then◌else◌, ◌&&◌, ◌||◌, List, [], ◌∷◌, ◌++◌, map, ℕ, zero, suc, ◌^◌, ◌%◌, ◌==◌, length}
 use Rattle.definitions.specs.Lists.{only_if}
 use Rattle.definitions.specs.Lines.{Row}
 use Rattle.definitions.specs.Measures.{chart}
@@ -7,11 +7,11 @@ use Rattle.definitions.specs.Measures.{chart}
 -- "the all-zero test, which asks for L bytes `0`"
 abbrev pub all_zero : Row → Bool
 all_zero [] = true
-all_zero (b ∷ r) = eqb b 48 && all_zero r
+all_zero (b ∷ r) = b == 48 && all_zero r
 
 -- i is a multiple of s
 abbrev pub multiple : ℕ → ℕ → Bool
-multiple s i = eqb (i % s) 0
+multiple s i = i % s == 0
 
 -- of rows numbered from i: "every row off its multiples all zero"
 abbrev pub off_zero : ℕ → ℕ → List Row → Bool
@@ -30,7 +30,7 @@ allows rs s = multiple s (length rs) && off_zero s 0 rs
 -- the largest power of two that they allow, with an exponent up to k; 1 is always allowed
 abbrev pub largest : ℕ → List Row → ℕ
 largest zero rs = 1
-largest (suc k) rs = cond (allows rs (2 ^ suc k)) (2 ^ suc k) (largest k rs)
+largest (suc k) rs = if allows rs (2 ^ suc k) then 2 ^ suc k else largest k rs
 
 -- "the stride is the largest power of two that" they allow: none above 2 ^ (the row count) divides the row count, unless that is 0
 unfoldable pub stride : List Row → ℕ

@@ -1,6 +1,6 @@
 -- Document 02, E1: four claims on the charts inside an SM file. `data-in-file`, `semicolon-last`, `blocks-apart` and `least-refused` in
 -- proofs/SmBlocks.antt prove them.
-use Rattle.std.specs.Prelude.{◌≡◌, List, ◌++◌, ℕ, ◌+◌, ◌≤◌, ◌<◌, length, take, drop, get_or}
+use Rattle.std.specs.Prelude.{◌≡◌, List, ◌++◌, ℕ, ◌+◌, ◌≤◌, ◌<◌, length, take, drop, slice_index}
 use Rattle.definitions.specs.Sizes.{most_bytes}
 use Rattle.definitions.specs.SmFile.{block_end, blocks, sm_tag, sm_data, sm_start, sm_number}
 
@@ -15,7 +15,7 @@ DataInFile = (file : List ℕ) (k : ℕ) → DataPart file k
 
 -- "the data holds a `;` at most as its last byte": where another byte of the data follows, none stands
 unfoldable pub SemicolonLast : Type 0
-SemicolonLast = (file : List ℕ) (k i : ℕ) → i + 1 < length (sm_data file k) → get_or (sm_data file k) i 0 ≡ 59 → ⊥
+SemicolonLast = (file : List ℕ) (k i : ℕ) → i + 1 < length (sm_data file k) → slice_index (sm_data file k) i ≡ 59 → ⊥
 
 -- "blocks stand apart and in rising order": each starts before it ends, ends within the file, and ends before any later one starts
 pub record Apart (file : List ℕ) : Type 0 where

@@ -1,6 +1,6 @@
 -- Document 02, E1: the charts inside an SM file. What is answered for block k of a file: a refusal's number, or the lane count and the data as a
 -- part of the file. 58 is `:` and 59 `;`.
-use Rattle.std.specs.Prelude.{Bool, if◌then◌else◌, ◌&&◌, List, [], ◌∷◌, ◌++◌, ℕ, ◌+◌, ◌-◌, ◌==◌, nat_eq, nat_le, nat_lt, length, drop, get_or, codes, bytes_eq, Option, Some, None, is_none, unwrap_or, Result, count_by}
+use Rattle.std.specs.Prelude.{Bool, if◌then◌else◌, ◌&&◌, List, [], ◌∷◌, ◌++◌, ℕ, ◌+◌, ◌-◌, ◌==◌, nat_eq, nat_le, nat_lt, length, drop, slice_index_or, codes, bytes_eq, Option, Some, None, is_none, unwrap_or, Result, count_by}
 use Rattle.std.specs.List.{starts_with}
 use Rattle.definitions.specs.Lists.{only_if, up_to, through, after_each}
 use Rattle.definitions.specs.Lines.{cut, is_blank_byte, trim}
@@ -90,7 +90,7 @@ lanes_of_type name =
 module _ (file : List ℕ) (k : ℕ) where
   -- the block's tag
   unfoldable pub sm_tag : Tag
-  sm_tag = get_or (blocks file) k (record { line = 0; end = 0 })
+  sm_tag = slice_index_or (blocks file) k (record { line = 0; end = 0 })
 
   -- what stands after it in the block
   unfoldable pub sm_text : List ℕ

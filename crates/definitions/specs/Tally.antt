@@ -1,5 +1,5 @@
 -- Document 01, "Tally": what one row adds up to, and the plain tally of rows.
-use Rattle.std.specs.Prelude.{Bool, ◌&&◌, List, [], ◌∷◌, ℕ, suc, ◌+◌, ◌-◌, ◌%◌, eqb, leb, count_by}
+use Rattle.std.specs.Prelude.{Bool, ◌&&◌, List, [], ◌∷◌, ℕ, suc, ◌+◌, ◌-◌, ◌%◌, ◌==◌, nat_le, count_by}
 use Rattle.definitions.specs.Lists.{number_of_bool}
 use Rattle.definitions.specs.Lines.{Row}
 use Rattle.definitions.specs.Cells.{cell_of, is_arrow}
@@ -39,7 +39,7 @@ place fake = 6
 
 -- the cells of a row that are counted so
 abbrev pub counted : CountKind → Row → ℕ
-counted k r = count_by (λ b. eqb (place (counted_as (cell_of b))) (place k)) r
+counted k r = count_by (λ b. place (counted_as (cell_of b)) == place k) r
 
 -- the cells of a row, from column c on, that pass a test of column and cell
 abbrev pub count_from : (ℕ → Cell → Bool) → ℕ → Row → ℕ
@@ -55,10 +55,10 @@ unfoldable pub row_sum_by : (Cell → Bool) → Row → RowSum
 row_sum_by arrow r =
     record {
       arrows = count_from (λ c x. arrow x) 0 r;
-      left = count_from (λ c x. arrow x && eqb (direction c) 0) 0 r;
-      down = count_from (λ c x. arrow x && eqb (direction c) 1) 0 r;
-      up = count_from (λ c x. arrow x && eqb (direction c) 2) 0 r;
-      right = count_from (λ c x. arrow x && eqb (direction c) 3) 0 r;
+      left = count_from (λ c x. arrow x && direction c == 0) 0 r;
+      down = count_from (λ c x. arrow x && direction c == 1) 0 r;
+      up = count_from (λ c x. arrow x && direction c == 2) 0 r;
+      right = count_from (λ c x. arrow x && direction c == 3) 0 r;
       holds = counted hold r;
       rolls = counted roll r;
       tails = counted tail r;
@@ -101,8 +101,8 @@ tally_with_sum t s hand holding =
       down = t.down + s.down;
       up = t.up + s.up;
       right = t.right + s.right;
-      total_steps = t.total_steps + number_of_bool (leb 1 s.arrows);
-      jumps = t.jumps + number_of_bool (leb 2 s.arrows);
+      total_steps = t.total_steps + number_of_bool (nat_le 1 s.arrows);
+      jumps = t.jumps + number_of_bool (nat_le 2 s.arrows);
       hands = t.hands + number_of_bool hand;
       mines = t.mines + s.mines;
       holds = t.holds + s.holds;
@@ -117,7 +117,7 @@ tally_with_sum t s hand holding =
 unfoldable pub tally_with_row : ArrowStats → RowSum → ArrowStats
 tally_with_row t s =
     tally_with_sum t s
-    (leb 1 s.arrows && leb 3 (s.arrows + t.holding))
+    (nat_le 1 s.arrows && nat_le 3 (s.arrows + t.holding))
     (t.holding + (s.holds + s.rolls) - s.tails)
 
 -- a tally with rows more

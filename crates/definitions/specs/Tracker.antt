@@ -1,5 +1,5 @@
 -- Document 01, "Hold tracker (`track_holds_core`)": column by column, the open heads and the pairs.
-use Rattle.std.specs.Prelude.{Bool, false, cond, ◌||◌, List, [], ◌∷◌, ◌++◌, ℕ, suc, eqb, ltb, length}
+use Rattle.std.specs.Prelude.{Bool, false, if◌then◌else◌, ◌||◌, List, [], ◌∷◌, ◌++◌, ℕ, suc, ◌==◌, nat_lt, length}
 use Rattle.definitions.specs.Lines.{Row}
 use Rattle.definitions.specs.Cells.{cell_of, byte_at, hold_effect}
 use Rattle.definitions.specs.declared.DepthEffect.{DepthEffect}
@@ -15,7 +15,7 @@ pub record Pair : Type 0 where
 abbrev pub next_stack : DepthEffect → ℕ → List ℕ → List ℕ
 next_stack Nothing i st = st
 next_stack Blocks i st = []
-next_stack Opens i st = cond (ltb (length st) 8) (i ∷ st) st
+next_stack Opens i st = if nat_lt (length st) 8 then i ∷ st else st
 next_stack Closes i [] = []
 next_stack Closes i (h ∷ st) = st
 
@@ -44,4 +44,4 @@ pairs rows c = pairs_from c 0 [] rows
 -- row i is the head of one of the pairs
 abbrev pub is_head_of : ℕ → List Pair → Bool
 is_head_of i [] = false
-is_head_of i (p ∷ ps) = eqb i p.head || is_head_of i ps
+is_head_of i (p ∷ ps) = i == p.head || is_head_of i ps

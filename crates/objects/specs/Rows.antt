@@ -1,5 +1,5 @@
 -- The depths of the last beat in a struct of ten numbers, and what the object row's test leaves there.
-use Rattle.std.specs.Prelude.{◌≡◌, ℕ, ◌+◌, ◌<◌, ◌≤◌, get_or}
+use Rattle.std.specs.Prelude.{◌≡◌, ℕ, ◌+◌, ◌<◌, ◌≤◌, slice_index}
 use Rattle.definitions.specs.Lines.{Row}
 use Rattle.definitions.specs.Objects.{object_at, is_object, deeper, after_row, object_row}
 use Rattle.definitions.specs.Objects as objects
@@ -9,7 +9,7 @@ use Rattle.objects.specs.declared.ObjectCell.{ObjectCell}
 
 -- the depth of a column
 abbrev pub depth_at : Depths → ℕ → ℕ
-depth_at s c = get_or s.depths c 0
+depth_at s c = slice_index s.depths c
 
 -- the struct holds these depths
 abbrev pub DepthsHeld : objects.Depths → Depths → Type 0

@@ -1,5 +1,5 @@
 -- The phantom depths, heads and tails in a struct, and the rows that it has counted.
-use Rattle.std.specs.Prelude.{◌≡◌, List, [], ◌∷◌, ◌++◌, ℕ, ◌*◌, ◌<◌, ◌≤◌, length, get_or}
+use Rattle.std.specs.Prelude.{◌≡◌, List, [], ◌∷◌, ◌++◌, ℕ, ◌*◌, ◌<◌, ◌≤◌, length, slice_index}
 use Rattle.definitions.specs.Lists.{number_of_bool, some_column}
 use Rattle.definitions.specs.Lines.{Row}
 use Rattle.definitions.specs.Tracker.{hold_at}
@@ -9,7 +9,7 @@ use Rattle.phantoms.specs.declared.PhantomCell.{PhantomCell}
 
 -- the phantom depth of a column
 abbrev pub phantom_at : Phantoms → ℕ → ℕ
-phantom_at p c = get_or p.depths c 0
+phantom_at p c = slice_index p.depths c
 
 -- No count of the struct is over k.
 pub record Low (k : ℕ) (p : Phantoms) : Type 0 where

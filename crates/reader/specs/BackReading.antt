@@ -1,5 +1,5 @@
 -- Minimised text read back as a loop over its lines meets it.
-use Rattle.std.specs.Prelude.{Bool, true, false, ◌&&◌, not, List, [], ◌∷◌, ◌++◌, ℕ, ◌-◌, ◌==◌, get_or}
+use Rattle.std.specs.Prelude.{Bool, true, false, ◌&&◌, not, List, [], ◌∷◌, ◌++◌, ℕ, ◌-◌, ◌==◌, slice_index}
 use Rattle.definitions.specs.Lines.{Row, cut}
 use Rattle.definitions.specs.ReadBack.{without_cr, back_row}
 use Rattle.reader.specs.Reading.{near_row}
@@ -19,4 +19,4 @@ rows_back trim L text = back_rows_by trim L (cut text)
 
 -- Whether a text begins with a row of so many bytes, as `near_row` tells it, whose last cell is no byte 13.
 abbrev pub plain_row_back : ℕ → ℕ → List ℕ → Bool
-plain_row_back L width s = near_row width s && not (get_or s (L - 1) 0 == 13)
+plain_row_back L width s = near_row width s && not (slice_index s (L - 1) == 13)

@@ -1,6 +1,6 @@
 -- How the drafts lie in the lent slice and in the writer's struct, and what the writer's own functions do there. Only their contracts cite
 -- these; callers go by `Written`.
-use Rattle.std.specs.Prelude.{◌≡◌, Bool, false, if◌then◌else◌, ◌||◌, not, List, ◌++◌, map, ℕ, ◌+◌, ◌*◌, ◌<◌, ◌≤◌, ◌==◌, length, get_or, set}
+use Rattle.std.specs.Prelude.{◌≡◌, Bool, false, if◌then◌else◌, ◌||◌, not, List, ◌++◌, map, ℕ, ◌+◌, ◌*◌, ◌<◌, ◌≤◌, ◌==◌, length, slice_index, slice_index_or, set}
 use Rattle.std.specs.Prelude.{Option, Some, None}
 use lib.Seq.{sets}
 use Rattle.definitions.specs.Sizes.{row_numbers_bound}
@@ -65,7 +65,7 @@ blank = record { row = 0; column = 0; kind = Tap; state = plain }
 
 -- where `invalid` is false no draft was dropped
 abbrev pub Clean : Bool → List Draft → Type 0
-Clean invalid ds = invalid ≡ false → (k : ℕ) → k < length ds → (get_or ds k blank).state ≡ ended None → ⊥
+Clean invalid ds = invalid ≡ false → (k : ℕ) → k < length ds → (slice_index_or ds k blank).state ≡ ended None → ⊥
 
 -- the slice l begins with the bytes of the n drafts; at c in hs is the number of the draft that waits in column c
 pub record Stored (l hs : List ℕ) (n : ℕ) (invalid : Bool) (ds : List Draft) : Type 0 where
@@ -74,10 +74,10 @@ pub record Stored (l hs : List ℕ) (n : ℕ) (invalid : Bool) (ds : List Draft)
   pub rest : List ℕ
   pub bytes : l ≡ joined (map draft_bytes ds) ++ rest
   pub ten : length hs ≡ 10
-  pub waits : (k : ℕ) → k < n → (get_or ds k blank).state ≡ waiting → get_or hs (get_or ds k blank).column 0 ≡ k
-  pub heads : (c : ℕ) → c < 10 → (get_or hs c 0 ≡ no_head → ⊥)
-      → (get_or hs c 0 < n) × ((get_or ds (get_or hs c 0) blank).column ≡ c) × ((get_or ds (get_or hs c 0) blank).state ≡ waiting)
-  pub fine : (k : ℕ) → k < n → Fine (get_or ds k blank)
+  pub waits : (k : ℕ) → k < n → (slice_index_or ds k blank).state ≡ waiting → slice_index hs (slice_index_or ds k blank).column ≡ k
+  pub heads : (c : ℕ) → c < 10 → (slice_index hs c ≡ no_head → ⊥)
+      → (slice_index hs c < n) × ((slice_index_or ds (slice_index hs c) blank).column ≡ c) × ((slice_index_or ds (slice_index hs c) blank).state ≡ waiting)
+  pub fine : (k : ℕ) → k < n → Fine (slice_index_or ds k blank)
   pub clean : Clean invalid ds
 
 abbrev pub DraftsHeld : List ℕ → ChartNotesScratch → List Draft → Type 0
@@ -88,7 +88,7 @@ DraftsHeld l s ds = Stored l s.hold_heads s.count s.has_invalid ds
 -- the record of a column's open head lies in the slice
 pub record HeadThere (l : List ℕ) (s : ChartNotesScratch) (column : ℕ) : Type 0 where
   pub inside : column < 10
-  pub head : (get_or s.hold_heads column 0 ≡ no_head → ⊥) → get_or s.hold_heads column 0 * 10 + 10 ≤ length l
+  pub head : (slice_index s.hold_heads column ≡ no_head → ⊥) → slice_index s.hold_heads column * 10 + 10 ≤ length l
 
 -- the slice after the note of a head, if there is one, has ended so
 abbrev pub end_at : List ℕ → ℕ → ℕ → List ℕ
@@ -96,11 +96,11 @@ end_at l head tail = if head == no_head then l else sets l (head * 10 + 4) (byte
 
 -- the same of the open head of a column
 abbrev pub end_head : List ℕ → List ℕ → ℕ → ℕ → List ℕ
-end_head l hs column tail = end_at l (get_or hs column 0) tail
+end_head l hs column tail = end_at l (slice_index hs column) tail
 
 -- whether a record was dropped, after the open head of a column was
 abbrev pub invalid_after : ChartNotesScratch → ℕ → Bool
-invalid_after s column = s.has_invalid || not (get_or s.hold_heads column 0 == no_head)
+invalid_after s column = s.has_invalid || not (slice_index s.hold_heads column == no_head)
 
 pub record HoldEnded (l : List ℕ) (s : ChartNotesScratch) (column tail : ℕ) (flag : Bool) (l' : List ℕ) (r : ChartNotesScratch) : Type 0 where
   pub bytes : l' ≡ end_head l s.hold_heads column tail
@@ -115,7 +115,7 @@ pub record NoteReady (l : List ℕ) (s : ChartNotesScratch) (column : ℕ) : Typ
   pub low : s.row_index < row_numbers_bound
   pub room : s.count * 10 + 10 ≤ length l
   pub few : s.count + 1 < no_head
-  pub head : (get_or s.hold_heads column 0 ≡ no_head → ⊥) → get_or s.hold_heads column 0 < s.count
+  pub head : (slice_index s.hold_heads column ≡ no_head → ⊥) → slice_index s.hold_heads column < s.count
 
 -- the column's open head is dropped, a record without a tail is added, and `head` is the column's open head
 pub record NotePushed (l : List ℕ) (s : ChartNotesScratch) (column : ℕ) (kind : Kind) (head : ℕ) (l' : List ℕ) (r : ChartNotesScratch) : Type 0 where
@@ -151,7 +151,7 @@ after_cell s column head count invalid =
 -- the same in numbers: whatever struct has them, and whatever drafts were there, is one step on
 abbrev pub CellNoted : List ℕ → ℕ → ℕ → ℕ → ℕ → NoteEffect → List ℕ → ℕ → ℕ → Bool → Type 0
 CellNoted l head count row column x l' head' count' invalid =
-    (s : ChartNotesScratch) → get_or s.hold_heads column 0 ≡ head → s.count ≡ count → s.row_index ≡ row
+    (s : ChartNotesScratch) → slice_index s.hold_heads column ≡ head → s.count ≡ count → s.row_index ≡ row
     → NoteStepped l s l' (after_cell s column head' count' invalid) 1 (step_cell row column x)
 
 -- ---- the end
@@ -166,8 +166,8 @@ pub record DraftsEnded (l : List ℕ) (n : ℕ) (invalid : Bool) (ds : List Draf
   pub count : n ≡ length ds
   pub rest : List ℕ
   pub bytes : l ≡ joined (map draft_bytes ds) ++ rest
-  pub done : (k : ℕ) → k < n → (get_or ds k blank).state ≡ waiting → ⊥
-  pub fine : (k : ℕ) → k < n → Fine (get_or ds k blank)
+  pub done : (k : ℕ) → k < n → (slice_index_or ds k blank).state ≡ waiting → ⊥
+  pub fine : (k : ℕ) → k < n → Fine (slice_index_or ds k blank)
   pub clean : Clean invalid ds
 
 -- the heads have ended, and the same notes are left

@@ -1,5 +1,5 @@
 -- Document 01, `TAP_MASK_COUNTS`: the mask of a row of `0` and `1` alone, and the counts that the table has for it.
-use Rattle.std.specs.Prelude.{Bool, ◌||◌, not, ◌≡◌, List, [], ◌∷◌, ℕ, zero, suc, ◌+◌, ◌*◌, ◌/◌, ◌%◌, ◌^◌, ◌<◌, ◌≤◌, ◌==◌, length, get_or, slice_index, if◌then◌else◌, replicate}
+use Rattle.std.specs.Prelude.{Bool, ◌||◌, not, ◌≡◌, List, [], ◌∷◌, ℕ, zero, suc, ◌+◌, ◌*◌, ◌/◌, ◌%◌, ◌^◌, ◌<◌, ◌≤◌, ◌==◌, length, slice_index, if◌then◌else◌, replicate}
 use Rattle.std.specs.Int.Bits.{bit_and}
 use Rattle.definitions.specs.Lists.{sum_columns, number_of_bool}
 use Rattle.definitions.specs.Lines.{Row}
@@ -77,12 +77,12 @@ taps_if_free busy r = free_of busy (mask_of_line r)
 
 -- of ten numbers, those whose place has no bit in `busy` are n
 abbrev pub FreeAre : ℕ → ℕ → List ℕ → Type 0
-FreeAre busy n l = (c : ℕ) → c < 10 → bit c busy ≡ 0 → get_or l c 0 ≡ n
+FreeAre busy n l = (c : ℕ) → c < 10 → bit c busy ≡ 0 → slice_index l c ≡ n
 
 -- Which of k numbers from place c on are not n, as a mask: the first of them in the lowest bit.
 abbrev pub unlike_from : ℕ → List ℕ → ℕ → ℕ → ℕ
 unlike_from n l c zero = 0
-unlike_from n l c (suc k) = number_of_bool (not (get_or l c 0 == n)) + 2 * unlike_from n l (suc c) k
+unlike_from n l c (suc k) = number_of_bool (not (slice_index l c == n)) + 2 * unlike_from n l (suc c) k
 
 unfoldable pub unlike_mask : ℕ → List ℕ → ℕ
 unlike_mask n l = unlike_from n l 0 10
