@@ -1,4 +1,5 @@
 -- The six lines, one after the other.
+use Rattle.std.proofs.Common.{arith}
 use Rattle.sheet.specs.Sheet.{lines_of_head}
 use Rattle.page.proofs.Pages.{appends_then}
 use Rattle.sheet.proofs.head_lines.Goals as goal
@@ -6,6 +7,7 @@ use Rattle.sheet.proofs.head_lines.Goals as goal
 pub returns : goal.returns
 unfolding lines_of_head
 returns c =
+    let lines =
     appends_then
     (appends_then
     (appends_then
@@ -14,3 +16,5 @@ returns c =
     c.in_ok-figure_line-4.ensures)
     c.in_ok-figure_line-5.ensures)
     c.in_ok-figure_line-6.ensures
+    in
+    grind (arith, lines)
