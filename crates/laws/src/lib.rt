@@ -8,6 +8,8 @@ ghost use Rattle.definitions.specs.Halving.{ReduceHalved};
 ghost use Rattle.definitions.specs.WriterMakes.{WriterMakes};
 ghost use Rattle.definitions.specs.SmBlocks.{DataInFile, SemicolonLast, BlocksApart, LeastRefused};
 ghost use Rattle.files.specs.Rest.{RestAnswered};
+ghost use Rattle.sheet_print.specs.Example.{PrintExample};
+ghost use Rattle.sheet_json.specs.Example.{JsonExample};
 ghost use Rattle.laws.specs.Examples.{ExamplesHold, RequestExamplesHold, CardExample, BeatsRight, DamageMet, LastBeatStays};
 
 // The papers' examples are what the definitions give.
@@ -23,6 +25,16 @@ pub fn request_examples_hold()
 // The card's example, too.
 pub fn card_example()
     ensures { CardExample }
+{}
+
+// What the form `print` gives for the figures of an example.
+pub fn print_example()
+    ensures { PrintExample }
+{}
+
+// What the form `json` gives for the same figures.
+pub fn json_example()
+    ensures { JsonExample }
 {}
 
 // Row beats and last beats that the Rust computed are what the definitions give.

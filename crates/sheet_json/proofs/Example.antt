@@ -1,15 +1,12 @@
--- The definitions of the form `json`, computed for some figures, densities, spacings and records; the last record cannot be read.
-use mathlib.Core.Path.{◌≡◌, refl}
-use mathlib.Core.List.{[], ◌∷◌}
-use Rattle.std.specs.Prelude.{codes}
+-- What the definitions of the form `json` give for the example's figures, computed.
+use mathlib.Core.Path.{refl}
 use Rattle.definitions.specs.Records.{word, note_of, note_of_record}
 use Rattle.std.specs.Fmt.{digits}
 use Rattle.page.specs.Texts.{number_field}
 use Rattle.sheet.specs.Sheet.{field_count, named_fields}
 use Rattle.sheet_json.specs.Json.{named, figure, last_beat_of, json_heads, member, members, json_tallies, entry_of_density, entry_of_spacing, value_of_note, entry_of_record, json_lists, json_of}
-use Rattle.sheet.proofs.ExampleFigures.{figures, records}
+use Rattle.sheet_json.specs.Example.{JsonExample}
 
-pub json-example : json_of figures (5 ∷ 12 ∷ []) (1 ∷ 0 ∷ []) records
-    ≡ codes "{\"measures\":2,\"rows\":20,\"notes\":3,\"last_beat\":{\"beats\":15,\"over_48\":1,\"in_48ths\":721},\"main\":{\"total_arrows\":17,\"left\":5,\"down\":4,\"up\":3,\"right\":6,\"total_steps\":12,\"jumps\":1,\"hands\":0,\"mines\":7,\"holds\":1,\"rolls\":2,\"lifts\":8,\"fakes\":9,\"holding\":10},\"kept\":{\"total_arrows\":11,\"left\":12,\"down\":13,\"up\":14,\"right\":15,\"total_steps\":16,\"jumps\":17,\"hands\":18,\"mines\":19,\"holds\":20,\"rolls\":21,\"lifts\":22,\"fakes\":23,\"holding\":24},\"judged\":{\"total_arrows\":31,\"left\":32,\"down\":33,\"up\":34,\"right\":35,\"total_steps\":36,\"jumps\":37,\"hands\":38,\"mines\":39,\"holds\":40,\"rolls\":41,\"lifts\":42,\"fakes\":43,\"holding\":44},\"densities\":[5,12],\"equally_spaced\":[true,false],\"note_records\":[[0,2,0,null],[12,3,1,15],null]}"
+pub json-example : JsonExample
 unfolding json_of named last_beat_of json_heads json_tallies json_lists figure member members entry_of_density entry_of_spacing entry_of_record value_of_note digits number_field named_fields note_of_record note_of word field_count
 json-example = refl

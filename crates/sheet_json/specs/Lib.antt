@@ -1,2 +1,3 @@
--- What the contracts of the form `json` cite.
+-- What the contracts of the form `json` cite, and what it prints for an example.
 pub mod Json
+pub mod Example

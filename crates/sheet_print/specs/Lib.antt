@@ -1,2 +1,3 @@
--- What the contracts of the form `print` cite.
+-- What the contracts of the form `print` cite, and what it prints for an example.
 pub mod Print
+pub mod Example

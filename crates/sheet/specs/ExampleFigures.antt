@@ -1,5 +1,5 @@
 -- Figures and records for the examples of the fuller forms; the last record cannot be read.
-use Rattle.std.proofs.Common.{ℕ, List, [], ◌∷◌, ◌++◌}
+use Rattle.std.specs.Prelude.{ℕ, List, [], ◌∷◌, ◌++◌}
 use Rattle.definitions.specs.declared.ArrowStats.{ArrowStats}
 use Rattle.sheet.specs.declared.SheetFigures.{SheetFigures}
 
