@@ -9,9 +9,10 @@ use borrow.Author.Tests.{leb-true}
 use lib.Dec.{eqb}
 use lib.ListN.{length, take, length-append, length-take}
 use lib.Seq.{length-take-le}
-use Rattle.definitions.specs.Lists.{joined, to_first}
+use Rattle.std.specs.List.{onto_first}
+use Rattle.definitions.specs.Lists.{joined}
 use Rattle.definitions.specs.Lanes.{most_rows_in}
-use Rattle.definitions.specs.Lines.{Row, cut, cut_at, is_blank_byte, trim, is_row_line, kind_of, line_kind, line_row}
+use Rattle.definitions.specs.Lines.{Row, cut, is_blank_byte, trim, is_row_line, kind_of, line_kind, line_row}
 use Rattle.definitions.specs.Measures.{add_line, measures, chart}
 use Rattle.definitions.specs.Reduction.{reduce, minimised}
 use Rattle.definitions.specs.Figures.{row_text, text_of, minimised_text}
@@ -57,11 +58,11 @@ cut-clean : (text : List ℕ) → All Clean (cut text)
 cut-clean [] = one none none
 cut-clean (b ∷ s) = go (eqb b 10) refl (cut s) (cut-clean s)
   where
-    first : (ls : List (List ℕ)) → eqb b 10 ≡ false → All Clean ls → All Clean (to_first b ls)
+    first : (ls : List (List ℕ)) → eqb b 10 ≡ false → All Clean ls → All Clean (onto_first b ls)
     first [] e a = one (one e none) none
     first (l ∷ ls) e (one c a) = one (one e c) a
 
-    go : (t : Bool) → eqb b 10 ≡ t → (ls : List (List ℕ)) → All Clean ls → All Clean (cut_at t b ls)
+    go : (t : Bool) → eqb b 10 ≡ t → (ls : List (List ℕ)) → All Clean ls → All Clean (cond t ([] ∷ ls) (onto_first b ls))
     go true e ls a = one none a
     go false e ls a = first ls e a
 
@@ -104,7 +105,7 @@ measures-each : (P : Row → Type 0) (L : ℕ) {ls : List (List ℕ)} → All (�
 measures-each P L none = one none none
 measures-each P L (one {a = l} {l = ls} x a) = go (line_kind L l) refl (measures L ls) (measures-each P L a)
   where
-    first : (ms : List (List Row)) (r : Row) → P r → All (All P) ms → All (All P) (to_first r ms)
+    first : (ms : List (List Row)) (r : Row) → P r → All (All P) ms → All (All P) (onto_first r ms)
     first [] r x m = one (one x none) none
     first (m ∷ ms) r x (one p q) = one (one x p) q
 
@@ -142,7 +143,7 @@ pub cut-bytes : (text : List ℕ) → line_bytes (cut text) ≡ length text + 1
 cut-bytes [] = refl
 cut-bytes (b ∷ s) = go (eqb b 10) (cut s) (cut-bytes s)
   where
-    go : (t : Bool) (ls : List (List ℕ)) → line_bytes ls ≡ length s + 1 → line_bytes (cut_at t b ls) ≡ suc (length s) + 1
+    go : (t : Bool) (ls : List (List ℕ)) → line_bytes ls ≡ length s + 1 → line_bytes (cond t ([] ∷ ls) (onto_first b ls)) ≡ suc (length s) + 1
     go true ls h = omega arith
     go false [] h = absurd (omega arith)
     go false (l ∷ ls) h = omega arith
@@ -165,7 +166,7 @@ pub measures-bytes : (L : ℕ) (ls : List (List ℕ)) → measure_bytes (measure
 measures-bytes L [] = omega arith
 measures-bytes L (l ∷ ls) = go (line_kind L l) refl (measures L ls) (measures-bytes L ls)
   where
-    first : (r : Row) → length r ≤ length l → (ms : List (List Row)) → measure_bytes ms ≤ line_bytes ls + 2 → measure_bytes (to_first r ms) ≤ length l + 1 + line_bytes ls + 2
+    first : (r : Row) → length r ≤ length l → (ms : List (List Row)) → measure_bytes ms ≤ line_bytes ls + 2 → measure_bytes (onto_first r ms) ≤ length l + 1 + line_bytes ls + 2
     first r w [] h = omega arith
     first r w (m ∷ ms) h = omega arith
 

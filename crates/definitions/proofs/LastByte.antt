@@ -1,7 +1,7 @@
 -- Minimised text is empty or ends with byte 10. Without that byte it is read back to the same rows and has the same judged tally.
 use mathlib.Core.Path.{◌≡◌, refl, ap, sym, ◌∙◌}
 use mathlib.Core.Logic.{◌⊎◌, inl, inr, ⊎_elim}
-use mathlib.Core.Bool.{Bool, true, false}
+use mathlib.Core.Bool.{Bool, true, false, cond}
 use mathlib.Core.List.{List, [], ◌∷◌, ◌++◌, append_assoc}
 use Prim.Native.Nat.{ℕ, ◌+◌, ◌-◌, ◌≤◌}
 use native.Mathlib.Omega.{arith}
@@ -9,7 +9,8 @@ use borrow.Author.Tests.{lt-leb}
 use lib.Dec.{eqb}
 use lib.ListN.{length, take, length-append}
 use lib.Seq.{take_at}
-use Rattle.definitions.specs.Lines.{Row, cut, cut_at, is_row_line}
+use Rattle.std.specs.List.{onto_first}
+use Rattle.definitions.specs.Lines.{Row, cut, is_row_line}
 use Rattle.definitions.specs.Reduction.{minimised}
 use Rattle.definitions.specs.Figures.{row_text, text_of, minimised_text}
 use Rattle.definitions.specs.ReadBack.{without_cr, back_row, back_rows, rows_read_back}
@@ -20,9 +21,9 @@ use Rattle.definitions.proofs.ChartRows.{line_bytes, cut-bytes}
 -- after a final byte 10 stands an empty line
 cut-newline : (s : List ℕ) → cut (s ++ (10 ∷ [])) ≡ cut s ++ ([] ∷ [])
 cut-newline [] = refl
-cut-newline (b ∷ s) = ap (cut_at (eqb b 10) b) (cut-newline s) ∙ go (eqb b 10) (cut s) (cut-bytes s)
+cut-newline (b ∷ s) = ap (λ ls. cond (eqb b 10) ([] ∷ ls) (onto_first b ls)) (cut-newline s) ∙ go (eqb b 10) (cut s) (cut-bytes s)
   where
-    go : (t : Bool) (ls : List (List ℕ)) → line_bytes ls ≡ length s + 1 → cut_at t b (ls ++ ([] ∷ [])) ≡ cut_at t b ls ++ ([] ∷ [])
+    go : (t : Bool) (ls : List (List ℕ)) → line_bytes ls ≡ length s + 1 → cond t ([] ∷ (ls ++ ([] ∷ []))) (onto_first b (ls ++ ([] ∷ []))) ≡ cond t ([] ∷ ls) (onto_first b ls) ++ ([] ∷ [])
     go true ls h = refl
     go false [] h = absurd (omega arith)
     go false (l ∷ ls) h = refl

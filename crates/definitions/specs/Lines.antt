@@ -1,6 +1,7 @@
 -- Document 01, "Lines, cells, measures": the lines of a text, and what a line is.
 use Rattle.std.specs.Prelude.{Bool, true, false, if◌then◌else◌, List, [], ◌∷◌, ℕ, ◌==◌, nat_le, length, take}
-use Rattle.definitions.specs.Lists.{to_first, among}
+use Rattle.std.specs.List.{slice_split}
+use Rattle.definitions.specs.Lists.{among}
 use Rattle.definitions.specs.declared.LineKind.{LineKind}
 use Rattle.definitions.specs.declared.LineKind.TheVariants as kind
 
@@ -8,15 +9,9 @@ use Rattle.definitions.specs.declared.LineKind.TheVariants as kind
 abbrev pub Row : Type 0
 Row = List ℕ
 
--- "The text is cut at byte 10. An empty text is one empty line."
-abbrev pub cut_at : Bool → ℕ → List (List ℕ) → List (List ℕ)
-cut_at true b ls = [] ∷ ls
-cut_at false b ls = to_first b ls
-
--- the lines of a text
+-- The lines of a text: "The text is cut at byte 10. An empty text is one empty line."
 abbrev pub cut : List ℕ → List (List ℕ)
-cut [] = [] ∷ []
-cut (b ∷ s) = cut_at (b == 10) b (cut s)
+cut text = slice_split (λ b. b == 10) text
 
 -- "leading blanks (9, 10, 12, 13, 32) taken off by `skip_ws`"
 unfoldable pub is_blank_byte : ℕ → Bool

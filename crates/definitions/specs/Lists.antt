@@ -7,11 +7,6 @@ number_of_bool true = 1
 number_of_bool false = 0
 
 module _ {A : Type 0} where
-  -- a put in front of the first of some lists
-  abbrev pub to_first : A → List (List A) → List (List A)
-  to_first a [] = (a ∷ []) ∷ []
-  to_first a (l ∷ ls) = (a ∷ l) ∷ ls
-
   -- the lists one after the other
   abbrev pub joined : List (List A) → List A
   joined [] = []

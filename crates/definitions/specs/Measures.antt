@@ -1,6 +1,6 @@
 -- Document 01, "Lines, cells, measures": the measures of a text, each a list of rows.
 use Rattle.std.specs.Prelude.{List, [], ◌∷◌, ℕ}
-use Rattle.definitions.specs.Lists.{to_first}
+use Rattle.std.specs.List.{onto_first}
 use Rattle.definitions.specs.Lines.{Row, cut, line_kind, line_row}
 use Rattle.definitions.specs.declared.LineKind.{LineKind}
 use Rattle.definitions.specs.declared.LineKind.TheVariants as kind
@@ -10,7 +10,7 @@ abbrev pub add_line : LineKind → Row → List (List Row) → List (List Row)
 add_line kind.Passed r ms = ms
 add_line kind.Comma r ms = [] ∷ ms
 add_line kind.Semi r ms = [] ∷ []
-add_line kind.Row r ms = to_first r ms
+add_line kind.Row r ms = onto_first r ms
 
 -- The measures of some lines. "Text without `;` ends its last measure at its end."
 abbrev pub measures : ℕ → List (List ℕ) → List (List Row)

@@ -4,7 +4,8 @@ use Rattle.std.proofs.Common.{◌≡◌, ℕ, suc, ◌+◌, ◌<◌, ◌≤◌, 
 use native.Mathlib.Decide.{dec_lt}
 use borrow.Author.Tests.{lt-leb}
 use Rattle.definitions.specs.Lists.{up_to}
-use Rattle.definitions.specs.Lines.{cut, cut_at}
+use Rattle.std.specs.List.{onto_first}
+use Rattle.definitions.specs.Lines.{cut}
 use Rattle.definitions.proofs.Lists.{up_to-short}
 use Rattle.lines.specs.Lines.{first_line, lines_from}
 
@@ -19,7 +20,7 @@ more [] = []
 more (x ∷ xs) = cut xs
 
 cut_step : (x : ℕ) (xs : List ℕ) (t : Bool) → cut xs ≡ up_to 10 xs ∷ more (drop (length (up_to 10 xs)) xs)
-    → cut_at t x (cut xs) ≡ cond t [] (x ∷ up_to 10 xs) ∷ more (drop (length (cond t [] (x ∷ up_to 10 xs))) (x ∷ xs))
+    → cond t ([] ∷ cut xs) (onto_first x (cut xs)) ≡ cond t [] (x ∷ up_to 10 xs) ∷ more (drop (length (cond t [] (x ∷ up_to 10 xs))) (x ∷ xs))
 unfolding more
 cut_step x xs true ih = refl
 cut_step x xs false ih = rw ih

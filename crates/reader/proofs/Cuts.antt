@@ -1,7 +1,7 @@
 -- A text cut into lines: its first line and those below it, and how many bytes they are.
 use mathlib.Core.Path.{◌≡◌, refl, ap, ◌∙◌}
 use mathlib.Core.Logic.{◌⊎◌, inl, inr}
-use mathlib.Core.Bool.{Bool, true, false}
+use mathlib.Core.Bool.{Bool, true, false, cond}
 use mathlib.Core.List.{List, [], ◌∷◌}
 use Prim.Native.Nat.{ℕ, suc, ◌+◌, ◌<◌, ◌≤◌}
 use native.Mathlib.Numerals.{add-one}
@@ -9,8 +9,9 @@ use native.Mathlib.Omega.{arith}
 use lib.Dec.{eqb}
 use lib.ListN.{length, take, drop, length-drop}
 use lib.Seq.{length-take-le}
-use Rattle.definitions.specs.Lists.{to_first, up_to, after}
-use Rattle.definitions.specs.Lines.{cut, cut_at}
+use Rattle.std.specs.List.{onto_first}
+use Rattle.definitions.specs.Lists.{up_to, after}
+use Rattle.definitions.specs.Lines.{cut}
 use Rattle.definitions.proofs.Lists.{up_to-front, after-cons}
 use Rattle.lines.specs.Lines.{first_line}
 
@@ -53,10 +54,10 @@ pub cut-bytes : (text : List ℕ) → lines_bytes (cut text) ≡ length text + 1
 cut-bytes [] = omega arith
 cut-bytes (b ∷ s) = go (eqb b 10) (cut-bytes s)
   where
-    first : (ls : List (List ℕ)) (n : ℕ) → lines_bytes ls ≡ n + 1 → lines_bytes (to_first b ls) ≡ suc n + 1
+    first : (ls : List (List ℕ)) (n : ℕ) → lines_bytes ls ≡ n + 1 → lines_bytes (onto_first b ls) ≡ suc n + 1
     first [] n h = absurd (omega arith)
     first (l ∷ ls) n h = omega arith
 
-    go : (t : Bool) → lines_bytes (cut s) ≡ length s + 1 → lines_bytes (cut_at t b (cut s)) ≡ suc (length s) + 1
+    go : (t : Bool) → lines_bytes (cut s) ≡ length s + 1 → lines_bytes (cond t ([] ∷ cut s) (onto_first b (cut s))) ≡ suc (length s) + 1
     go true h = omega arith
     go false h = first (cut s) (length s) h

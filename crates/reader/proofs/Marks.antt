@@ -8,7 +8,8 @@ use native.Mathlib.Omega.{arith}
 use lib.ListN.{length, take, drop, get_or}
 use lib.Seq.{get_or-take, length-take-le, take-take}
 use Rattle.std.specs.Prelude.{Option, Some, fold}
-use Rattle.definitions.specs.Lists.{to_first, after}
+use Rattle.std.specs.List.{onto_first}
+use Rattle.definitions.specs.Lists.{after}
 use Rattle.definitions.specs.Lines.{Row, cut, trim, kind_of, line_kind, line_row}
 use Rattle.definitions.specs.Measures.{add_line, measures, chart}
 use Rattle.definitions.specs.declared.LineKind.{LineKind}
@@ -54,7 +55,7 @@ abbrev add_first : List Row → List (List Row) → List (List Row)
 add_first rs [] = rs ∷ []
 add_first rs (m ∷ ms) = (rs ++ m) ∷ ms
 
-at_row : (cur : List Row) (r : Row) (ms : List (List Row)) → add_first cur (to_first r ms) ≡ add_first (cur ++ (r ∷ [])) ms
+at_row : (cur : List Row) (r : Row) (ms : List (List Row)) → add_first cur (onto_first r ms) ≡ add_first (cur ++ (r ∷ [])) ms
 at_row cur r [] = refl
 at_row cur r (m ∷ ms) = ap (λ l. l ∷ ms) (sym (append_assoc cur (r ∷ []) m))
 
@@ -63,7 +64,7 @@ add_none : (L : ℕ) (ls : List (List ℕ)) → add_first [] (measures L ls) ≡
 add_none L [] = refl
 add_none L (l ∷ ls) = go (line_kind L l) (add_none L ls)
   where
-    first : (r : Row) (ms : List (List Row)) → add_first [] (to_first r ms) ≡ to_first r ms
+    first : (r : Row) (ms : List (List Row)) → add_first [] (onto_first r ms) ≡ onto_first r ms
     first r [] = refl
     first r (m ∷ ms) = refl
 

@@ -6,7 +6,7 @@ use Prim.Native.Nat.{ℕ, zero, suc, ◌+◌, ◌<◌}
 use native.Mathlib.Omega.{arith}
 use lib.ListN.{length, take, drop}
 use Rattle.std.specs.Prelude.{slice_get}
-use Rattle.definitions.specs.Lists.{to_first}
+use Rattle.std.specs.List.{onto_first}
 use Rattle.definitions.specs.Lines.{Row, line_kind, line_row}
 use Rattle.definitions.specs.Measures.{add_line, measures, chart}
 use Rattle.definitions.specs.Beats.{beats_from}
@@ -103,12 +103,12 @@ rel-refl : {d : ℕ} (p : Standing) (s : List (List Row)) → Rel d p s s
 rel-refl (ended k) s = reading (but-refl k s)
 rel-refl over s = read
 
-both_first : {d k : ℕ} {s t : List (List Row)} (r : Row) → But d k s t → But d k (to_first r s) (to_first r t)
+both_first : {d k : ℕ} {s t : List (List Row)} (r : Row) → But d k s t → But d k (onto_first r s) (onto_first r t)
 both_first r none = other none
 both_first r (other h) = other h
 both_first r (here e h) = here e h
 
-one-first : {d k : ℕ} {s t : List (List Row)} (r : Row) → k ≡ d → Filled s → But d k s t → But d k (to_first r s) t
+one-first : {d k : ℕ} {s t : List (List Row)} (r : Row) → k ≡ d → Filled s → But d k s t → But d k (onto_first r s) t
 one-first r e full (other h) = here e h
 one-first r e full (here _ h) = here e h
 
