@@ -9,6 +9,3 @@ use Rattle.slices.specs.Zeroed.{zeroed}
 
 pub zeroed-all : (l : List ℕ) → zeroed 0 0 l ≡ replicate (length l) 0
 zeroed-all l = rw sub-zero
-
-pub zeroed-none : (l : List ℕ) (i : ℕ) → get_or (zeroed 0 0 l) i 0 ≡ 0
-zeroed-none l i = ap (λ s. get_or s i 0) (zeroed-all l) ∙ zeros-none (length l) i

@@ -22,9 +22,6 @@ pub part-all : (s : List ℕ) → data_part s ≡ part_from 5 s
 unfolding data_part data_of
 part-all s = refl
 
-pub part-none : (s : List ℕ) → part_from 0 s ≡ Some s
-part-none s = simp (le-ltb (colons s) 0 (omega arith))
-
 -- where no field ends
 colons-none : (s : List ℕ) → after_first 58 s ≡ None → colons s ≡ 0
 unfolding colons

@@ -65,12 +65,6 @@ pub by_less : (trim : Bool) (l : List ℕ) → length (trimmed_by trim l) ≤ le
 by_less true l = trim-less l
 by_less false l = omega arith
 
--- the row test by a line's first byte
-pub mark-none : (x : Bool) (l : List ℕ) → length l ≡ 0 → x ≡ (x && not (begins_mark l))
-mark-none true [] h = refl
-mark-none false [] h = refl
-mark-none x (b ∷ l) h = absurd (omega arith)
-
 pub mark-first : (x : Bool) (l : List ℕ) → (length l ≡ 0 → ⊥) → (x && not (begins_mark l)) ≡ (x && not (among (get_or l 0 0) (44 ∷ 59 ∷ [])))
 mark-first x [] h = absurd (h refl)
 mark-first x (b ∷ l) h = refl

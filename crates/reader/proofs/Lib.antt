@@ -1,5 +1,4 @@
 -- What a chart's lines are marks of, and the loops over them and over rows read back.
-pub mod Lanes
 pub mod LineKinds
 pub mod Plain
 pub mod BackReading

@@ -6,7 +6,7 @@ use native.Mathlib.Nat.{add-zero, add_assoc, add-sub_cancel_left}
 use Rattle.std.specs.List.{copy_within}
 use native.Mathlib.Omega.{arith}
 use lib.ListN.{length, take, drop, get_or, set, length-drop}
-use lib.Seq.{paste, paste-zero, paste-suc, take-paste, drop-paste, length-paste, length_paste_head, take-take, take-add, take_at, drop-drop, get_or-drop}
+use lib.Seq.{paste, paste-zero, paste-suc, take-paste, drop-paste, length_paste_head, take-take, take-add, take_at, drop-drop, get_or-drop}
 
 -- what std says of a move
 pub moved-within : (t : List ℕ) (from to n : ℕ) → paste t to (drop from t) n ≡ copy_within t from (from + n) to
@@ -98,9 +98,6 @@ module _ (d : List ℕ) (at : ℕ) (s : List ℕ) (width : ℕ) (hs : width ≤ 
   pub front-eight : 8 < width → width ≤ 12 → Front d at s width (paste (paste d at s 4) (at + 4) (drop 4 s) 4)
   front-eight l h =
       record { bytes = 8; near = h; within = omega arith; is = paste-over d at s 4 4 4 (omega arith) (omega arith) (omega arith) (omega arith) }
-
-  pub front-size : {text : List ℕ} → Front d at s width text → length text ≡ length d
-  front-size f = ap length f.is ∙ length-paste d at s f.bytes (omega (arith, f.within)) (omega (arith, f.within))
 
   -- the last four
   pub front-last : {text : List ℕ} → Front d at s width text → 4 ≤ width → paste text (at + (width - 4)) (drop (width - 4) s) 4 ≡ paste d at s width

@@ -3,24 +3,7 @@ use mathlib.Core.Path.{◌≡◌, refl, ap, sym, ◌∙◌}
 use mathlib.Core.Bool.{Bool, true, false, ◌&&◌, ◌||◌, true≢false}
 use mathlib.Core.List.{List, [], ◌∷◌}
 use Prim.Native.Nat.{ℕ, zero, suc, ◌+◌, ◌-◌, ◌*◌, ◌^◌, ◌%◌, ◌/◌, ◌≤◌, ◌<◌}
-use native.Mathlib.Nat.{
-  mod-one,
-  mul-mod_right,
-  mul-pos,
-  zero-add,
-  mul-one,
-  mul-add,
-  mul_assoc,
-  mul_comm,
-  one-mul,
-  pow-succ',
-  pow-le-pow_right,
-  lt_of_mul-lt-mul_left,
-  mul-div_cancel',
-  dvd-mul_right,
-  mod-eq-zero_of_dvd,
-  dvd_of_mod-eq-zero,
-}
+use native.Mathlib.Nat.{mod-one, mul-mod_right, mul-pos, zero-add, mul-add, mul_assoc, mul_comm, one-mul, pow-succ', pow-le-pow_right, lt_of_mul-lt-mul_left, mul-div_cancel', dvd-mul_right, mod-eq-zero_of_dvd, dvd_of_mod-eq-zero}
 use native.Mathlib.Numerals.{add-one}
 use native.Mathlib.Omega.{arith}
 use borrow.Author.Tests.{eqb-true, eqb-false, eq-eqb, leb-true, leb-false}
@@ -114,9 +97,6 @@ found-start rs n e p =
       some = p;
       off = λ k l m. absurd (true≢false (sym (eq-eqb (k % 1) 0 (mod-one k)) ∙ m));
     }
-
-pub looked-start : (rs : List Row) (step : ℕ) → Looked rs step step
-looked-start rs step = record { turn = 0; place = sym (mul-one step); zeros = λ j l. absurd (omega arith) }
 
 pub looked-step : {rs : List Row} {step row : ℕ} → Looked rs step row → all_zero (get_or rs row []) ≡ true → Looked rs step (row + 2 * step)
 looked-step {rs} {step} {row} h z =

@@ -50,9 +50,6 @@ pub record Closing (l : List ℕ) (s : ChartNotesScratch) (l' : List ℕ) (r : C
   pub free : (i : ℕ) → i < c → get_or r.hold_heads i 0 ≡ no_head
   pub part : (ds : List Draft) → DraftsHeld l s ds → (es : List Draft) × DraftsHeld l' r es × (kept es ≡ kept ds)
 
-pub closing-start : (l : List ℕ) (s : ChartNotesScratch) → Closing l s l s 0
-closing-start l s = record { inside = omega arith; same = refl; count = refl; free = λ i h. absurd (omega arith); part = λ ds S. (ds, S, refl) }
-
 module _ (l : List ℕ) (s : ChartNotesScratch) (l' : List ℕ) (r : ChartNotesScratch) (c : ℕ) (K : Closing l s l' r c) (D : SomeDrafts l s) where
   pub closing-ready : c < 10 → HeadThere l' r c
   closing-ready h =

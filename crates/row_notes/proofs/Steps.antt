@@ -105,14 +105,6 @@ module _ (l : List ℕ) (s : ChartNotesScratch) (c : ℕ) (R : NoteReady l s c) 
 
 -- ---- the same in numbers
 
-pub noted_nothing : (l : List ℕ) (head count row column : ℕ) (x : NoteEffect) → x ≡ Nothing → CellNoted l head count row column x l head count false
-noted_nothing l head count row column x e s eh ec er =
-    record {
-      stored = λ ds S. rw (← eh, ← ec, e, append-nil, or-false, set-get_or s.hold_heads column 0) S;
-      bound = omega (arith, ec);
-      row = refl;
-    }
-
 module _ (l : List ℕ) (head count row column : ℕ) (R : CellReady l head count row column) (l' : List ℕ) where
   ready : (s : ChartNotesScratch) → get_or s.hold_heads column 0 ≡ head → s.count ≡ count → s.row_index ≡ row → NoteReady l s column
   ready s eh ec er =

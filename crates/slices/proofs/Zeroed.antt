@@ -1,26 +1,11 @@
 -- The laws of the filling loops, over the element.
 use mathlib.Core.Path.{◌≡◌, refl, ap, sym, ◌∙◌}
-use mathlib.Core.List.{List, append_assoc, append-nil}
-use Prim.Native.Nat.{ℕ, zero, suc, ◌+◌, ◌-◌, ◌≤◌, ◌<◌}
-use native.Mathlib.Numerals.{add-one}
-use native.Mathlib.Omega.{arith}
-use lib.ListN.{length, get_or, set, take, replicate, length-set}
-use lib.Seq.{take_all, take-suc-set, length-take-le}
+use mathlib.Core.List.{List}
+use Prim.Native.Nat.{ℕ, zero, suc, ◌≤◌}
+use lib.ListN.{length, get_or, take, replicate}
+use lib.Seq.{length-take-le}
 use Rattle.definitions.specs.Lists.{padded}
 use Rattle.slices.specs.Zeroed.{zeroed}
-
-module _ {A : Type 0} (z : A) (i : ℕ) (l : List A) where
-  -- one zero more
-  pub zero_more : i < length l → zeroed z i l ≡ zeroed z (i + 1) (set l i z)
-  zero_more h =
-      let n : length l - i ≡ suc (length l - suc i) = omega arith in
-      rw (add-one, take-suc-set l i z, length-set, append_assoc, n)
-
-  -- past the end nothing is left to do
-  pub zero-end : length l ≤ i → zeroed z i l ≡ l
-  zero-end h =
-      let n : length l - i ≡ 0 = omega arith in
-      rw (take_all i l h, n, append-nil)
 
 -- a slice that begins with the answer, zeroed after it, is the answer padded
 pub zeroed-padded : {A : Type 0} (z : A) (answer l : List A) → take (length answer) l ≡ answer → zeroed z (length answer) l ≡ padded z (length l) answer

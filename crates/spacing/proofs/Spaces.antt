@@ -37,9 +37,6 @@ spacings-raw L text = go (chart L text)
     go [] = refl
     go (m ∷ ms) = ap (λ l. spaced_in m ∷ l) (go ms)
 
-pub spaces-start : Spaces (record { rows = 0; steps = 0; shift = 64 }) []
-spaces-start = record { rows = refl; steps = inl refl; most = omega arith; shift = λ k h. sym (le-leb k 64 h) }
-
 -- the test that the measure cannot be spaced any more
 pub lost-test : (shift steps rows : ℕ) → (eqb shift 0 && not (eqb steps rows)) ≡ true → (shift ≡ 0) × (steps ≡ rows → ⊥)
 lost-test shift steps rows h =

@@ -18,22 +18,9 @@ pub tells-below : (t : Taps) (n : ℕ) → Tells n t → n < 65536 → t ≡ Mas
 tells-below (Mask m) n e h = ap Mask (sym e)
 tells-below Other n e h = absurd (omega arith)
 
-pub tells-past : (t : Taps) (n : ℕ) → Small t → Tells n t → 65536 ≤ n → t ≡ Other
-tells-past (Mask m) n s e h = absurd (omega (arith, s m refl))
-tells-past Other n s e h = refl
-
 pub number-le : (t : Taps) (n : ℕ) → Small t → n ≡ number_of t → n ≤ 65536
 number-le (Mask m) n s e = omega (arith, s m refl)
 number-le Other n s e = omega arith
-
--- the width of a row by the tests of its length
-pub four-up : (n : ℕ) → (eqb n 4 || eqb n 5) ≡ true → 4 ≤ n
-four-up n e = go (eqb n 4) (eqb n 5) (eqb-true n 4) (eqb-true n 5) e
-  where
-    go : (p q : Bool) → (p ≡ true → n ≡ 4) → (q ≡ true → n ≡ 5) → (p || q) ≡ true → 4 ≤ n
-    go true q a b f = omega (arith, a refl)
-    go false true a b f = omega (arith, b refl)
-    go false false a b f = let z : ◌≡◌ {A = ℕ} 0 1 = cc in absurd (omega arith)
 
 pub then-five : (n : ℕ) → (eqb n 4 || eqb n 5) ≡ true → (n ≡ 4 → ⊥) → n ≡ 5
 then-five n e four = go (eqb n 5) (eqb-true n 5) (rw (ne_eqb n 4 four) at e)

@@ -35,11 +35,3 @@ unlike-free n l c h e = let here : 0 + c ≡ c = omega arith in ap (λ p. get_or
 pub from-lt : (n : ℕ) (l : List ℕ) (c k : ℕ) → unlike_from n l c k < 2 ^ k
 from-lt n l c zero = omega arith
 from-lt n l c (suc k) = omega (arith, one-le (not (eqb (get_or l c 0) n)), from-lt n l (suc c) k, pow-succ' 2 k)
-
--- one number more in front of those from c on
-pub from-before : (n : ℕ) (l : List ℕ) (c : ℕ) → 0 < c → c ≤ 10
-    → unlike_from n l (c - 1) (10 - (c - 1)) ≡ number_of_bool (not (eqb (get_or l (c - 1) 0) n)) + 2 * unlike_from n l c (10 - c)
-from-before n l c h k =
-    let one_more : 10 - (c - 1) ≡ suc (10 - c) = omega arith in
-    let next : suc (c - 1) ≡ c = omega arith in
-    ap (unlike_from n l (c - 1)) one_more ∙ ap (λ p. number_of_bool (not (eqb (get_or l (c - 1) 0) n)) + 2 * unlike_from n l p (10 - c)) next

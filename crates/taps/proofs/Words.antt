@@ -273,9 +273,6 @@ rest_of r n k h few factor places v placed go =
     subst (λ l. Tells v (tap_mask l)) (take-append-drop n r)
     (go (omega arith) (subst (λ i. BitsPlaced (word_of (zero_cells k)) factor places i (length (drop n r))) (sym long) after) (ap (λ l. word_of (zero_cells l)) (sym short)))
 
-pub product_lt : (a b : ℕ) → a < 65536 → b < 65536 → a * b < 4294967296
-product_lt a b h k = let less : a ≤ 65535 = omega arith in omega (arith, mul-le-mul_right b less)
-
 -- where the bits of one cell after four, and of two after eight, are put
 pub fifth-placed : BitsPlaced (word_of (zero_cells 1)) 16 16 4 1
 unfolding word_of

@@ -27,11 +27,6 @@ use Rattle.definitions.proofs.Shorter.{reduce-short}
 use Rattle.timing.specs.declared.TimingPass.{TimingPass}
 use Rattle.timing.specs.TimingPass.{Timed, SomeTimed}
 
--- one byte more is looked at: n says whether it is a head
-pub head_more : (s : List ℕ) (i : ℕ) (has n : Bool) → i < length s → n ≡ is_opening (hold_at (get_or s i 0))
-    → (has || has_some_head (drop i s)) ≡ ((has || n) || has_some_head (drop (i + 1) s))
-head_more s i has n h e = rw (or_assoc, e, add-one, drop-cons s i 0)
-
 head-append : (s t : List ℕ) → has_some_head (s ++ t) ≡ (has_some_head s || has_some_head t)
 head-append [] t = refl
 head-append (b ∷ s) t = rw (head-append s t, or_assoc)
