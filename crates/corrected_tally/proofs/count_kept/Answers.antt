@@ -4,7 +4,7 @@ use mathlib.Core.Path.{sym, ◌∙◌}
 use native.Mathlib.Omega.{arith}
 use Rattle.definitions.specs.Sizes.{count_bound}
 use Rattle.row_tally.proofs.Bounds.{below_more}
-use Rattle.reader.proofs.BackLoops.{back-start, back-more, next-inside, next-wide, all-came}
+use Rattle.reader.proofs.BackLoops.{back-start, back-more, next-wide, all-came}
 use Rattle.corrected_tally.proofs.Counting.{counting-start, counting-row, counting-end}
 use Rattle.corrected_tally.proofs.count_kept.Goals as goal
 
@@ -13,23 +13,12 @@ loop-cells-init c =
     back-start _ _ _ (c.into_iter-cells-iterator.ensures.into_iter_gives ∙ c.back_rows-cells-items.ensures) c.args.lanes.within.0
     (counting-start _ _ c.no_stats-stats.ensures)
 
--- its entry stands in the work slice
-pub bounds-work-i : goal.bounds-work-i
-bounds-work-i c =
-    omega (arith, c.requires.0.room, c.loop-cells.invariant.held.size, next-inside c.loop-cells.invariant.come c.in-Some.ensures.steps)
-
-pub offset_bounds-work-i : goal.offset_bounds-work-i
-offset_bounds-work-i c = omega (arith, c.loop-cells.invariant.held.size, c.loop-cells.invariant.come.few, c.requires.0.short)
-
 pub count_row-requires : goal.count_row-requires
 count_row-requires c =
     let x = c.loop-cells.invariant.come in
     let wide = next-wide x c.in-Some.ensures.steps in
     let small : 10 * c.loop-cells.i ≤ count_bound = omega (arith, c.loop-cells.invariant.held.size, x.few, c.requires.0.short) in
     (c.for_lanes-table.ensures ∙ sym wide, below_more _ _ _ small c.loop-cells.invariant.held.low)
-
-pub overflow_add-i : goal.overflow_add-i
-overflow_add-i c = omega (arith, c.loop-cells.invariant.held.size, c.loop-cells.invariant.come.few, c.requires.0.short)
 
 pub loop-cells-preserved : goal.loop-cells-preserved
 loop-cells-preserved c =

@@ -19,9 +19,6 @@ track_row-requires c =
       marking-reached _ _ _ _ c.loop-cells.invariant.held,
     )
 
-pub overflow_add-row : goal.overflow_add-row
-overflow_add-row c = omega (arith, c.loop-cells.invariant.held.size, c.loop-cells.invariant.come.few, c.requires.0.short)
-
 pub loop-cells-preserved : goal.loop-cells-preserved
 loop-cells-preserved c = back-more c.loop-cells.invariant _ c.in-Some.ensures.steps (marking-row _ _ _ _ c.loop-cells.invariant.held _ _ _ c.track_row.ensures)
 

@@ -20,9 +20,6 @@ track_row-requires c =
       tracking-reached _ _ _ _ _ c.loop-cells.invariant.held,
     )
 
-pub overflow_add-row : goal.overflow_add-row
-overflow_add-row c = omega (arith, c.loop-cells.invariant.held.size, c.loop-cells.invariant.come.few, c.requires.text_length)
-
 pub loop-cells-preserved : goal.loop-cells-preserved
 loop-cells-preserved c =
     back-more c.loop-cells.invariant _ c.in-Some.ensures.steps (tracking-row _ _ _ _ _ c.loop-cells.invariant.held _ _ _ _ (sym c.is_judged-judged.ensures) c.track_row.ensures)

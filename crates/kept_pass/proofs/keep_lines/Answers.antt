@@ -41,14 +41,6 @@ loop-line-preserved c =
     c.comma.ensures.out_bound
     c.comma.ensures.kept_after
 
-pub end_measure-requires : goal.end_measure-requires
-end_measure-requires c =
-    let w = kept-few c.loop-line.invariant.few c.loop-line.invariant.pass.held in
-    record {
-      room = (omega arith, omega (arith, w.rows), omega (arith, w.midx));
-      kept = record { done = _; cur = _; kept = c.loop-line.invariant.pass.held };
-    }
-
 pub returns : goal.returns
 returns c =
     let x = holds-over c.loop-line.invariant.pass c.in-None.ensures.steps.0 in

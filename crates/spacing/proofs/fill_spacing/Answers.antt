@@ -1,6 +1,6 @@
 -- `spacing::fill_spacing` meets its contract. At the start of each iteration the spacing of the measures that have ended is stored, and `measure` holds what
 -- counts of the open one, which is the last at the end.
-use Prim.Native.Nat.{◌<◌, ◌+◌}
+use Prim.Native.Nat.{◌<◌}
 use mathlib.Core.Path.{sym, ap, ◌∙◌}
 use native.Mathlib.Omega.{arith}
 use lib.ListN.{length}
@@ -8,18 +8,11 @@ use Rattle.definitions.specs.Lists.{number_of_bool, padded}
 use Rattle.spacing.specs.Spaces.{Spaces}
 use Rattle.reader.proofs.ChartLoops.{holds-start, holds-row, holds-comma, holds-over}
 use Rattle.scans.proofs.Filling.{Filled, filling_start, filling_row, filling_comma, filling_over, filled_count, filled_slice}
-use Rattle.spacing.proofs.Spaces.{spaced_in, spacings-raw, spaces-few}
+use Rattle.spacing.proofs.Spaces.{spaced_in, spacings-raw}
 use Rattle.spacing.proofs.fill_spacing.Goals as goal
 
 pub loop-line-init : goal.loop-line-init
 loop-line-init c = holds-start (c.into_iter-line-iterator.ensures.into_iter_gives ∙ c.chart_lines-line-items.ensures) c.args.lanes.within.0 (filling_start spaced_in (Spaces _) _ c.new-measure.ensures)
-
--- the open measure's rows are few enough for their counts
-pub add_row-requires : goal.add_row-requires
-add_row-requires c =
-    let x = c.loop-line.invariant in
-    let w = spaces-few _ _ x.held.state (length c.args.«data».now + 1) (omega (arith, x.few.fifth)) in
-    (omega (arith, w.0), omega (arith, w.1))
 
 pub loop-line-preserved-in-Row : goal.loop-line-preserved-in-Row
 loop-line-preserved-in-Row c =

@@ -19,13 +19,6 @@ add_row-requires c =
     let room = row_room c.loop-line.invariant c.in-Some.ensures.steps _ c.in-Row.is in
     (omega (arith, wide, room), omega (arith, w.fifth))
 
-pub end_measure-requires : goal.end_measure-requires
-end_measure-requires c =
-    record {
-      room = (omega arith, omega arith, omega arith, record { done = _; cur = _; timed = c.loop-line.invariant.pass.held });
-      rows_in_bounds = omega arith;
-    }
-
 pub loop-line-preserved-in-Row : goal.loop-line-preserved-in-Row
 loop-line-preserved-in-Row c =
     minimising-row c.loop-line.invariant c.in-Some.ensures.steps _ c.in-Row.is
@@ -37,13 +30,6 @@ loop-line-preserved c =
     minimising-comma c.loop-line.invariant c.in-Some.ensures.steps c.in-Comma.is
     (omega (arith, c.end_measure.ensures.no_more.0))
     c.end_measure.ensures.timed
-
-pub end_measure-requires-2 : goal.end_measure-requires-2
-end_measure-requires-2 c =
-    record {
-      room = (omega arith, omega arith, omega arith, record { done = _; cur = _; timed = c.loop-line.invariant.pass.held });
-      rows_in_bounds = omega arith;
-    }
 
 pub returns : goal.returns
 returns c =

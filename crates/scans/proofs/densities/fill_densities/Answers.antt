@@ -6,21 +6,14 @@ use native.Mathlib.Omega.{arith}
 use lib.ListN.{length}
 use Rattle.definitions.specs.Lists.{number_of_bool, padded}
 use Rattle.definitions.specs.Figures.{density}
-use Rattle.definitions.proofs.Lists.{one-le}
 use Rattle.reader.proofs.ChartLoops.{holds-start, holds-row, holds-comma, holds-over}
 use Rattle.scans.proofs.Raw.{densities-raw}
 use Rattle.scans.proofs.Filling.{Filled, filling_start, filling_row, filling_comma, filling_over, filled_count, filled_slice}
-use Rattle.scans.proofs.Steps.{Steps, steps-start, steps-more, steps-few}
+use Rattle.scans.proofs.Steps.{Steps, steps-start, steps-more}
 use Rattle.scans.proofs.densities.fill_densities.Goals as goal
 
 pub loop-line-init : goal.loop-line-init
 loop-line-init c = holds-start (c.into_iter-line-iterator.ensures.into_iter_gives ∙ c.chart_lines-line-items.ensures) c.args.lanes.within.0 (filling_start density (Steps 0) _ steps-start)
-
--- the open measure's rows are few enough for their count
-pub overflow_add-steps : goal.overflow_add-steps
-overflow_add-steps c =
-    let x = c.loop-line.invariant in
-    omega (arith, c.from-steps.ensures, one-le c.row_has_note.result, steps-few _ _ _ _ _ x.few x.held.state)
 
 pub loop-line-preserved-in-Row : goal.loop-line-preserved-in-Row
 loop-line-preserved-in-Row c =

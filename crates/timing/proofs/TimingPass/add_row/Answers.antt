@@ -1,7 +1,6 @@
 -- `timing::TimingPass::add_row` meets its contract.
-use mathlib.Core.Path.{refl}
 use Rattle.timing.proofs.Passing.{timed-row}
 use Rattle.timing.proofs.TimingPass.add_row.Goals as goal
 
-pub returns : goal.returns
-returns c = record { timed = timed-row c.args.self.now c.args.text.now c.args.row.now c.requires.0 _ c.put_row.ensures; out_after = refl }
+pub returns-clause-timed : goal.returns-clause-timed
+returns-clause-timed c = timed-row c.args.self.now c.args.text.now c.args.row.now c.requires.0 _ c.put_row.ensures
