@@ -32,7 +32,7 @@ fn figure_line(page: &mut Page, name: &str, n: u64) -> Result<(), Full>
 }
 
 // The six figures at the head.
-#[tactic(auto, using(page::proofs::Pages::keeps_then), unfolding(crate::specs::Sheet::lines_of_head))]
+#[tactic(auto, unfolding(crate::specs::Sheet::lines_of_head))]
 fn head_lines(page: &mut Page, figures: &ChartFigures) -> Result<(), Full>
     ensures { Prints page.old (lines_of_head figures.now) page.new result }
 {
@@ -68,7 +68,7 @@ fn tail_field(page: &mut Page, tail: Tail) -> Result<(), Full>
 }
 
 // A note: its row, column, kind and tail.
-#[tactic(auto, using(page::proofs::Pages::keeps_then), unfolding(crate::specs::Sheet::line_of_note))]
+#[tactic(auto, unfolding(crate::specs::Sheet::line_of_note))]
 fn note_line(page: &mut Page, note: Note) -> Result<(), Full>
     ensures { Prints page.old (line_of_note note) page.new result }
 {
