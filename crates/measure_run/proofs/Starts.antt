@@ -11,13 +11,13 @@ use Rattle.taps.specs.Taps.{FreeAre}
 use Rattle.taps.proofs.Free.{or-none}
 use Rattle.std.specs.Prelude.{None}
 use Rattle.row_notes.specs.Writer.{no_head}
-use Rattle.row_walk.specs.declared.Marks.{Marks}
+use Rattle.row_walk.specs.declared.Columns.{Columns}
 use Rattle.measure_tally.specs.declared.Counting.{Counting}
 use Rattle.measure_tally.specs.Counted.{Counted}
 use Rattle.measure_notes.specs.declared.Noting.{Noting}
 use Rattle.measure_notes.specs.Noted.{NotedRows}
 use Rattle.measure_run.specs.declared.Run.{Run}
-use Rattle.measure_run.specs.Held.{Rest, rest_of, counting_of, row_at, noting_of, run_before, marks_before}
+use Rattle.measure_run.specs.Held.{rest_of, counting_of, row_at, noting_of, columns_before, run_before}
 
 -- a mask with more columns
 free-left : (a b n : ℕ) (l : List ℕ) → FreeAre a n l → FreeAre (bit_or a b) n l
@@ -27,10 +27,7 @@ free-right : (a b n : ℕ) (l : List ℕ) → FreeAre b n l → FreeAre (bit_or 
 free-right a b n l f c h e = f c h (or-none a b c e).1
 
 module _ (L : ℕ) (c : Counting) (n : Noting) (l : List ℕ) (done : List (List Row)) where
-  abbrev first : Rest
-  first = rest_of c n c.phantoms.depths n.last.depths.depths n.scratch.hold_heads
-
-  counted-first : Counted L c done [] → Counted L (counting_of first (marks_before c n) (run_before c n)) done []
+  counted-first : Counted L c done [] → Counted L (counting_of (rest_of c n) (columns_before c n) (run_before c n)) done []
   counted-first x = record {
     stats = x.stats;
     phantoms = x.phantoms;
@@ -40,7 +37,7 @@ module _ (L : ℕ) (c : Counting) (n : Noting) (l : List ℕ) (done : List (List
     free = free-left c.busy n.last.busy 0 c.phantoms.depths x.free;
   }
 
-  noted-first : n.scratch.row_index ≡ c.rows → NotedRows L n l done [] → NotedRows L (noting_of c.rows first (marks_before c n) (run_before c n)) l done []
+  noted-first : n.scratch.row_index ≡ c.rows → NotedRows L n l done [] → NotedRows L (noting_of c.rows (rest_of c n) (columns_before c n) (run_before c n)) l done []
   noted-first e x =
       let none : row_at c.rows 0 ≡ None = rw (le-ltb c.rows 0 (omega arith)) in
       record {
@@ -61,17 +58,16 @@ module _ (L : ℕ) (c : Counting) (n : Noting) (l : List ℕ) (done : List (List
       }
 
 -- the same of what the functions answer
-module _ (L : ℕ) (c : Counting) (n : Noting) (l : List ℕ) (done : List (List Row)) (ms : List Row) (ds low hs : List ℕ) (m : Marks) (r : Run)
-    (er : r ≡ run_before c n) (em : m ≡ marks_before c n) where
+module _ (L : ℕ) (c : Counting) (n : Noting) (l : List ℕ) (done : List (List Row)) (ms : List Row) (k : Columns) (r : Run)
+    (ek : k ≡ columns_before c n) (er : r ≡ run_before c n) where
   none : [] ≡ take (r.row - c.rows) ms
   none =
       let row : r.row ≡ c.rows = ap (λ (x : Run). x.row) er in
       let zero : 0 ≡ r.row - c.rows = omega (arith, row) in
-      ap (λ k. take k ms) zero
+      ap (λ i. take i ms) zero
 
-  pub counted_start : ds ≡ c.phantoms.depths → Counted L c done [] → Counted L (counting_of (rest_of c n ds low hs) m r) done (take (r.row - c.rows) ms)
-  counted_start e x = subst (Counted L (counting_of (rest_of c n ds low hs) m r) done) none (rw (er, em, e) (counted-first L c n l done x))
+  pub counted_start : Counted L c done [] → Counted L (counting_of (rest_of c n) k r) done (take (r.row - c.rows) ms)
+  counted_start x = subst (Counted L (counting_of (rest_of c n) k r) done) none (rw (ek, er) (counted-first L c n l done x))
 
-  pub noted-start : low ≡ n.last.depths.depths → hs ≡ n.scratch.hold_heads → n.scratch.row_index ≡ c.rows → NotedRows L n l done []
-      → NotedRows L (noting_of c.rows (rest_of c n ds low hs) m r) l done (take (r.row - c.rows) ms)
-  noted-start e f g x = subst (NotedRows L (noting_of c.rows (rest_of c n ds low hs) m r) l done) none (rw (er, em, e, f) (noted-first L c n l done g x))
+  pub noted-start : n.scratch.row_index ≡ c.rows → NotedRows L n l done [] → NotedRows L (noting_of c.rows (rest_of c n) k r) l done (take (r.row - c.rows) ms)
+  noted-start e x = subst (NotedRows L (noting_of c.rows (rest_of c n) k r) l done) none (rw (ek, er) (noted-first L c n l done e x))

@@ -1,82 +1,35 @@
-// What a walk holds of a measure: numbers out of what is counted and noted before it, which change with each row, and are put back after it.
+// What a walk holds of a measure: the columns, which rows of cells change, and numbers, which each row changes. They are taken from what is counted
+// and noted before the measure, and put back after it.
 #![tactic(auto)]
 
-ghost use Rattle.std.specs.Prelude.{◌≡◌, List, [], ◌∷◌, ◌++◌, ℕ, ◌-◌, ◌≤◌, ◌<◌, length};
+ghost use Rattle.std.specs.Prelude.{◌≡◌, List, [], ◌∷◌, ◌++◌, ℕ, ◌-◌, ◌≤◌, ◌<◌};
 ghost use Rattle.definitions.specs.Sizes.{count_bound, measures_bound, row_count_bound};
 ghost use Rattle.definitions.specs.Lines.{Row};
 ghost use Rattle.row_tally.specs.Bounds.{Below, Under};
+ghost use Rattle.row_walk.specs.Rows.{Ten};
 ghost use Rattle.measure_notes.specs.Noted.{Noted, NotedRows};
-ghost use Rattle.measure_run.specs.Held.{rest_of, counting_of, row_at, noting_of, run_before, marks_before, after_cells};
+ghost use Rattle.measure_run.specs.Held.{rest_of, counting_of, row_at, noting_of, columns_before, run_before, after_cells};
 
 use definitions::ArrowStats;
 use measure_notes::Noting;
 use measure_tally::Counting;
-use objects::Depths;
 use phantoms::Phantoms;
 use row_notes::ChartNotesScratch;
-use row_walk::{Marks, Seen};
+use row_walk::{Columns, Marks, Seen};
 
-// What ordinary rows change too, in plain numbers: the tally, the number of records, the number of rows, and how many of these there are up to
-// the measure's last object row; where that is no more than before the measure, it has none.
-#[derive(Clone, Copy)]
-pub struct Run {
-    pub stats: ArrowStats,
-    pub count: usize,
-    pub row: u32,
-    pub last: u32,
-}
-
-// The object depths of the columns.
-pub fn object_depths(d: Depths) -> [u32; 10]
-    ensures { (result ≡ d.depths) × (length d.depths ≡ 10) }
+// The columns before the measure: one mask for the phantom depths, the object depths and the open heads.
+pub fn first_columns(counting: Counting, noting: Noting) -> Columns
+    ensures value { result ≡ columns_before counting noting }
+    ensures ten { Ten result }
 {
-    d.depths
-}
-
-// The open heads of the columns.
-pub fn open_heads(s: ChartNotesScratch) -> [u32; 10]
-    ensures { (result ≡ s.hold_heads) × (length s.hold_heads ≡ 10) }
-{
-    s.hold_heads
-}
-
-// Before the measure.
-pub fn first_run(counting: &Counting, noting: &Noting) -> Run
-    ensures { result ≡ run_before counting.now noting.now }
-{
-    Run {
-        stats: counting.stats,
-        count: noting.scratch.count,
-        row: counting.rows,
-        last: 0,
-    }
-}
-
-// The same; one mask for the phantom depths, the object depths and the open heads.
-pub fn first_marks(counting: &Counting, noting: &Noting) -> Marks
-    ensures { result ≡ marks_before counting.now noting.now }
-{
-    Marks {
-        heads: counting.phantoms.heads,
-        tails: counting.phantoms.tails,
-        met: counting.phantoms.met,
-        invalid: noting.scratch.has_invalid,
+    let depths = counting.phantoms.depths;
+    let low = noting.last.depths.depths;
+    let hold_heads = noting.scratch.hold_heads;
+    Columns {
+        depths,
+        low,
+        hold_heads,
         busy: counting.busy | noting.last.busy,
-    }
-}
-
-// One row more, whose cells have come to this.
-pub fn add_cells(mut r: Run, s: Seen) -> Run
-    requires { Below count_bound r.stats × Under 10 s.sum × (r.row < row_count_bound) }
-    ensures { result ≡ after_cells r s }
-{
-    row_tally::add_row_into(&mut r.stats, s.sum);
-    let row = r.row + 1;
-    Run {
-        count: s.count,
-        row,
-        last: if s.object { row } else { r.last },
-        ..r
     }
 }
 
@@ -91,38 +44,79 @@ fn last_row(first: u32, last: u32) -> Option<u32>
     }
 }
 
-// The measure ends: what was walked of it is counted and noted, with these numbers of the columns.
-pub fn end_walk(
-    counting: &mut Counting,
-    noting: &mut Noting,
-    r: Run,
-    m: Marks,
-    depths: [u32; 10],
-    low: [u32; 10],
-    hold_heads: [u32; 10],
-)
-    requires { (counting.old.rows ≤ r.row) × (r.row - counting.old.rows < row_count_bound) × (noting.old.last.midx ≤ measures_bound) }
-    ensures counting_after { counting.new ≡ counting_of (rest_of counting.old noting.old depths low hold_heads) m r }
-    ensures noted { (L : ℕ) (l : List ℕ) (done : List (List Row)) (cur : List Row) → NotedRows L (noting_of counting.old.rows (rest_of counting.old noting.old depths low hold_heads) m r) l done cur → Noted L noting.new l (done ++ (cur ∷ [])) }
-{
-    noting.scratch = ChartNotesScratch {
-        hold_heads,
-        count: r.count,
-        row_index: r.row,
-        has_invalid: m.invalid,
-    };
-    noting.last.depths.depths = low;
-    noting.last.row = last_row(counting.rows, r.last);
-    noting.last.rows = r.row - counting.rows;
-    noting.last.busy = m.busy;
-    noting.end_measure();
-    counting.stats = r.stats;
-    counting.phantoms = Phantoms {
-        depths,
-        heads: m.heads,
-        tails: m.tails,
-        met: m.met,
-    };
-    counting.rows = r.row;
-    counting.busy = m.busy;
+// The marks, the tally, the number of records, the number of rows, and how many of these there are up to the measure's last object row; where
+// that is no more than before the measure, it has none.
+#[derive(Clone, Copy)]
+pub struct Run {
+    pub marks: Marks,
+    pub stats: ArrowStats,
+    pub count: usize,
+    pub row: u32,
+    pub last: u32,
+}
+
+impl Run {
+    // Before the measure.
+    pub fn before(counting: &Counting, noting: &Noting) -> Self
+        ensures { result ≡ run_before counting.now noting.now }
+    {
+        Run {
+            marks: Marks {
+                heads: counting.phantoms.heads,
+                tails: counting.phantoms.tails,
+                met: counting.phantoms.met,
+                invalid: noting.scratch.has_invalid,
+            },
+            stats: counting.stats,
+            count: noting.scratch.count,
+            row: counting.rows,
+            last: 0,
+        }
+    }
+
+    // One row more, whose cells have come to this.
+    pub fn add_cells(&mut self, s: Seen)
+        requires { Below count_bound self.old.stats × Under 10 s.sum × (self.old.row < row_count_bound) }
+        ensures { self.new ≡ after_cells self.old s }
+    {
+        self.marks = s.marks;
+        row_tally::add_row_into(&mut self.stats, s.sum);
+        self.count = s.count;
+        self.row += 1;
+        self.last = if s.object { self.row } else { self.last };
+    }
+
+    // The measure ends: what was walked of it is counted and noted.
+    pub fn end(self, columns: Columns, counting: &mut Counting, noting: &mut Noting)
+        requires { (counting.old.rows ≤ self.row) × (self.row - counting.old.rows < row_count_bound) × (noting.old.last.midx ≤ measures_bound) }
+        ensures counting_after { counting.new ≡ counting_of (rest_of counting.old noting.old) columns self }
+        ensures noted { (L : ℕ) (l : List ℕ) (done : List (List Row)) (cur : List Row) → NotedRows L (noting_of counting.old.rows (rest_of counting.old noting.old) columns self) l done cur → Noted L noting.new l (done ++ (cur ∷ [])) }
+    {
+        let Columns {
+            depths,
+            low,
+            hold_heads,
+            busy,
+        } = columns;
+        noting.scratch = ChartNotesScratch {
+            hold_heads,
+            count: self.count,
+            row_index: self.row,
+            has_invalid: self.marks.invalid,
+        };
+        noting.last.depths.depths = low;
+        noting.last.row = last_row(counting.rows, self.last);
+        noting.last.rows = self.row - counting.rows;
+        noting.last.busy = busy;
+        noting.end_measure();
+        counting.stats = self.stats;
+        counting.phantoms = Phantoms {
+            depths,
+            heads: self.marks.heads,
+            tails: self.marks.tails,
+            met: self.marks.met,
+        };
+        counting.rows = self.row;
+        counting.busy = busy;
+    }
 }

@@ -9,6 +9,7 @@ ghost use Rattle.measure_notes.specs.Noted.{Noted};
 ghost use Rattle.tap_walk.specs.Walked.{Walking};
 
 use measure_notes::Noting;
+use measure_run::Run;
 use measure_tally::Counting;
 use taps::TapTable;
 
@@ -29,31 +30,18 @@ pub fn walk_rows(
 {
     let lanes = table.lanes.count;
     let first = counting.rows;
-    let mut depths = phantoms::phantom_depths(counting.phantoms);
-    let mut low = measure_run::object_depths(noting.last.depths);
-    let mut hold_heads = measure_run::open_heads(noting.scratch);
-    let mut m = measure_run::first_marks(counting, noting);
-    let mut r = measure_run::first_run(counting, noting);
+    let mut columns = measure_run::first_columns(*counting, *noting);
+    let mut run = Run::before(counting, noting);
     'walk: loop {
-        r = tap_walk::walk_taps(r, m, first, text, start, rows, slots, table);
-        let i = (r.row - first) as usize;
+        tap_walk::walk_taps(&mut run, &columns, first, text, start, rows, slots, table);
+        let i = (run.row - first) as usize;
         if rows <= i {
-            measure_run::end_walk(counting, noting, r, m, depths, low, hold_heads);
+            run.end(columns, counting, noting);
             return;
         }
         let at = start + i * (lanes + 1);
         let end = at + lanes;
-        let s = row_walk::walk_cells(
-            m,
-            r.count,
-            r.row,
-            &mut depths,
-            &mut low,
-            &mut hold_heads,
-            &text[at..end],
-            slots,
-        );
-        m = s.marks;
-        r = measure_run::add_cells(r, s);
+        let s = columns.walk_cells(run.marks, run.count, run.row, &text[at..end], slots);
+        run.add_cells(s);
     }
 }

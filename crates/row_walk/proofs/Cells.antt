@@ -1,5 +1,5 @@
 -- A row's cells, one after the other: what is summed, counted, scanned and noted of those before column i.
-use mathlib.Core.Path.{◌≡◌, refl, ◌∙◌}
+use mathlib.Core.Path.{◌≡◌, refl, ap, ◌∙◌}
 use mathlib.Core.Bool.{Bool, true, false, not, ◌||◌, or-false}
 use mathlib.Core.List.{List}
 use Prim.Native.Nat.{ℕ, ◌+◌, ◌<◌, ◌≤◌}
@@ -28,36 +28,37 @@ use Rattle.row_notes.specs.Writer.{no_head, after_cell}
 use Rattle.row_notes.proofs.Steps.{zero-nothing, step-nothing}
 use Rattle.row_notes.proofs.Rows.{Midrow, mid_start, mid_step, row_written}
 use Rattle.cell_walk.specs.Cells.{ByteWalked}
-use Rattle.row_walk.specs.Rows.{is_used, CellSeen, phantoms_of, notes_of, CellsReady, RowWalked}
+use Rattle.row_walk.specs.Rows.{is_used, cell_at, ColumnPut, CellSeen, phantoms_of, notes_of, CellsReady, RowWalked}
+use Rattle.row_walk.specs.declared.Columns.{Columns}
 use Rattle.row_walk.specs.declared.Marks.{Marks}
 use Rattle.row_walk.specs.declared.Seen.{Seen}
 use Rattle.cell_walk.specs.declared.CellAt.{CellAt}
 use Rattle.cell_walk.specs.declared.WalkCell.{WalkCell}
 use Rattle.row_walk.proofs.Bits.{free-marked}
 
--- From the numbers ds₀, low₀, hs₀ of the columns, n records in l₀ and the marks m₀ on, in row number k.
-pub record Cells (row : Row) (l₀ ds₀ low₀ hs₀ : List ℕ) (n k : ℕ) (m : Marks) (l ds low hs : List ℕ) (s : Seen) (i : ℕ) : Type 0 where
-  pub passed : Passed row (phantoms_of ds₀ m) (phantoms_of ds s.marks) i
-  pub scanned : Scanned row low₀ low s.object i
-  pub mid : Midrow l₀ (notes_of hs₀ n k m) l (notes_of hs s.count k s.marks) i row
+-- From the columns k₀, n records in l₀ and the marks m₀ on, in row number a.
+pub record Cells (row : Row) (l₀ : List ℕ) (k₀ : Columns) (n a : ℕ) (m : Marks) (l : List ℕ) (k : Columns) (s : Seen) (i : ℕ) : Type 0 where
+  pub passed : Passed row (phantoms_of k₀.depths m) (phantoms_of k.depths s.marks) i
+  pub scanned : Scanned row k₀.low k.low s.object i
+  pub mid : Midrow l₀ (notes_of k₀.hold_heads n a m) l (notes_of k.hold_heads s.count a s.marks) i row
   pub summed : Summed is_arrow (drop i row) (row_sum row) s.sum i
-  pub depths : FreeAre m.busy 0 ds₀ → FreeAre s.marks.busy 0 ds
-  pub lows : FreeAre m.busy 0 low₀ → FreeAre s.marks.busy 0 low
-  pub heads : FreeAre m.busy no_head hs₀ → FreeAre s.marks.busy no_head hs
-  pub size : length hs ≡ 10
+  pub depths : FreeAre k₀.busy 0 k₀.depths → FreeAre k.busy 0 k.depths
+  pub lows : FreeAre k₀.busy 0 k₀.low → FreeAre k.busy 0 k.low
+  pub heads : FreeAre k₀.busy no_head k₀.hold_heads → FreeAre k.busy no_head k.hold_heads
+  pub size : length k.hold_heads ≡ 10
 
-pub cells-start : (row : Row) (l ds low hs : List ℕ) (n k : ℕ) (m : Marks) → CellsReady row l ds low hs n k m → (sum : RowSum) → sum ≡ empty_sum
-    → Cells row l ds low hs n k m l ds low hs (record { marks = m; sum = sum; count = n; object = false }) 0
+pub cells-start : (row : Row) (l : List ℕ) (k : Columns) (n a : ℕ) (m : Marks) → CellsReady row l k n a m → (sum : RowSum) → sum ≡ empty_sum
+    → Cells row l k n a m l k (record { marks = m; sum = sum; count = n; object = false }) 0
 unfolding row_sum
-cells-start row l ds low hs n k m R sum e = record {
-  passed = passed_start row (phantoms_of ds m) R.depths;
-  scanned = scan-start row low R.lows;
-  mid = mid_start l (notes_of hs n k m) row;
+cells-start row l k n a m R sum e = record {
+  passed = passed_start row (phantoms_of k.depths m) R.ten.depths;
+  scanned = scan-start row k.low R.ten.low;
+  mid = mid_start l (notes_of k.hold_heads n a m) row;
   summed = summed-start is_arrow row sum e;
   depths = λ f. f;
   lows = λ f. f;
   heads = λ f. f;
-  size = R.heads;
+  size = R.ten.heads;
 }
 
 -- a column that is not used
@@ -92,12 +93,12 @@ zero-sum : (s : RowSum) (c b : ℕ) → b ≡ 48 → s ≡ sum_with_cell s c (ce
 unfolding cell_of add_arrow add_counted
 zero-sum s c b e = simp (e, add-zero)
 
-module _ (row : Row) (l₀ ds₀ low₀ hs₀ : List ℕ) (n k : ℕ) (m : Marks) (l ds low hs : List ℕ) (s : Seen) (i : ℕ)
-    (C : Cells row l₀ ds₀ low₀ hs₀ n k m l ds low hs s i) (h : i < length row) (u : i < 10) where
-  pub cells-zero : get_or row i 0 ≡ 48 → Cells row l₀ ds₀ low₀ hs₀ n k m l ds low hs s (i + 1)
+module _ (row : Row) (l₀ : List ℕ) (k₀ : Columns) (n a : ℕ) (m : Marks) (l : List ℕ) (k : Columns) (s : Seen) (i : ℕ)
+    (C : Cells row l₀ k₀ n a m l k s i) (h : i < length row) (u : i < 10) where
+  pub cells-zero : get_or row i 0 ≡ 48 → Cells row l₀ k₀ n a m l k s (i + 1)
   cells-zero e = record {
-    passed = zero-passed row (phantoms_of ds₀ m) (phantoms_of ds s.marks) i C.passed h u e;
-    scanned = zero-scanned row low₀ low s.object i C.scanned h u e;
+    passed = zero-passed row (phantoms_of k₀.depths m) (phantoms_of k.depths s.marks) i C.passed h u e;
+    scanned = zero-scanned row k₀.low k.low s.object i C.scanned h u e;
     mid = mid_step l₀ _ l _ i row C.mid l _ _ refl h refl (step-nothing l _ _ i _ (zero-nothing _ e));
     summed = summed-next is_arrow (drop i row) (drop (i + 1) row) (row_sum row) s.sum s.sum i (get_or row i 0) (drop-next row i h) (zero-sum s.sum i _ e) C.summed;
     depths = C.depths;
@@ -107,39 +108,39 @@ module _ (row : Row) (l₀ ds₀ low₀ hs₀ : List ℕ) (n k : ℕ) (m : Marks
   }
 
   -- one cell more
-  pub cells-next : (l' : List ℕ) (w : WalkCell) → length l' ≡ length l
-      → ByteWalked (get_or row i 0) (record { depth = get_or ds i 0; low = get_or low i 0; head = get_or hs i 0; count = s.count; row = k; column = i }) l l' w
-      → (t : Seen) → CellSeen s i w t
-      → Cells row l₀ ds₀ low₀ hs₀ n k m l' (set ds i w.phantom.depth) (set low i w.object.depth) (set hs i w.head) t (i + 1)
-  cells-next l' w el W t T =
+  pub cells-next : (l' : List ℕ) (w : WalkCell) → length l' ≡ length l → ByteWalked (get_or row i 0) (cell_at k i s.count a) l l' w
+      → (q : Columns) → ColumnPut k i w q → (t : Seen) → CellSeen s i w t → Cells row l₀ k₀ n a m l' q t (i + 1)
+  cells-next l' w el W q Q t T =
       let free = unused w.phantom.depth w.object.depth w.head no_head in
-      let old = notes_of hs s.count k s.marks in
+      let old = notes_of k.hold_heads s.count a s.marks in
       record {
-        passed = rw (T.heads, T.tails, T.met) (passed-next row (phantoms_of ds₀ m) (phantoms_of ds s.marks) w.phantom i C.passed h u (counted-cell _ _ l l' w W));
-        scanned = rw T.object (scan-next row low₀ low s.object i C.scanned w.object.object w.object.depth h u W.object W.low);
-        mid = rw (T.count, T.invalid) (mid_step l₀ _ l old i row C.mid l' (after_cell old i w.head w.count w.invalid) (effect_at (get_or row i 0)) refl h el (W.noted old refl refl refl));
+        passed = rw (Q.depths, T.heads, T.tails, T.met) (passed-next row (phantoms_of k₀.depths m) (phantoms_of k.depths s.marks) w.phantom i C.passed h u (counted-cell _ _ l l' w W));
+        scanned = rw (Q.low, T.object) (scan-next row k₀.low k.low s.object i C.scanned w.object.object w.object.depth h u W.object W.low);
+        mid = rw (Q.heads, T.count, T.invalid) (mid_step l₀ _ l old i row C.mid l' (after_cell old i w.head w.count w.invalid) (effect_at (get_or row i 0)) refl h el (W.noted old refl refl refl));
         summed = summed-next is_arrow (drop i row) (drop (i + 1) row) (row_sum row) s.sum t.sum i (get_or row i 0) (drop-next row i h) (T.sum _ W.kind W.tails) C.summed;
-        depths = λ f. free-marked s.marks.busy i t.marks.busy (is_used w) 0 ds (set ds i w.phantom.depth) T.busy
-            (λ e. get_or-set_same ds i w.phantom.depth 0 (omega (arith, C.passed.size)) ∙ (free e).0) (λ c ne. get_or-set_other ds i c w.phantom.depth 0 ne) (C.depths f);
-        lows = λ f. free-marked s.marks.busy i t.marks.busy (is_used w) 0 low (set low i w.object.depth) T.busy
-            (λ e. get_or-set_same low i w.object.depth 0 (omega (arith, C.scanned.size)) ∙ (free e).1) (λ c ne. get_or-set_other low i c w.object.depth 0 ne) (C.lows f);
-        heads = λ f. free-marked s.marks.busy i t.marks.busy (is_used w) no_head hs (set hs i w.head) T.busy
-            (λ e. get_or-set_same hs i w.head 0 (omega (arith, C.size)) ∙ (free e).2) (λ c ne. get_or-set_other hs i c w.head 0 ne) (C.heads f);
-        size = length-set hs i w.head ∙ C.size;
+        depths = λ f. rw Q.depths
+            (free-marked k.busy i q.busy (is_used w) 0 k.depths (set k.depths i w.phantom.depth) Q.busy
+            (λ e. get_or-set_same k.depths i w.phantom.depth 0 (omega (arith, C.passed.size)) ∙ (free e).0) (λ c ne. get_or-set_other k.depths i c w.phantom.depth 0 ne) (C.depths f));
+        lows = λ f. rw Q.low
+            (free-marked k.busy i q.busy (is_used w) 0 k.low (set k.low i w.object.depth) Q.busy
+            (λ e. get_or-set_same k.low i w.object.depth 0 (omega (arith, C.scanned.size)) ∙ (free e).1) (λ c ne. get_or-set_other k.low i c w.object.depth 0 ne) (C.lows f));
+        heads = λ f. rw Q.heads
+            (free-marked k.busy i q.busy (is_used w) no_head k.hold_heads (set k.hold_heads i w.head) Q.busy
+            (λ e. get_or-set_same k.hold_heads i w.head 0 (omega (arith, C.size)) ∙ (free e).2) (λ c ne. get_or-set_other k.hold_heads i c w.head 0 ne) (C.heads f));
+        size = ap length Q.heads ∙ length-set k.hold_heads i w.head ∙ C.size;
       }
 
 -- all cells are done
-pub cells-end : (row : Row) (l₀ ds₀ low₀ hs₀ : List ℕ) (n k : ℕ) (m : Marks) (l ds low hs : List ℕ) (s : Seen) (i : ℕ)
-    → CellsReady row l₀ ds₀ low₀ hs₀ n k m → Cells row l₀ ds₀ low₀ hs₀ n k m l ds low hs s i → length row ≤ i
-    → RowWalked row l₀ ds₀ low₀ hs₀ n k m l ds low hs s
-cells-end row l₀ ds₀ low₀ hs₀ n k m l ds low hs s i R C h = record {
+pub cells-end : (row : Row) (l₀ : List ℕ) (k₀ : Columns) (n a : ℕ) (m : Marks) (l : List ℕ) (k : Columns) (s : Seen) (i : ℕ)
+    → CellsReady row l₀ k₀ n a m → Cells row l₀ k₀ n a m l k s i → length row ≤ i → RowWalked row l₀ k₀ n a m l k s
+cells-end row l₀ k₀ n a m l k s i R C h = record {
   sum = summed-end is_arrow _ _ _ _ (drop_of_length-le row h) C.summed;
   under = under_more i 10 s.sum (omega (arith, C.passed.within, R.room.narrow)) C.summed.under;
   counted = λ L rows wide narrow counts. passed-end _ _ _ _ C.passed h L rows wide narrow counts;
-  tested = scan-end row (record { depths = low₀ }) _ _ _ C.scanned h;
-  written = row_written _ _ _ R.room _ (notes_of hs s.count (k + 1) s.marks) _ _ C.mid h refl refl refl refl;
+  tested = scan-end row (record { depths = k₀.low }) _ _ _ C.scanned h;
+  written = row_written _ _ _ R.room _ (notes_of k.hold_heads s.count (a + 1) s.marks) _ _ C.mid h refl refl refl refl;
   depths = C.depths;
   lows = C.lows;
   heads = C.heads;
-  ten = (C.passed.size, C.scanned.size, C.size);
+  ten = record { depths = C.passed.size; low = C.scanned.size; heads = C.size };
 }

@@ -1,5 +1,5 @@
--- A mask of columns with the bit of one of them as told; one cell more; and a row that was walked by its cells.
-use Rattle.std.specs.Prelude.{◌≡◌, Bool, not, ◌||◌, List, [], ◌∷◌, ◌++◌, ℕ, ◌+◌, ◌<◌, eqb, length}
+-- A mask of columns with the bit of one of them as told; a column as a cell leaves it; one cell more; and a row that was walked by its cells.
+use Rattle.std.specs.Prelude.{◌≡◌, Bool, not, ◌||◌, List, [], ◌∷◌, ◌++◌, ℕ, ◌+◌, ◌<◌, eqb, length, get_or, set}
 use Rattle.definitions.specs.Sizes.{count_bound}
 use Rattle.definitions.specs.Lists.{number_of_bool}
 use Rattle.definitions.specs.Lines.{Row}
@@ -19,7 +19,9 @@ use Rattle.row_notes.specs.declared.ChartNotesScratch.{ChartNotesScratch}
 use Rattle.row_notes.specs.Writer.{no_head}
 use Rattle.row_notes.specs.Written.{Written, RecordRoom}
 use Rattle.cell_walk.specs.Cells.{effect_kind}
+use Rattle.cell_walk.specs.declared.CellAt.{CellAt}
 use Rattle.cell_walk.specs.declared.WalkCell.{WalkCell}
+use Rattle.row_walk.specs.declared.Columns.{Columns}
 use Rattle.row_walk.specs.declared.Marks.{Marks}
 use Rattle.row_walk.specs.declared.Seen.{Seen}
 
@@ -31,12 +33,23 @@ pub record Marked (busy i : ℕ) (used : Bool) (r : ℕ) : Type 0 where
 abbrev pub is_used : WalkCell → Bool
 is_used w = (not (eqb w.phantom.depth 0) || not (eqb w.object.depth 0)) || not (eqb w.head no_head)
 
+-- where a cell of a column stands, with so many records before it
+abbrev pub cell_at : Columns → ℕ → ℕ → ℕ → CellAt
+cell_at k c n i =
+    record { depth = get_or k.depths c 0; low = get_or k.low c 0; head = get_or k.hold_heads c 0; count = n; row = i; column = c }
+
+-- the cell has been walked in column c
+pub record ColumnPut (k : Columns) (c : ℕ) (w : WalkCell) (r : Columns) : Type 0 where
+  pub depths : r.depths ≡ set k.depths c w.phantom.depth
+  pub low : r.low ≡ set k.low c w.object.depth
+  pub heads : r.hold_heads ≡ set k.hold_heads c w.head
+  pub busy : Marked k.busy c (is_used w) r.busy
+
 pub record CellSeen (s : Seen) (c : ℕ) (w : WalkCell) (r : Seen) : Type 0 where
   pub heads : r.marks.heads ≡ s.marks.heads + w.phantom.heads
   pub tails : r.marks.tails ≡ s.marks.tails + w.phantom.tails
   pub met : r.marks.met ≡ (s.marks.met || w.phantom.met)
   pub invalid : r.marks.invalid ≡ (s.marks.invalid || w.invalid)
-  pub busy : Marked s.marks.busy c (is_used w) r.marks.busy
   pub sum : (b : ℕ) → w.kind ≡ effect_kind (effect_at b) → w.phantom.tails ≡ number_of_bool (is_closing (hold_at b)) → r.sum ≡ sum_with_cell s.sum c (cell_of b) (is_arrow (cell_of b))
   pub count : r.count ≡ w.count
   pub object : r.object ≡ (s.object || w.object.object)
@@ -48,23 +61,27 @@ phantoms_of ds m = record { depths = ds; heads = m.heads; tails = m.tails; met =
 abbrev pub notes_of : List ℕ → ℕ → ℕ → Marks → ChartNotesScratch
 notes_of hs n i m = record { hold_heads = hs; count = n; row_index = i; has_invalid = m.invalid }
 
--- what a row asks: the phantom depths, the object depths and the open heads of the columns, the number of records and of rows
-pub record CellsReady (row : Row) (l ds low hs : List ℕ) (n i : ℕ) (m : Marks) : Type 0 where
-  pub depths : length ds ≡ 10
-  pub lows : length low ≡ 10
-  pub heads : length hs ≡ 10
-  pub phantoms : Low count_bound (phantoms_of ds m)
-  pub objects : objects.DepthsLow 4294967294 (record { depths = low })
-  pub room : RecordRoom (notes_of hs n i m) row l
+-- each column has its three numbers
+pub record Ten (k : Columns) : Type 0 where
+  pub depths : length k.depths ≡ 10
+  pub low : length k.low ≡ 10
+  pub heads : length k.hold_heads ≡ 10
+
+-- what a row asks: the columns, the number of records and of rows
+pub record CellsReady (row : Row) (l : List ℕ) (k : Columns) (n i : ℕ) (m : Marks) : Type 0 where
+  pub ten : Ten k
+  pub phantoms : Low count_bound (phantoms_of k.depths m)
+  pub objects : objects.DepthsLow 4294967294 (record { depths = k.low })
+  pub room : RecordRoom (notes_of k.hold_heads n i m) row l
 
 -- The row's cells are done: it is summed, counted, tested for an object and noted, and what was free and still is has no bit in `busy`.
-pub record RowWalked (row : Row) (l ds low hs : List ℕ) (n i : ℕ) (m : Marks) (l' ds' low' hs' : List ℕ) (r : Seen) : Type 0 where
+pub record RowWalked (row : Row) (l : List ℕ) (k : Columns) (n i : ℕ) (m : Marks) (l' : List ℕ) (k' : Columns) (r : Seen) : Type 0 where
   pub sum : r.sum ≡ row_sum row
   pub under : Under 10 r.sum
-  pub counted : RowCounted row (phantoms_of ds m) (phantoms_of ds' r.marks)
-  pub tested : RowDone row (record { depths = low }) (record { object = r.object; depths = record { depths = low' } })
-  pub written : (rows : List Row) → Written rows (notes_of hs n i m) l → Written (rows ++ (row ∷ [])) (notes_of hs' r.count (i + 1) r.marks) l'
-  pub depths : FreeAre m.busy 0 ds → FreeAre r.marks.busy 0 ds'
-  pub lows : FreeAre m.busy 0 low → FreeAre r.marks.busy 0 low'
-  pub heads : FreeAre m.busy no_head hs → FreeAre r.marks.busy no_head hs'
-  pub ten : (length ds' ≡ 10) × (length low' ≡ 10) × (length hs' ≡ 10)
+  pub counted : RowCounted row (phantoms_of k.depths m) (phantoms_of k'.depths r.marks)
+  pub tested : RowDone row (record { depths = k.low }) (record { object = r.object; depths = record { depths = k'.low } })
+  pub written : (rows : List Row) → Written rows (notes_of k.hold_heads n i m) l → Written (rows ++ (row ∷ [])) (notes_of k'.hold_heads r.count (i + 1) r.marks) l'
+  pub depths : FreeAre k.busy 0 k.depths → FreeAre k'.busy 0 k'.depths
+  pub lows : FreeAre k.busy 0 k.low → FreeAre k'.busy 0 k'.low
+  pub heads : FreeAre k.busy no_head k.hold_heads → FreeAre k'.busy no_head k'.hold_heads
+  pub ten : Ten k'

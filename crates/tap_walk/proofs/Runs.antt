@@ -21,7 +21,7 @@ use Rattle.objects.proofs.Kept.{kept-object, kept-other}
 use Rattle.row_tally.specs.Bounds.{Below}
 use Rattle.row_tally.proofs.Bounds.{below_more}
 use Rattle.row_notes.specs.Written.{RecordRoom}
-use Rattle.row_walk.specs.declared.Marks.{Marks}
+use Rattle.row_walk.specs.declared.Columns.{Columns}
 use Rattle.measure_tally.specs.Counted.{Counted, Few}
 use Rattle.measure_tally.proofs.Rows.{counted-row}
 use Rattle.measure_notes.specs.Noted.{NotedRows}
@@ -33,9 +33,9 @@ use Rattle.tap_walk.specs.Walked.{TapsAdded, Walking}
 -- ---- one row more
 
 -- the last object row
-module _ (first : ℕ) (q : Rest) (m : Marks) (r : Run) (above : first ≤ r.row) (done : List (List Row)) (cur : List Row) where
-  pub kept_run : LastKept (noting_of first q m r).last done cur → (row : Row) (low : List ℕ) (object : Bool) (busy : ℕ)
-      → RowDone row (record { depths = q.low }) (record { object = object; depths = record { depths = low } }) → FreeAre busy 0 low
+module _ (first : ℕ) (q : Rest) (k : Columns) (r : Run) (above : first ≤ r.row) (done : List (List Row)) (cur : List Row) where
+  pub kept_run : LastKept (noting_of first q k r).last done cur → (row : Row) (low : List ℕ) (object : Bool) (busy : ℕ)
+      → RowDone row (record { depths = k.low }) (record { object = object; depths = record { depths = low } }) → FreeAre busy 0 low
       → LastKept (record { depths = record { depths = low }; busy = busy; found = q.found; row = row_at first (cond object (r.row + 1) r.last); rows = r.row + 1 - first; midx = q.midx }) done (cur ++ (row ∷ []))
   kept_run x row low true busy w free =
       let rows : r.row + 1 - first ≡ r.row - first + 1 = omega arith in
@@ -45,31 +45,31 @@ module _ (first : ℕ) (q : Rest) (m : Marks) (r : Run) (above : first ≤ r.row
       let rows : r.row + 1 - first ≡ r.row - first + 1 = omega arith in
       rw rows (kept-other _ done cur x row _ w busy free refl)
 
-module _ (L : ℕ) (q : Rest) (m : Marks) (r : Run) (l l' : List ℕ) (done : List (List Row)) (cur : List Row) (row : Row) where
+module _ (L : ℕ) (q : Rest) (k : Columns) (r : Run) (l l' : List ℕ) (done : List (List Row)) (cur : List Row) (row : Row) where
   -- of taps
-  module _ (mask : ℕ) (t : Run) (A : TapsAdded r mask l l' t) (free : FreeTaps m.busy mask row) (w : length row ≤ L) where
-    pub counted-taps : L ≤ 10 → Counted L (counting_of q m r) done cur → Counted L (counting_of q m t) done (cur ++ (row ∷ []))
+  module _ (mask : ℕ) (t : Run) (A : TapsAdded r mask l l' t) (free : FreeTaps k.busy mask row) (w : length row ≤ L) where
+    pub counted-taps : L ≤ 10 → Counted L (counting_of q k r) done cur → Counted L (counting_of q k t) done (cur ++ (row ∷ []))
     counted-taps v x =
-        rw A.row (counted-row L _ done cur x row w v _ _ _ (A.stats row free.mask) (free-row _ _ row _ free x.free) x.free)
+        rw (A.marks, A.row) (counted-row L _ done cur x row w v _ _ _ (A.stats row free.mask) (free-row _ _ row _ free x.free) x.free)
 
     pub noted-taps : (first : ℕ) → first ≤ r.row → r.row < row_count_bound → length row ≤ 10 → (r.count + length row) * 10 ≤ length l
-        → NotedRows L (noting_of first q m r) l done cur → NotedRows L (noting_of first q m t) l' done (cur ++ (row ∷ []))
+        → NotedRows L (noting_of first q k r) l done cur → NotedRows L (noting_of first q k t) l' done (cur ++ (row ∷ []))
     noted-taps first above few narrow space x =
-        let room : RecordRoom (noting_of first q m r).scratch row l = record { rows = joined done ++ cur; written = x.written; few = omega (arith, x.written.row); narrow = narrow; room = space } in
-        rw (A.row, A.last)
+        let room : RecordRoom (noting_of first q k r).scratch row l = record { rows = joined done ++ cur; written = x.written; few = omega (arith, x.written.row); narrow = narrow; room = space } in
+        rw (A.marks, A.row, A.last)
         (noted-row L _ l l' row done cur w x _ _
-        (A.written (noting_of first q m r).scratch row (record { row = refl; count = refl; room = room; heads = record { busy = m.busy; mask = mask; taps = free; free = x.free }; mask = free.mask }))
-        (kept_run first q m r above done cur x.last row q.low (not (eqb mask 0)) m.busy (free-done _ _ row _ free x.last.free) x.last.free)
+        (A.written (noting_of first q k r).scratch row (record { row = refl; count = refl; room = room; heads = record { busy = k.busy; mask = mask; taps = free; free = x.free }; mask = free.mask }))
+        (kept_run first q k r above done cur x.last row k.low (not (eqb mask 0)) k.busy (free-done _ _ row _ free x.last.free) x.last.free)
         x.free)
 
 -- ---- what one more asks
 
-pub stats-few : (q : Rest) (m : Marks) (r : Run) → r.row < row_count_bound → Few (counting_of q m r) → Below count_bound r.stats
-stats-few q m r h few = below_more (10 * r.row) count_bound r.stats (omega arith) few.stats
+pub stats-few : (q : Rest) (k : Columns) (r : Run) → r.row < row_count_bound → Few (counting_of q k r) → Below count_bound r.stats
+stats-few q k r h few = below_more (10 * r.row) count_bound r.stats (omega arith) few.stats
 
 -- the rows of the measure are numbers
-pub run-few : (L first : ℕ) (q : Rest) (m : Marks) (r : Run) (l : List ℕ) (ms : List Row) → Walking L (counting_of q m r) (noting_of first q m r) l ms (r.row - first)
+pub run-few : (L first : ℕ) (q : Rest) (k : Columns) (r : Run) (l : List ℕ) (ms : List Row) → Walking L (counting_of q k r) (noting_of first q k r) l ms (r.row - first)
     → first ≤ r.row → r.row ≤ first + length ms → first + length ms < row_count_bound
-run-few L first q m r l ms W h k =
+run-few L first q k r l ms W below above =
     let here : length (take (r.row - first) ms) ≡ r.row - first = length-take-le (r.row - first) ms (omega arith) in
     omega (arith, W.counted.rows, length-append (joined W.done) (take (r.row - first) ms), here, W.few)

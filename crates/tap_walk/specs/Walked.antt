@@ -9,7 +9,7 @@ use Rattle.taps.specs.declared.Taps.TheVariants.{Mask}
 use Rattle.row_tally.specs.Bounds.{Below}
 use Rattle.row_notes.specs.declared.ChartNotesScratch.{ChartNotesScratch}
 use Rattle.row_notes.specs.Written.{Written, MaskFits, SomeMask, after_taps}
-use Rattle.row_walk.specs.declared.Marks.{Marks}
+use Rattle.row_walk.specs.declared.Columns.{Columns}
 use Rattle.measure_tally.specs.declared.Counting.{Counting}
 use Rattle.measure_tally.specs.Counted.{Counted}
 use Rattle.measure_notes.specs.declared.Noting.{Noting}
@@ -25,6 +25,7 @@ pub record TapsReady (r : Run) (mask : ℕ) (wide : Bool) (l : List ℕ) : Type 
   pub some : SomeMask r.row r.count mask l
 
 pub record TapsAdded (r : Run) (mask : ℕ) (l l' : List ℕ) (t : Run) : Type 0 where
+  pub marks : t.marks ≡ r.marks
   pub stats : (cells : Row) → mask_of_line cells ≡ Mask mask → t.stats ≡ tally_with_row r.stats (row_sum cells)
   pub written : (s : ChartNotesScratch) (cells : Row) → MaskFits r.row r.count mask l s cells → (rows : List Row) → Written rows s l → Written (rows ++ (cells ∷ [])) (after_taps s t.count) l'
   pub row : t.row ≡ r.row + 1
@@ -40,6 +41,6 @@ pub record Walking (L : ℕ) (c : Counting) (n : Noting) (l : List ℕ) (ms : Li
   pub midx : length done ≤ measures_bound
 
 -- The same of what a walk holds, where `first` rows stand before the measure.
-pub record Running (L first : ℕ) (m : Marks) (r : Run) (l : List ℕ) (ms : List Row) : Type 0 where
+pub record Running (L first : ℕ) (k : Columns) (r : Run) (l : List ℕ) (ms : List Row) : Type 0 where
   pub rest : Rest
-  pub walking : Walking L (counting_of rest m r) (noting_of first rest m r) l ms (r.row - first)
+  pub walking : Walking L (counting_of rest k r) (noting_of first rest k r) l ms (r.row - first)

@@ -10,56 +10,46 @@ ghost use Rattle.measure_run.specs.Held.{Rest, counting_of, noting_of};
 ghost use Rattle.tap_walk.specs.Walked.{TapsReady, TapsAdded, Running};
 
 use measure_run::Run;
-use row_walk::Marks;
+use row_walk::Columns;
 use taps::{TapTable, Taps};
 
 // One row of taps more, all in columns that are not busy.
-fn add_taps(mut r: Run, mask: u16, slots: &mut [u8], table: &TapTable) -> Run
-    requires { TapsReady r mask table.now.wide slots.old }
-    ensures { TapsAdded r mask slots.old slots.new result }
+fn add_taps(run: &mut Run, mask: u16, slots: &mut [u8], table: &TapTable)
+    requires { TapsReady run.old mask table.now.wide slots.old }
+    ensures { TapsAdded run.old mask slots.old slots.new run.new }
 {
-    row_tally::count_taps(&mut r.stats, mask, table);
-    let row = r.row + 1;
-    Run {
-        count: row_notes::push_mask(r.row, r.count, mask, slots),
-        row,
-        last: if mask != 0 { row } else { r.last },
-        ..r
-    }
+    row_tally::count_taps(&mut run.stats, mask, table);
+    run.count = row_notes::push_mask(run.row, run.count, mask, slots);
+    run.row += 1;
+    run.last = if mask != 0 { run.row } else { run.last };
 }
 
 // Ordinary rows of a measure, up to the first row that is not: it stands in a text from `start` on, and `first` rows stand before it.
 pub fn walk_taps(
-    old: Run,
-    m: Marks,
+    run: &mut Run,
+    columns: &Columns,
     first: u32,
     text: &[u8],
     start: usize,
     rows: usize,
     slots: &mut [u8],
     table: &TapTable,
-) -> Run
-    requires in_text { (start + rows * (table.now.lanes.count + 1) ≤ length text.now) × (first ≤ old.row) × (old.row ≤ first + rows) }
-    requires running { Running table.now.lanes.count first m old slots.old (rows_at (table.now.lanes.count + 1) table.now.lanes.count rows (drop start text.now)) }
-    ensures onwards { (old.row ≤ result.row) × (result.row ≤ first + rows) }
-    ensures counted { (q : Rest) (done : List (List Row)) → Counted table.now.lanes.count (counting_of q m old) done (take (old.row - first) (rows_at (table.now.lanes.count + 1) table.now.lanes.count rows (drop start text.now))) → Counted table.now.lanes.count (counting_of q m result) done (take (result.row - first) (rows_at (table.now.lanes.count + 1) table.now.lanes.count rows (drop start text.now))) }
-    ensures noted_rows { (q : Rest) (done : List (List Row)) → NotedRows table.now.lanes.count (noting_of first q m old) slots.old done (take (old.row - first) (rows_at (table.now.lanes.count + 1) table.now.lanes.count rows (drop start text.now))) → NotedRows table.now.lanes.count (noting_of first q m result) slots.new done (take (result.row - first) (rows_at (table.now.lanes.count + 1) table.now.lanes.count rows (drop start text.now))) }
+)
+    requires in_text { (start + rows * (table.now.lanes.count + 1) ≤ length text.now) × (first ≤ run.old.row) × (run.old.row ≤ first + rows) }
+    requires running { Running table.now.lanes.count first columns.now run.old slots.old (rows_at (table.now.lanes.count + 1) table.now.lanes.count rows (drop start text.now)) }
+    ensures onwards { (run.old.row ≤ run.new.row) × (run.new.row ≤ first + rows) }
+    ensures counted { (q : Rest) (done : List (List Row)) → Counted table.now.lanes.count (counting_of q columns.now run.old) done (take (run.old.row - first) (rows_at (table.now.lanes.count + 1) table.now.lanes.count rows (drop start text.now))) → Counted table.now.lanes.count (counting_of q columns.now run.new) done (take (run.new.row - first) (rows_at (table.now.lanes.count + 1) table.now.lanes.count rows (drop start text.now))) }
+    ensures noted_rows { (q : Rest) (done : List (List Row)) → NotedRows table.now.lanes.count (noting_of first q columns.now run.old) slots.old done (take (run.old.row - first) (rows_at (table.now.lanes.count + 1) table.now.lanes.count rows (drop start text.now))) → NotedRows table.now.lanes.count (noting_of first q columns.now run.new) slots.new done (take (run.new.row - first) (rows_at (table.now.lanes.count + 1) table.now.lanes.count rows (drop start text.now))) }
 {
     let lanes = table.lanes.count;
-    let mut r = old;
     let stop = first + rows as u32;
-    let mut at = start + (r.row - first) as usize * (lanes + 1);
-    while r.row < stop {
+    let mut at = start + (run.row - first) as usize * (lanes + 1);
+    while run.row < stop {
         let end = at + lanes;
-        match taps::free_taps(&text[at..end], m.busy) {
-            Taps::Mask(mask) => {
-                r = add_taps(r, mask, slots, table);
-            }
-            Taps::Other => {
-                return r;
-            }
+        match taps::free_taps(&text[at..end], columns.busy) {
+            Taps::Mask(mask) => add_taps(run, mask, slots, table),
+            Taps::Other => return,
         }
         at = end + 1;
     }
-    r
 }

@@ -19,34 +19,32 @@ use Rattle.tap_walk.proofs.Walks.{walked_on, count-few, note-ready, measure-read
 use Rattle.tap_walk.proofs.Runs.{stats-few}
 use Rattle.measure_walk.proofs.Runs.{counted-cells, noted-cells, cells-asked}
 use Rattle.measure_walk.proofs.walk_rows.Goals as goal
-use Rattle.measure_walk.proofs.walk_rows.Goals.{After-walk_taps-r}
+use Rattle.measure_walk.proofs.walk_rows.Goals.{After-walk_taps}
 
 pub walk-init : goal.walk-init
 walk-init c =
     let a = c.args in
-    let p = c.phantom_depths-depths.ensures in
-    let o = c.object_depths-low.ensures in
-    let h = c.open_heads-hold_heads.ensures in
-    let r = c.first_run-r.ensures in
-    let row : c.first_run-r.result.row ≡ a.counting.now.rows = ap (λ (x : Run). x.row) r in
+    let k = c.first_columns-columns.ensures in
+    let r = c.before-run.ensures in
+    let row : c.before-run.result.row ≡ a.counting.now.rows = ap (λ (x : Run). x.row) r in
     let number : a.noting.now.scratch.row_index ≡ a.counting.now.rows = c.requires.walking.noted.written.row ∙ sym c.requires.walking.counted.rows in (
       omega (arith, row),
       omega (arith, row),
       refl,
-      (rw p.0 p.1, rw o.0 o.1, rw h.0 h.1),
-      (λ done x. counted_start _ a.counting.now a.noting.now a.slots.now _ _ _ c.object_depths-low.result c.open_heads-hold_heads.result _ _ r c.first_marks-m.ensures p.0 x),
-      (λ done x. noted-start _ a.counting.now _ _ _ _ c.phantom_depths-depths.result _ _ _ _ r c.first_marks-m.ensures o.0 h.0 number x),
+      k.ten,
+      (λ done x. counted_start _ a.counting.now a.noting.now a.slots.now done _ _ _ k.value r x),
+      (λ done x. noted-start _ a.counting.now a.noting.now a.slots.now done _ _ _ k.value r number x),
       refl,
       refl,
     )
 
-pub walk_taps-r-requires : goal.walk_taps-r-requires
-walk_taps-r-requires c =
+pub walk_taps-requires : goal.walk_taps-requires
+walk_taps-requires c =
     let v = c.walk.invariant in
     record {
       in_text = (c.requires.in_text, v.0, v.1);
       running = record {
-        rest = rest_of c.args.counting.now c.args.noting.now c.walk.depths c.walk.low c.walk.hold_heads;
+        rest = rest_of c.args.counting.now c.args.noting.now;
         walking = walked_on _ _ _ _ _ _ _ _ 0 _ c.requires.walking v.2 v.4 v.5;
       };
     }
@@ -54,88 +52,87 @@ walk_taps-r-requires c =
 -- ---- with ordinary rows more
 
 -- the measure's rows
-abbrev all : After-walk_taps-r → List Row
+abbrev all : After-walk_taps → List Row
 all c = rows_of c.args.table.now.lanes.count c.args.rows c.args.text.now c.args.start
 
 -- what ordinary rows leave
-abbrev rest : After-walk_taps-r → Rest
-rest c = rest_of c.args.counting.now c.args.noting.now c.walk.depths c.walk.low c.walk.hold_heads
+abbrev rest : After-walk_taps → Rest
+rest c = rest_of c.args.counting.now c.args.noting.now
 
 -- the number of the next row in the measure
-abbrev number : After-walk_taps-r → ℕ
-number c = c.walk_taps-r.result.row - c.args.counting.now.rows
+abbrev number : After-walk_taps → ℕ
+number c = c.walk_taps.new.run.row - c.args.counting.now.rows
 
 -- what is walked
-walked : (c : After-walk_taps-r) →
-    let t = c.walk_taps-r in
-    Walking c.args.table.now.lanes.count (counting_of (rest c) c.walk.m t.result) (noting_of c.args.counting.now.rows (rest c) c.walk.m t.result) t.new.slots (all c) (number c)
+walked : (c : After-walk_taps) →
+    let t = c.walk_taps in
+    Walking c.args.table.now.lanes.count (counting_of (rest c) c.walk.columns t.new.run) (noting_of c.args.counting.now.rows (rest c) c.walk.columns t.new.run) t.new.slots (all c) (number c)
 walked c =
-    let t = c.walk_taps-r in
+    let t = c.walk_taps in
     let v = c.walk.invariant in
     walked_on _ _ _ _ _ _ _ _ 0 _ c.requires.walking (t.auto.slots ∙ v.2) (λ done x. t.ensures.counted (rest c) done (v.4 done x)) (λ done x. t.ensures.noted_rows (rest c) done (v.5 done x))
 
 -- ---- no row is left
 
-pub end_walk-requires : goal.end_walk-requires
-end_walk-requires c =
-    let k = (goal.at.end_walk-requires c).After-walk_taps-r in
-    let h : number k ≤ length (all k) = rw rows-length (omega (arith, c.walk_taps-r.ensures.onwards.1)) in
+pub end-requires : goal.end-requires
+end-requires c =
+    let k = (goal.at.end-requires c).After-walk_taps in
+    let h : number k ≤ length (all k) = rw rows-length (omega (arith, c.walk_taps.ensures.onwards.1)) in
     let ready = measure-ready _ _ _ _ _ _ (walked k) h in
-    rw (c.walk.invariant.6, c.walk.invariant.7) (omega (arith, c.walk_taps-r.ensures.onwards.0, c.walk.invariant.0), ready.0, ready.1)
+    rw (c.walk.invariant.6, c.walk.invariant.7) (omega (arith, c.walk_taps.ensures.onwards.0, c.walk.invariant.0), ready.0, ready.1)
 
 pub returns-then-rows-i : goal.returns-then-rows-i
 returns-then-rows-i c =
-    let k = (goal.at.returns-then-rows-i c).After-walk_taps-r in
+    let k = (goal.at.returns-then-rows-i c).After-walk_taps in
     let v = c.walk.invariant in
-    let t = c.walk_taps-r.ensures in
+    let t = c.walk_taps.ensures in
     let whole = take_all (number k) (all k) (rw rows-length c.if-rows-i.true) in
     record {
-      counted = λ done x. rw (c.end_walk.ensures.counting_after, v.6) (subst (Counted c.args.table.now.lanes.count _ done) whole (t.counted (rest k) done (v.4 done x)));
-      noted = λ done x. c.end_walk.ensures.noted c.args.table.now.lanes.count _ done (all k) (rw (v.6, v.7) (subst (NotedRows c.args.table.now.lanes.count _ _ done) whole (t.noted_rows (rest k) done (v.5 done x))));
+      counted = λ done x. rw (c.end.ensures.counting_after, v.6) (subst (Counted c.args.table.now.lanes.count _ done) whole (t.counted (rest k) done (v.4 done x)));
+      noted = λ done x. c.end.ensures.noted c.args.table.now.lanes.count _ done (all k) (rw (v.6, v.7) (subst (NotedRows c.args.table.now.lanes.count _ _ done) whole (t.noted_rows (rest k) done (v.5 done x))));
     }
 
 -- ---- the next row is not ordinary
 
 pub walk_cells-s-requires : goal.walk_cells-s-requires
 walk_cells-s-requires c =
-    let k = (goal.at.walk_cells-s-requires c).After-walk_taps-r in
+    let k = (goal.at.walk_cells-s-requires c).After-walk_taps in
     let a = c.args in
     let L = c.args.table.now.lanes.count in
     let narrow = c.args.table.now.lanes.within.1 in
-    let ten = c.walk.invariant.3 in
     let h : number k < length (all k) = rw rows-length c.if-rows-i.false in
     let few = count-few _ _ _ _ _ _ (walked k) h in
     let at = a.start + number k * (L + 1) in
     let row = part L a.text.now at in
     let wide = row-wide L a.rows a.text.now a.start c.requires.in_text (number k) at c.if-rows-i.false refl in
     let ready = note-ready _ _ _ _ _ _ (walked k) h row wide narrow in
-    cells-asked a.counting.now.rows (rest k) c.walk.m c.walk_taps-r.result row _ few.0 few.1 ready ten.0 ten.1 ten.2
+    cells-asked a.counting.now.rows (rest k) c.walk.columns c.walk_taps.new.run row _ few.0 few.1 ready c.walk.invariant.3
 
-pub add_cells-r-requires : goal.add_cells-r-requires
-add_cells-r-requires c =
-    let k = (goal.at.add_cells-r-requires c).After-walk_taps-r in
+pub add_cells-requires : goal.add_cells-requires
+add_cells-requires c =
+    let k = (goal.at.add_cells-requires c).After-walk_taps in
     let h : number k < length (all k) = rw rows-length c.if-rows-i.false in
     let few = count-few _ _ _ _ _ _ (walked k) h in
-    (stats-few (rest k) c.walk.m c.walk_taps-r.result few.0 few.1, c.walk_cells-s.ensures.under, few.0)
+    (stats-few (rest k) c.walk.columns c.walk_taps.new.run few.0 few.1, c.walk_cells-s.ensures.under, few.0)
 
 pub walk-preserved : goal.walk-preserved
 walk-preserved c =
-    let k = (goal.at.walk-preserved c).After-walk_taps-r in
+    let k = (goal.at.walk-preserved c).After-walk_taps in
     let a = c.args in
     let L = c.args.table.now.lanes.count in
     let narrow = c.args.table.now.lanes.within.1 in
     let v = c.walk.invariant in
-    let m = c.walk.m in
-    let t = c.walk_taps-r in
+    let columns = c.walk.columns in
+    let t = c.walk_taps in
     let w = c.walk_cells-s in
-    let e = c.add_cells-r.ensures in
+    let e = c.add_cells.ensures in
     let q = rest k in
     let i = number k in
     let ms = all k in
     let at = a.start + i * (L + 1) in
-    let above : a.counting.now.rows ≤ t.result.row = omega (arith, t.ensures.onwards.0, v.0) in
-    let row : c.add_cells-r.result.row ≡ t.result.row + 1 = ap (λ (x : Run). x.row) e in
-    let next : c.add_cells-r.result.row - a.counting.now.rows ≡ i + 1 = omega (arith, above, row) in
+    let above : a.counting.now.rows ≤ t.new.run.row = omega (arith, t.ensures.onwards.0, v.0) in
+    let row : c.add_cells.new.self.row ≡ t.new.run.row + 1 = ap (λ (x : Run). x.row) e in
+    let next : c.add_cells.new.self.row - a.counting.now.rows ≡ i + 1 = omega (arith, above, row) in
     let more = ap (λ n. take n ms) next ∙ row_more L a.rows a.text.now a.start c.requires.in_text i at c.if-rows-i.false refl in
     let wide = row-wide L a.rows a.text.now a.start c.requires.in_text i at c.if-rows-i.false refl in (
       omega (arith, above, row),
@@ -143,9 +140,9 @@ walk-preserved c =
       w.auto.slots ∙ t.auto.slots ∙ v.2,
       w.ensures.ten,
       (λ done x. subst (Counted L _ done) (sym more)
-          (counted-cells L q m t.result _ _ done (take i ms) _ _ _ _ _ w.ensures (omega (arith, wide)) _ e narrow (t.ensures.counted q done (v.4 done x)))),
+          (counted-cells L q columns t.new.run _ _ done (take i ms) _ _ _ w.ensures (omega (arith, wide)) _ e narrow (t.ensures.counted q done (v.4 done x)))),
       (λ done x. subst (NotedRows L _ _ done) (sym more)
-          (noted-cells L q m t.result _ _ done (take i ms) _ _ _ _ _ w.ensures (omega (arith, wide)) _ e a.counting.now.rows above (t.ensures.noted_rows q done (v.5 done x)))),
+          (noted-cells L q columns t.new.run _ _ done (take i ms) _ _ _ w.ensures (omega (arith, wide)) _ e a.counting.now.rows above (t.ensures.noted_rows q done (v.5 done x)))),
       v.6,
       v.7,
     )

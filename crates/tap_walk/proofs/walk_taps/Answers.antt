@@ -11,7 +11,7 @@ use Rattle.taps.proofs.Masks.{below-at, fits-table}
 use Rattle.taps.proofs.Free.{free-told}
 use Rattle.reduction.proofs.RowsAt.{rows-length}
 use Rattle.reduction.proofs.Powers.{next-at}
-use Rattle.row_walk.specs.declared.Marks.{Marks}
+use Rattle.row_walk.specs.declared.Columns.{Columns}
 use Rattle.measure_tally.specs.Counted.{Counted}
 use Rattle.measure_notes.specs.Noted.{NotedRows}
 use Rattle.measure_run.specs.declared.Run.{Run}
@@ -24,8 +24,8 @@ use Rattle.tap_walk.proofs.walk_taps.Goals as goal
 use Rattle.tap_walk.proofs.walk_taps.Goals.{In-Mask}
 
 -- the rows are numbers
-few : {lanes first rows : ℕ} {m : Marks} {old : Run} {slots : List ℕ} {ms : List Row} → first ≤ old.row → old.row ≤ first + rows → length ms ≡ rows
-    → Running lanes first m old slots ms → first + rows < row_count_bound
+few : {lanes first rows : ℕ} {k : Columns} {old : Run} {slots : List ℕ} {ms : List Row} → first ≤ old.row → old.row ≤ first + rows → length ms ≡ rows
+    → Running lanes first k old slots ms → first + rows < row_count_bound
 few below above size W = omega (arith, run-few _ _ W.rest _ _ _ _ W.walking below (omega arith))
 
 pub overflow_cast-stop : goal.overflow_cast-stop
@@ -40,74 +40,74 @@ all c = rows_of c.args.table.now.lanes.count c.args.rows c.args.text.now c.args.
 
 -- the number of the row in the measure
 abbrev number : In-Mask → ℕ
-number c = c.loop-r.r.row - c.args.first
+number c = c.loop-run.run.row - c.args.first
 
 below : (c : In-Mask) → number c < c.args.rows
-below c = omega (arith, c.loop-r-test.true, c.requires.in_text.1, c.loop-r.invariant.0)
+below c = omega (arith, c.loop-run-test.true, c.requires.in_text.1, c.loop-run.invariant.0)
 
 -- it has `lanes` bytes
-wide : (c : In-Mask) → length (part c.args.table.now.lanes.count c.args.text.now c.loop-r.at) ≡ c.args.table.now.lanes.count
-wide c = row-wide c.args.table.now.lanes.count c.args.rows c.args.text.now c.args.start c.requires.in_text.0 (number c) c.loop-r.at (below c) c.loop-r.invariant.2
+wide : (c : In-Mask) → length (part c.args.table.now.lanes.count c.args.text.now c.loop-run.at) ≡ c.args.table.now.lanes.count
+wide c = row-wide c.args.table.now.lanes.count c.args.rows c.args.text.now c.args.start c.requires.in_text.0 (number c) c.loop-run.at (below c) c.loop-run.invariant.2
 
 -- what is walked so far
 walked : (c : In-Mask) →
     let q = c.requires.running.rest in
-    Walking c.args.table.now.lanes.count (counting_of q c.args.m c.loop-r.r) (noting_of c.args.first q c.args.m c.loop-r.r) c.loop-r.slots (all c) (number c)
+    Walking c.args.table.now.lanes.count (counting_of q c.args.columns.now c.loop-run.run) (noting_of c.args.first q c.args.columns.now c.loop-run.run) c.loop-run.slots (all c) (number c)
 walked c =
     let q = c.requires.running.rest in
-    walked_on c.args.table.now.lanes.count _ _ _ _ _ _ _ _ _ c.requires.running.walking c.loop-r.invariant.3 (c.loop-r.invariant.4 q) (c.loop-r.invariant.5 q)
+    walked_on c.args.table.now.lanes.count _ _ _ _ _ _ _ _ _ c.requires.running.walking c.loop-run.invariant.3 (c.loop-run.invariant.4 q) (c.loop-run.invariant.5 q)
 
 -- it is one of the measure's
 within : (c : In-Mask) → number c < length (all c)
 within c = rw rows-length (below c)
 
-pub add_taps-r-requires : goal.add_taps-r-requires
-add_taps-r-requires c =
-    let k = (goal.at.add_taps-r-requires c).In-Mask in
+pub add_taps-requires : goal.add_taps-requires
+add_taps-requires c =
+    let k = (goal.at.add_taps-requires c).In-Mask in
     let counted = count-few _ _ _ _ _ _ (walked k) (within k) in
     let noted = note-ready _ _ _ _ _ _ (walked k) (within k) _ (wide k) c.args.table.now.lanes.within.1 in
     let free = free-told c.free_taps.ensures c.in-Mask.is in
     record {
-      few = stats-few c.requires.running.rest c.args.m c.loop-r.r counted.0 counted.1;
+      few = stats-few c.requires.running.rest c.args.columns.now c.loop-run.run counted.0 counted.1;
       rows = counted.0;
       fits = fits-table c.args.table.now _ (below-at _ _ _ (wide k) free.mask);
       some = record {
-        scratch = (noting_of c.args.first c.requires.running.rest c.args.m c.loop-r.r).scratch;
-        cells = part c.args.table.now.lanes.count c.args.text.now c.loop-r.at;
+        scratch = (noting_of c.args.first c.requires.running.rest c.args.columns.now c.loop-run.run).scratch;
+        cells = part c.args.table.now.lanes.count c.args.text.now c.loop-run.at;
         fits = record {
           row = refl;
           count = refl;
           room = noted.room;
-          heads = record { busy = c.args.m.busy; mask = c.in-Mask.mask; taps = free; free = noted.free };
+          heads = record { busy = c.args.columns.now.busy; mask = c.in-Mask.mask; taps = free; free = noted.free };
           mask = free.mask;
         };
       };
     }
 
-pub loop-r-preserved : goal.loop-r-preserved
-loop-r-preserved c =
-    let k = (goal.at.loop-r-preserved c).In-Mask in
+pub loop-run-preserved : goal.loop-run-preserved
+loop-run-preserved c =
+    let k = (goal.at.loop-run-preserved c).In-Mask in
     let pre = c.requires.in_text in
     let L = c.args.table.now.lanes.count in
     let narrow = c.args.table.now.lanes.within.1 in
-    let v = c.loop-r in
+    let v = c.loop-run in
     let a = c.args in
-    let i = v.r.row - a.first in
+    let i = v.run.row - a.first in
     let ms = all k in
-    let t = c.add_taps-r.ensures in
+    let t = c.add_taps.ensures in
     let free = free-told c.free_taps.ensures c.in-Mask.is in
-    let next : c.add_taps-r.result.row - a.first ≡ i + 1 = omega (arith, t.row, pre.1, v.invariant.0) in
+    let next : c.add_taps.new.run.row - a.first ≡ i + 1 = omega (arith, t.row, pre.1, v.invariant.0) in
     let more = ap (λ n. take n ms) next ∙ row_more L a.rows a.text.now a.start pre.0 i v.at (below k) v.invariant.2 in
-    let above : a.first ≤ v.r.row = omega (arith, pre.1, v.invariant.0) in
+    let above : a.first ≤ v.run.row = omega (arith, pre.1, v.invariant.0) in
     let counted = count-few _ _ _ _ _ _ (walked k) (within k) in
     let width = wide k in
     let noted = note-ready _ _ _ _ _ _ (walked k) (within k) (part L a.text.now v.at) width narrow in (
       omega (arith, v.invariant.0, t.row),
-      omega (arith, t.row, c.loop-r-test.true),
+      omega (arith, t.row, c.loop-run-test.true),
       next-at v.at a.start i L v.invariant.2 ∙ ap (λ n. a.start + n * (L + 1)) (sym next),
-      c.add_taps-r.auto.slots ∙ v.invariant.3,
+      c.add_taps.auto.slots ∙ v.invariant.3,
       (λ q done x. subst (Counted L _ done) (sym more)
-          (counted-taps L q a.m v.r _ _ done (take i ms) _ _ _ t free (omega (arith, width)) narrow (v.invariant.4 q done x))),
+          (counted-taps L q a.columns.now v.run _ _ done (take i ms) _ _ _ t free (omega (arith, width)) narrow (v.invariant.4 q done x))),
       (λ q done x. subst (NotedRows L _ _ done) (sym more)
-          (noted-taps L q a.m v.r _ _ done (take i ms) _ _ _ t free (omega (arith, width)) a.first above counted.0 (omega (arith, width, narrow)) noted.room.room (v.invariant.5 q done x))),
+          (noted-taps L q a.columns.now v.run _ _ done (take i ms) _ _ _ t free (omega (arith, width)) a.first above counted.0 (omega (arith, width, narrow)) noted.room.room (v.invariant.5 q done x))),
     )
