@@ -27,23 +27,24 @@ use Rattle.reader.proofs.BackReading.{back-trimmed}
 use Rattle.slices.specs.Zeroed.{zeroed}
 use Rattle.slices.proofs.Zeroed.{zeroed-answer}
 use Rattle.definitions.specs.declared.ChartFigures.{ChartFigures}
+use Rattle.measure_walk.specs.Views.{noting}
 use Rattle.chart_pass.specs.declared.ChartPass.{ChartPass}
-use Rattle.chart_pass.specs.ChartPass.{ChartAll}
+use Rattle.chart_pass.specs.ChartPass.{kept_of, ChartAll}
 
 module _ (L : ℕ) (data-text : List ℕ) (p : ChartPass) (text densities : List ℕ) (beats : List Float) (slots : List ℕ) (x : ChartAll L data-text p text densities beats slots) where
-  pub all-beats : (n : ℕ) → length beats ≡ n → most_rows_in L (length data-text) ≤ n → zeroed (f32 0) p.pass.counting.rows beats ≡ padded (f32 0) n (beats_of L data-text)
+  pub all-beats : (n : ℕ) → length beats ≡ n → most_rows_in L (length data-text) ≤ n → zeroed (f32 0) p.walk.run.row beats ≡ padded (f32 0) n (beats_of L data-text)
   all-beats n size h =
-      zeroed-answer (f32 0) beats p.pass.counting.rows n (λ L. beats_of L data-text) refl size (omega (arith, x.kept.rows_few, size, h)) x.beats_are
+      zeroed-answer (f32 0) beats p.walk.run.row n (λ L. beats_of L data-text) refl size (omega (arith, x.kept.rows_few, size, h)) x.beats_are
 
-  written : Written (joined (minimised L data-text)) p.noting.scratch slots
-  written = subst (λ rs. Written rs p.noting.scratch slots) (append-nil (joined (minimised L data-text))) x.noted.written
+  written : Written (joined (minimised L data-text)) (noting p.walk).scratch slots
+  written = subst (λ rs. Written rs (noting p.walk).scratch slots) (append-nil (joined (minimised L data-text))) x.noted.written
 
   -- the last object row is that of the definition
-  pub found-48 : place48 (place_of p.noting.last.found) ≡ last48 L data-text
+  pub found-48 : place48 (place_of p.walk.found) ≡ last48 L data-text
   unfolding last48 last_object
   found-48 = ap place48 x.noted.last.found
 
-  module _ (n : ℕ) (after : List ℕ) (r : ℕ) (f : (rows : List Row) → Written rows p.noting.scratch slots → Finished rows n after r) where
+  module _ (n : ℕ) (after : List ℕ) (r : ℕ) (f : (rows : List Row) → Written rows (noting p.walk).scratch slots → Finished rows n after r) where
     finished : Finished (joined (minimised L data-text)) n after r
     finished = f (joined (minimised L data-text)) written
 
@@ -55,15 +56,15 @@ module _ (L : ℕ) (data-text : List ℕ) (p : ChartPass) (text densities : List
     unfolding notes
     note-count = finished.count
 
-  pub all-figures : (stats : ArrowStats) (count bits row last : ℕ) → stats ≡ corrected L (joined (minimised L data-text)) (rows_back true L (take (p.pass.out - 0) text))
+  pub all-figures : (stats : ArrowStats) (count bits row last : ℕ) → stats ≡ corrected L (joined (minimised L data-text)) (rows_back true L (take (p.draft.out - 0) text))
       → count ≡ length (notes L data-text) → last ≡ last48 L data-text → bits ≡ to_bits binary64 (row_to_beat last) → row ≡ last
-      → record { bytes = p.pass.out; measures = p.pass.midx + 1; rows = p.pass.counting.rows; notes = count; last_bits = bits; last_row = row; stats = stats } ≡ figures_of_chart L data-text
+      → record { bytes = p.draft.out; measures = p.draft.midx + 1; rows = p.walk.run.row; notes = count; last_bits = bits; last_row = row; stats = stats } ≡ figures_of_chart L data-text
   unfolding figures_of_chart main_tally last_beat_of
   all-figures stats count bits row last es ec el eb er =
       made x.kept.out x.kept.midx x.kept.rows ec
       (eb ∙ ap (λ n. to_bits binary64 (row_to_beat n)) el)
       (er ∙ el)
-      (es ∙ ap (corrected L (joined (minimised L data-text))) (ap (rows_back true L) (own-part L data-text p.pass text densities x.kept) ∙ back-trimmed L _))
+      (es ∙ ap (corrected L (joined (minimised L data-text))) (ap (rows_back true L) (own-part L data-text (kept_of p) text densities x.kept) ∙ back-trimmed L _))
     where
       made : {a₁ a₂ b₁ b₂ c₁ c₂ d₁ d₂ e₁ e₂ f₁ f₂ : ℕ} {s t : ArrowStats} → a₁ ≡ a₂ → b₁ ≡ b₂ → c₁ ≡ c₂ → d₁ ≡ d₂ → e₁ ≡ e₂ → f₁ ≡ f₂ → s ≡ t
           → ◌≡◌ {A = ChartFigures} (record { bytes = a₁; measures = b₁; rows = c₁; notes = d₁; last_bits = e₁; last_row = f₁; stats = s })

@@ -34,23 +34,23 @@ pub fn chart_figures(
     ensures slots_after { slots.new ≡ padded 0 (length slots.old) (records (notes_of lanes.count «data».now)) }
 {
     let chart = chart_pass::read_chart(data, lanes, text, densities, beats, slots);
-    let measures = chart.pass.midx + 1;
-    let rows = chart.pass.counting.rows;
+    let measures = chart.draft.midx + 1;
+    let rows = chart.walk.run.row;
     let stats = corrected_tally::corrected_stats(
-        chart.pass.counting.stats,
-        chart.pass.counting.phantoms,
-        &text[0..chart.pass.out],
+        chart.walk.run.stats,
+        chart.walk.phantoms(),
+        &text[0..chart.draft.out],
         lanes,
         true,
         work,
     );
-    let last = chart.noting.last.found;
-    let count = row_notes::finish(chart.noting.scratch, slots);
-    slices::zero_past(text, chart.pass.out, 0);
+    let last = chart.walk.found;
+    let count = row_notes::finish(chart.walk.scratch(), slots);
+    slices::zero_past(text, chart.draft.out, 0);
     slices::zero_past(densities, measures, 0);
     slices::zero_past(beats, rows as usize, 0.0);
     ChartFigures {
-        bytes: chart.pass.out,
+        bytes: chart.draft.out,
         measures,
         rows,
         notes: count,

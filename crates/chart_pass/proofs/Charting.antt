@@ -11,83 +11,81 @@ use Rattle.definitions.specs.Lists.{joined}
 use Rattle.definitions.specs.Lines.{Row}
 use Rattle.definitions.specs.Measures.{chart}
 use Rattle.definitions.specs.Reduction.{reduce, minimised}
-use Rattle.definitions.specs.Figures.{row_text}
 use Rattle.definitions.specs.Beats.{row_beats, beats_from, measure_beats, beats as beats_of}
 use Rattle.definitions.proofs.Lists.{joined_snoc}
 use Rattle.beats.proofs.Beats.{beats-appended}
-use Rattle.kept_pass.specs.declared.KeptPass.{KeptPass}
-use Rattle.kept_pass.specs.KeptPass.{Kept, MeasureEnded}
+use Rattle.kept_pass.specs.declared.Draft.{Draft}
+use Rattle.kept_pass.specs.KeptPass.{Drafted, Kept, MeasureEnded}
+use Rattle.kept_pass.proofs.Passing.{rows-there, next-measure}
 use Rattle.kept_pass.proofs.Keeping.{kept-all}
-use Rattle.reduction.specs.Rows.{rows_at, RowsStand}
-use Rattle.reduction.proofs.Forms.{in-text, form-rows}
+use Rattle.reduction.specs.Rows.{rows_at}
 use Rattle.tap_walk.specs.Walked.{Walking}
 use Rattle.reduction.proofs.RowsAt.{rows-length}
-use Rattle.measure_notes.specs.declared.Noting.{Noting}
-use Rattle.measure_notes.specs.Noted.{Noted}
-use Rattle.output.proofs.Writing.{wrote-holds}
+use Rattle.row_walk.specs.Rows.{Ten}
+use Rattle.measure_tally.specs.Counted.{Counted}
+use Rattle.measure_run.specs.Noted.{Noting, Noted}
+use Rattle.measure_walk.specs.declared.Walk.{Walk}
+use Rattle.measure_walk.specs.Views.{counting, noting}
 use Rattle.reader.proofs.ChartLoops.{Few}
 use Rattle.chart_pass.specs.declared.ChartPass.{ChartPass}
-use Rattle.chart_pass.specs.ChartPass.{Charted, SomeCharted, ChartEnded, ChartAll}
+use Rattle.chart_pass.specs.ChartPass.{kept_of, Charted, SomeCharted, ChartEnded, ChartAll}
 
--- the minimised rows stand where their measure begins
-rows-there : (L : ℕ) (e : KeptPass) (text densities : List ℕ) (done : List (List Row)) (cur : List Row) → MeasureEnded L e text densities done cur → rows_at (L + 1) L e.rows (drop e.start text) ≡ cur
-rows-there L e text densities done cur x =
-    form-rows (in-text L)
-    (subst (λ n. RowsStand row_text L n e.start cur text) (sym x.rows) (wrote-holds (in-text L) (44 ∷ 10 ∷ []) text e.start e.out done cur x.wrote))
+module _ (L : ℕ) (p : ChartPass) (text densities : List ℕ) (beats : List Float) (slots : List ℕ) (done : List (List Row)) (cur : List Row)
+    (x : Charted L p text densities beats slots done cur) where
+  -- the rows before the open measure
+  rows_before : p.walk.run.row ≡ length (joined done)
+  rows_before = x.kept.counted.rows ∙ ap length (append-nil (joined done))
 
-module _ (L : ℕ) (p : ChartPass) (text densities : List ℕ) (beats : List Float) (slots : List ℕ) (e : KeptPass) (after dens : List ℕ)
-    (ends : (done : List (List Row)) (cur : List Row) → Kept L p.pass text densities done cur → MeasureEnded L e after dens done (reduce cur)) where
-  module _ (done : List (List Row)) (cur : List Row) (x : Charted L p text densities beats slots done cur) where
-    -- the rows before the open measure
-    pub rows_before : p.pass.counting.rows ≡ length (joined done)
-    rows_before = x.kept.counted.rows ∙ ap length (append-nil (joined done))
-
-    pub rows-after : p.pass.counting.rows + e.rows ≡ e.counting.rows
-    rows-after =
-        let k = ends done cur x.kept in
-        omega (arith, rows_before, k.rows, k.counted.rows, length-append (joined done) (reduce cur))
-
-    pub charted-end : p.pass.counting.rows ≤ length beats → (beats₁ : List Float)
-        → beats₁ ≡ (take p.pass.counting.rows beats ++ row_beats e.midx e.rows 0 e.rows) ++ drop (p.pass.counting.rows + e.rows) beats
-        → (s : Noting) (slots₁ : List ℕ)
-        → ((ms : List (List Row)) → Noted L p.noting slots ms → Noted L s slots₁ (ms ++ (rows_at (L + 1) L e.rows (drop e.start after) ∷ [])))
-        → ChartEnded L (record { pass = e; noting = s }) after dens beats₁ slots₁ done (reduce cur)
-    charted-end room beats₁ eb s slots₁ f =
-        let k = ends done cur x.kept in
-        record {
-          ended = k;
-          noted = subst (Noted L s slots₁) (ap (λ rs. done ++ (rs ∷ [])) (rows-there L e after dens done (reduce cur) k)) (f done x.noted);
-          beats_are =
-              ap (λ n. take n beats₁) (sym rows-after)
-              ∙ ap (take (p.pass.counting.rows + e.rows)) eb
-              ∙ beats-appended beats p.pass.counting.rows e.midx e.rows done (reduce cur) room x.beats_are k.midx k.rows;
-        }
+  pub charted-end : (e : ChartPass) (after dens : List ℕ) → MeasureEnded L (kept_of e) after dens done (reduce cur) → Ten e.walk.columns
+      → p.walk.run.row ≤ length beats → (beats₁ : List Float)
+      → beats₁ ≡ (take p.walk.run.row beats ++ row_beats e.draft.midx e.draft.rows 0 e.draft.rows) ++ drop (p.walk.run.row + e.draft.rows) beats
+      → (slots₁ : List ℕ)
+      → ((ms : List (List Row)) → Noted L (noting p.walk) slots ms → Noted L (noting e.walk) slots₁ (ms ++ (rows_at (L + 1) L e.draft.rows (drop e.draft.start after) ∷ [])))
+      → ChartEnded L e after dens beats₁ slots₁ done (reduce cur)
+  charted-end e after dens k ten room beats₁ eb slots₁ f =
+      let rows : p.walk.run.row + e.draft.rows ≡ e.walk.run.row = omega (arith, rows_before, k.drafted.rows, k.counted.rows, length-append (joined done) (reduce cur)) in
+      record {
+        ended = k;
+        noted = subst (Noted L (noting e.walk) slots₁) (ap (λ rs. done ++ (rs ∷ [])) (rows-there L e.draft after done (reduce cur) k.drafted)) (f done x.noted);
+        ten = ten;
+        beats_are =
+            ap (λ n. take n beats₁) (sym rows)
+            ∙ ap (take (p.walk.run.row + e.draft.rows)) eb
+            ∙ beats-appended beats p.walk.run.row e.draft.midx e.draft.rows done (reduce cur) room x.beats_are k.drafted.midx k.drafted.rows;
+      }
 
 -- there is room for the walk over the minimised rows
-pub walk-room : (L : ℕ) (p : ChartPass) (text densities : List ℕ) (beats : List Float) (slots : List ℕ) → SomeCharted L p text densities beats slots → (kept : ℕ) (after : List ℕ) → kept ≤ p.pass.rows
-    → p.pass.counting.rows + p.pass.rows < row_count_bound → (p.pass.counting.rows + p.pass.rows) * L * 10 ≤ length slots → p.pass.midx ≤ measures_bound
-    → Walking L p.pass.counting p.noting slots (rows_at (L + 1) L kept (drop p.pass.start after)) 0
-walk-room L p text densities beats slots s kept after less few room least =
+pub walk-room : (L : ℕ) (p : ChartPass) (text densities : List ℕ) (beats : List Float) (slots : List ℕ) → SomeCharted L p text densities beats slots → (kept start : ℕ) (after : List ℕ) → kept ≤ p.draft.rows
+    → p.walk.run.row + p.draft.rows < row_count_bound → (p.walk.run.row + p.draft.rows) * L * 10 ≤ length slots → p.draft.midx ≤ measures_bound
+    → Walking L (counting p.walk) (noting p.walk) slots (rows_at (L + 1) L kept (drop start after)) 0
+walk-room L p text densities beats slots s kept start after less few room least =
     let x = s.charted in
-    let before : p.pass.counting.rows ≡ length (joined s.done) = x.kept.counted.rows ∙ ap length (append-nil (joined s.done)) in
-    let many : length (rows_at (L + 1) L kept (drop p.pass.start after)) ≡ kept = rw rows-length in
-    let most : length (joined s.done) + length (rows_at (L + 1) L kept (drop p.pass.start after)) ≤ p.pass.counting.rows + p.pass.rows = omega (arith, before, many, less) in
+    let before : p.walk.run.row ≡ length (joined s.done) = x.kept.counted.rows ∙ ap length (append-nil (joined s.done)) in
+    let many : length (rows_at (L + 1) L kept (drop start after)) ≡ kept = rw rows-length in
+    let most : length (joined s.done) + length (rows_at (L + 1) L kept (drop start after)) ≤ p.walk.run.row + p.draft.rows = omega (arith, before, many, less) in
     record {
       done = s.done;
       counted = x.kept.counted;
       noted = x.noted;
       few = omega (arith, most, few);
       room = le_trans (mul-le-mul_right 10 (mul-le-mul_right L most)) room;
-      midx = omega (arith, x.kept.midx, least);
+      midx = omega (arith, x.kept.drafted.midx, least);
     }
 
 -- The next measure begins.
 pub charted-next : (L : ℕ) (e : ChartPass) (text after densities : List ℕ) (beats : List Float) (slots : List ℕ) (done : List (List Row)) (cur : List Row) → ChartEnded L e text densities beats slots done cur
-    → (q : KeptPass) → Kept L q after densities (done ++ (cur ∷ [])) [] → Charted L (record { pass = q; noting = e.noting }) after densities beats slots (done ++ (cur ∷ [])) []
-charted-next L e text after densities beats slots done cur x q k =
-    let same : q.counting.rows ≡ e.pass.counting.rows =
-    k.counted.rows ∙ ap length (append-nil (joined (done ++ (cur ∷ []))) ∙ joined_snoc done cur) ∙ sym x.ended.counted.rows in
-    record { kept = k; noted = x.noted; beats_are = ap (λ n. take n beats) same ∙ x.beats_are }
+    → (w : Walk) (d : Draft) → ((L : ℕ) (done : List (List Row)) (cur : List Row) → Counted L (counting e.walk) done cur → Counted L (counting w) (done ++ (cur ∷ [])) [])
+    → noting w ≡ noting e.walk → w.columns ≡ e.walk.columns
+    → ((L : ℕ) (done : List (List Row)) (cur : List Row) → Drafted L e.draft text done cur → Drafted L d after (done ++ (cur ∷ [])) []) → d.midx ≡ e.draft.midx + 1
+    → Charted L (record { draft = d; walk = w }) after densities beats slots (done ++ (cur ∷ [])) []
+charted-next L e text after densities beats slots done cur x w d f same columns g next =
+    let rows : w.run.row ≡ e.walk.run.row = ap (λ (n : Noting). n.scratch.row_index) same in
+    record {
+      kept = next-measure L (kept_of e) text densities done cur x.ended (counting w) d after f g next;
+      noted = subst (λ n. Noted L n slots (done ++ (cur ∷ []))) (sym same) x.noted;
+      ten = subst Ten (sym columns) x.ten;
+      beats_are = ap (λ n. take n beats) rows ∙ x.beats_are;
+    }
 
 -- a row of L bytes is one row more
 pub charted-more : (L : ℕ) (p q : ChartPass) (text after : List ℕ) (row : Row) → length row ≡ L
@@ -105,13 +103,13 @@ slots-room L rows most size h room =
 
 -- The last measure has ended too: all of the chart's.
 pub chart-all : (L : ℕ) (e : ChartPass) (data-text text densities : List ℕ) (beats : List Float) (slots : List ℕ) (done : List (List Row)) (cur : List Row) → chart L data-text ≡ done ++ (cur ∷ [])
-    → Few L (length data-text) (map reduce done) cur → ChartEnded L e text densities beats slots (map reduce done) (reduce cur) → e.pass.out ≤ length text → e.pass.out ≤ length data-text + 1
+    → Few L (length data-text) (map reduce done) cur → ChartEnded L e text densities beats slots (map reduce done) (reduce cur) → e.draft.out ≤ length text → e.draft.out ≤ length data-text + 1
     → ChartAll L data-text e text densities beats slots
 unfolding beats_of measure_beats minimised
 chart-all L e data-text text densities beats slots done cur read few x fits short =
     let all : map reduce (chart L data-text) ≡ map reduce done ++ (reduce cur ∷ []) = ap (map reduce) read ∙ map-append reduce done (cur ∷ []) in
     record {
-      kept = kept-all L e.pass data-text text densities done cur read few x.ended fits short;
-      noted = subst (Noted L e.noting slots) (sym all) x.noted;
+      kept = kept-all L (kept_of e) data-text text densities done cur read few x.ended fits short;
+      noted = subst (Noted L (noting e.walk) slots) (sym all) x.noted;
       beats_are = x.beats_are ∙ ap (λ ms. joined (beats_from 0 ms)) (sym all);
     }

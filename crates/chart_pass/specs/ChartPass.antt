@@ -5,14 +5,22 @@ use Rattle.definitions.specs.Lines.{Row}
 use Rattle.definitions.specs.Reduction.{minimised}
 use Rattle.definitions.specs.Beats.{beats_from, beats as beats_of}
 use Rattle.kept_pass.specs.KeptPass.{Kept, MeasureEnded, KeptAll}
-use Rattle.measure_notes.specs.Noted.{Noted}
+use Rattle.row_walk.specs.Rows.{Ten}
+use Rattle.measure_run.specs.Noted.{Noted}
+use Rattle.measure_walk.specs.Views.{counting, noting}
+use Rattle.kept_pass.specs.declared.KeptPass.{KeptPass}
 use Rattle.chart_pass.specs.declared.ChartPass.{ChartPass}
+
+-- what is written and counted, as the kept-row pass has it
+abbrev pub kept_of : ChartPass → KeptPass
+kept_of p = record { counting = counting p.walk; draft = p.draft }
 
 -- the open measure has these rows, as they were read
 pub record Charted (L : ℕ) (p : ChartPass) (text densities : List ℕ) (beats : List Float) (slots : List ℕ) (done : List (List Row)) (cur : List Row) : Type 0 where
-  pub kept : Kept L p.pass text densities done cur
-  pub noted : Noted L p.noting slots done
-  pub beats_are : take p.pass.counting.rows beats ≡ joined (beats_from 0 done)
+  pub kept : Kept L (kept_of p) text densities done cur
+  pub noted : Noted L (noting p.walk) slots done
+  pub ten : Ten p.walk.columns
+  pub beats_are : take p.walk.run.row beats ≡ joined (beats_from 0 done)
 
 pub record SomeCharted (L : ℕ) (p : ChartPass) (text densities : List ℕ) (beats : List Float) (slots : List ℕ) : Type 0 where
   pub done : List (List Row)
@@ -21,12 +29,13 @@ pub record SomeCharted (L : ℕ) (p : ChartPass) (text densities : List ℕ) (be
 
 -- the open measure has ended with these minimised rows
 pub record ChartEnded (L : ℕ) (p : ChartPass) (text densities : List ℕ) (beats : List Float) (slots : List ℕ) (done : List (List Row)) (cur : List Row) : Type 0 where
-  pub ended : MeasureEnded L p.pass text densities done cur
-  pub noted : Noted L p.noting slots (done ++ (cur ∷ []))
-  pub beats_are : take p.pass.counting.rows beats ≡ joined (beats_from 0 (done ++ (cur ∷ [])))
+  pub ended : MeasureEnded L (kept_of p) text densities done cur
+  pub noted : Noted L (noting p.walk) slots (done ++ (cur ∷ []))
+  pub ten : Ten p.walk.columns
+  pub beats_are : take p.walk.run.row beats ≡ joined (beats_from 0 (done ++ (cur ∷ [])))
 
 -- A whole text was read: what stands in the slices and was counted and noted is that of its minimised measures.
 pub record ChartAll (L : ℕ) (chart-text : List ℕ) (p : ChartPass) (text densities : List ℕ) (beats : List Float) (slots : List ℕ) : Type 0 where
-  pub kept : KeptAll L chart-text p.pass text densities
-  pub noted : Noted L p.noting slots (minimised L chart-text)
-  pub beats_are : take p.pass.counting.rows beats ≡ beats_of L chart-text
+  pub kept : KeptAll L chart-text (kept_of p) text densities
+  pub noted : Noted L (noting p.walk) slots (minimised L chart-text)
+  pub beats_are : take p.walk.run.row beats ≡ beats_of L chart-text

@@ -10,37 +10,37 @@ ghost use Rattle.definitions.specs.Reduction.{reduce};
 ghost use Rattle.chart_pass.specs.ChartPass.{Charted, SomeCharted, ChartEnded, ChartAll};
 
 use definitions::Lanes;
-use kept_pass::KeptPass;
-use measure_notes::Noting;
+use kept_pass::Draft;
+use measure_walk::Walk;
 use reader::charts::ChartLine;
 use taps::TapTable;
 
-// What the pass has written and counted, and the notes and the last object row of the measures that have ended.
+// What the pass has written, and what the walk over the measures that have ended has counted and noted.
 #[derive(Drop)]
 pub struct ChartPass {
-    pub pass: KeptPass,
-    pub noting: Noting,
+    pub draft: Draft,
+    pub walk: Walk,
 }
 
 impl ChartPass {
     // Before the first line.
     fn new() -> Self
         ensures before { (L : ℕ) (text densities : List ℕ) (beats : List Float) (slots : List ℕ) → L ≤ 10 → Charted L result text densities beats slots [] [] }
-        ensures nothing_written { result.pass.out ≡ 0 }
+        ensures nothing_written { result.draft.out ≡ 0 }
     {
         ChartPass {
-            pass: KeptPass::new(),
-            noting: Noting::new(),
+            draft: Draft::new(),
+            walk: Walk::new(),
         }
     }
 
     // One row more of the open measure.
     fn add_row(&mut self, text: &mut [u8], row: &[u8])
-        requires { (self.old.pass.out + length row.now + 1 ≤ length text.old) × (self.old.pass.rows < row_count_bound) }
+        requires { (self.old.draft.out + length row.now + 1 ≤ length text.old) × (self.old.draft.rows < row_count_bound) }
         ensures charted { (densities : List ℕ) (beats : List Float) (slots : List ℕ) (done : List (List Row)) (cur : List Row) → Charted (length row.now) self.old text.old densities beats slots done cur → Charted (length row.now) self.new text.new densities beats slots done (cur ++ (row.now ∷ [])) }
-        ensures out_after { self.new.pass.out ≡ self.old.pass.out + length row.now + 1 }
+        ensures out_after { self.new.draft.out ≡ self.old.draft.out + length row.now + 1 }
     {
-        self.pass.add_row(text, row);
+        self.draft.add_row(text, row);
     }
 
     // The open measure ends: its rows are minimised and counted, its density is stored, and the beats and notes of its rows are written.
@@ -52,29 +52,23 @@ impl ChartPass {
         slots: &mut [u8],
         table: &TapTable,
     )
-        requires room { (self.old.pass.out ≤ length text.old) × (self.old.pass.counting.rows + self.old.pass.rows < row_count_bound) × (self.old.pass.midx < length densities.old) × (self.old.pass.midx ≤ measures_bound) }
-        requires rows_in_bounds { (self.old.pass.counting.rows + self.old.pass.rows ≤ length beats.old) × ((self.old.pass.counting.rows + self.old.pass.rows) * table.now.lanes.count * 10 ≤ length slots.old) }
+        requires room { (self.old.draft.out ≤ length text.old) × (self.old.walk.run.row + self.old.draft.rows < row_count_bound) × (self.old.draft.midx < length densities.old) × (self.old.draft.midx ≤ measures_bound) }
+        requires rows_in_bounds { (self.old.walk.run.row + self.old.draft.rows ≤ length beats.old) × ((self.old.walk.run.row + self.old.draft.rows) * table.now.lanes.count * 10 ≤ length slots.old) }
         requires charted { SomeCharted table.now.lanes.count self.old text.old densities.old beats.old slots.old }
         ensures chart_ended { (done : List (List Row)) (cur : List Row) → Charted table.now.lanes.count self.old text.old densities.old beats.old slots.old done cur → ChartEnded table.now.lanes.count self.new text.new densities.new beats.new slots.new done (reduce cur) }
-        ensures no_more { (self.new.pass.out ≤ self.old.pass.out) × (self.new.pass.midx ≡ self.old.pass.midx) }
+        ensures no_more { (self.new.draft.out ≤ self.old.draft.out) × (self.new.draft.midx ≡ self.old.draft.midx) }
     {
-        let lanes = table.lanes;
-        let start = self.pass.start;
-        let kept = reduction::reduce_output_measure(text, start, self.pass.rows, lanes);
-        let before = self.pass.counting.rows;
-        beats::append_row_beats(beats, before as usize, self.pass.midx as u32, kept as u32);
-        measure_walk::walk_rows(
-            &mut self.pass.counting,
-            &mut self.noting,
-            text,
-            start,
-            kept,
-            slots,
-            table,
+        self.draft.minimise(text, table.lanes);
+        let before = self.walk.run.row as usize;
+        beats::append_row_beats(
+            beats,
+            before,
+            self.draft.midx as u32,
+            self.draft.rows as u32,
         );
-        densities[self.pass.midx] = self.pass.counting.density();
-        self.pass.out = start + kept * (lanes.count + 1);
-        self.pass.rows = kept;
+        self.walk
+            .walk_rows(text, self.draft.start, self.draft.rows, slots, table);
+        densities[self.draft.midx] = self.walk.density();
     }
 
     // The open measure ends with a `,` line.
@@ -86,14 +80,15 @@ impl ChartPass {
         slots: &mut [u8],
         table: &TapTable,
     )
-        requires room { (self.old.pass.out + 2 ≤ length text.old) × (self.old.pass.counting.rows + self.old.pass.rows < row_count_bound) × (self.old.pass.midx < length densities.old) × (self.old.pass.midx ≤ measures_bound) }
-        requires rows_in_bounds { (self.old.pass.counting.rows + self.old.pass.rows ≤ length beats.old) × ((self.old.pass.counting.rows + self.old.pass.rows) * table.now.lanes.count * 10 ≤ length slots.old) }
+        requires room { (self.old.draft.out + 2 ≤ length text.old) × (self.old.walk.run.row + self.old.draft.rows < row_count_bound) × (self.old.draft.midx < length densities.old) × (self.old.draft.midx ≤ measures_bound) }
+        requires rows_in_bounds { (self.old.walk.run.row + self.old.draft.rows ≤ length beats.old) × ((self.old.walk.run.row + self.old.draft.rows) * table.now.lanes.count * 10 ≤ length slots.old) }
         requires charted { SomeCharted table.now.lanes.count self.old text.old densities.old beats.old slots.old }
         ensures charted_after { (done : List (List Row)) (cur : List Row) → Charted table.now.lanes.count self.old text.old densities.old beats.old slots.old done cur → Charted table.now.lanes.count self.new text.new densities.new beats.new slots.new (done ++ (reduce cur ∷ [])) [] }
-        ensures out_bound { self.new.pass.out ≤ self.old.pass.out + 2 }
+        ensures out_bound { self.new.draft.out ≤ self.old.draft.out + 2 }
     {
         self.end_measure(text, densities, beats, slots, table);
-        self.pass.begin_measure(text);
+        self.walk.end_measure();
+        self.draft.begin_measure(text);
     }
 }
 

@@ -17,8 +17,8 @@ use Rattle.reader.specs.BackReading.{rows_back}
 use Rattle.corrected_tally.proofs.OwnRows.{own-rows}
 use Rattle.definitions.specs.declared.KeptFigures.{KeptFigures}
 
-pub all-figures : (L : ℕ) (data-text : List ℕ) (p : KeptPass) (text densities : List ℕ) → KeptAll L data-text p text densities → (stats : ArrowStats) → 1 ≤ L → stats ≡ corrected L (joined (minimised L data-text)) (rows_back false L (take (p.out - 0) text))
-    → record { bytes = p.out; measures = p.midx + 1; rows = p.counting.rows; stats = stats } ≡ figures_of_kept L data-text
+pub all-figures : (L : ℕ) (data-text : List ℕ) (p : KeptPass) (text densities : List ℕ) → KeptAll L data-text p text densities → (stats : ArrowStats) → 1 ≤ L → stats ≡ corrected L (joined (minimised L data-text)) (rows_back false L (take (p.draft.out - 0) text))
+    → record { bytes = p.draft.out; measures = p.draft.midx + 1; rows = p.counting.rows; stats = stats } ≡ figures_of_kept L data-text
 unfolding figures_of_kept kept_tally
 all-figures L data-text p text densities x stats w e = made x.out x.midx x.rows (e ∙ ap (corrected L (joined (minimised L data-text))) (ap (rows_back false L) (own-part L data-text p text densities x) ∙ own-rows L data-text w))
   where

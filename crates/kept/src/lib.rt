@@ -26,19 +26,19 @@ pub fn keep_figures(
     ensures work_after { work.new ≡ padded 0 (length work.old) [] }
 {
     let pass = kept_pass::keep_chart(data, lanes, text, densities);
-    let measures = pass.midx + 1;
+    let measures = pass.draft.midx + 1;
     let stats = corrected_tally::corrected_stats(
         pass.counting.stats,
         pass.counting.phantoms,
-        &text[0..pass.out],
+        &text[0..pass.draft.out],
         lanes,
         false,
         work,
     );
-    slices::zero_past(text, pass.out, 0);
+    slices::zero_past(text, pass.draft.out, 0);
     slices::zero_past(densities, measures, 0);
     KeptFigures {
-        bytes: pass.out,
+        bytes: pass.draft.out,
         measures,
         rows: pass.counting.rows,
         stats,

@@ -19,23 +19,23 @@ use Rattle.kept_pass.specs.KeptPass.{KeptAll}
 
 module _ (L : ℕ) (data-text : List ℕ) (p : KeptPass) (text densities : List ℕ) (x : KeptAll L data-text p text densities) where
   -- the densities that were stored stand in the slice
-  pub all_room : p.midx + 1 ≤ length densities
+  pub all_room : p.draft.midx + 1 ≤ length densities
   unfolding densities_of
   all_room =
-      let size = sym (length-take (p.midx + 1) densities) ∙ ap length x.densities_are ∙ length-map (minimised L data-text) density in
+      let size = sym (length-take (p.draft.midx + 1) densities) ∙ ap length x.densities_are ∙ length-map (minimised L data-text) density in
       omega (arith, size, x.midx)
 
-  pub all-text : (n : ℕ) → length text ≡ n → length data-text + 1 ≤ n → zeroed 0 p.out text ≡ padded 0 n (minimised_text L data-text)
-  all-text n size h = zeroed-answer 0 text p.out n (λ L. minimised_text L data-text) refl size (omega (arith, x.short)) x.text_is
+  pub all-text : (n : ℕ) → length text ≡ n → length data-text + 1 ≤ n → zeroed 0 p.draft.out text ≡ padded 0 n (minimised_text L data-text)
+  all-text n size h = zeroed-answer 0 text p.draft.out n (λ L. minimised_text L data-text) refl size (omega (arith, x.short)) x.text_is
 
-  pub all-densities : (n : ℕ) → length densities ≡ n → zeroed 0 (p.midx + 1) densities ≡ padded 0 n (densities_of L data-text)
-  all-densities n size = zeroed-answer 0 densities (p.midx + 1) n (λ L. densities_of L data-text) refl size all_room x.densities_are
+  pub all-densities : (n : ℕ) → length densities ≡ n → zeroed 0 (p.draft.midx + 1) densities ≡ padded 0 n (densities_of L data-text)
+  all-densities n size = zeroed-answer 0 densities (p.draft.midx + 1) n (λ L. densities_of L data-text) refl size all_room x.densities_are
 
   -- the part of the text slice that is read back
-  pub own-part : take (p.out - 0) text ≡ minimised_text L data-text
-  own-part = let n : p.out - 0 ≡ p.out = omega arith in ap (λ k. take k text) n ∙ x.text_is
+  pub own-part : take (p.draft.out - 0) text ≡ minimised_text L data-text
+  own-part = let n : p.draft.out - 0 ≡ p.draft.out = omega arith in ap (λ k. take k text) n ∙ x.text_is
 
-  pub all-recount : (trim : Bool) (work : List ℕ) → 1 ≤ L → length data-text ≤ most_bytes → most_rows_in L (length data-text) ≤ length work → Room trim L (take (p.out - 0) text) work
+  pub all-recount : (trim : Bool) (work : List ℕ) → 1 ≤ L → length data-text ≤ most_bytes → most_rows_in L (length data-text) ≤ length work → Room trim L (take (p.draft.out - 0) text) work
   all-recount trim work l s w = subst (λ t. Room trim L t work) (sym own-part) (minimised-room trim L data-text work l s w)
 
 -- a slice of zeros from its first entry on

@@ -10,15 +10,25 @@ use Rattle.definitions.specs.Entries.{measure_count}
 use Rattle.phantoms.specs.Phantoms.{Counts}
 use Rattle.measure_tally.specs.Counted.{Counted}
 use Rattle.output.specs.Wrote.{Wrote}
+use Rattle.kept_pass.specs.declared.Draft.{Draft}
 use Rattle.kept_pass.specs.declared.KeptPass.{KeptPass}
+
+-- the text has the measures that have ended and the rows of the open one
+pub record Drafted (L : ℕ) (d : Draft) (text : List ℕ) (done : List (List Row)) (cur : List Row) : Type 0 where
+  pub wrote : Wrote row_text (44 ∷ 10 ∷ []) (L + 1) L text d.start d.out done cur
+  pub rows : d.rows ≡ length cur
+  pub midx : d.midx ≡ length done
+
+pub record SomeDrafted (L : ℕ) (d : Draft) (text : List ℕ) : Type 0 where
+  pub done : List (List Row)
+  pub cur : List Row
+  pub drafted : Drafted L d text done cur
 
 -- the open measure has these rows, as they were read, and the densities are those of the measures that have ended
 pub record Kept (L : ℕ) (p : KeptPass) (text densities : List ℕ) (done : List (List Row)) (cur : List Row) : Type 0 where
-  pub wrote : Wrote row_text (44 ∷ 10 ∷ []) (L + 1) L text p.start p.out done cur
+  pub drafted : Drafted L p.draft text done cur
   pub counted : Counted L p.counting done []
-  pub rows : p.rows ≡ length cur
-  pub midx : p.midx ≡ length done
-  pub stored : take p.midx densities ≡ map density done
+  pub stored : take p.draft.midx densities ≡ map density done
 
 pub record SomeKept (L : ℕ) (p : KeptPass) (text densities : List ℕ) : Type 0 where
   pub done : List (List Row)
@@ -27,20 +37,18 @@ pub record SomeKept (L : ℕ) (p : KeptPass) (text densities : List ℕ) : Type 
 
 -- the open measure has ended with these rows, minimised and counted, and its density is stored
 pub record MeasureEnded (L : ℕ) (p : KeptPass) (text densities : List ℕ) (done : List (List Row)) (cur : List Row) : Type 0 where
-  pub wrote : Wrote row_text (44 ∷ 10 ∷ []) (L + 1) L text p.start p.out done cur
+  pub drafted : Drafted L p.draft text done cur
   pub counted : Counted L p.counting done cur
-  pub rows : p.rows ≡ length cur
-  pub midx : p.midx ≡ length done
-  pub stored : take (p.midx + 1) densities ≡ map density (done ++ (cur ∷ []))
+  pub stored : take (p.draft.midx + 1) densities ≡ map density (done ++ (cur ∷ []))
 
 -- A whole text was read: the text, the densities and what is counted are those of its minimised measures.
 pub record KeptAll (L : ℕ) (chart-text : List ℕ) (p : KeptPass) (text densities : List ℕ) : Type 0 where
-  pub text_is : take p.out text ≡ minimised_text L chart-text
-  pub out : p.out ≡ length (minimised_text L chart-text)
-  pub short : p.out ≤ length chart-text + 1
-  pub densities_are : take (p.midx + 1) densities ≡ densities_of L chart-text
-  pub midx : p.midx + 1 ≡ measure_count L chart-text
-  pub measures_few : 2 * p.midx ≤ length chart-text + 1
+  pub text_is : take p.draft.out text ≡ minimised_text L chart-text
+  pub out : p.draft.out ≡ length (minimised_text L chart-text)
+  pub short : p.draft.out ≤ length chart-text + 1
+  pub densities_are : take (p.draft.midx + 1) densities ≡ densities_of L chart-text
+  pub midx : p.draft.midx + 1 ≡ measure_count L chart-text
+  pub measures_few : 2 * p.draft.midx ≤ length chart-text + 1
   pub stats : p.counting.stats ≡ tally (joined (minimised L chart-text))
   pub phantoms : Counts L (joined (minimised L chart-text)) p.counting.phantoms
   pub rows : p.counting.rows ≡ length (joined (minimised L chart-text))

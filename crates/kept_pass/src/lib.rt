@@ -6,31 +6,29 @@ ghost use Rattle.std.specs.Prelude.{◌≡◌, List, [], ◌∷◌, ◌++◌, �
 ghost use Rattle.definitions.specs.Sizes.{measures_bound, most_bytes, row_count_bound};
 ghost use Rattle.definitions.specs.Lines.{Row};
 ghost use Rattle.definitions.specs.Reduction.{reduce};
-ghost use Rattle.kept_pass.specs.KeptPass.{Kept, SomeKept, MeasureEnded, KeptAll};
+ghost use Rattle.kept_pass.specs.KeptPass.{Drafted, SomeDrafted, Kept, SomeKept, MeasureEnded, KeptAll};
 
 use definitions::Lanes;
 use measure_tally::Counting;
 use reader::charts::ChartLine;
 use taps::TapTable;
 
-// What is counted so far, where the open measure begins, how many bytes are written, and the open measure's rows and number.
+// What is written of a chart: where the open measure begins, how many bytes there are, and the open measure's rows and number.
 #[derive(Drop)]
-pub struct KeptPass {
-    pub counting: Counting,
+pub struct Draft {
     pub start: usize,
     pub out: usize,
     pub rows: usize,
     pub midx: usize,
 }
 
-impl KeptPass {
+impl Draft {
     // Before the first line.
     pub fn new() -> Self
-        ensures before { (L : ℕ) (text densities : List ℕ) → L ≤ 10 → Kept L result text densities [] [] }
-        ensures nothing_written { (result.out ≡ 0) × (result.counting.rows ≡ 0) }
+        ensures drafted { (L : ℕ) (text : List ℕ) → Drafted L result text [] [] }
+        ensures nothing_written { result.out ≡ 0 }
     {
-        KeptPass {
-            counting: Counting::new(),
+        Draft {
             start: 0,
             out: 0,
             rows: 0,
@@ -41,8 +39,8 @@ impl KeptPass {
     // One row more of the open measure.
     pub fn add_row(&mut self, text: &mut [u8], row: &[u8])
         requires { (self.old.out + length row.now + 1 ≤ length text.old) × (self.old.rows < row_count_bound) }
-        ensures kept { (densities : List ℕ) (done : List (List Row)) (cur : List Row) → Kept (length row.now) self.old text.old densities done cur → Kept (length row.now) self.new text.new densities done (cur ++ (row.now ∷ [])) }
-        ensures out_after { (self.new.out ≡ self.old.out + length row.now + 1) × (self.new.counting.rows ≡ self.old.counting.rows) }
+        ensures drafted { (done : List (List Row)) (cur : List Row) → Drafted (length row.now) self.old text.old done cur → Drafted (length row.now) self.new text.new done (cur ++ (row.now ∷ [])) }
+        ensures out_after { self.new.out ≡ self.old.out + length row.now + 1 }
         ensures one_more { (self.new.rows ≡ self.old.rows + 1) × (self.new.midx ≡ self.old.midx) }
     {
         output::put_line(text, self.out, row);
@@ -50,17 +48,13 @@ impl KeptPass {
         self.rows += 1;
     }
 
-    // The open measure ends: its rows are minimised in place and counted, and its density is stored.
-    fn end_measure(&mut self, text: &mut [u8], densities: &mut [u32], table: &TapTable)
-        requires room { (self.old.out ≤ length text.old) × (self.old.counting.rows + self.old.rows < row_count_bound) × (self.old.midx < length densities.old) }
-        requires kept { SomeKept table.now.lanes.count self.old text.old densities.old }
-        ensures measure_ended { (done : List (List Row)) (cur : List Row) → Kept table.now.lanes.count self.old text.old densities.old done cur → MeasureEnded table.now.lanes.count self.new text.new densities.new done (reduce cur) }
-        ensures no_more { (self.new.out ≤ self.old.out) × (self.new.midx ≡ self.old.midx) }
+    // The open measure's rows are minimised in place.
+    pub fn minimise(&mut self, text: &mut [u8], lanes: Lanes)
+        requires { (self.old.out ≤ length text.old) × SomeDrafted lanes.count self.old text.old }
+        ensures drafted { (done : List (List Row)) (cur : List Row) → Drafted lanes.count self.old text.old done cur → Drafted lanes.count self.new text.new done (reduce cur) }
+        ensures no_more { (self.new.out ≤ self.old.out) × (self.new.rows ≤ self.old.rows) × (self.new.midx ≡ self.old.midx) }
     {
-        let lanes = table.lanes;
         let kept = reduction::reduce_output_measure(text, self.start, self.rows, lanes);
-        self.counting.count_rows(text, self.start, kept, table);
-        densities[self.midx] = self.counting.density();
         self.out = self.start + kept * (lanes.count + 1);
         self.rows = kept;
     }
@@ -68,26 +62,68 @@ impl KeptPass {
     // The `,` line after a measure that has ended is written, and the next measure begins.
     pub fn begin_measure(&mut self, text: &mut [u8])
         requires { (self.old.out + 2 ≤ length text.old) × (self.old.midx ≤ measures_bound) }
-        ensures begun { (L : ℕ) (densities : List ℕ) (done : List (List Row)) (cur : List Row) → MeasureEnded L self.old text.old densities done cur → Kept L self.new text.new densities (done ++ (cur ∷ [])) [] }
+        ensures drafted { (L : ℕ) (done : List (List Row)) (cur : List Row) → Drafted L self.old text.old done cur → Drafted L self.new text.new (done ++ (cur ∷ [])) [] }
         ensures out_after { (self.new.out ≡ self.old.out + 2) × (self.new.midx ≡ self.old.midx + 1) }
     {
         output::put_comma(text, self.out);
-        self.counting.end_measure();
         self.out += 2;
         self.start = self.out;
         self.rows = 0;
         self.midx += 1;
     }
+}
+
+// What is counted so far, and what is written.
+#[derive(Drop)]
+pub struct KeptPass {
+    pub counting: Counting,
+    pub draft: Draft,
+}
+
+impl KeptPass {
+    // Before the first line.
+    fn new() -> Self
+        ensures before { (L : ℕ) (text densities : List ℕ) → L ≤ 10 → Kept L result text densities [] [] }
+        ensures nothing_written { result.draft.out ≡ 0 }
+    {
+        KeptPass {
+            counting: Counting::new(),
+            draft: Draft::new(),
+        }
+    }
+
+    // One row more of the open measure.
+    fn add_row(&mut self, text: &mut [u8], row: &[u8])
+        requires { (self.old.draft.out + length row.now + 1 ≤ length text.old) × (self.old.draft.rows < row_count_bound) }
+        ensures kept { (densities : List ℕ) (done : List (List Row)) (cur : List Row) → Kept (length row.now) self.old text.old densities done cur → Kept (length row.now) self.new text.new densities done (cur ++ (row.now ∷ [])) }
+        ensures out_after { self.new.draft.out ≡ self.old.draft.out + length row.now + 1 }
+    {
+        self.draft.add_row(text, row);
+    }
+
+    // The open measure ends: its rows are minimised in place and counted, and its density is stored.
+    fn end_measure(&mut self, text: &mut [u8], densities: &mut [u32], table: &TapTable)
+        requires room { (self.old.draft.out ≤ length text.old) × (self.old.counting.rows + self.old.draft.rows < row_count_bound) × (self.old.draft.midx < length densities.old) }
+        requires kept { SomeKept table.now.lanes.count self.old text.old densities.old }
+        ensures measure_ended { (done : List (List Row)) (cur : List Row) → Kept table.now.lanes.count self.old text.old densities.old done cur → MeasureEnded table.now.lanes.count self.new text.new densities.new done (reduce cur) }
+        ensures no_more { (self.new.draft.out ≤ self.old.draft.out) × (self.new.draft.midx ≡ self.old.draft.midx) }
+    {
+        self.draft.minimise(text, table.lanes);
+        self.counting
+            .count_rows(text, self.draft.start, self.draft.rows, table);
+        densities[self.draft.midx] = self.counting.density();
+    }
 
     // The open measure ends with a `,` line.
     fn comma(&mut self, text: &mut [u8], densities: &mut [u32], table: &TapTable)
-        requires room { (self.old.out + 2 ≤ length text.old) × (self.old.counting.rows + self.old.rows < row_count_bound) × (self.old.midx < length densities.old) × (self.old.midx ≤ measures_bound) }
+        requires room { (self.old.draft.out + 2 ≤ length text.old) × (self.old.counting.rows + self.old.draft.rows < row_count_bound) × (self.old.draft.midx < length densities.old) × (self.old.draft.midx ≤ measures_bound) }
         requires kept { SomeKept table.now.lanes.count self.old text.old densities.old }
         ensures kept_after { (done : List (List Row)) (cur : List Row) → Kept table.now.lanes.count self.old text.old densities.old done cur → Kept table.now.lanes.count self.new text.new densities.new (done ++ (reduce cur ∷ [])) [] }
-        ensures out_bound { self.new.out ≤ self.old.out + 2 }
+        ensures out_bound { self.new.draft.out ≤ self.old.draft.out + 2 }
     {
         self.end_measure(text, densities, table);
-        self.begin_measure(text);
+        self.counting.end_measure();
+        self.draft.begin_measure(text);
     }
 }
 

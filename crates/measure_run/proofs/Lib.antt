@@ -1,2 +1,2 @@
--- Laws of what a walk holds.
-pub mod Starts
+-- Laws of what is noted: one row more, and the end of a measure.
+pub mod Rows

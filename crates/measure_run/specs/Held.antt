@@ -1,13 +1,12 @@
--- What a walk holds of a measure of which some rows are walked, as the structs of the layers beneath.
+-- What a walk holds of a measure of which some rows are walked, as what is counted and noted.
 use Rattle.std.specs.Prelude.{cond, ℕ, ◌+◌, ◌-◌, nat_lt, Option, Some, None, if◌then◌else◌}
-use Rattle.std.specs.Int.Bits.{bit_or}
 use Rattle.definitions.specs.Tally.{tally_with_row}
 use Rattle.beats.specs.declared.RowPlace.{RowPlace}
 use Rattle.row_walk.specs.declared.Columns.{Columns}
 use Rattle.row_walk.specs.declared.Seen.{Seen}
 use Rattle.row_walk.specs.Rows.{phantoms_of, notes_of}
 use Rattle.measure_tally.specs.declared.Counting.{Counting}
-use Rattle.measure_notes.specs.declared.Noting.{Noting}
+use Rattle.measure_run.specs.Noted.{Noting}
 use Rattle.measure_run.specs.declared.Run.{Run}
 
 -- What a walk leaves as it is: the steps before the measure, the last object row of the measures before, and the measure's number.
@@ -15,9 +14,6 @@ pub record Rest : Type 0 where
   pub before : ℕ
   pub found : Option RowPlace
   pub midx : ℕ
-
-abbrev pub rest_of : Counting → Noting → Rest
-rest_of c n = record { before = c.before; found = n.last.found; midx = n.last.midx }
 
 abbrev pub counting_of : Rest → Columns → Run → Counting
 counting_of q k r = record { stats = r.stats; phantoms = phantoms_of k.depths r.marks; rows = r.row; before = q.before; busy = k.busy }
@@ -30,20 +26,6 @@ abbrev pub noting_of : ℕ → Rest → Columns → Run → Noting
 noting_of first q k r = record {
   scratch = notes_of k.hold_heads r.count r.row r.marks;
   last = record { depths = record { depths = k.low }; busy = k.busy; found = q.found; row = row_at first r.last; rows = r.row - first; midx = q.midx };
-}
-
--- before the measure
-abbrev pub columns_before : Counting → Noting → Columns
-columns_before c n =
-    record { depths = c.phantoms.depths; low = n.last.depths.depths; hold_heads = n.scratch.hold_heads; busy = bit_or c.busy n.last.busy }
-
-abbrev pub run_before : Counting → Noting → Run
-run_before c n = record {
-  marks = record { heads = c.phantoms.heads; tails = c.phantoms.tails; met = c.phantoms.met; invalid = n.scratch.has_invalid };
-  stats = c.stats;
-  count = n.scratch.count;
-  row = c.rows;
-  last = 0;
 }
 
 -- after a row whose cells have come to this

@@ -1,2 +1,3 @@
 -- What the contracts of a run cite, beside the definitions.
+pub mod Noted
 pub mod Held

@@ -1,2 +1,3 @@
 -- Laws of the walk.
 pub mod Runs
+pub mod Starts

@@ -13,8 +13,8 @@ use Rattle.row_walk.specs.declared.Seen.{Seen}
 use Rattle.row_walk.specs.Rows.{Ten, CellsReady, RowWalked}
 use Rattle.measure_tally.specs.Counted.{Counted, Few}
 use Rattle.measure_tally.proofs.Rows.{counted-row}
-use Rattle.measure_notes.specs.Noted.{NotedRows, RowReady}
-use Rattle.measure_notes.proofs.Rows.{noted-row}
+use Rattle.measure_run.specs.Noted.{NotedRows, RowReady}
+use Rattle.measure_run.proofs.Rows.{noted-row}
 use Rattle.measure_run.specs.declared.Run.{Run}
 use Rattle.measure_run.specs.Held.{Rest, counting_of, noting_of, after_cells}
 use Rattle.tap_walk.proofs.Runs.{kept_run}

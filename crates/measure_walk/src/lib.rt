@@ -1,47 +1,173 @@
-// A measure's minimised rows gone over once: each row is counted and noted, an ordinary one by its mask, any other by its cells.
+// A chart's minimised rows gone over once, measure by measure: each row is counted and noted, an ordinary one by its mask, any other by its cells.
 #![tactic(auto)]
 
-ghost use Rattle.std.specs.Prelude.{◌≡◌, List, [], ◌∷◌, ◌++◌, ◌+◌, ◌*◌, ◌≤◌, ◌<◌, length, drop};
+ghost use Rattle.std.specs.Prelude.{◌≡◌, List, [], ◌∷◌, ◌++◌, ℕ, ◌+◌, ◌-◌, ◌*◌, ◌≤◌, ◌<◌, length, drop};
+ghost use Rattle.definitions.specs.Sizes.{measures_bound, row_count_bound};
 ghost use Rattle.definitions.specs.Lines.{Row};
+ghost use Rattle.definitions.specs.Figures.{density as density_of};
 ghost use Rattle.reduction.specs.Rows.{rows_at};
+ghost use Rattle.row_walk.specs.Rows.{Ten, phantoms_of};
 ghost use Rattle.measure_tally.specs.Counted.{Counted};
-ghost use Rattle.measure_notes.specs.Noted.{Noted};
+ghost use Rattle.measure_run.specs.Noted.{Noted, NotedRows};
+ghost use Rattle.measure_run.specs.Held.{noting_of};
 ghost use Rattle.tap_walk.specs.Walked.{Walking};
+ghost use Rattle.measure_walk.specs.Views.{rest, counting, noting};
 
-use measure_notes::Noting;
+use beats::RowPlace;
 use measure_run::Run;
-use measure_tally::Counting;
+use phantoms::Phantoms;
+use row_notes::ChartNotesScratch;
+use row_walk::{Columns, Marks};
 use taps::TapTable;
 
-// The rows of a measure that stand in a text from `start` on, each with a newline byte after it; for the notes the measure then ends.
-pub fn walk_rows(
-    counting: &mut Counting,
-    noting: &mut Noting,
-    text: &[u8],
-    start: usize,
-    rows: usize,
-    slots: &mut [u8],
-    table: &TapTable,
-)
-    requires in_text { start + rows * (table.now.lanes.count + 1) ≤ length text.now }
-    requires walking { Walking table.now.lanes.count counting.old noting.old slots.old (rows_at (table.now.lanes.count + 1) table.now.lanes.count rows (drop start text.now)) 0 }
-    ensures counted { (done : List (List Row)) → Counted table.now.lanes.count counting.old done [] → Counted table.now.lanes.count counting.new done (rows_at (table.now.lanes.count + 1) table.now.lanes.count rows (drop start text.now)) }
-    ensures noted { (done : List (List Row)) → Noted table.now.lanes.count noting.old slots.old done → Noted table.now.lanes.count noting.new slots.new (done ++ (rows_at (table.now.lanes.count + 1) table.now.lanes.count rows (drop start text.now) ∷ [])) }
-{
-    let lanes = table.lanes.count;
-    let first = counting.rows;
-    let mut columns = measure_run::first_columns(*counting, *noting);
-    let mut run = Run::before(counting, noting);
-    'walk: loop {
-        tap_walk::walk_taps(&mut run, &columns, first, text, start, rows, slots, table);
-        let i = (run.row - first) as usize;
-        if rows <= i {
-            run.end(columns, counting, noting);
-            return;
+// The columns and what each row changes; the steps before the open measure, the last object row of the measures that are walked, and their number.
+#[derive(Clone, Copy)]
+pub struct Walk {
+    pub columns: Columns,
+    pub run: Run,
+    pub before: u32,
+    pub found: Option<RowPlace>,
+    pub midx: u32,
+}
+
+impl Walk {
+    // Before the first row.
+    pub fn new() -> Self
+        ensures ten { Ten result.columns }
+        ensures counted { (L : ℕ) → L ≤ 10 → Counted L (counting result) [] [] }
+        ensures noted { (L : ℕ) (l : List ℕ) → Noted L (noting result) l [] }
+        ensures nothing_walked { result.run.row ≡ 0 }
+    {
+        Walk {
+            columns: Columns {
+                depths: [0; 10],
+                low: [0; 10],
+                hold_heads: [row_notes::NO_HEAD; 10],
+                busy: 0,
+            },
+            run: Run {
+                marks: Marks {
+                    heads: 0,
+                    tails: 0,
+                    met: false,
+                    invalid: false,
+                },
+                stats: row_tally::no_stats(),
+                count: 0,
+                row: 0,
+                last: 0,
+            },
+            before: 0,
+            found: None,
+            midx: 0,
         }
-        let at = start + i * (lanes + 1);
-        let end = at + lanes;
-        let s = columns.walk_cells(run.marks, run.count, run.row, &text[at..end], slots);
-        run.add_cells(s);
+    }
+
+    // For the notes and the last object row the open measure ends, before which `first` rows stand.
+    fn end_rows(&mut self, first: u32)
+        requires { (first ≤ self.old.run.row) × (self.old.run.row - first < row_count_bound) × (self.old.midx ≤ measures_bound) }
+        ensures noted { (L : ℕ) (l : List ℕ) (done : List (List Row)) (cur : List Row) → NotedRows L (noting_of first (rest self.old) self.old.columns self.old.run) l done cur → Noted L (noting self.new) l (done ++ (cur ∷ [])) }
+        ensures counting_stays { counting self.new ≡ counting self.old }
+        ensures columns_stay { self.new.columns ≡ self.old.columns }
+    {
+        let last = self.run.last;
+        let measure = self.midx;
+        self.run.last = 0;
+        self.midx += 1;
+        if first < last {
+            self.found = Some(RowPlace {
+                measure,
+                row: last - 1 - first,
+                rows: self.run.row - first,
+            });
+        }
+    }
+
+    // The rows of a measure that stand in a text from `start` on, each with a newline byte after it; for the notes the measure then ends.
+    pub fn walk_rows(
+        &mut self,
+        text: &[u8],
+        start: usize,
+        rows: usize,
+        slots: &mut [u8],
+        table: &TapTable,
+    )
+        requires in_text { start + rows * (table.now.lanes.count + 1) ≤ length text.now }
+        requires ten { Ten self.old.columns }
+        requires walking { Walking table.now.lanes.count (counting self.old) (noting self.old) slots.old (rows_at (table.now.lanes.count + 1) table.now.lanes.count rows (drop start text.now)) 0 }
+        ensures ten { Ten self.new.columns }
+        ensures counted { (done : List (List Row)) → Counted table.now.lanes.count (counting self.old) done [] → Counted table.now.lanes.count (counting self.new) done (rows_at (table.now.lanes.count + 1) table.now.lanes.count rows (drop start text.now)) }
+        ensures noted { (done : List (List Row)) → Noted table.now.lanes.count (noting self.old) slots.old done → Noted table.now.lanes.count (noting self.new) slots.new (done ++ (rows_at (table.now.lanes.count + 1) table.now.lanes.count rows (drop start text.now) ∷ [])) }
+    {
+        let lanes = table.lanes.count;
+        let first = self.run.row;
+        let mut run = self.run;
+        'walk: loop {
+            tap_walk::walk_taps(
+                &mut run,
+                &self.columns,
+                first,
+                text,
+                start,
+                rows,
+                slots,
+                table,
+            );
+            let i = (run.row - first) as usize;
+            if rows <= i {
+                self.run = run;
+                self.end_rows(first);
+                return;
+            }
+            let at = start + i * (lanes + 1);
+            let end = at + lanes;
+            let s = self
+                .columns
+                .walk_cells(run.marks, run.count, run.row, &text[at..end], slots);
+            run.add_cells(s);
+        }
+    }
+
+    // The density of the open measure.
+    pub fn density(&self) -> u32
+        requires { self.now.before ≤ self.now.run.stats.total_steps }
+        ensures { (L : ℕ) (done : List (List Row)) (cur : List Row) → Counted L (counting self.now) done cur → result ≡ density_of cur }
+    {
+        self.run.stats.total_steps - self.before
+    }
+
+    // For what is counted the open measure ends.
+    pub fn end_measure(&mut self)
+        ensures counted { (L : ℕ) (done : List (List Row)) (cur : List Row) → Counted L (counting self.old) done cur → Counted L (counting self.new) (done ++ (cur ∷ [])) [] }
+        ensures noting_stays { noting self.new ≡ noting self.old }
+        ensures columns_stay { self.new.columns ≡ self.old.columns }
+    {
+        self.before = self.run.stats.total_steps;
+    }
+
+    // What the correction asks of the rows.
+    pub fn phantoms(&self) -> Phantoms
+        ensures { result ≡ (counting self.now).phantoms }
+    {
+        let depths = self.columns.depths;
+        Phantoms {
+            depths,
+            heads: self.run.marks.heads,
+            tails: self.run.marks.tails,
+            met: self.run.marks.met,
+        }
+    }
+
+    // What the notes' end asks.
+    pub fn scratch(&self) -> ChartNotesScratch
+        ensures { result ≡ (noting self.now).scratch }
+    {
+        let hold_heads = self.columns.hold_heads;
+        ChartNotesScratch {
+            hold_heads,
+            count: self.run.count,
+            row_index: self.run.row,
+            has_invalid: self.run.marks.invalid,
+        }
     }
 }

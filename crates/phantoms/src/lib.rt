@@ -1,7 +1,7 @@
 // The phantom depths of a chart's rows, its heads and tails, and whether its tally is counted anew.
 #![tactic(auto)]
 
-ghost use Rattle.std.specs.Prelude.{◌≡◌, true, List, [], ℕ, ◌≤◌, ◌<◌, length, nat_lt};
+ghost use Rattle.std.specs.Prelude.{◌≡◌, true, List, [], ℕ, ◌≤◌, ◌<◌, nat_lt};
 ghost use Rattle.definitions.specs.Lists.{some_column};
 ghost use Rattle.definitions.specs.Lines.{Row};
 ghost use Rattle.definitions.specs.Correction.{corrects};
@@ -70,13 +70,6 @@ pub fn phantom_cell(b: u8, depth: u32) -> PhantomCell
             met: false,
         },
     }
-}
-
-// The phantom depths of the columns.
-pub fn phantom_depths(p: Phantoms) -> [u32; 10]
-    ensures { (result ≡ p.depths) × (length p.depths ≡ 10) }
-{
-    p.depths
 }
 
 // Whether a phantom depth of the first columns is left over.

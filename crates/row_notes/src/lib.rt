@@ -31,18 +31,6 @@ pub struct ChartNotesScratch {
     pub has_invalid: bool,
 }
 
-// Before the first row.
-pub fn begin() -> ChartNotesScratch
-    ensures { (l : List ℕ) → Written [] result l }
-{
-    ChartNotesScratch {
-        hold_heads: [NO_HEAD; 10],
-        count: 0,
-        row_index: 0,
-        has_invalid: false,
-    }
-}
-
 // Ends a head's note with this tail; `NO_HEAD` has none.
 pub fn end_note(head: u32, tail: u32, notes: &mut [u8])
     requires { (head ≡ no_head → ⊥) → head * 10 + 10 ≤ length notes.old }

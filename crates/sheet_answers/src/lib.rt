@@ -57,20 +57,21 @@ pub fn sheet_answers(
     ensures notes_after { notes.new ≡ padded 0 (length notes.old) (records (notes_of lanes.count «data».now)) }
 {
     let pass = chart_pass::read_chart(data, lanes, text, densities, beats, notes);
-    let bytes = pass.pass.out;
-    let measures = pass.pass.midx + 1;
-    let counting = pass.pass.counting;
+    let bytes = pass.draft.out;
+    let measures = pass.draft.midx + 1;
+    let rows = pass.walk.run.row;
+    let phantoms = pass.walk.phantoms();
     let main = corrected_tally::corrected_stats(
-        counting.stats,
-        counting.phantoms,
+        pass.walk.run.stats,
+        phantoms,
         &text[0..bytes],
         lanes,
         true,
         work,
     );
     let kept = corrected_tally::corrected_stats(
-        counting.stats,
-        counting.phantoms,
+        pass.walk.run.stats,
+        phantoms,
         &text[0..bytes],
         lanes,
         false,
@@ -78,16 +79,16 @@ pub fn sheet_answers(
     );
     let judged = judge_minimised(&text[0..bytes], lanes, work);
     spacing::fill_spacing(data, lanes, spacing);
-    let last = pass.noting.last.found;
-    let count = row_notes::finish(pass.noting.scratch, notes);
+    let last = pass.walk.found;
+    let count = row_notes::finish(pass.walk.scratch(), notes);
     slices::zero_past(text, bytes, 0);
     slices::zero_past(densities, measures, 0);
-    slices::zero_past(beats, counting.rows as usize, 0.0);
+    slices::zero_past(beats, rows as usize, 0.0);
     SheetFigures {
         chart: ChartFigures {
             bytes,
             measures,
-            rows: counting.rows,
+            rows,
             notes: count,
             last_bits: beats::last_beat_bits(last),
             last_row: beats::last_note_row(last),
@@ -96,7 +97,7 @@ pub fn sheet_answers(
         kept: KeptFigures {
             bytes,
             measures,
-            rows: counting.rows,
+            rows,
             stats: kept,
         },
         judged,

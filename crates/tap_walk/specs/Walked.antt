@@ -12,8 +12,7 @@ use Rattle.row_notes.specs.Written.{Written, MaskFits, SomeMask, after_taps}
 use Rattle.row_walk.specs.declared.Columns.{Columns}
 use Rattle.measure_tally.specs.declared.Counting.{Counting}
 use Rattle.measure_tally.specs.Counted.{Counted}
-use Rattle.measure_notes.specs.declared.Noting.{Noting}
-use Rattle.measure_notes.specs.Noted.{NotedRows}
+use Rattle.measure_run.specs.Noted.{Noting, NotedRows}
 use Rattle.measure_run.specs.declared.Run.{Run}
 use Rattle.measure_run.specs.Held.{Rest, counting_of, noting_of}
 

@@ -5,7 +5,7 @@ ghost use Rattle.std.specs.Prelude.{◌≡◌, List, ◌+◌, ◌-◌, ◌*◌, 
 ghost use Rattle.definitions.specs.Lines.{Row};
 ghost use Rattle.reduction.specs.Rows.{rows_at};
 ghost use Rattle.measure_tally.specs.Counted.{Counted};
-ghost use Rattle.measure_notes.specs.Noted.{NotedRows};
+ghost use Rattle.measure_run.specs.Noted.{NotedRows};
 ghost use Rattle.measure_run.specs.Held.{Rest, counting_of, noting_of};
 ghost use Rattle.tap_walk.specs.Walked.{TapsReady, TapsAdded, Running};
 

@@ -10,7 +10,7 @@ use Rattle.kept_pass.proofs.keep_lines.Goals as goal
 pub loop-line-init : goal.loop-line-init
 loop-line-init c =
     let lanes = c.args.table.now.lanes in
-    minimising-start (c.into_iter-line-iterator.ensures.into_iter_gives ∙ c.chart_lines-line-items.ensures) lanes.within.0 c.new-pass.ensures.nothing_written.0
+    minimising-start (c.into_iter-line-iterator.ensures.into_iter_gives ∙ c.chart_lines-line-items.ensures) lanes.within.0 c.new-pass.ensures.nothing_written
     (c.new-pass.ensures.before lanes.count c.args.text.now c.args.densities.now lanes.within.1)
 
 pub add_row-requires : goal.add_row-requires
@@ -32,7 +32,7 @@ comma-requires c =
 pub loop-line-preserved-in-Row : goal.loop-line-preserved-in-Row
 loop-line-preserved-in-Row c =
     minimising-row c.loop-line.invariant c.in-Some.ensures.steps _ c.in-Row.is
-    (omega (arith, c.add_row.ensures.out_after.0))
+    (omega (arith, c.add_row.ensures.out_after))
     (λ wide. kept-more _ _ _ _ _ _ wide c.add_row.ensures.kept _)
 
 pub loop-line-preserved : goal.loop-line-preserved

@@ -4,4 +4,4 @@ use Rattle.kept_pass.specs.KeptPass.{Kept}
 use Rattle.kept_pass.proofs.keep_lines.Given as goal
 
 abbrev pub invariant-loop-line : goal.invariant-loop-line
-invariant-loop-line l = Minimising l.fn.table.lanes.count l.data l.pass.out (Kept l.fn.table.lanes.count l.pass l.text l.densities) l.yielded l.line-iterator
+invariant-loop-line l = Minimising l.fn.table.lanes.count l.data l.pass.draft.out (Kept l.fn.table.lanes.count l.pass l.text l.densities) l.yielded l.line-iterator

@@ -13,7 +13,7 @@ use Rattle.reduction.proofs.RowsAt.{rows-length}
 use Rattle.reduction.proofs.Powers.{next-at}
 use Rattle.row_walk.specs.declared.Columns.{Columns}
 use Rattle.measure_tally.specs.Counted.{Counted}
-use Rattle.measure_notes.specs.Noted.{NotedRows}
+use Rattle.measure_run.specs.Noted.{NotedRows}
 use Rattle.measure_run.specs.declared.Run.{Run}
 use Rattle.measure_run.specs.Held.{counting_of, noting_of}
 use Rattle.tap_walk.specs.Walked.{Running, Walking}

@@ -5,7 +5,7 @@ use Prim.Native.Nat.{◌+◌, ◌-◌, ◌*◌, ◌≤◌}
 use lib.ListN.{length, take}
 use Rattle.definitions.specs.Lines.{Row}
 use Rattle.measure_tally.specs.Counted.{Counted}
-use Rattle.measure_notes.specs.Noted.{NotedRows}
+use Rattle.measure_run.specs.Noted.{NotedRows}
 use Rattle.measure_run.specs.Held.{Rest, counting_of, noting_of}
 use Rattle.measure_tally.proofs.Places.{rows_of}
 use Rattle.tap_walk.proofs.walk_taps.Given as goal

@@ -1,4 +1,4 @@
--- `chart_pass::ChartPass::add_row` meets its contract: no row is counted yet, so the beats are the same.
+-- `chart_pass::ChartPass::add_row` meets its contract: the row stands after the open measure's other rows.
 use mathlib.Core.Path.{ap, ◌∙◌}
 use lib.ListN.{take}
 use Rattle.chart_pass.proofs.ChartPass.add_row.Goals as goal
@@ -6,7 +6,8 @@ use Rattle.chart_pass.proofs.ChartPass.add_row.Goals as goal
 pub returns-clause-charted : goal.returns-clause-charted
 returns-clause-charted c =
     λ densities beats slots done cur x. record {
-      kept = c.add_row.ensures.kept densities done cur x.kept;
+      kept = record { drafted = c.add_row.ensures.drafted done cur x.kept.drafted; counted = x.kept.counted; stored = ap (λ n. take n densities) c.add_row.ensures.one_more.1 ∙ x.kept.stored };
       noted = x.noted;
-      beats_are = ap (λ n. take n beats) c.add_row.ensures.out_after.1 ∙ x.beats_are;
+      ten = x.ten;
+      beats_are = x.beats_are;
     }

@@ -6,5 +6,6 @@ use Rattle.chart_pass.proofs.ChartPass.comma.Goals as goal
 pub returns-clause-charted_after : goal.returns-clause-charted_after
 returns-clause-charted_after c =
     λ done cur x.
-    let y = c.end_measure.ensures.chart_ended done cur x in
-    charted-next _ _ _ _ _ _ _ done (reduce cur) y _ (c.begin_measure.ensures.begun _ _ done (reduce cur) y.ended)
+    let w = c.end_measure-2.ensures in
+    let d = c.begin_measure.ensures in
+    charted-next _ _ _ _ _ _ _ done (reduce cur) (c.end_measure.ensures.chart_ended done cur x) _ _ w.counted w.noting_stays w.columns_stay d.drafted d.out_after.1

@@ -5,7 +5,8 @@ use Rattle.chart_pass.proofs.ChartPass.new.Goals as goal
 
 pub returns-clause-before : goal.returns-clause-before
 returns-clause-before c = λ L text densities beats slots h. record {
-  kept = c.new.ensures.before L text densities h;
-  noted = c.new-2.ensures L slots;
-  beats_are = ap (λ m. take m beats) c.new.ensures.nothing_written.1;
+  kept = record { drafted = c.new.ensures.drafted L text; counted = c.new-2.ensures.counted L h; stored = ap (λ m. take m densities) (c.new.ensures.drafted L text).midx };
+  noted = c.new-2.ensures.noted L slots;
+  ten = c.new-2.ensures.ten;
+  beats_are = ap (λ m. take m beats) c.new-2.ensures.nothing_walked;
 }

@@ -1,8 +1,11 @@
 -- `kept_pass::KeptPass::new` meets its contract.
-use mathlib.Core.Path.{refl}
-use native.Mathlib.Omega.{arith}
-use Rattle.kept_pass.proofs.Passing.{kept-start}
+use mathlib.Core.Path.{ap}
+use lib.ListN.{take}
 use Rattle.kept_pass.proofs.KeptPass.new.Goals as goal
 
-pub returns : goal.returns
-returns c = record { before = λ L text densities w. kept-start L text densities _ (c.new.ensures L w); nothing_written = (refl, (c.new.ensures 0 (omega arith)).rows) }
+pub returns-clause-before : goal.returns-clause-before
+returns-clause-before c = λ L text densities w. record {
+  drafted = c.new-2.ensures.drafted L text;
+  counted = c.new.ensures L w;
+  stored = ap (λ n. take n densities) (c.new-2.ensures.drafted L text).midx;
+}

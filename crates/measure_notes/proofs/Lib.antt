@@ -1,2 +1,0 @@
--- Laws of what is noted: one row more.
-pub mod Rows

@@ -1,0 +1,15 @@
+-- What the walk over a chart's measures holds, as what is counted and noted.
+use Rattle.measure_tally.specs.declared.Counting.{Counting}
+use Rattle.measure_run.specs.Noted.{Noting}
+use Rattle.measure_run.specs.Held.{Rest, counting_of, noting_of}
+use Rattle.measure_walk.specs.declared.Walk.{Walk}
+
+abbrev pub rest : Walk → Rest
+rest w = record { before = w.before; found = w.found; midx = w.midx }
+
+abbrev pub counting : Walk → Counting
+counting w = counting_of (rest w) w.columns w.run
+
+-- between two measures: no row is noted of an open one
+abbrev pub noting : Walk → Noting
+noting w = noting_of w.run.row (rest w) w.columns w.run
