@@ -12,10 +12,9 @@ use Rattle.definitions.specs.Lines.{Row}
 use Rattle.definitions.specs.Measures.{chart}
 use Rattle.definitions.specs.Reduction.{reduce, minimised}
 use Rattle.definitions.specs.Beats.{row_beats, beats_from, measure_beats, beats as beats_of}
-use Rattle.definitions.proofs.Lists.{joined_snoc}
 use Rattle.beats.proofs.Beats.{beats-appended}
 use Rattle.kept_pass.specs.declared.Draft.{Draft}
-use Rattle.kept_pass.specs.KeptPass.{Drafted, Kept, MeasureEnded}
+use Rattle.kept_pass.specs.KeptPass.{Drafted, MeasureEnded}
 use Rattle.kept_pass.proofs.Passing.{rows-there, next-measure}
 use Rattle.kept_pass.proofs.Keeping.{kept-all}
 use Rattle.reduction.specs.Rows.{rows_at}

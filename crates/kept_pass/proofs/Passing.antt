@@ -19,7 +19,7 @@ use Rattle.output.proofs.Writing.{wrote-start, wrote-row, wrote-holds, wrote-red
 use Rattle.definitions.proofs.Shorter.{reduce-short}
 use Rattle.kept_pass.specs.declared.Draft.{Draft}
 use Rattle.kept_pass.specs.declared.KeptPass.{KeptPass}
-use Rattle.kept_pass.specs.KeptPass.{Drafted, SomeDrafted, Kept, SomeKept, MeasureEnded}
+use Rattle.kept_pass.specs.KeptPass.{Drafted, SomeDrafted, Kept, MeasureEnded}
 
 abbrev sep : List ℕ
 sep = 44 ∷ 10 ∷ []

@@ -1,6 +1,5 @@
 -- `measure_walk::Walk::end_rows` meets its contract.
 use mathlib.Core.Path.{refl}
-use native.Mathlib.Omega.{arith}
 use Rattle.measure_walk.specs.Views.{rest}
 use Rattle.measure_walk.proofs.Starts.{ended-none, ended-some}
 use Rattle.measure_walk.proofs.Walk.end_rows.Goals as goal

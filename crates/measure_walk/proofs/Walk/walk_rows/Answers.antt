@@ -11,12 +11,12 @@ use Rattle.reduction.proofs.RowsAt.{rows-length}
 use Rattle.measure_tally.specs.Counted.{Counted}
 use Rattle.measure_run.specs.Noted.{NotedRows}
 use Rattle.measure_run.specs.declared.Run.{Run}
-use Rattle.measure_run.specs.Held.{Rest, counting_of, noting_of}
+use Rattle.measure_run.specs.Held.{counting_of, noting_of}
 use Rattle.tap_walk.specs.Walked.{Walking}
 use Rattle.measure_tally.proofs.Places.{rows_of, part, row-wide, row_more}
 use Rattle.tap_walk.proofs.Walks.{walked_on, count-few, note-ready, measure-ready}
 use Rattle.tap_walk.proofs.Runs.{stats-few}
-use Rattle.measure_walk.specs.Views.{rest, counting, noting}
+use Rattle.measure_walk.specs.Views.{rest}
 use Rattle.measure_walk.proofs.Runs.{counted-cells, noted-cells, cells-asked}
 use Rattle.measure_walk.proofs.Walk.walk_rows.Goals as goal
 use Rattle.measure_walk.proofs.Walk.walk_rows.Goals.{After-walk_taps}
