@@ -7,7 +7,7 @@ use Prim.Native.Nat.{ℕ, ◌+◌, ◌*◌, ◌≤◌, ◌<◌}
 use native.Mathlib.Omega.{arith}
 use lib.Dec.{eqb}
 use lib.ListN.{length, get_or, set}
-use lib.Seq.{sets, length-sets, get_or-set_same, set-set, set-get_or}
+use lib.Seq.{sets, length-sets, get_or-set_same, set-set}
 use borrow.Author.Tests.{eqb-true}
 use Rattle.definitions.specs.Cells.{cell_of}
 use Rattle.definitions.specs.Notes.{effect_at}

@@ -2,17 +2,13 @@
 use mathlib.Core.Path.{◌≡◌, refl, ap, sym, ◌∙◌, subst}
 use mathlib.Core.Bool.{Bool, ◌||◌, false, or_assoc}
 use mathlib.Core.List.{List, [], ◌∷◌, ◌++◌}
-use Prim.Native.Nat.{ℕ, ◌+◌, ◌-◌, ◌*◌, ◌≤◌, ◌<◌}
+use Prim.Native.Nat.{ℕ, ◌+◌, ◌-◌, ◌*◌, ◌≤◌}
 use native.Mathlib.Nat.{add-zero, mul-le-mul_right, add-sub_cancel_left}
-use native.Mathlib.Numerals.{add-one}
 use native.Mathlib.Omega.{arith}
 use lib.Ieee.{Float}
-use lib.ListN.{length, take, drop, get_or, length-append, take-append-drop}
-use lib.Seq.{drop-cons}
+use lib.ListN.{length, take, drop, length-append, take-append-drop}
 use Rattle.definitions.specs.Lists.{joined}
 use Rattle.definitions.specs.Lines.{Row}
-use Rattle.definitions.specs.Tracker.{hold_at}
-use Rattle.definitions.specs.Correction.{is_opening}
 use Rattle.definitions.specs.Reduction.{reduce}
 use Rattle.definitions.specs.Beats.{row_beats}
 use Rattle.definitions.specs.TimingRows.{has_some_head}
