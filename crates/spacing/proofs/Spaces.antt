@@ -3,7 +3,7 @@ use mathlib.Core.Path.{◌≡◌, refl, ap, ap₂, sym, ◌∙◌}
 use mathlib.Core.Logic.{inl, inr, ⊎_elim}
 use mathlib.Core.Bool.{Bool, true, false, ◌&&◌, not, true≢false}
 use mathlib.Core.List.{List, [], ◌∷◌, ◌++◌, map}
-use Prim.Native.Nat.{ℕ, ◌+◌, ◌*◌, ◌/◌, ◌^◌, ◌≤◌, ◌<◌, min}
+use Prim.Native.Nat.{ℕ, ◌+◌, ◌/◌, ◌^◌, ◌≤◌, ◌<◌, min}
 use native.Mathlib.Nat.{div-one, zero-min}
 use native.Mathlib.Omega.{arith}
 use borrow.Author.Tests.{eq-eqb, ne_eqb, eqb-true}
@@ -97,11 +97,6 @@ module _ (s : MeasureSpacing) (cur : List Row) (x : Spaces s cur) (hope : (s.shi
         most = omega (arith, q, x.most);
         shift = λ k h. off-other-row k s.shift cur row h z (x.shift k h) ∙ ap (leb k) (sym (q ∙ ap (λ m. min s.shift (count_trailing_zeros 64 m)) x.rows));
       }
-
--- its counts are at most that of its rows
-pub spaces-few : (s : MeasureSpacing) (cur : List Row) → Spaces s cur → (b : ℕ) → 5 * length cur ≤ b → (5 * s.rows ≤ b) × (5 * s.steps ≤ b)
-spaces-few s cur x b h =
-    (omega (arith, x.rows), ⊎_elim (λ e. omega (arith, e, count_by-le-length is_step cur)) (λ y. omega (arith, y.1)) x.steps)
 
 -- without rows it is spaced
 pub spaced-none : (s : MeasureSpacing) (cur : List Row) → Spaces s cur → s.rows ≡ 0 → true ≡ spacing (reduce cur)

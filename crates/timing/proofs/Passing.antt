@@ -1,6 +1,6 @@
 -- The pass with one row more, and with the open measure minimised and ended.
 use mathlib.Core.Path.{◌≡◌, refl, ap, sym, ◌∙◌, subst}
-use mathlib.Core.Bool.{Bool, ◌||◌, false, or_assoc}
+use mathlib.Core.Bool.{Bool, ◌||◌, or_assoc}
 use mathlib.Core.List.{List, [], ◌∷◌, ◌++◌}
 use Prim.Native.Nat.{ℕ, ◌+◌, ◌-◌, ◌*◌, ◌≤◌}
 use native.Mathlib.Nat.{add-zero, mul-le-mul_right, add-sub_cancel_left}
@@ -18,7 +18,7 @@ use Rattle.reduction.specs.Rows.{placed, RowsStand, Reduced}
 use Rattle.reduction.proofs.Blocks.{joined-append}
 use Rattle.reduction.proofs.Forms.{back-to-back, form-length}
 use Rattle.output.specs.Wrote.{Wrote}
-use Rattle.output.proofs.Writing.{wrote-start, wrote-row, wrote-holds, wrote-reduced, wrote-sep}
+use Rattle.output.proofs.Writing.{wrote-row, wrote-holds, wrote-reduced, wrote-sep}
 use Rattle.definitions.proofs.Shorter.{reduce-short}
 use Rattle.timing.specs.declared.TimingPass.{TimingPass}
 use Rattle.timing.specs.TimingPass.{Timed, SomeTimed}
@@ -30,9 +30,6 @@ head-append (b ∷ s) t = rw (head-append s t, or_assoc)
 -- one measure more: the heads of its rows
 head-measure : (done : List (List Row)) (m : List Row) → has_some_head (joined (joined (done ++ (m ∷ [])))) ≡ (has_some_head (joined (joined done)) || has_some_head (joined m))
 head-measure done m = rw (joined_snoc done m, joined-append (joined done) m) (head-append (joined (joined done)) (joined m))
-
-pub timed-start : (L : ℕ) (text : List ℕ) (beats : List Float) → Timed L (record { start = 0; out = 0; kept = 0; rows = 0; midx = 0; heads = false }) text beats [] []
-timed-start L text beats = record { wrote = wrote-start (back-to-back L) [] text; kept = refl; rows = refl; midx = refl; beats_are = refl; heads = refl }
 
 pub timed-row : (p : TimingPass) (text : List ℕ) (row : Row) → p.out + length row ≤ length text → (after : List ℕ) → after ≡ placed p.out row text
     → (beats : List Float) (done : List (List Row)) (cur : List Row) → Timed (length row) p text beats done cur
