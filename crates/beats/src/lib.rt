@@ -59,7 +59,7 @@ fn mul_add(r: u32, s: u64, m: u32) -> f32
     rounded(q * 2 + 1, COARSE)
 }
 
-// The beat of row r of n in measure m.
+/// The beat of row r of n in measure m.
 pub fn row_beat(m: u32, r: u32, n: u32) -> f32
     requires { Inside m r n }
     ensures { result ≡ beat_of_row m r n }
@@ -106,8 +106,8 @@ fn append_rounded(beats: &mut [f32], at: usize, midx: u32, rows: u32, s: u64)
     }
 }
 
-// The beats of the rows of measure `midx`, written from place `at` on. The step is worked out once a measure. Where its rows, as most do,
-// divide 4 beats evenly and their numbers are floats exactly, each beat is one product.
+/// The beats of the rows of measure `midx`, written from place `at` on. The step is worked out once a measure. Where its rows, as most do,
+/// divide 4 beats evenly and their numbers are floats exactly, each beat is one product.
 pub fn append_row_beats(beats: &mut [f32], at: usize, midx: u32, rows: u32)
     requires { (at + rows ≤ length beats.old) × (rows < row_count_bound) × (midx ≤ measures_bound) }
     ensures { beats.new ≡ (take at beats.old ++ row_beats midx rows 0 rows) ++ drop (at + rows) beats.old }
@@ -143,7 +143,7 @@ fn lrint_f64(x: f64) -> u64
     w + w % 2
 }
 
-// The beat of row r of n in measure m, in 48ths: worked out in f64, and rounded.
+/// The beat of row r of n in measure m, in 48ths: worked out in f64, and rounded.
 pub fn beat_to_note_row(m: u32, r: u32, n: u32) -> u64
     requires { Inside m r n }
     ensures { (result ≡ last_row m r n) × (result ≤ 2 ^ 39) }
@@ -152,7 +152,7 @@ pub fn beat_to_note_row(m: u32, r: u32, n: u32) -> u64
     lrint_f64(beat * 48.0)
 }
 
-// 48ths of a beat as beats.
+/// 48ths of a beat as beats.
 pub fn note_row_to_beat(row: u64) -> f64
     requires { row ≤ 2 ^ 39 }
     ensures { result ≡ row_to_beat row }
@@ -160,7 +160,7 @@ pub fn note_row_to_beat(row: u64) -> f64
     (row as f64) / 48.0
 }
 
-// A row by its place: its measure, its number in it, and the rows of that measure.
+/// A row by its place: its measure, its number in it, and the rows of that measure.
 #[derive(Clone, Copy)]
 pub struct RowPlace {
     pub measure: u32,
@@ -168,7 +168,7 @@ pub struct RowPlace {
     pub rows: u32,
 }
 
-// The last beat in 48ths, by the last object row, if there is one.
+/// The last beat in 48ths, by the last object row, if there is one.
 pub fn last_note_row(last: Option<RowPlace>) -> u64
     requires { Placed last }
     ensures { (result ≡ place48 (place_of last)) × (result ≤ 2 ^ 39) }
@@ -179,7 +179,7 @@ pub fn last_note_row(last: Option<RowPlace>) -> u64
     }
 }
 
-// The last beat.
+/// The last beat.
 pub fn calc_last_beat(last: Option<RowPlace>) -> f64
     requires { Placed last }
     ensures { result ≡ row_to_beat (place48 (place_of last)) }
@@ -187,7 +187,7 @@ pub fn calc_last_beat(last: Option<RowPlace>) -> f64
     note_row_to_beat(last_note_row(last))
 }
 
-// The last beat's bits.
+/// The last beat's bits.
 pub fn last_beat_bits(last: Option<RowPlace>) -> u64
     requires { Placed last }
     ensures { result ≡ to_bits binary64 (row_to_beat (place48 (place_of last))) }

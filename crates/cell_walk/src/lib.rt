@@ -16,7 +16,7 @@ use definitions::{Cell, Kind, RowSum};
 use objects::ObjectCell;
 use phantoms::PhantomCell;
 
-// Where a cell stands: the phantom depth, the object depth and the open head of its column, the number of records, its row and its column.
+/// Where a cell stands: the phantom depth, the object depth and the open head of its column, the number of records, its row and its column.
 #[derive(Clone, Copy)]
 pub struct CellAt {
     pub depth: u32,
@@ -27,8 +27,8 @@ pub struct CellAt {
     pub column: usize,
 }
 
-// What a cell leaves: its phantom and its object depth, the open head of its column, the number of records, whether it dropped one, and the
-// kind of its note.
+/// What a cell leaves: its phantom and its object depth, the open head of its column, the number of records, whether it dropped one, and the
+/// kind of its note.
 #[derive(Clone, Copy)]
 pub struct WalkCell {
     pub phantom: PhantomCell,
@@ -172,7 +172,7 @@ fn walk_unnoted(at: CellAt, object: ObjectCell) -> WalkCell
     }
 }
 
-// One cell.
+/// One cell.
 pub fn walk_cell(b: u8, at: CellAt, slots: &mut [u8]) -> WalkCell
     requires { CellFits at slots.old }
     ensures { ByteWalked b at slots.old slots.new result }
@@ -205,7 +205,7 @@ pub fn walk_cell(b: u8, at: CellAt, slots: &mut [u8]) -> WalkCell
     }
 }
 
-// A row's sum with a cell of this kind more, or so many tails.
+/// A row's sum with a cell of this kind more, or so many tails.
 pub fn count_kind(s: RowSum, column: usize, kind: u8, tails: u32) -> RowSum
     requires { Under 10 s × (tails ≤ 1) }
     ensures { (b : ℕ) → kind ≡ effect_kind (effect_at b) → tails ≡ number_of_bool (is_closing (hold_at b)) → result ≡ sum_with_cell s column (cell_of b) (is_arrow (cell_of b)) }

@@ -11,7 +11,7 @@ ghost use Rattle.lines.specs.Words.{word_of, Bytes};
 use definitions::{Cell, DepthEffect};
 use lines::words;
 
-// What a byte of a row stands for.
+/// What a byte of a row stands for.
 #[tactic(auto, unfolding(definitions::specs::Cells::cell_of))]
 pub fn cell_of(b: u8) -> Cell
     ensures { result ≡ cell_of b }
@@ -32,7 +32,7 @@ pub fn cell_of(b: u8) -> Cell
     }
 }
 
-// Whether the byte is an arrow.
+/// Whether the byte is an arrow.
 pub fn is_note(b: u8) -> bool
     ensures { result ≡ is_arrow (cell_of b) }
 {
@@ -54,7 +54,7 @@ fn word_has_note(word: u64) -> bool
     words::has_byte(word, b'1') | words::has_byte(word, b'2') | words::has_byte(word, b'4')
 }
 
-// Whether the row has an arrow: by words of its first four cells and others where it has four to twelve.
+/// Whether the row has an arrow: by words of its first four cells and others where it has four to twelve.
 pub fn row_has_note(row: &[u8]) -> bool
     ensures { result ≡ is_step row.now }
 {
@@ -70,7 +70,7 @@ pub fn row_has_note(row: &[u8]) -> bool
     has | word_has_note(words::half_at(row, n - 4))
 }
 
-// What the byte does to the tracker's stack and to the phantom depth of its column.
+/// What the byte does to the tracker's stack and to the phantom depth of its column.
 #[tactic(auto, unfolding(definitions::specs::Tracker::hold_at))]
 pub fn hold_effect(b: u8) -> DepthEffect
     ensures { result ≡ hold_at b }
@@ -85,7 +85,7 @@ pub fn hold_effect(b: u8) -> DepthEffect
     }
 }
 
-// What the byte does to the depth that the last beat goes by: the same, and K blocks too.
+/// What the byte does to the depth that the last beat goes by: the same, and K blocks too.
 #[tactic(auto, unfolding(definitions::specs::Objects::object_at))]
 pub fn object_effect(b: u8) -> DepthEffect
     ensures { result ≡ object_at b }

@@ -13,7 +13,7 @@ ghost use Rattle.definitions.specs.Entries.{figures_of_chart, main_answer, main_
 
 use definitions::{ChartFigures, Lanes, Refusal};
 
-// The main call where it is accepted: the pass, the tally corrected over the minimised text read back, and zeros past each answer.
+/// The main call where it is accepted: the pass, the tally corrected over the minimised text read back, and zeros past each answer.
 pub fn chart_figures(
     data: &[u8],
     lanes: Lanes,
@@ -60,7 +60,9 @@ pub fn chart_figures(
     }
 }
 
-// Minimised text, densities, row beats, note records, tally and last beat of a text.
+/// The main call, the Rust's function of that name: minimised text in bytes, densities in steps a measure, row beats, note records of ten bytes each,
+/// the last beat, and the tally corrected over the minimised text read back. A refusal (1 to 6) is the caller's mistake: too long a text, or too short a
+/// slice.
 #[tactic(auto, unfolding(definitions::specs::Entries::main_answer))]
 pub fn minimize_chart_count_rows_notes(
     data: &[u8],

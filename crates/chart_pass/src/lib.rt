@@ -15,7 +15,7 @@ use measure_walk::Walk;
 use reader::charts::ChartLine;
 use taps::TapTable;
 
-// What the pass has written, and what the walk over the measures that have ended has counted and noted.
+/// What the pass has written, and what the walk over the measures that have ended has counted and noted.
 #[derive(Drop)]
 pub struct ChartPass {
     pub draft: Draft,
@@ -116,7 +116,7 @@ fn read_lines(
     pass
 }
 
-// The whole text, its last measure too.
+/// The whole text, its last measure too.
 pub fn read_chart(
     data: &[u8],
     lanes: Lanes,

@@ -139,7 +139,8 @@ fn form_known(form: usize) -> Result<(), Refusal>
     Ok(())
 }
 
-// Form 0 is document 01's card, 1 print, 2 json. The answer has the 32 figures.
+/// The sheet of a chart, in bytes: form 0 is the card, 1 print, 2 JSON. The answer has the 32 figures. A refusal (1 to 6, 19 or 20) is the caller's
+/// mistake.
 #[tactic(auto, unfolding(crate::specs::Entry::sheet_answer))]
 pub fn chart_sheet(
     data: &[u8],

@@ -46,14 +46,14 @@ fn bits_of(x: f32) -> u64
     }
 }
 
-// The 32 figures, eight bytes each.
+/// The 32 figures, eight bytes each.
 pub fn same_figures(figures: &[u64; 32], want: &[u8]) -> bool
     ensures { result ≡ same_stored_figures figures.now (longs want.now) }
 {
     want.len() / 8 == 32 && same_longs(figures, want)
 }
 
-// The bytes of an answer, and zeros to the slice's end.
+/// The bytes of an answer, and zeros to the slice's end.
 pub fn same_bytes(bytes: &[u8], want: &[u8]) -> bool
     ensures { result ≡ has_answer bytes.now want.now }
 {
@@ -64,7 +64,7 @@ pub fn same_bytes(bytes: &[u8], want: &[u8]) -> bool
             .all(|(i, x)| *x == wanted_byte(want, i))
 }
 
-// The numbers of an answer, and zeros to the slice's end.
+/// The numbers of an answer, and zeros to the slice's end.
 pub fn same_numbers(slice: &[u32], want: &[u8]) -> bool
     ensures { result ≡ has_answer slice.now (numbers want.now) }
 {
@@ -75,7 +75,7 @@ pub fn same_numbers(slice: &[u32], want: &[u8]) -> bool
             .all(|(i, x)| u64::from(*x) == wanted_number(want, i))
 }
 
-// The numbers of eight bytes of an answer, and zeros to the slice's end.
+/// The numbers of eight bytes of an answer, and zeros to the slice's end.
 pub fn same_longs(slice: &[u64], want: &[u8]) -> bool
     ensures { result ≡ has_answer slice.now (longs want.now) }
 {
@@ -86,7 +86,7 @@ pub fn same_longs(slice: &[u64], want: &[u8]) -> bool
             .all(|(i, x)| *x == wanted_long(want, i))
 }
 
-// The floats of an answer, and zeros to the slice's end.
+/// The floats of an answer, and zeros to the slice's end.
 pub fn same_floats(floats: &[f32], want: &[u8]) -> bool
     ensures { result ≡ has_answer (bits_of_floats floats.now) (numbers want.now) }
 {
@@ -97,7 +97,7 @@ pub fn same_floats(floats: &[f32], want: &[u8]) -> bool
             .all(|(i, x)| bits_of(*x) == wanted_number(want, i))
 }
 
-// No answer, and zeros throughout.
+/// No answer, and zeros throughout.
 pub fn all_zero(work: &[u16]) -> bool
     ensures { result ≡ has_answer work.now [] }
 {

@@ -60,7 +60,7 @@ fn count_kept(text: &[u8], lanes: Lanes, trim: bool, work: &[u16]) -> ArrowStats
     stats
 }
 
-// The tally of the rows of minimised text with only tracker-paired heads. The work slice may hold anything, and is 0 afterwards.
+/// The tally of the rows of minimised text with only tracker-paired heads. The work slice may hold anything, and is 0 afterwards.
 pub fn recalc_phantom_stats(text: &[u8], lanes: Lanes, trim: bool, work: &mut [u16]) -> ArrowStats
     requires { Room trim lanes.count text.now work.old }
     ensures { (result ≡ tally (paired_only (rows_back trim lanes.count text.now))) × (work.new ≡ replicate (length work.old) 0) }
@@ -72,8 +72,8 @@ pub fn recalc_phantom_stats(text: &[u8], lanes: Lanes, trim: bool, work: &mut [u
     stats
 }
 
-// The tally of rows as a call answers it: as it was counted, or, where heads and tails do not pair, counted anew over the minimised text.
-// The work slice may hold anything, and is 0 afterwards.
+/// The tally of rows as a call answers it: as it was counted, or, where heads and tails do not pair, counted anew over the minimised text.
+/// The work slice may hold anything, and is 0 afterwards.
 pub fn corrected_stats(
     stats: ArrowStats,
     p: Phantoms,

@@ -10,19 +10,19 @@ pub use lane_count::Lanes;
 use std::error::Error;
 use std::fmt;
 
-// The longest text that is accepted, in bytes.
+/// The longest text that is accepted, in bytes.
 pub const MOST_BYTES: usize = 16777215;
 
-// Numbers of rows and tail rows stay below this.
+/// Numbers of rows and tail rows stay below this.
 pub const ROW_NUMBERS_BOUND: u32 = 16777216;
 
-// The rows of a text that is accepted are fewer than this.
+/// The rows of a text that is accepted are fewer than this.
 pub const ROWS_BOUND: u32 = 4194304;
 
-// The number of its last measure is at most this.
+/// The number of its last measure is at most this.
 pub const MEASURES_BOUND: u32 = 8388608;
 
-// What a line is to the reader: passed over, the end of a measure, the end of the reading, or a row.
+/// What a line is to the reader: passed over, the end of a measure, the end of the reading, or a row.
 #[derive(Clone, Copy)]
 pub enum LineKind {
     Passed,
@@ -31,7 +31,7 @@ pub enum LineKind {
     Row,
 }
 
-// What a byte of a row stands for. The Rust also reads m, l and f, which count as M, L and F only where document 01 says so.
+/// What a byte of a row stands for. The Rust also reads m, l and f, which count as M, L and F only where document 01 says so.
 #[derive(Clone, Copy)]
 pub enum Cell {
     Empty,
@@ -48,7 +48,7 @@ pub enum Cell {
     LowerFake,
 }
 
-// What a cell does to the holds of its column: to the tracker's stack, the phantom depth and the object depth.
+/// What a cell does to the holds of its column: to the tracker's stack, the phantom depth and the object depth.
 #[derive(Clone, Copy)]
 pub enum DepthEffect {
     Nothing,
@@ -57,7 +57,7 @@ pub enum DepthEffect {
     Closes,
 }
 
-// A note's kind.
+/// A note's kind.
 #[derive(Clone, Copy)]
 pub enum Kind {
     Tap,
@@ -68,14 +68,14 @@ pub enum Kind {
     Fake,
 }
 
-// A note's tail: none, or the row at which it stands.
+/// A note's tail: none, or the row at which it stands.
 #[derive(Clone, Copy)]
 pub enum Tail {
     Without,
     Row(u32),
 }
 
-// A typed note. Rows are numbered through all minimised rows of the chart.
+/// A typed note. Rows are numbered through all minimised rows of the chart.
 #[derive(Clone, Copy)]
 pub struct Note {
     pub row: u32,
@@ -84,7 +84,7 @@ pub struct Note {
     pub kind: Kind,
 }
 
-// What a cell does to the notes: nothing, close the open head of its column, or drop it and be a note or a head itself.
+/// What a cell does to the notes: nothing, close the open head of its column, or drop it and be a note or a head itself.
 #[derive(Clone, Copy)]
 pub enum NoteEffect {
     Nothing,
@@ -93,7 +93,7 @@ pub enum NoteEffect {
     Head(Kind),
 }
 
-// What one row adds to a tally. `arrows` counts the row's arrows, and the four after it those of each direction.
+/// What one row adds to a tally. `arrows` counts the row's arrows, and the four after it those of each direction.
 #[derive(Clone, Copy, Default)]
 pub struct RowSum {
     pub arrows: u32,
@@ -109,7 +109,7 @@ pub struct RowSum {
     pub fakes: u32,
 }
 
-// The tally, with the fields of the Rust's `ArrowStats` in their order.
+/// The tally, with the fields of the Rust's `ArrowStats` in their order.
 #[derive(Clone, Copy, Default)]
 pub struct ArrowStats {
     pub total_arrows: u32,
@@ -208,8 +208,8 @@ impl fmt::Display for Refusal {
 
 impl Error for Refusal {}
 
-// What the main call answers beside its slices: bytes of the minimised text, measures, minimised rows, note records, the last beat as the
-// bits of its float and in 48ths, and the tally.
+/// What the main call answers beside its slices: bytes of the minimised text, measures, minimised rows, note records, the last beat as the
+/// bits of its float and in 48ths, and the tally.
 #[derive(Clone, Copy)]
 pub struct ChartFigures {
     pub bytes: usize,
@@ -221,7 +221,7 @@ pub struct ChartFigures {
     pub stats: ArrowStats,
 }
 
-// What the kept-row call answers: bytes of the minimised text, measures, minimised rows, and the tally.
+/// What the kept-row call answers: bytes of the minimised text, measures, minimised rows, and the tally.
 #[derive(Clone, Copy)]
 pub struct KeptFigures {
     pub bytes: usize,
@@ -230,7 +230,7 @@ pub struct KeptFigures {
     pub stats: ArrowStats,
 }
 
-// What `minimize_timing_rows` answers: bytes and rows written and whether any of them has a 2 or 4.
+/// What `minimize_timing_rows` answers: bytes and rows written and whether any of them has a 2 or 4.
 #[derive(Clone, Copy)]
 pub struct TimingFigures {
     pub bytes: usize,
@@ -238,7 +238,7 @@ pub struct TimingFigures {
     pub heads: bool,
 }
 
-// A last beat: its float, the bits of that, and in 48ths.
+/// A last beat: its float, the bits of that, and in 48ths.
 #[derive(Clone, Copy)]
 pub struct LastBeat {
     pub beat: f64,

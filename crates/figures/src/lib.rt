@@ -75,7 +75,7 @@ fn without_tally(
     figures_of(bytes, measures, rows, 0, last_bits, heads, last_row, none)
 }
 
-// What the main call answers.
+/// What the main call answers.
 pub fn chart_places(f: ChartFigures) -> [u64; 32]
     ensures { result ≡ places_of_chart f }
 {
@@ -91,7 +91,7 @@ pub fn chart_places(f: ChartFigures) -> [u64; 32]
     )
 }
 
-// What the kept-row call answers.
+/// What the kept-row call answers.
 pub fn kept_places(f: KeptFigures) -> [u64; 32]
     ensures { result ≡ places_of_kept f }
 {
@@ -107,28 +107,28 @@ pub fn kept_places(f: KeptFigures) -> [u64; 32]
     )
 }
 
-// What the call for timing rows answers.
+/// What the call for timing rows answers.
 pub fn timing_places(f: TimingFigures) -> [u64; 32]
     ensures { result ≡ places_of_timing f }
 {
     without_tally(f.bytes, 0, f.rows, 0, f.heads, 0)
 }
 
-// How many measures there are.
+/// How many measures there are.
 pub fn measures_places(n: usize) -> [u64; 32]
     ensures { result ≡ places_of_measures n }
 {
     without_tally(0, n, 0, 0, false, 0)
 }
 
-// A last beat.
+/// A last beat.
 pub fn last_places(f: LastBeat) -> [u64; 32]
     ensures { result ≡ places_of_last f }
 {
     without_tally(0, 0, 0, f.bits, false, f.row)
 }
 
-// A judged tally.
+/// A judged tally.
 pub fn judged_places(t: ArrowStats) -> [u64; 32]
     ensures { result ≡ places_of_judged t }
 {
@@ -145,7 +145,7 @@ fn tail_number(tail: Tail) -> u32
     }
 }
 
-// The four places of a note.
+/// The four places of a note.
 pub fn note_figures(n: Note) -> [u64; 4]
     ensures { result ≡ figures_of_note n }
 {
@@ -157,7 +157,7 @@ pub fn note_figures(n: Note) -> [u64; 4]
     ]
 }
 
-// The three places of a chart of a file: its lane count, where its data begins, and the data's length.
+/// The three places of a chart of a file: its lane count, where its data begins, and the data's length.
 pub fn chart_figures(lanes: usize, start: usize, len: usize) -> [u64; 3]
     ensures { result ≡ lanes ∷ start ∷ len ∷ [] }
 {

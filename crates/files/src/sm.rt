@@ -81,7 +81,8 @@ pub struct SmChart<'a> {
     pub data: &'a [u8],
 }
 
-/// The chart of block `k` of an SM file, counted from 0.
+/// The chart of block `k` of an SM file, counted from 0. A refusal is the caller's mistake (1: too long a file), of whoever asks (11: no such block), or
+/// of the file's author (9: few fields; 10: another type).
 #[tactic(auto, unfolding(definitions::specs::SmFile::sm_answer))]
 pub fn sm_chart(file: &[u8], k: usize) -> Result<SmChart<'_>, Refusal>
     ensures { answer_of result ≡ sm_answer file.now k }

@@ -9,7 +9,7 @@ const ONE_END: u16 = 0x400;
 
 const JUDGED: u16 = 0x4000;
 
-// The entry of a row before any of its heads is paired.
+/// The entry of a row before any of its heads is paired.
 pub fn new(judged: bool, ends: u16) -> u16
     requires { ends ≤ 10 }
     ensures { result ≡ entry_of judged ends }
@@ -21,7 +21,7 @@ pub fn new(judged: bool, ends: u16) -> u16
     }
 }
 
-// With the head in a column paired.
+/// With the head in a column paired.
 pub fn with_head(entry: u16, column: usize) -> u16
     requires { column < 10 }
     ensures { result ≡ bit_or entry (2 ^ column) }
@@ -29,21 +29,21 @@ pub fn with_head(entry: u16, column: usize) -> u16
     entry | (1 << column)
 }
 
-// The paired heads of a row, as a mask of its columns.
+/// The paired heads of a row, as a mask of its columns.
 pub fn heads(entry: u16) -> u16
     ensures { result ≡ heads_of entry }
 {
     entry % ONE_END
 }
 
-// How many pairs with a judged head end at a row.
+/// How many pairs with a judged head end at a row.
 pub fn ends(entry: u16) -> u32
     ensures { result ≡ ends_of entry }
 {
     u32::from(entry / ONE_END % 16)
 }
 
-// Whether a row is judged.
+/// Whether a row is judged.
 pub fn is_judged(entry: u16) -> bool
     ensures { result ≡ judged_of entry }
 {

@@ -12,8 +12,8 @@ ghost use Rattle.holds.specs.Tracks.{marked, judged_head, Reached, CellsTracked,
 use definitions::DepthEffect;
 use taps::Taps;
 
-// The open heads of ten columns: column c has the places 8 * c to 8 * c + 7, and `depths` says how many of them are in use. `busy` has the
-// columns with an open head as a mask.
+/// The open heads of ten columns: column c has the places 8 * c to 8 * c + 7, and `depths` says how many of them are in use. `busy` has the
+/// columns with an open head as a mask.
 #[derive(Drop)]
 pub struct Tracker {
     pub heads: [u32; 80],
@@ -22,7 +22,7 @@ pub struct Tracker {
 }
 
 impl Tracker {
-    // The tracker before the first row.
+    /// The tracker before the first row.
     #[tactic(auto, unfolding(crate::specs::Stacks::stack_of))]
     pub fn new() -> Self
         ensures { (c : ℕ) → c < 10 → stack_of result c ≡ [] }
@@ -96,8 +96,8 @@ impl Tracker {
         ends
     }
 
-    // One row: the tracker after it, and its pairs in the work slice. The row's own entry is set last. A row of taps in columns without an
-    // open head leaves the tracker as it is, and no pair ends there. It is written into each loop, since most rows are such rows.
+    /// One row: the tracker after it, and its pairs in the work slice. The row's own entry is set last. A row of taps in columns without an
+    /// open head leaves the tracker as it is, and no pair ends there. It is written into each loop, since most rows are such rows.
     #[inline(always)]
     pub fn track_row(&mut self, row: u32, cells: &[u8], judged: bool, work: &mut [u16])
         requires { (length cells.now ≤ 10) × (row < length work.old) × Reached row self.old work.old }

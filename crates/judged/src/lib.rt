@@ -19,7 +19,7 @@ use definitions::{ArrowStats, Lanes, Refusal};
 use holds::{Tracker, entry};
 use taps::{TapTable, Taps};
 
-// The judged tally of the rows so far, and the holds open before the next one.
+/// The judged tally of the rows so far, and the holds open before the next one.
 #[derive(Clone, Copy)]
 pub struct TimingStats {
     pub stats: ArrowStats,
@@ -122,8 +122,8 @@ fn judge_rows(data: &[u8], lanes: Lanes, flags: Option<&[u8]>, work: &mut [u16])
     stats
 }
 
-// The judged tally of an accepted text: in one pass where every row is judged and the rows are clean, else by the two loops, as the Rust's
-// `recalc_judgable_stats` does.
+/// The judged tally of an accepted text: in one pass where every row is judged and the rows are clean, else by the two loops, as the Rust's
+/// `recalc_judgable_stats` does.
 #[tactic(auto, using(judged_pass::proofs::JudgedPass::answer_told))]
 pub fn judge_accepted(
     data: &[u8],
@@ -163,7 +163,7 @@ fn judge(
     Ok(judge_accepted(data, columns, flags, work))
 }
 
-// The tally with every row judged.
+/// The tally of minimised text with every row judged, as the Rust's function of that name. A refusal (1 or 5) is the caller's mistake.
 #[tactic(auto, unfolding(definitions::specs::Judged::judged_tally))]
 pub fn process_rows_judgable(
     data: &[u8],
@@ -176,7 +176,8 @@ pub fn process_rows_judgable(
     judge(data, lanes, None, work)
 }
 
-// The tally with one flag byte a row: 0 unjudged, else judged.
+/// The tally of minimised text with one flag byte a row, 0 unjudged, else judged; a row past the flags is judged. It is the Rust's function of that name
+/// with flags in place of its timing data. A refusal (1 or 5) is the caller's mistake.
 #[tactic(auto, unfolding(definitions::specs::Judged::flagged_tally))]
 pub fn process_timing_rows(
     data: &[u8],

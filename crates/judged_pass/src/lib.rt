@@ -17,8 +17,8 @@ ghost use Rattle.judged_pass.specs.JudgedPass.{clean_depth, row_unpairs, DepthsP
 use definitions::{ArrowStats, Cell, DepthEffect, Lanes, RowSum};
 use taps::{TapTable, Taps};
 
-// What the pass has of the rows so far: the tally, the open heads of each column, of up to ten, the holds open before the next row, and the
-// columns that have one as a mask.
+/// What the pass has of the rows so far: the tally, the open heads of each column, of up to ten, the holds open before the next row, and the
+/// columns that have one as a mask.
 #[derive(Drop)]
 pub struct CleanRows {
     pub stats: ArrowStats,
@@ -113,7 +113,7 @@ fn clean_cells(depths: &mut [u32; 10], row: &[u8]) -> Option<RowSum>
     Some(sum)
 }
 
-// The judged tally of a text's rows, every row judged: an answer is given exactly where they are clean.
+/// The judged tally of a text's rows, every row judged: an answer is given exactly where they are clean.
 pub fn judge_clean(data: &[u8], lanes: Lanes) -> Option<ArrowStats>
     requires { length «data».now ≤ most_bytes }
     ensures { result ≡ clean_answer lanes.count (rows_read_back lanes.count «data».now) }

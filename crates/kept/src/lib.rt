@@ -10,7 +10,7 @@ ghost use Rattle.definitions.specs.Entries.{figures_of_kept, kept_answer, kept_t
 
 use definitions::{KeptFigures, Lanes, Refusal};
 
-// The kept-row call where it is accepted: the pass, the tally corrected over its own rows, and zeros past each answer.
+/// The kept-row call where it is accepted: the pass, the tally corrected over its own rows, and zeros past each answer.
 pub fn keep_figures(
     data: &[u8],
     lanes: Lanes,
@@ -45,7 +45,8 @@ pub fn keep_figures(
     }
 }
 
-// `process_chart_in_impl` with its rows kept: minimised text, densities and tally of a whole text.
+/// The Rust's `process_chart_in_impl` with its rows kept: minimised text in bytes, densities in steps a measure, and the tally corrected over the pass's
+/// own rows. A refusal (1, 2, 3 or 5) is the caller's mistake.
 #[tactic(auto, unfolding(definitions::specs::Entries::kept_answer))]
 pub fn process_chart_kept(
     data: &[u8],

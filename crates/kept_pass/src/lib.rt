@@ -13,7 +13,7 @@ use measure_tally::Counting;
 use reader::charts::ChartLine;
 use taps::TapTable;
 
-// What is written of a chart: where the open measure begins, how many bytes there are, and the open measure's rows and number.
+/// What is written of a chart: where the open measure begins, how many bytes there are, and the open measure's rows and number.
 #[derive(Drop)]
 pub struct Draft {
     pub start: usize,
@@ -23,7 +23,7 @@ pub struct Draft {
 }
 
 impl Draft {
-    // Before the first line.
+    /// Before the first line.
     pub fn new() -> Self
         ensures drafted { (L : ℕ) (text : List ℕ) → Drafted L result text [] [] }
         ensures nothing_written { result.out ≡ 0 }
@@ -36,7 +36,7 @@ impl Draft {
         }
     }
 
-    // One row more of the open measure.
+    /// One row more of the open measure.
     pub fn add_row(&mut self, text: &mut [u8], row: &[u8])
         requires { (self.old.out + length row.now + 1 ≤ length text.old) × (self.old.rows < row_count_bound) }
         ensures drafted { (done : List (List Row)) (cur : List Row) → Drafted (length row.now) self.old text.old done cur → Drafted (length row.now) self.new text.new done (cur ++ (row.now ∷ [])) }
@@ -48,7 +48,7 @@ impl Draft {
         self.rows += 1;
     }
 
-    // The open measure's rows are minimised in place.
+    /// The open measure's rows are minimised in place.
     pub fn minimise(&mut self, text: &mut [u8], lanes: Lanes)
         requires { (self.old.out ≤ length text.old) × SomeDrafted lanes.count self.old text.old }
         ensures drafted { (done : List (List Row)) (cur : List Row) → Drafted lanes.count self.old text.old done cur → Drafted lanes.count self.new text.new done (reduce cur) }
@@ -59,7 +59,7 @@ impl Draft {
         self.rows = kept;
     }
 
-    // The `,` line after a measure that has ended is written, and the next measure begins.
+    /// The `,` line after a measure that has ended is written, and the next measure begins.
     pub fn begin_measure(&mut self, text: &mut [u8])
         requires { (self.old.out + 2 ≤ length text.old) × (self.old.midx ≤ measures_bound) }
         ensures drafted { (L : ℕ) (done : List (List Row)) (cur : List Row) → Drafted L self.old text.old done cur → Drafted L self.new text.new (done ++ (cur ∷ [])) [] }
@@ -73,7 +73,7 @@ impl Draft {
     }
 }
 
-// What is counted so far, and what is written.
+/// What is counted so far, and what is written.
 #[derive(Drop)]
 pub struct KeptPass {
     pub counting: Counting,
@@ -144,7 +144,7 @@ fn keep_lines(data: &[u8], text: &mut [u8], densities: &mut [u32], table: &TapTa
     pass
 }
 
-// The whole text: what is counted in the end, and how much is written; the last measure's density is stored too.
+/// The whole text: what is counted in the end, and how much is written; the last measure's density is stored too.
 pub fn keep_chart(data: &[u8], lanes: Lanes, text: &mut [u8], densities: &mut [u32]) -> KeptPass
     requires accepted { length «data».now ≤ most_bytes }
     requires data_in_bounds { (length «data».now + 1 ≤ length text.old) × ((length «data».now + 1) / 2 + 1 ≤ length densities.old) }

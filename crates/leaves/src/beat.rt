@@ -63,7 +63,7 @@ fn last_numbers(last: Option<RowPlace>) -> [u64; 2]
     [beats::last_beat_bits(last), beats::last_note_row(last)]
 }
 
-// Of no object row where `n` is 0.
+/// Of no object row where `n` is 0.
 #[tactic(auto, unfolding(crate::specs::Answers::measure_fits, crate::specs::Answers::row_fits, crate::specs::Answers::last_place, crate::specs::Answers::last_fits, crate::specs::Answers::last_number, crate::specs::Answers::last_left))]
 #[unsafe(no_mangle)]
 pub extern "C" fn leaves_calc_last_beat(m: u32, r: u32, n: u32, last: &mut [u64; 2]) -> u32

@@ -52,7 +52,7 @@ fn taps_number(taps: Taps) -> u32
     }
 }
 
-// 257 for a row of fewer cells.
+/// 257 for a row of fewer cells.
 #[tactic(auto, unfolding(crate::specs::Answers::mask_number))]
 #[unsafe(no_mangle)]
 pub extern "C" fn leaves_tap_mask4(row: &[u8]) -> u32
@@ -76,7 +76,7 @@ pub extern "C" fn leaves_tap_mask8(row: &[u8]) -> u32
     taps_number(taps::tap_mask8(row))
 }
 
-// The sum's fields in their order.
+/// The sum's fields in their order.
 #[unsafe(no_mangle)]
 pub extern "C" fn leaves_tap_sum(mask: u8, sum: &mut [u32; 11])
     ensures { sum.new ≡ sum_numbers (unpack (mask_counts mask)) }

@@ -11,7 +11,7 @@ ghost use Rattle.lines.specs.Search.{count_of};
 ghost use Rattle.lines.specs.Words.{first_in};
 ghost use Rattle.lines.specs.Lines.{first_line};
 
-// The line without one carriage return at its end.
+/// The line without one carriage return at its end.
 #[tactic(auto, using(crate::proofs::Trims::trims))]
 pub fn trim_cr(line: &[u8]) -> &[u8]
     ensures { result.now ≡ without_cr line.now }
@@ -22,7 +22,7 @@ pub fn trim_cr(line: &[u8]) -> &[u8]
     }
 }
 
-// Whether a byte is one of the blanks that are taken off a line's start. With an arm for each the compiler looks it up; in one arm it compares five times.
+/// Whether a byte is one of the blanks that are taken off a line's start. With an arm for each the compiler looks it up; in one arm it compares five times.
 #[tactic(auto, unfolding(definitions::specs::Lines::is_blank_byte))]
 pub fn is_blank(b: u8) -> bool
     ensures { result ≡ is_blank_byte b }
@@ -37,7 +37,7 @@ pub fn is_blank(b: u8) -> bool
     }
 }
 
-// The line without its leading blanks.
+/// The line without its leading blanks.
 pub fn skip_ws(line: &[u8]) -> &[u8]
     ensures { result.now ≡ trim line.now }
 {
@@ -51,7 +51,7 @@ pub fn skip_ws(line: &[u8]) -> &[u8]
     &line[i..]
 }
 
-// How many bytes of `slice` are `needle`: by words of eight, then the rest one by one.
+/// How many bytes of `slice` are `needle`: by words of eight, then the rest one by one.
 pub fn count_byte(slice: &[u8], needle: u8) -> usize
     ensures { result ≡ count_of needle slice.now }
 {
@@ -71,7 +71,7 @@ pub fn count_byte(slice: &[u8], needle: u8) -> usize
     n
 }
 
-// The place of the first byte of `slice` that is `needle`: by words of eight, then the rest one by one.
+/// The place of the first byte of `slice` that is `needle`: by words of eight, then the rest one by one.
 pub fn find_byte(slice: &[u8], needle: u8) -> Option<usize>
     ensures { result ≡ position (λ x. x == needle) slice.now }
 {
@@ -93,7 +93,7 @@ pub fn find_byte(slice: &[u8], needle: u8) -> Option<usize>
     None
 }
 
-// How many of the eight bytes from `start` on stand before the first newline among them: 8 where there is none.
+/// How many of the eight bytes from `start` on stand before the first newline among them: 8 where there is none.
 pub fn near_newline(data: &[u8], start: usize) -> usize
     requires { start + 8 ≤ length «data».now }
     ensures { result ≡ first_in 10 (take 8 (drop start «data».now)) }
@@ -101,7 +101,7 @@ pub fn near_newline(data: &[u8], start: usize) -> usize
     (u64::trailing_zeros(words::byte_hits(words::halves_at(data, start), 10)) / 8) as usize
 }
 
-// The line that starts at `start`, without its newline; past the text's end an empty one. The next line starts one byte past its end.
+/// The line that starts at `start`, without its newline; past the text's end an empty one. The next line starts one byte past its end.
 pub fn next_line(data: &[u8], start: usize) -> &[u8]
     ensures { result.now ≡ first_line (drop start «data».now) }
 {
@@ -115,7 +115,7 @@ pub fn next_line(data: &[u8], start: usize) -> &[u8]
     }
 }
 
-// A text's first line, without its newline, and what follows that newline: nothing where there is none.
+/// A text's first line, without its newline, and what follows that newline: nothing where there is none.
 #[tactic(auto, using(crate::proofs::Search::found), unfolding(crate::specs::Lines::first_line))]
 pub fn split_line(text: &[u8]) -> (&[u8], &[u8])
     ensures line { result.0.now ≡ first_line text.now }

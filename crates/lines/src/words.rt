@@ -12,7 +12,7 @@ const LOW: u64 = 0x7f7f_7f7f_7f7f_7f7f;
 
 const HI: u64 = 0x8080_8080_8080_8080;
 
-// The eight bytes from i on, as one load of the machine.
+/// The eight bytes from i on, as one load of the machine.
 pub fn word_at(s: &[u8], i: usize) -> u64
     requires { i + 8 ≤ length s.now }
     ensures { result ≡ word_at s.now i }
@@ -27,7 +27,7 @@ pub fn word_at(s: &[u8], i: usize) -> u64
         + u64::from(s[i + 7]) * 0x100_0000_0000_0000
 }
 
-// The four bytes from i on.
+/// The four bytes from i on.
 pub fn half_at(s: &[u8], i: usize) -> u64
     requires { i + 4 ≤ length s.now }
     ensures { (result ≡ half_word_at s.now i) × (result < 4294967296) }
@@ -38,7 +38,7 @@ pub fn half_at(s: &[u8], i: usize) -> u64
         + u64::from(s[i + 3]) * 0x100_0000
 }
 
-// The eight bytes from i on, by halves: the compiler finds two loads before it decides what to write into its callers.
+/// The eight bytes from i on, by halves: the compiler finds two loads before it decides what to write into its callers.
 pub fn halves_at(s: &[u8], i: usize) -> u64
     requires { i + 8 ≤ length s.now }
     ensures { result ≡ word_at s.now i }
@@ -46,7 +46,7 @@ pub fn halves_at(s: &[u8], i: usize) -> u64
     half_at(s, i) + half_at(s, i + 4) * 0x1_0000_0000
 }
 
-// Where four bytes of n begin that with the first four are all of up to eight, and of more the first eight.
+/// Where four bytes of n begin that with the first four are all of up to eight, and of more the first eight.
 pub fn second_half(n: usize) -> usize
     requires { 4 ≤ n }
     ensures { (result ≤ 4) × (result + 4 ≤ n) × (n ≤ 8 → result + 4 ≡ n) × (8 ≤ n → result ≡ 4) }
@@ -54,7 +54,7 @@ pub fn second_half(n: usize) -> usize
     if n < 8 { n - 4 } else { 4 }
 }
 
-// Bits for bytes of the word that equal `byte`: the lowest set bit stands in the first of them, higher ones mean nothing.
+/// Bits for bytes of the word that equal `byte`: the lowest set bit stands in the first of them, higher ones mean nothing.
 pub fn byte_hits(word: u64, byte: u8) -> u64
     ensures { (xs : List ℕ) → length xs ≡ 8 → Bytes xs → word_of xs ≡ word → count_trailing_zeros 64 result / 8 ≡ first_in byte xs }
 {
@@ -62,14 +62,14 @@ pub fn byte_hits(word: u64, byte: u8) -> u64
     std::num::wrapping_sub_u64(x, LO) & !x & HI
 }
 
-// Whether one of the word's bytes equals `byte`.
+/// Whether one of the word's bytes equals `byte`.
 pub fn has_byte(word: u64, byte: u8) -> bool
     ensures { (xs : List ℕ) → length xs ≡ 8 → Bytes xs → word_of xs ≡ word → result ≡ among byte xs }
 {
     byte_hits(word, byte) != 0
 }
 
-// One bit for each byte of the word that equals `byte`. A sum of seven bits and seven bits carries into no other byte, so each bit is exact.
+/// One bit for each byte of the word that equals `byte`. A sum of seven bits and seven bits carries into no other byte, so each bit is exact.
 pub fn byte_match_mask(word: u64, byte: u8) -> u64
     ensures { (xs : List ℕ) → length xs ≡ 8 → Bytes xs → word_of xs ≡ word → count_ones result ≡ count_of byte xs }
 {

@@ -9,8 +9,8 @@ ghost use Rattle.measure_run.specs.Held.{after_cells};
 use definitions::ArrowStats;
 use row_walk::{Marks, Seen};
 
-// The marks, the tally, the number of records, the number of rows, and how many of these there are up to the measure's last object row; where
-// that is no more than before the measure, it has none.
+/// The marks, the tally, the number of records, the number of rows, and how many of these there are up to the measure's last object row; where
+/// that is no more than before the measure, it has none.
 #[derive(Clone, Copy)]
 pub struct Run {
     pub marks: Marks,
@@ -21,7 +21,7 @@ pub struct Run {
 }
 
 impl Run {
-    // One row more, whose cells have come to this.
+    /// One row more, whose cells have come to this.
     pub fn add_cells(&mut self, s: Seen)
         requires { Below count_bound self.old.stats × Under 10 s.sum × (self.old.row < row_count_bound) }
         ensures { self.new ≡ after_cells self.old s }

@@ -13,8 +13,8 @@ use definitions::{ArrowStats, Cell};
 use phantoms::Phantoms;
 use taps::{TapTable, Taps};
 
-// `rows` counts all minimised rows so far, `before` the steps of the measures that have ended: those of the open one are its density.
-// A column without its bit in `busy` has the phantom depth 0.
+/// `rows` counts all minimised rows so far, `before` the steps of the measures that have ended: those of the open one are its density.
+/// A column without its bit in `busy` has the phantom depth 0.
 #[derive(Clone, Copy)]
 pub struct Counting {
     pub stats: ArrowStats,
@@ -25,7 +25,7 @@ pub struct Counting {
 }
 
 impl Counting {
-    // Before the first row.
+    /// Before the first row.
     pub fn new() -> Self
         ensures { (L : ℕ) → L ≤ 10 → Counted L result [] [] }
     {
@@ -88,14 +88,14 @@ impl Counting {
         self.count_line(row);
     }
 
-    // The open measure ends.
+    /// The open measure ends.
     pub fn end_measure(&mut self)
         ensures { (L : ℕ) (done : List (List Row)) (cur : List Row) → Counted L self.old done cur → Counted L self.new (done ++ (cur ∷ [])) [] }
     {
         self.before = self.stats.total_steps;
     }
 
-    // The density of the open measure.
+    /// The density of the open measure.
     pub fn density(&self) -> u32
         requires { self.now.before ≤ self.now.stats.total_steps }
         ensures { (L : ℕ) (done : List (List Row)) (cur : List Row) → Counted L self.now done cur → result ≡ density_of cur }
@@ -135,7 +135,7 @@ impl Counting {
         i
     }
 
-    // The rows of a measure that stand in a text from `start` on, each with a newline byte after it.
+    /// The rows of a measure that stand in a text from `start` on, each with a newline byte after it.
     pub fn count_rows(&mut self, text: &[u8], start: usize, rows: usize, table: &TapTable)
         requires in_text { start + rows * (table.now.lanes.count + 1) ≤ length text.now }
         requires few { (self.old.rows + rows < row_count_bound) × SomeCounted table.now.lanes.count self.old [] }

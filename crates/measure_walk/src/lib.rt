@@ -20,7 +20,7 @@ use row_notes::ChartNotesScratch;
 use row_walk::{Columns, Marks};
 use taps::TapTable;
 
-// The columns and what each row changes; the steps before the open measure, the last object row of the measures that are walked, and their number.
+/// The columns and what each row changes; the steps before the open measure, the last object row of the measures that are walked, and their number.
 #[derive(Clone, Copy)]
 pub struct Walk {
     pub columns: Columns,
@@ -31,7 +31,7 @@ pub struct Walk {
 }
 
 impl Walk {
-    // Before the first row.
+    /// Before the first row.
     pub fn new() -> Self
         ensures ten { Ten result.columns }
         ensures counted { (L : ℕ) → L ≤ 10 → Counted L (counting result) [] [] }
@@ -83,7 +83,7 @@ impl Walk {
         }
     }
 
-    // The rows of a measure that stand in a text from `start` on, each with a newline byte after it; for the notes the measure then ends.
+    /// The rows of a measure that stand in a text from `start` on, each with a newline byte after it; for the notes the measure then ends.
     pub fn walk_rows(
         &mut self,
         text: &[u8],
@@ -128,7 +128,7 @@ impl Walk {
         }
     }
 
-    // The density of the open measure.
+    /// The density of the open measure.
     pub fn density(&self) -> u32
         requires { self.now.before ≤ self.now.run.stats.total_steps }
         ensures { (L : ℕ) (done : List (List Row)) (cur : List Row) → Counted L (counting self.now) done cur → result ≡ density_of cur }
@@ -136,7 +136,7 @@ impl Walk {
         self.run.stats.total_steps - self.before
     }
 
-    // For what is counted the open measure ends.
+    /// For what is counted the open measure ends.
     pub fn end_measure(&mut self)
         ensures counted { (L : ℕ) (done : List (List Row)) (cur : List Row) → Counted L (counting self.old) done cur → Counted L (counting self.new) (done ++ (cur ∷ [])) [] }
         ensures noting_stays { noting self.new ≡ noting self.old }
@@ -145,7 +145,7 @@ impl Walk {
         self.before = self.run.stats.total_steps;
     }
 
-    // What the correction asks of the rows.
+    /// What the correction asks of the rows.
     pub fn phantoms(&self) -> Phantoms
         ensures { result ≡ (counting self.now).phantoms }
     {
@@ -158,7 +158,7 @@ impl Walk {
         }
     }
 
-    // What the notes' end asks.
+    /// What the notes' end asks.
     pub fn scratch(&self) -> ChartNotesScratch
         ensures { result ≡ (noting self.now).scratch }
     {

@@ -8,10 +8,10 @@ ghost use Rattle.note_records.specs.Fields.{fields_at};
 
 use definitions::{Kind, Note, Refusal, Tail};
 
-// The tail field of a note without a tail.
+/// The tail field of a note without a tail.
 pub const NO_TAIL_ROW: u32 = 4294967295;
 
-// Four bytes as a number.
+/// Four bytes as a number.
 #[tactic(auto, unfolding(definitions::specs::Records::word))]
 pub fn get_word(s: &[u8], at: usize) -> u32
     requires { at + 4 ≤ length s.now }
@@ -77,7 +77,7 @@ fn note_of(row: u32, tail: u32, column: u32, kind: u8) -> Result<Note, Refusal>
     }
 }
 
-// The note of a record.
+/// The note of record number `index`, counted from 0, of records of ten bytes each. A refusal (7 or 8) is the mistake of whoever stores the records.
 #[tactic(auto, unfolding(definitions::specs::Records::note_of_record))]
 pub fn read_note(records: &[u8], index: usize) -> Result<Note, Refusal>
     ensures { result ≡ note_of_record records.now index }
@@ -96,7 +96,7 @@ pub fn read_note(records: &[u8], index: usize) -> Result<Note, Refusal>
     note_of(row, tail, column, kind)
 }
 
-// A number as four bytes.
+/// A number as four bytes.
 pub fn put_word(s: &mut [u8], at: usize, v: u32)
     requires { at + 4 ≤ length s.old }
     ensures { s.new ≡ sets s.old at (bytes4 v) }
@@ -107,6 +107,7 @@ pub fn put_word(s: &mut [u8], at: usize, v: u32)
     s[at + 3] = (v / 16777216 % 256) as u8;
 }
 
+/// The number of a kind in a record: 0 tap, 1 hold, 2 roll, 3 mine, 4 lift, 5 fake.
 pub fn kind_number(kind: Kind) -> u8
     ensures { result ≡ number_of_kind kind }
 {
@@ -120,7 +121,7 @@ pub fn kind_number(kind: Kind) -> u8
     }
 }
 
-// The bytes of record number k.
+/// The bytes of record number k.
 pub fn put_record(records: &mut [u8], k: usize, row: u32, tail: u32, column: u8, kind: u8)
     requires { k * 10 + 10 ≤ length records.old }
     ensures { records.new ≡ sets records.old (k * 10) (fields row tail column kind) }
@@ -132,7 +133,7 @@ pub fn put_record(records: &mut [u8], k: usize, row: u32, tail: u32, column: u8,
     records[at + 9] = kind;
 }
 
-// Copies a record to the front.
+/// Copies a record to the front.
 pub fn move_record(records: &mut [u8], from: usize, to: usize)
     requires { (from * 10 + 10 ≤ length records.old) × (to ≤ from) }
     ensures { records.new ≡ sets records.old (to * 10) (fields_at records.old (from * 10)) }

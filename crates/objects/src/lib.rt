@@ -11,34 +11,34 @@ use beats::RowPlace;
 use definitions::DepthEffect;
 use taps::Taps;
 
-// The depth of each column, of up to ten.
+/// The depth of each column, of up to ten.
 #[derive(Clone, Copy)]
 pub struct Depths {
     pub depths: [u32; 10],
 }
 
-// The depths before the first row.
+/// The depths before the first row.
 pub fn no_depths() -> Depths
     ensures { NoDepths result }
 {
     Depths { depths: [0; 10] }
 }
 
-// Whether a row is an object row, and the depths after it.
+/// Whether a row is an object row, and the depths after it.
 #[derive(Clone, Copy)]
 pub struct Objects {
     pub object: bool,
     pub depths: Depths,
 }
 
-// The same of one cell.
+/// The same of one cell.
 #[derive(Clone, Copy)]
 pub struct ObjectCell {
     pub object: bool,
     pub depth: u32,
 }
 
-// One cell of an object row's test, in a column of that depth.
+/// One cell of an object row's test, in a column of that depth.
 pub fn object_cell(b: u8, depth: u32) -> ObjectCell
     requires { depth < 4294967295 }
     ensures { CellDone b depth result }
@@ -72,7 +72,7 @@ pub fn object_cell(b: u8, depth: u32) -> ObjectCell
     }
 }
 
-// Whether the row is an object row where its columns have these depths, and the depths after it. Each grows by at most 1.
+/// Whether the row is an object row where its columns have these depths, and the depths after it. Each grows by at most 1.
 pub fn row_has_object(row: &[u8], old: Depths) -> Objects
     requires { (length row.now ≤ 10) × DepthsLow 4294967294 old }
     ensures { RowDone row.now old result }
@@ -87,8 +87,8 @@ pub fn row_has_object(row: &[u8], old: Depths) -> Objects
     Objects { object, depths }
 }
 
-// The depths of the columns, the last object row of the measures that have ended and that of the open one, by its number there; the rows of
-// the open one, and its number. A column without its bit in `busy` has the depth 0.
+/// The depths of the columns, the last object row of the measures that have ended and that of the open one, by its number there; the rows of
+/// the open one, and its number. A column without its bit in `busy` has the depth 0.
 #[derive(Clone, Copy)]
 pub struct LastScan {
     pub depths: Depths,
@@ -100,7 +100,7 @@ pub struct LastScan {
 }
 
 impl LastScan {
-    // Before the first row.
+    /// Before the first row.
     pub fn new() -> Self
         ensures { LastKept result [] [] }
     {
@@ -140,7 +140,7 @@ impl LastScan {
         self.count_row(row.object);
     }
 
-    // One row more. One of taps alone, all in columns of the depth 0, is an object row where it has one, and leaves the depths.
+    /// One row more. One of taps alone, all in columns of the depth 0, is an object row where it has one, and leaves the depths.
     pub fn add_row(&mut self, cells: &[u8])
         requires { (length cells.now ≤ 10) × (self.old.rows < row_numbers_bound) × DepthsLow 4294967294 self.old.depths }
         ensures { (done : List (List Row)) (cur : List Row) → LastKept self.old done cur → LastKept self.new done (cur ++ (cells.now ∷ [])) }
@@ -151,7 +151,7 @@ impl LastScan {
         }
     }
 
-    // The open measure ends.
+    /// The open measure ends.
     pub fn end_measure(&mut self)
         requires { (self.old.rows < row_count_bound) × (self.old.midx ≤ measures_bound) }
         ensures kept { (done : List (List Row)) (cur : List Row) → LastKept self.old done cur → LastKept self.new (done ++ (cur ∷ [])) [] }

@@ -28,7 +28,7 @@ fn put_bytes(text: &mut [u8], at: usize, row: &[u8])
     text[at..at + row.len()].copy_from_slice(row);
 }
 
-// The row's bytes from `at` on: four at a time where it has four to twelve, the last four always, so that fours may overlap.
+/// The row's bytes from `at` on: four at a time where it has four to twelve, the last four always, so that fours may overlap.
 pub fn put_row(text: &mut [u8], at: usize, row: &[u8])
     requires { at + length row.now ≤ length text.old }
     ensures { text.new ≡ placed at row.now text.old }
@@ -46,7 +46,7 @@ pub fn put_row(text: &mut [u8], at: usize, row: &[u8])
     put_four(text, at + last, row, last);
 }
 
-// The row's bytes and byte 10.
+/// The row's bytes and byte 10.
 pub fn put_line(text: &mut [u8], at: usize, row: &[u8])
     requires { at + length row.now + 1 ≤ length text.old }
     ensures { text.new ≡ placed at (row.now ++ (10 ∷ [])) text.old }
@@ -55,7 +55,7 @@ pub fn put_line(text: &mut [u8], at: usize, row: &[u8])
     text[at + row.len()] = 10;
 }
 
-// The bytes `,` and 10.
+/// The bytes `,` and 10.
 pub fn put_comma(text: &mut [u8], at: usize)
     requires { at + 2 ≤ length text.old }
     ensures { text.new ≡ placed at (44 ∷ 10 ∷ []) text.old }

@@ -6,11 +6,11 @@ ghost use Rattle.page.specs.Texts.{number_field, aligned, aligned_left};
 
 use itoa::Buffer;
 
-// The page has no room for what was to be written.
+/// The page has no room for what was to be written.
 #[derive(Clone, Copy)]
 pub struct Full;
 
-// A lent slice, written from its first place on.
+/// A lent slice, written from its first place on.
 #[derive(Drop)]
 pub struct Page<'a> {
     out: &'a mut [u8],
@@ -21,6 +21,7 @@ pub struct Page<'a> {
 impl<'a> Page<'a> {
     ghost use Rattle.page.specs.Prints.{Prints};
 
+    /// A page over a slice, with nothing written.
     pub fn new(out: &'a mut [u8]) -> Page<'a>
         ensures same_slice { result.out.ghost_name ≡ out.entry.ghost_name }
         ensures slice { result.out.now ≡ out.old }
@@ -29,13 +30,14 @@ impl<'a> Page<'a> {
         Page { out, at: 0 }
     }
 
-    // How many bytes are written.
+    /// How many bytes are written.
     pub fn len(&self) -> usize
         ensures { result ≡ self.now.at }
     {
         self.at
     }
 
+    /// Writes a text, or says that it has no room.
     pub fn text(&mut self, text: &str) -> Result<(), Full>
         ensures { Prints self.old text.now self.new result }
     {
@@ -51,6 +53,7 @@ impl<'a> Page<'a> {
         Ok(())
     }
 
+    /// Writes a byte.
     pub fn byte(&mut self, b: u8) -> Result<(), Full>
         ensures { Prints self.old (b ∷ []) self.new result }
     {
@@ -64,6 +67,7 @@ impl<'a> Page<'a> {
         Ok(())
     }
 
+    /// Writes `n` blanks.
     pub fn blanks(&mut self, n: usize) -> Result<(), Full>
         ensures { Prints self.old (replicate n 32) self.new result }
     {
@@ -78,7 +82,7 @@ impl<'a> Page<'a> {
         Ok(())
     }
 
-    // A number in decimal.
+    /// A number in decimal.
     pub fn number(&mut self, n: u64) -> Result<(), Full>
         ensures { Prints self.old (decimal n) self.new result }
     {
@@ -86,7 +90,7 @@ impl<'a> Page<'a> {
         self.text(buffer.format(n))
     }
 
-    // A number right-aligned in so many columns; one that has more digits is written whole.
+    /// A number right-aligned in so many columns; one that has more digits is written whole.
     #[tactic(auto, using(crate::proofs::Pages::keeps_then), unfolding(crate::specs::Texts::aligned))]
     pub fn aligned(&mut self, n: u64, width: usize) -> Result<(), Full>
         ensures { Prints self.old (aligned width n) self.new result }
@@ -98,7 +102,7 @@ impl<'a> Page<'a> {
         Ok(())
     }
 
-    // A text with as many blanks after it as its columns have left.
+    /// A text with as many blanks after it as its columns have left.
     #[tactic(auto, using(crate::proofs::Pages::keeps_then), unfolding(crate::specs::Texts::aligned_left))]
     pub fn left_aligned(&mut self, text: &str, width: usize) -> Result<(), Full>
         ensures { Prints self.old (aligned_left width text.now) self.new result }
@@ -108,7 +112,7 @@ impl<'a> Page<'a> {
         Ok(())
     }
 
-    // A number with a byte after it.
+    /// A number with a byte after it.
     #[tactic(auto, using(crate::proofs::Pages::keeps_then), unfolding(crate::specs::Texts::number_field))]
     pub fn field(&mut self, n: u64, after: u8) -> Result<(), Full>
         ensures { Prints self.old (number_field n after) self.new result }

@@ -9,7 +9,7 @@ ghost use Rattle.phantoms.specs.Phantoms.{phantom_at, Counts, CellCounted};
 
 use definitions::{DepthEffect, Lanes};
 
-// The phantom depth of each column, of up to ten; the heads and tails so far; and whether a 1, M, L or F met a phantom depth.
+/// The phantom depth of each column, of up to ten; the heads and tails so far; and whether a 1, M, L or F met a phantom depth.
 #[derive(Clone, Copy)]
 pub struct Phantoms {
     pub depths: [u32; 10],
@@ -18,7 +18,7 @@ pub struct Phantoms {
     pub met: bool,
 }
 
-// Before the first row.
+/// Before the first row.
 pub fn no_phantoms() -> Phantoms
     ensures { (L : ℕ) → L ≤ 10 → Counts L [] result }
 {
@@ -30,7 +30,7 @@ pub fn no_phantoms() -> Phantoms
     }
 }
 
-// What a cell leaves of its column's phantom depth, the heads and tails that it adds, and whether it met a phantom depth.
+/// What a cell leaves of its column's phantom depth, the heads and tails that it adds, and whether it met a phantom depth.
 #[derive(Clone, Copy)]
 pub struct PhantomCell {
     pub depth: u32,
@@ -39,7 +39,7 @@ pub struct PhantomCell {
     pub met: bool,
 }
 
-// One cell of a row, in a column of that depth.
+/// One cell of a row, in a column of that depth.
 pub fn phantom_cell(b: u8, depth: u32) -> PhantomCell
     requires { depth < 4294967295 }
     ensures { CellCounted b depth result }
@@ -79,7 +79,7 @@ fn is_left_over(p: Phantoms, lanes: Lanes) -> bool
     p.depths[..lanes.count].iter().any(|&depth| 0 < depth)
 }
 
-// Whether the tally of the rows that were counted, of so many lanes, is counted anew.
+/// Whether the tally of the rows that were counted, of so many lanes, is counted anew.
 pub fn is_corrected(p: Phantoms, lanes: Lanes) -> bool
     ensures { (rows : List Row) → Counts lanes.count rows p → result ≡ corrects lanes.count rows }
 {

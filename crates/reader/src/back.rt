@@ -30,7 +30,7 @@ fn is_plain_row(part: &[u8], lanes: Lanes, width: usize) -> bool
     crate::is_just_row(part, width) & (part[lanes.count - 1] != 13)
 }
 
-// The rows of minimised text that is left to read back, each as a part of it. Clauses see the list of them.
+/// The rows of minimised text that is left to read back, each as a part of it. Clauses see the list of them.
 #[derive(Drop)]
 pub struct BackRows<'a> {
     rest: &'a [u8],
@@ -110,7 +110,7 @@ impl<'a> Iterator for BackRows<'a> {
     }
 }
 
-// The rows of minimised text.
+/// The rows of minimised text.
 pub fn back_rows(text: &[u8], lanes: Lanes, trim: bool) -> BackRows<'_>
     ensures { result ≡ rows_back trim lanes.count text.now }
 {

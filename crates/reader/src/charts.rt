@@ -7,14 +7,14 @@ ghost use Rattle.reader.specs.ChartLines.{mark_of};
 use definitions::{Lanes, LineKind};
 use std::marker::Model;
 
-// A line that counts: a row's cells, or the end of a measure.
+/// A line that counts: a row's cells, or the end of a measure.
 #[derive(Clone, Copy)]
 pub enum ChartLine<'a> {
     Row(&'a [u8]),
     Comma,
 }
 
-// The lines that count of the text that is left to read. Clauses see the list of them.
+/// The lines that count of the text that is left to read. Clauses see the list of them.
 #[derive(Drop)]
 pub struct ChartLines<'a> {
     rest: &'a [u8],
@@ -101,7 +101,7 @@ impl<'a> Iterator for ChartLines<'a> {
     }
 }
 
-// The lines of a chart's text that count.
+/// The lines of a chart's text that count.
 pub fn chart_lines(data: &[u8], lanes: Lanes) -> ChartLines<'_>
     ensures { result ≡ chart_marks lanes.count «data».now }
 {

@@ -11,7 +11,7 @@ ghost use Rattle.reader.specs.Reading.{LineWidth, just_row, near_row};
 
 use definitions::{Lanes, LineKind};
 
-// Whether a line that is nothing else is a row.
+/// Whether a line that is nothing else is a row.
 #[tactic(auto, unfolding(definitions::specs::Lines::is_row_line))]
 pub fn is_row(line: &[u8], lanes: usize) -> bool
     ensures { result ≡ is_row_line lanes line.now }
@@ -19,7 +19,7 @@ pub fn is_row(line: &[u8], lanes: usize) -> bool
     lanes <= line.len()
 }
 
-// What a line is whose leading blanks are off.
+/// What a line is whose leading blanks are off.
 #[tactic(auto, unfolding(definitions::specs::Lines::kind_of))]
 pub fn line_kind(line: &[u8], lanes: usize) -> LineKind
     ensures { result ≡ kind_of lanes line.now }

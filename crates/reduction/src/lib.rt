@@ -19,8 +19,8 @@ fn are_all_zero(row: &[u8]) -> bool
     row.iter().all(|&b| b == b'0')
 }
 
-// Whether every byte of a row is `0`: by one word where it has four or eight, and by its first four bytes, its last four and four between where
-// it has up to twelve.
+/// Whether every byte of a row is `0`: by one word where it has four or eight, and by its first four bytes, its last four and four between where
+/// it has up to twelve.
 pub fn is_all_zero(row: &[u8]) -> bool
     ensures { result ≡ all_zero row.now }
 {
@@ -40,8 +40,8 @@ pub fn is_all_zero(row: &[u8]) -> bool
         & (words::half_at(row, n - 4) == 0x3030_3030)
 }
 
-// The exponent of the stride. `step` is the stride found so far, 2 to the power `shift`, and `left` the number of its multiples. Looked at
-// are the rows that the next stride would drop: the search leaves both its loops at the first of them that is not all zero.
+/// The exponent of the stride. `step` is the stride found so far, 2 to the power `shift`, and `left` the number of its multiples. Looked at
+/// are the rows that the next stride would drop: the search leaves both its loops at the first of them that is not all zero.
 pub fn measure_reduce_shift(
     text: &[u8],
     start: usize,
@@ -119,8 +119,8 @@ fn move_row(text: &mut [u8], from: usize, to: usize, width: usize)
     move_four(text, from + last, to + last);
 }
 
-// The rows at the multiples of the stride moved together, each with its `width` bytes. Returns how many they are. What stands past them is
-// what stood there before: the caller writes over it or clears it.
+/// The rows at the multiples of the stride moved together, each with its `width` bytes. Returns how many they are. What stands past them is
+/// what stood there before: the caller writes over it or clears it.
 pub fn compact_output_rows(
     text: &mut [u8],
     start: usize,
@@ -160,7 +160,7 @@ fn reduce_measure(text: &mut [u8], start: usize, rows: usize, width: usize, lane
     compact_output_rows(text, start, rows, shift, width)
 }
 
-// A measure minimised in the text that is written: each row has byte 10 after it.
+/// A measure minimised in the text that is written: each row has byte 10 after it.
 pub fn reduce_output_measure(text: &mut [u8], start: usize, rows: usize, lanes: Lanes) -> usize
     requires { start + rows * (lanes.count + 1) ≤ length text.old }
     ensures { (rs : List Row) → RowsStand row_text lanes.count rows start rs text.old → Reduced row_text start rs text.old result text.new }
@@ -168,7 +168,7 @@ pub fn reduce_output_measure(text: &mut [u8], start: usize, rows: usize, lanes: 
     reduce_measure(text, start, rows, lanes.count + 1, lanes.count)
 }
 
-// A measure minimised whose rows stand back to back.
+/// A measure minimised whose rows stand back to back.
 pub fn reduce_rows(text: &mut [u8], start: usize, rows: usize, lanes: Lanes) -> usize
     requires { start + rows * lanes.count ≤ length text.old }
     ensures { (rs : List Row) → RowsStand joined lanes.count rows start rs text.old → Reduced joined start rs text.old result text.new }

@@ -8,7 +8,7 @@ ghost use Rattle.definitions.specs.Refusals.{refused_if, long_text, short_text, 
 
 use definitions::{Lanes, Refusal};
 
-// The text is not too long.
+/// The text is not too long.
 #[tactic(auto, unfolding(definitions::specs::Refusals::long_text))]
 pub fn text_fits(len: usize) -> Result<(), Refusal>
     ensures value { result ≡ long_text len }
@@ -31,7 +31,7 @@ fn has_room(room: usize, needed: usize, refusal: Refusal) -> Result<(), Refusal>
     Ok(())
 }
 
-// The text slice has room for a text of that length.
+/// The text slice has room for a text of that length.
 #[tactic(auto, unfolding(definitions::specs::Refusals::short_text))]
 pub fn room_for_text(len: usize, room: usize) -> Result<(), Refusal>
     requires { len ≤ most_bytes }
@@ -41,7 +41,7 @@ pub fn room_for_text(len: usize, room: usize) -> Result<(), Refusal>
     has_room(room, len + 1, Refusal::ShortText)
 }
 
-// The measure slice has room for the measures of such a text.
+/// The measure slice has room for the measures of such a text.
 #[tactic(auto, unfolding(definitions::specs::Refusals::short_measures))]
 pub fn room_for_measures(len: usize, room: usize) -> Result<(), Refusal>
     requires { len ≤ most_bytes }
@@ -51,7 +51,7 @@ pub fn room_for_measures(len: usize, room: usize) -> Result<(), Refusal>
     has_room(room, (len + 1) / 2 + 1, Refusal::ShortMeasures)
 }
 
-// The most rows of such a text at so many lanes.
+/// The most rows of such a text at so many lanes.
 #[tactic(auto, unfolding(definitions::specs::Lanes::most_rows_in))]
 pub fn most_rows(lanes: Lanes, len: usize) -> usize
     requires { len ≤ most_bytes }
@@ -61,7 +61,7 @@ pub fn most_rows(lanes: Lanes, len: usize) -> usize
     (len + 1) / (lanes.count + 1)
 }
 
-// The beat slice has room for the beats of such a text's rows.
+/// The beat slice has room for the beats of such a text's rows.
 #[tactic(auto, unfolding(definitions::specs::Refusals::short_beats))]
 pub fn room_for_beats(lanes: Lanes, len: usize, room: usize) -> Result<(), Refusal>
     requires { len ≤ most_bytes }
@@ -71,7 +71,7 @@ pub fn room_for_beats(lanes: Lanes, len: usize, room: usize) -> Result<(), Refus
     has_room(room, most_rows(lanes, len), Refusal::ShortBeats)
 }
 
-// The work slice has room for its rows.
+/// The work slice has room for its rows.
 #[tactic(auto, unfolding(definitions::specs::Refusals::short_work))]
 pub fn room_for_work(lanes: Lanes, len: usize, room: usize) -> Result<(), Refusal>
     requires { len ≤ most_bytes }
@@ -81,7 +81,7 @@ pub fn room_for_work(lanes: Lanes, len: usize, room: usize) -> Result<(), Refusa
     has_room(room, most_rows(lanes, len), Refusal::ShortWork)
 }
 
-// The note slice has room for a note in each cell of its rows.
+/// The note slice has room for a note in each cell of its rows.
 #[tactic(auto, unfolding(definitions::specs::Refusals::short_notes))]
 pub fn room_for_notes(lanes: Lanes, len: usize, room: usize) -> Result<(), Refusal>
     requires { len ≤ most_bytes }

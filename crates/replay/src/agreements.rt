@@ -13,6 +13,7 @@ use spacing::equally_spaced_impl;
 use stored::{Answer, Record, lent};
 use timing::minimize_timing_rows;
 
+/// The main call.
 pub fn main_agrees(record: &Record, stored: &Answer) -> bool {
     let mut text = lent::text();
     let mut densities = lent::densities();
@@ -36,6 +37,7 @@ pub fn main_agrees(record: &Record, stored: &Answer) -> bool {
         && all_zero(&work)
 }
 
+/// The kept-row call.
 pub fn kept_agrees(record: &Record, stored: &Answer) -> bool {
     let mut text = lent::text();
     let mut densities = lent::densities();
@@ -53,6 +55,7 @@ pub fn kept_agrees(record: &Record, stored: &Answer) -> bool {
         && all_zero(&work)
 }
 
+/// The call for timing rows.
 pub fn timing_rows_agree(record: &Record, stored: &Answer) -> bool {
     let mut text = lent::text();
     let mut beats = lent::beats();
@@ -62,29 +65,34 @@ pub fn timing_rows_agree(record: &Record, stored: &Answer) -> bool {
         && same_floats(&beats, stored.beats)
 }
 
+/// The densities.
 pub fn densities_agree(record: &Record, stored: &Answer) -> bool {
     let mut densities = lent::densities();
     let answered = measure_densities(record.text, record.lanes, &mut densities);
     has_figures(answered.map(measures_places), stored) && same_numbers(&densities, stored.measures)
 }
 
+/// The spacing.
 pub fn spacing_agrees(record: &Record, stored: &Answer) -> bool {
     let mut spacing = lent::spacing();
     let answered = equally_spaced_impl(record.text, record.lanes, &mut spacing);
     has_figures(answered.map(measures_places), stored) && same_bytes(&spacing, stored.measures)
 }
 
+/// The last beat.
 pub fn last_beat_agrees(record: &Record, stored: &Answer) -> bool {
     let answered = chart_last_beat_impl(record.text, record.lanes);
     has_figures(answered.map(last_places), stored)
 }
 
+/// The tally with every row judged.
 pub fn judged_agrees(record: &Record, stored: &Answer) -> bool {
     let mut work = lent::work();
     let answered = process_rows_judgable(record.text, record.lanes, &mut work);
     has_figures(answered.map(judged_places), stored) && all_zero(&work)
 }
 
+/// The tally with the record's flags.
 pub fn flagged_agrees(record: &Record, stored: &Answer) -> bool {
     let mut work = lent::work();
     let answered = process_timing_rows(record.text, record.lanes, record.flags, &mut work);

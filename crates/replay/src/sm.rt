@@ -33,7 +33,7 @@ fn parts(record: &[u8]) -> Option<(&[u8], &[u8])> {
     Some((file, rest))
 }
 
-// How the answers of a record compare. It has at least one.
+/// How the answers of a record compare. It has at least one.
 pub fn compared(record: &[u8]) -> Compared {
     let Some((file, answers)) = parts(record) else {
         return Compared::Malformed;

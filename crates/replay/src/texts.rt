@@ -32,7 +32,7 @@ impl Call {
     }
 }
 
-// How the answers of these calls compare.
+/// How the answers of these calls compare.
 pub fn compared(record: &[u8], calls: &[Call]) -> Compared {
     let Some(record) = Record::read(record) else {
         return Compared::Malformed;

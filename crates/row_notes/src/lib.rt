@@ -18,11 +18,11 @@ use note_records::{NO_TAIL_ROW, get_word, kind_number, move_record, put_record, 
 // The tail field of a record that is dropped.
 const INVALID_NOTE_ROW: u32 = 4294967294;
 
-// The open head of a column without one.
+/// The open head of a column without one.
 pub const NO_HEAD: u32 = 4294967295;
 
-// The writer's state: of each column the number of its open head's record, the number of records, the number of rows, and whether a
-// record was dropped.
+/// The writer's state: of each column the number of its open head's record, the number of records, the number of rows, and whether a
+/// record was dropped.
 #[derive(Clone, Copy)]
 pub struct ChartNotesScratch {
     pub hold_heads: [u32; 10],
@@ -31,7 +31,7 @@ pub struct ChartNotesScratch {
     pub has_invalid: bool,
 }
 
-// Ends a head's note with this tail; `NO_HEAD` has none.
+/// Ends a head's note with this tail; `NO_HEAD` has none.
 pub fn end_note(head: u32, tail: u32, notes: &mut [u8])
     requires { (head ≡ no_head → ⊥) → head * 10 + 10 ≤ length notes.old }
     ensures { notes.new ≡ end_at notes.old head tail }
@@ -41,7 +41,7 @@ pub fn end_note(head: u32, tail: u32, notes: &mut [u8])
     }
 }
 
-// Drops a head's note and adds a record without a tail.
+/// Drops a head's note and adds a record without a tail.
 pub fn put_note(head: u32, count: usize, row: u32, column: usize, kind: Kind, notes: &mut [u8])
     requires { CellReady notes.old head count row column }
     ensures { notes.new ≡ note_at notes.old head count row column kind }
@@ -120,8 +120,8 @@ fn low_bit(mask: u32) -> LowBit
     }
 }
 
-// The records of a row of taps alone in columns without an open head, by its mask, and the number of records with them. Two records are
-// written whatever the mask is, and more only where it has more taps, so that few rows branch on theirs.
+/// The records of a row of taps alone in columns without an open head, by its mask, and the number of records with them. Two records are
+/// written whatever the mask is, and more only where it has more taps, so that few rows branch on theirs.
 pub fn push_mask(row: u32, number: usize, mask: u16, notes: &mut [u8]) -> usize
     requires { SomeMask row number mask notes.old }
     ensures { (s : ChartNotesScratch) (cells : Row) → MaskFits row number mask notes.old s cells → (rows : List Row) → Written rows s notes.old → Written (rows ++ (cells ∷ [])) (after_taps s result) notes.new }
@@ -178,7 +178,7 @@ fn retain(s: ChartNotesScratch, notes: &mut [u8]) -> usize
     }
 }
 
-// The end: heads that are open are dropped, and zeros stand after the records. The answer is their number.
+/// The end: heads that are open are dropped, and zeros stand after the records. The answer is their number.
 pub fn finish(s: ChartNotesScratch, notes: &mut [u8]) -> usize
     requires { SomeRows s notes.old }
     ensures { (rows : List Row) → Written rows s notes.old → Finished rows (length notes.old) notes.new result }

@@ -19,7 +19,7 @@ ghost use Rattle.row_tally.specs.Sums.{empty_sum, add_arrow, add_counted, sum_wi
 use definitions::{ArrowStats, Cell, DepthEffect, RowSum};
 use taps::TapTable;
 
-// The sum of no cells.
+/// The sum of no cells.
 pub fn no_sum() -> RowSum
     ensures { result ≡ empty_sum }
 {
@@ -87,7 +87,7 @@ fn add_cell(s: RowSum, column: usize, b: u8, judged: bool) -> RowSum
     }
 }
 
-// One cell of a plain row.
+/// One cell of a plain row.
 pub fn sum_cell(s: RowSum, column: usize, b: u8) -> RowSum
     requires { Under 10 s }
     ensures { result ≡ sum_with_cell s column (cell_of b) (is_arrow (cell_of b)) }
@@ -95,7 +95,7 @@ pub fn sum_cell(s: RowSum, column: usize, b: u8) -> RowSum
     add_cell(s, column, b, false)
 }
 
-// One cell of a judged row.
+/// One cell of a judged row.
 pub fn judged_cell(s: RowSum, column: usize, b: u8) -> RowSum
     requires { Under 10 s }
     ensures { result ≡ sum_with_cell s column (cell_of b) (is_judged_arrow (cell_of b)) }
@@ -103,7 +103,7 @@ pub fn judged_cell(s: RowSum, column: usize, b: u8) -> RowSum
     add_cell(s, column, b, true)
 }
 
-// The tally of no rows.
+/// The tally of no rows.
 pub fn no_stats() -> ArrowStats
     ensures { result ≡ empty_stats }
 {
@@ -152,7 +152,7 @@ fn add_row(t: ArrowStats, s: RowSum) -> ArrowStats
     add_sum(t, s, hand, holding)
 }
 
-// The running tally is lent by the caller and altered there.
+/// The running tally is lent by the caller and altered there.
 pub fn add_row_into(stats: &mut ArrowStats, s: RowSum)
     requires { Below count_bound stats.old × Under 10 s }
     ensures { stats.new ≡ tally_with_row stats.old s }
@@ -160,7 +160,7 @@ pub fn add_row_into(stats: &mut ArrowStats, s: RowSum)
     *stats = add_row(*stats, s);
 }
 
-// One row more in a judged tally, before which `held` holds are open: a hand is told otherwise than on a plain row, and nothing is held.
+/// One row more in a judged tally, before which `held` holds are open: a hand is told otherwise than on a plain row, and nothing is held.
 #[tactic(auto, unfolding(definitions::specs::Tally::tally_with_row, definitions::specs::Judged::judge_row))]
 pub fn add_judged_row(stats: &mut ArrowStats, judged: bool, held: u32, s: RowSum)
     requires { Below count_bound stats.old × Under 10 s × (held ≤ count_bound) }
@@ -173,7 +173,7 @@ pub fn add_judged_row(stats: &mut ArrowStats, judged: bool, held: u32, s: RowSum
     stats.holding = 0;
 }
 
-// One row of taps alone more.
+/// One row of taps alone more.
 pub fn count_taps(stats: &mut ArrowStats, mask: u16, table: &TapTable)
     requires { (mask < masks table.now.wide) × Below count_bound stats.old }
     ensures { (row : Row) → mask_of_line row ≡ Mask mask → stats.new ≡ tally_with_row stats.old (row_sum row) }
@@ -220,7 +220,7 @@ fn kept_sum(row: &[u8], heads: u16, judged: bool) -> RowSum
     s
 }
 
-// One row more, of which only the heads of a mask count.
+/// One row more, of which only the heads of a mask count.
 pub fn count_line_masked(stats: &mut ArrowStats, row: &[u8], heads: u16)
     requires { (length row.now ≤ 10) × Below count_bound stats.old }
     ensures { stats.new ≡ tally_with_row stats.old (row_sum (row_by_mask heads 0 row.now)) }
@@ -238,7 +238,7 @@ fn only_fakes(n: u32) -> RowSum
     }
 }
 
-// What a row adds up to, judged or not, of which only the heads of a mask count. On an unjudged row each arrow, mine and fake is one fake.
+/// What a row adds up to, judged or not, of which only the heads of a mask count. On an unjudged row each arrow, mine and fake is one fake.
 pub fn judged_sum_masked(judged: bool, row: &[u8], heads: u16) -> RowSum
     requires { length row.now ≤ 10 }
     ensures { result ≡ judged_sum judged (row_by_mask heads 0 row.now) }
@@ -262,7 +262,7 @@ fn judged_taps(judged: bool, mask: u16, table: &TapTable) -> RowSum
     only_fakes(s.arrows)
 }
 
-// One row of taps alone more in a judged tally, before which `held` holds are open.
+/// One row of taps alone more in a judged tally, before which `held` holds are open.
 pub fn judge_taps(stats: &mut ArrowStats, judged: bool, held: u32, mask: u16, table: &TapTable)
     requires { (mask < masks table.now.wide) × Below count_bound stats.old × (held ≤ count_bound) }
     ensures { (row : Row) → mask_of_line row ≡ Mask mask → stats.new ≡ judge_row stats.old judged held (judged_sum judged row) }
@@ -271,7 +271,7 @@ pub fn judge_taps(stats: &mut ArrowStats, judged: bool, held: u32, mask: u16, ta
     add_judged_row(stats, judged, held, s);
 }
 
-// A tally that keeps the steps of another.
+/// A tally that keeps the steps of another.
 pub fn with_steps(t: ArrowStats, steps: u32) -> ArrowStats
     ensures { result ≡ tally_with_steps steps t }
 {

@@ -8,8 +8,8 @@ ghost use Rattle.row_walk.specs.Rows.{Marked, cell_at, ColumnPut, CellSeen, Cell
 use cell_walk::{CellAt, WalkCell};
 use definitions::RowSum;
 
-// What the walk keeps of each column, of up to ten: its phantom depth, its object depth and its open head. A column without its bit in `busy`
-// has the depths 0 and no open head.
+/// What the walk keeps of each column, of up to ten: its phantom depth, its object depth and its open head. A column without its bit in `busy`
+/// has the depths 0 and no open head.
 #[derive(Clone, Copy)]
 pub struct Columns {
     pub depths: [u32; 10],
@@ -18,8 +18,8 @@ pub struct Columns {
     pub busy: u32,
 }
 
-// What a cell changes beside its column, the records and the row's sum: heads, tails, whether a phantom depth was met, and whether a record
-// was dropped.
+/// What a cell changes beside its column, the records and the row's sum: heads, tails, whether a phantom depth was met, and whether a record
+/// was dropped.
 #[derive(Clone, Copy)]
 pub struct Marks {
     pub heads: u32,
@@ -28,7 +28,7 @@ pub struct Marks {
     pub invalid: bool,
 }
 
-// What the cells of a row have come to: the marks, the row's sum, the number of records, and whether it is an object row.
+/// What the cells of a row have come to: the marks, the row's sum, the number of records, and whether it is an object row.
 #[derive(Clone, Copy)]
 pub struct Seen {
     pub marks: Marks,
@@ -92,7 +92,7 @@ impl Columns {
         self.busy = mark(self.busy, column, used);
     }
 
-    // One row by its cells. Most bytes of a chart are `0`, which changes nothing.
+    /// One row by its cells. Most bytes of a chart are `0`, which changes nothing.
     pub fn walk_cells(
         &mut self,
         marks: Marks,

@@ -33,7 +33,8 @@ fn fill_densities(data: &[u8], lanes: Lanes, densities: &mut [u32]) -> usize
     m
 }
 
-// For each measure its minimised rows with a 1, 2 or 4. The answer counts the measures.
+/// For each measure its minimised rows with a 1, 2 or 4, as the Rust's function of that name. The answer counts the measures. A refusal (1 or 3) is the
+/// caller's mistake.
 #[tactic(auto, using(crate::proofs::Raw::densities_count), unfolding(definitions::specs::Entries::measures_answer))]
 pub fn measure_densities(data: &[u8], lanes: usize, densities: &mut [u32]) -> Result<usize, Refusal>
     ensures value { result ≡ measures_answer lanes «data».now densities.old }

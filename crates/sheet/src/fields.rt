@@ -5,10 +5,10 @@ ghost use Rattle.sheet.specs.Sheet.{named_fields};
 use definitions::ArrowStats;
 use std::marker::Model;
 
-// How many fields a tally has.
+/// How many fields a tally has.
 pub const FIELD_COUNT: usize = 14;
 
-// A field of a tally: its name and its count.
+/// A field of a tally: its name and its count.
 #[derive(Drop)]
 pub struct Field {
     name: &'static str,
@@ -24,12 +24,14 @@ impl Model for Field {
 }
 
 impl Field {
+    /// The field's name, as the Rust's `ArrowStats` has it.
     pub fn name(&self) -> &'static str
         ensures { result.now ≡ self.now.0 }
     {
         self.name
     }
 
+    /// What it counts.
     pub fn count(&self) -> u64
         ensures { result ≡ self.now.1 }
     {
@@ -37,7 +39,7 @@ impl Field {
     }
 }
 
-// One field of a tally.
+/// One field of a tally.
 pub fn field_at(fields: &[Field; FIELD_COUNT], i: usize) -> &Field
     requires { i < FIELD_COUNT }
     ensures { result.now ≡ get_or fields.now i ([], 0) }
@@ -45,7 +47,7 @@ pub fn field_at(fields: &[Field; FIELD_COUNT], i: usize) -> &Field
     &fields[i]
 }
 
-// The fields of a tally in their order.
+/// The fields of a tally in their order.
 #[tactic(auto, unfolding(crate::specs::Sheet::named_fields))]
 pub fn fields_of(stats: &ArrowStats) -> [Field; FIELD_COUNT]
     ensures { result ≡ named_fields stats.now }

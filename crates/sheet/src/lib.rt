@@ -13,7 +13,7 @@ pub use fields::{FIELD_COUNT, Field, field_at, fields_of};
 use note_records::{kind_number, read_note};
 use page::{Full, Page};
 
-// What the forms of a sheet print of a text: the main call's answer, the kept-row call's, and the judged tally of the minimised text.
+/// What the forms of a sheet print of a text: the main call's answer, the kept-row call's, and the judged tally of the minimised text.
 #[derive(Clone, Copy)]
 pub struct SheetFigures {
     pub chart: ChartFigures,
@@ -117,7 +117,7 @@ fn record_lines(page: &mut Page, records: &[u8], count: usize) -> Result<(), Ful
     Ok(())
 }
 
-// The whole card.
+/// The whole card.
 #[tactic(auto, using(page::proofs::Pages::keeps_then), unfolding(crate::specs::Sheet::sheet_of))]
 pub fn print_card(
     page: &mut Page,

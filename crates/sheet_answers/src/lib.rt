@@ -29,8 +29,8 @@ fn judge_minimised(minimised: &[u8], lanes: Lanes, work: &mut [u16]) -> ArrowSta
     judged::judge_accepted(&minimised[..end], lanes, None, work)
 }
 
-// All answers of an accepted text, and zeros past each in the lent slices. One pass over the text serves both calls: their tallies differ only in
-// how the correction reads the minimised text back.
+/// All answers of an accepted text, and zeros past each in the lent slices. One pass over the text serves both calls: their tallies differ only in
+/// how the correction reads the minimised text back.
 pub fn sheet_answers(
     data: &[u8],
     lanes: Lanes,

@@ -219,7 +219,7 @@ fn lists(page: &mut Page, densities: &[u32], spacing: &[u8], records: &[u8]) -> 
     Ok(())
 }
 
-// The whole form.
+/// The whole form.
 #[tactic(auto, using(page::proofs::Pages::keeps_then), unfolding(crate::specs::Json::json_of))]
 pub fn print_json(
     page: &mut Page,

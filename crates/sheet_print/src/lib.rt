@@ -202,7 +202,7 @@ fn held_lines(page: &mut Page, records: &[u8], count: usize) -> Result<(), Full>
     Ok(())
 }
 
-// The whole form.
+/// The whole form.
 #[tactic(auto, using(page::proofs::Pages::keeps_then), unfolding(crate::specs::Print::print_of))]
 pub fn print_columns(
     page: &mut Page,

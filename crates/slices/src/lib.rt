@@ -4,7 +4,7 @@
 ghost use Rattle.std.specs.Prelude.{◌≡◌, ◌≤◌, length};
 ghost use Rattle.slices.specs.Zeroed.{zeroed};
 
-// `zero` from place `from` to the end. Its clone is asked to be itself, as that of a number is.
+/// `zero` from place `from` to the end. Its clone is asked to be itself, as that of a number is.
 pub fn zero_past<T: Copy>(s: &mut [T], from: usize, zero: T)
     requires in_bounds { from ≤ length s.old }
     requires no_failure { T.Clone.is_infallible zero }

@@ -13,8 +13,8 @@ ghost use Rattle.spacing.specs.Spaces.{Spaces};
 use definitions::{Lanes, Refusal};
 use reader::charts::ChartLine;
 
-// What the spacing scan keeps of the open measure: its rows, those with a 1, 2 or 4, and how many times its stride may be doubled as far as
-// its rows allow it. A row that is all zero allows any stride, another one those that divide its number.
+/// What the spacing scan keeps of the open measure: its rows, those with a 1, 2 or 4, and how many times its stride may be doubled as far as
+/// its rows allow it. A row that is all zero allows any stride, another one those that divide its number.
 #[derive(Clone, Copy)]
 pub struct MeasureSpacing {
     pub rows: usize,
@@ -65,7 +65,7 @@ impl MeasureSpacing {
     }
 }
 
-// The spacing of an accepted text, with zeros after it.
+/// The spacing of an accepted text, with zeros after it.
 pub fn fill_spacing(data: &[u8], lanes: Lanes, spacing: &mut [u8]) -> usize
     requires data_len_bound { length «data».now ≤ most_bytes }
     requires data_in_bounds { (length «data».now + 1) / 2 + 1 ≤ length spacing.old }
@@ -90,7 +90,8 @@ pub fn fill_spacing(data: &[u8], lanes: Lanes, spacing: &mut [u8]) -> usize
     m
 }
 
-// For each measure whether it has no rows or each of its minimised rows has a 1, 2 or 4: 1 or 0. The answer counts the measures.
+/// For each measure whether it has no rows or each of its minimised rows has a 1, 2 or 4, 1 or 0, as the Rust's function of that name. The answer counts
+/// the measures. A refusal (1 or 3) is the caller's mistake.
 #[tactic(auto, using(scans::proofs::Raw::spacings_count), unfolding(definitions::specs::Entries::measures_answer))]
 pub fn equally_spaced_impl(data: &[u8], lanes: usize, spacing: &mut [u8]) -> Result<usize, Refusal>
     ensures value { result ≡ measures_answer lanes «data».now spacing.old }

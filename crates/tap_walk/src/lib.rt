@@ -24,7 +24,7 @@ fn add_taps(run: &mut Run, mask: u16, slots: &mut [u8], table: &TapTable)
     run.last = if mask != 0 { run.row } else { run.last };
 }
 
-// Ordinary rows of a measure, up to the first row that is not: it stands in a text from `start` on, and `first` rows stand before it.
+/// Ordinary rows of a measure, up to the first row that is not: it stands in a text from `start` on, and `first` rows stand before it.
 pub fn walk_taps(
     run: &mut Run,
     columns: &Columns,

@@ -1,5 +1,5 @@
-// What each mask of taps counts up to, by its number.
-// Of each mask: its ones in bits 0 to 3, then 2 bits for each direction from bit 4.
+/// What each mask of taps counts up to, by its number.
+/// Of each mask: its ones in bits 0 to 3, then 2 bits for each direction from bit 4.
 pub const TAP_MASK_COUNTS: [u16; 256] = [
     0, 17, 65, 82, 257, 274, 322, 339, 1025, 1042, 1090, 1107, 1282, 1299, 1347, 1364, 17, 34, 82,
     99, 274, 291, 339, 356, 1042, 1059, 1107, 1124, 1299, 1316, 1364, 1381, 65, 82, 130, 147, 322,

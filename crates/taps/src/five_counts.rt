@@ -1,4 +1,4 @@
-// What five columns count up to, in the same way: the first five by their mask, the next five by theirs from 32 on. The rest is not used.
+/// What five columns count up to, in the same way: the first five by their mask, the next five by theirs from 32 on. The rest is not used.
 pub const FIVE_COUNTS: [u16; 256] = [
     0, 17, 65, 82, 257, 274, 322, 339, 1025, 1042, 1090, 1107, 1282, 1299, 1347, 1364, 17, 34, 82,
     99, 274, 291, 339, 356, 1042, 1059, 1107, 1124, 1299, 1316, 1364, 1381, 0, 65, 257, 322, 1025,

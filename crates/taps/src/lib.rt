@@ -14,7 +14,7 @@ ghost use Rattle.taps.specs.declared.Taps;
 use lines::words;
 pub use table::TapTable;
 
-// A row of `0` and `1` alone as a mask, its first column in the lowest bit, or another row.
+/// A row of `0` and `1` alone as a mask, its first column in the lowest bit, or another row.
 #[derive(Clone, Copy)]
 pub enum Taps {
     Mask(u16),
@@ -132,7 +132,7 @@ fn taps_of(number: u32) -> Taps
     }
 }
 
-// The mask of the first four cells.
+/// The mask of the first four cells.
 pub fn tap_mask4(row: &[u8]) -> Taps
     requires { 4 ≤ length row.now }
     ensures { result ≡ tap_mask (take 4 row.now) }
@@ -140,7 +140,7 @@ pub fn tap_mask4(row: &[u8]) -> Taps
     taps_of(number4(row))
 }
 
-// The mask of the first eight cells.
+/// The mask of the first eight cells.
 pub fn tap_mask8(row: &[u8]) -> Taps
     requires { 8 ≤ length row.now }
     ensures { result ≡ tap_mask (take 8 row.now) }
@@ -148,7 +148,7 @@ pub fn tap_mask8(row: &[u8]) -> Taps
     taps_of(number8(row))
 }
 
-// The mask of a row of four, five, eight or ten cells.
+/// The mask of a row of four, five, eight or ten cells.
 #[tactic(auto, using(crate::proofs::Masks::line_small))]
 pub fn tap_line_mask(row: &[u8]) -> Taps
     ensures { result ≡ mask_of_line row.now }
@@ -156,7 +156,7 @@ pub fn tap_line_mask(row: &[u8]) -> Taps
     taps_of(line_number(row))
 }
 
-// The mask of a row that has one and no tap in a column of `busy`; any other row is left to its cells.
+/// The mask of a row that has one and no tap in a column of `busy`; any other row is left to its cells.
 #[inline(always)]
 pub fn free_taps(row: &[u8], busy: u32) -> Taps
     ensures { result ≡ taps_if_free busy row.now }
@@ -169,7 +169,7 @@ pub fn free_taps(row: &[u8], busy: u32) -> Taps
     }
 }
 
-// The columns of ten whose number is not this one, as a mask.
+/// The columns of ten whose number is not this one, as a mask.
 pub fn unlike(numbers: &[u32; 10], n: u32) -> u32
     ensures { result ≡ unlike_mask n numbers.now }
 {

@@ -18,8 +18,8 @@ ghost use Rattle.timing.specs.TimingPass.{Timed, SomeTimed, TimedAll};
 use definitions::{Lanes, Refusal, TimingFigures};
 use reader::charts::ChartLine;
 
-// Where the open measure begins, how many bytes are written, the rows of the measures that have ended, those of the open one and its number,
-// and whether a measure that has ended has a 2 or 4.
+/// Where the open measure begins, how many bytes are written, the rows of the measures that have ended, those of the open one and its number,
+/// and whether a measure that has ended has a 2 or 4.
 #[derive(Drop)]
 pub struct TimingPass {
     pub start: usize,
@@ -131,7 +131,8 @@ fn timing_figures(data: &[u8], lanes: Lanes, text: &mut [u8], beats: &mut [f32])
     }
 }
 
-// The minimised rows of a text, L bytes each, back to back, and their beats.
+/// The minimised rows of a text, L bytes each, back to back, their beats, and whether any of them has a 2 or 4, as the Rust's function of that name. A
+/// refusal (1, 2 or 4) is the caller's mistake.
 #[tactic(auto, unfolding(definitions::specs::Entries::timing_answer))]
 pub fn minimize_timing_rows(
     data: &[u8],
