@@ -1,5 +1,5 @@
 -- What a walk holds of a measure of which some rows are walked, as what is counted and noted.
-use Rattle.std.specs.Prelude.{cond, ℕ, ◌+◌, ◌-◌, nat_lt, Option, Some, None, if◌then◌else◌}
+use Rattle.std.specs.Prelude.{ℕ, ◌+◌, ◌-◌, nat_lt, Option, Some, None, if◌then◌else◌}
 use Rattle.definitions.specs.Tally.{tally_with_row}
 use Rattle.beats.specs.declared.RowPlace.{RowPlace}
 use Rattle.row_walk.specs.declared.Columns.{Columns}
@@ -31,4 +31,4 @@ noting_of first q k r = record {
 -- after a row whose cells have come to this
 abbrev pub after_cells : Run → Seen → Run
 after_cells r s =
-    record { marks = s.marks; stats = tally_with_row r.stats s.sum; count = s.count; row = r.row + 1; last = cond s.object (r.row + 1) r.last }
+    record { marks = s.marks; stats = tally_with_row r.stats s.sum; count = s.count; row = r.row + 1; last = if s.object then r.row + 1 else r.last }

@@ -1,5 +1,5 @@
 -- A mask of columns with the bit of one of them as told; a column as a cell leaves it; one cell more; and a row that was walked by its cells.
-use Rattle.std.specs.Prelude.{◌≡◌, Bool, not, ◌||◌, List, [], ◌∷◌, ◌++◌, ℕ, ◌+◌, ◌<◌, eqb, length, get_or, set}
+use Rattle.std.specs.Prelude.{◌≡◌, Bool, not, ◌||◌, List, [], ◌∷◌, ◌++◌, ℕ, ◌+◌, ◌<◌, ◌==◌, length, slice_index, set}
 use Rattle.definitions.specs.Sizes.{count_bound}
 use Rattle.definitions.specs.Lists.{number_of_bool}
 use Rattle.definitions.specs.Lines.{Row}
@@ -31,12 +31,12 @@ pub record Marked (busy i : ℕ) (used : Bool) (r : ℕ) : Type 0 where
 
 -- whether a cell leaves its column in use
 abbrev pub is_used : WalkCell → Bool
-is_used w = (not (eqb w.phantom.depth 0) || not (eqb w.object.depth 0)) || not (eqb w.head no_head)
+is_used w = (not (w.phantom.depth == 0) || not (w.object.depth == 0)) || not (w.head == no_head)
 
 -- where a cell of a column stands, with so many records before it
 abbrev pub cell_at : Columns → ℕ → ℕ → ℕ → CellAt
 cell_at k c n i =
-    record { depth = get_or k.depths c 0; low = get_or k.low c 0; head = get_or k.hold_heads c 0; count = n; row = i; column = c }
+    record { depth = slice_index k.depths c; low = slice_index k.low c; head = slice_index k.hold_heads c; count = n; row = i; column = c }
 
 -- the cell has been walked in column c
 pub record ColumnPut (k : Columns) (c : ℕ) (w : WalkCell) (r : Columns) : Type 0 where

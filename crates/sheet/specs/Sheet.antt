@@ -1,5 +1,5 @@
 -- Document 01, "The program card": the lines it prints.
-use Rattle.std.specs.Prelude.{List, [], ◌∷◌, ◌++◌, ℕ, get_or, slice_index, codes, Result, Ok, Err}
+use Rattle.std.specs.Prelude.{List, [], ◌∷◌, ◌++◌, ℕ, slice_index_or, slice_index, codes, Result, Ok, Err}
 use Rattle.definitions.specs.Records.{number_of_kind, note_of_record}
 use Rattle.definitions.specs.declared.Tail.{Tail}
 use Rattle.definitions.specs.declared.Tail.TheVariants.{Without, Row}
@@ -34,7 +34,7 @@ field_count = 14
 
 -- one of them
 abbrev pub field_at : ArrowStats → ℕ → List ℕ × ℕ
-field_at t i = get_or (named_fields t) i ([], 0)
+field_at t i = slice_index_or (named_fields t) i ([], 0)
 
 -- "`measures` and `notes` count measures and note records", and so on: a name with its blank, and a number
 unfoldable pub line_of_figure : List ℕ → ℕ → List ℕ

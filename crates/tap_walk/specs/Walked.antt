@@ -1,5 +1,5 @@
 -- Ordinary rows: what one more asks, and a measure of which some rows are walked.
-use Rattle.std.specs.Prelude.{◌≡◌, Bool, cond, not, List, [], ◌∷◌, ◌++◌, ℕ, ◌+◌, ◌-◌, ◌*◌, ◌<◌, ◌≤◌, eqb, length, take}
+use Rattle.std.specs.Prelude.{◌≡◌, Bool, if◌then◌else◌, not, List, [], ◌∷◌, ◌++◌, ℕ, ◌+◌, ◌-◌, ◌*◌, ◌<◌, ◌≤◌, ◌==◌, length, take}
 use Rattle.definitions.specs.Sizes.{count_bound, measures_bound, row_count_bound}
 use Rattle.definitions.specs.Lists.{joined}
 use Rattle.definitions.specs.Lines.{Row}
@@ -28,7 +28,7 @@ pub record TapsAdded (r : Run) (mask : ℕ) (l l' : List ℕ) (t : Run) : Type 0
   pub stats : (cells : Row) → mask_of_line cells ≡ Mask mask → t.stats ≡ tally_with_row r.stats (row_sum cells)
   pub written : (s : ChartNotesScratch) (cells : Row) → MaskFits r.row r.count mask l s cells → (rows : List Row) → Written rows s l → Written (rows ++ (cells ∷ [])) (after_taps s t.count) l'
   pub row : t.row ≡ r.row + 1
-  pub last : t.last ≡ cond (not (eqb mask 0)) (r.row + 1) r.last
+  pub last : t.last ≡ if not (mask == 0) then r.row + 1 else r.last
 
 -- The first i rows of the measure ms are counted and noted, and l has room for the notes of all.
 pub record Walking (L : ℕ) (c : Counting) (n : Noting) (l : List ℕ) (ms : List Row) (i : ℕ) : Type 0 where
