@@ -42,7 +42,7 @@ fn last_figures(data: &[u8], lanes: Lanes) -> LastBeat
     }
 }
 
-/// The beat of a text's last object row, as the bits of an f64 and in 48ths of a beat, as the Rust's function of that name. A refusal (1) is the caller's
+/// The beat of a text's last object row, as an f64, by its bits and in 48ths of a beat, as the Rust's function of that name. A refusal (1) is the caller's
 /// mistake.
 #[tactic(auto, unfolding(definitions::specs::Entries::last_answer))]
 pub fn chart_last_beat_impl(data: &[u8], lanes: usize) -> Result<LastBeat, Refusal>

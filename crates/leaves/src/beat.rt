@@ -19,7 +19,7 @@ fn row_taken(m: u32, r: u32, n: u32) -> bool
     r < n && measure_taken(m, n)
 }
 
-/// The beat of row r of n in measure m as an f32. It answers 0, or 1 where there is no such row, and then writes nothing.
+/// The beat of row r of n in measure m as an f32. It answers 0, or 1 where no accepted text has such a row, and then writes nothing.
 #[tactic(auto, unfolding(crate::specs::Answers::measure_fits, crate::specs::Answers::row_fits, crate::specs::Answers::beat_number, crate::specs::Answers::beat_left))]
 #[unsafe(no_mangle)]
 pub extern "C" fn leaves_row_beat(m: u32, r: u32, n: u32, beat: &mut [f32; 1]) -> u32
@@ -41,7 +41,8 @@ fn beats_taken(len: usize, at: usize, m: u32, n: u32) -> bool
     at <= len && n as usize <= len - at && measure_taken(m, n)
 }
 
-/// The beats of the rows of a measure, from place `at` on. It answers 0, or 1 where they have no room, and then writes nothing.
+/// The beats of the rows of a measure, from place `at` on. It answers 0, or 1 where they have no room or no accepted text has such a measure, and then
+/// writes nothing.
 #[tactic(auto, unfolding(crate::specs::Answers::measure_fits, crate::specs::Answers::beats_fit, crate::specs::Answers::beats_number, crate::specs::Answers::beats_left))]
 #[unsafe(no_mangle)]
 pub extern "C" fn leaves_append_row_beats(beats: &mut [f32], at: usize, midx: u32, rows: u32) -> u32
@@ -63,7 +64,8 @@ fn last_numbers(last: Option<RowPlace>) -> [u64; 2]
     [beats::last_beat_bits(last), beats::last_note_row(last)]
 }
 
-/// Of no object row where `n` is 0.
+/// The bits and the 48ths of the last beat where row r of n in measure m is the last object row, of no object row where `n` is 0. It answers 0, or 1
+/// where no accepted text has such a row, and then writes nothing.
 #[tactic(auto, unfolding(crate::specs::Answers::measure_fits, crate::specs::Answers::row_fits, crate::specs::Answers::last_place, crate::specs::Answers::last_fits, crate::specs::Answers::last_number, crate::specs::Answers::last_left))]
 #[unsafe(no_mangle)]
 pub extern "C" fn leaves_calc_last_beat(m: u32, r: u32, n: u32, last: &mut [u64; 2]) -> u32

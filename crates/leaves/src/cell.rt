@@ -52,7 +52,7 @@ fn taps_number(taps: Taps) -> u32
     }
 }
 
-/// 257 for a row of fewer cells.
+/// The mask of four cells: 256 for another row, 257 for fewer cells.
 #[tactic(auto, unfolding(crate::specs::Answers::mask_number))]
 #[unsafe(no_mangle)]
 pub extern "C" fn leaves_tap_mask4(row: &[u8]) -> u32

@@ -31,6 +31,7 @@ fn rows_stand(len: usize, start: usize, rows: usize, width: usize, lanes: usize)
 }
 
 /// 2 to the power that `measure_reduce_shift` finds. A `width` of `lanes` is for rows back to back, one more for rows with a byte 10 after each.
+/// The largest number where the rows do not stand in the text.
 #[tactic(auto, unfolding(crate::specs::Answers::rows_in_bounds, crate::specs::Answers::stride_number), using(crate::proofs::Powers::stride_fits, reduction::proofs::Compaction::shifted_one))]
 #[unsafe(no_mangle)]
 pub extern "C" fn leaves_stride(
@@ -65,7 +66,7 @@ fn blocks_stand(len: usize, start: usize, rows: usize, shift: usize, width: usiz
     0 < rows && is_divided(rows, shift) && rows_stand(len, start, rows, width, width)
 }
 
-/// How many rows stay, moved together.
+/// How many rows stay, moved together. The largest number where the rows do not stand in the text, which is then left as it was.
 #[tactic(auto, unfolding(crate::specs::Answers::rows_in_bounds, crate::specs::Answers::blocks_in_bounds, crate::specs::Answers::compacted_number, crate::specs::Answers::compacted_text))]
 #[unsafe(no_mangle)]
 pub extern "C" fn leaves_compact_output_rows(

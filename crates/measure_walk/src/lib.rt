@@ -6,7 +6,7 @@ ghost use Rattle.definitions.specs.Sizes.{measures_bound, row_count_bound};
 ghost use Rattle.definitions.specs.Lines.{Row};
 ghost use Rattle.definitions.specs.Figures.{density as density_of};
 ghost use Rattle.reduction.specs.Rows.{rows_at};
-ghost use Rattle.row_walk.specs.Rows.{Ten, phantoms_of};
+ghost use Rattle.row_walk.specs.Rows.{Ten};
 ghost use Rattle.measure_tally.specs.Counted.{Counted};
 ghost use Rattle.measure_run.specs.Noted.{Noted, NotedRows};
 ghost use Rattle.measure_run.specs.Held.{noting_of};
@@ -84,6 +84,7 @@ impl Walk {
     }
 
     /// The rows of a measure that stand in a text from `start` on, each with a newline byte after it; for the notes the measure then ends.
+    /// The run is taken out for the measure and put back, so that it stays in registers.
     pub fn walk_rows(
         &mut self,
         text: &[u8],

@@ -1,7 +1,7 @@
 // One row of the main call's walk that is not ordinary: its cells, one after the other.
 #![tactic(auto)]
 
-ghost use Rattle.std.specs.Prelude.{◌≡◌, ◌+◌, ◌≤◌, ◌<◌, length};
+ghost use Rattle.std.specs.Prelude.{◌≡◌, ◌+◌, ◌≤◌, ◌<◌};
 ghost use Rattle.row_tally.specs.Bounds.{Under};
 ghost use Rattle.row_walk.specs.Rows.{Marked, cell_at, ColumnPut, CellSeen, CellsReady, RowWalked};
 

@@ -1,5 +1,5 @@
 // The fields of a tally, each with its name.
-ghost use Rattle.std.specs.Prelude.{◌≡◌, ◌<◌, [], get_or};
+ghost use Rattle.std.specs.Prelude.{◌≡◌, ◌<◌, [], slice_index_or};
 ghost use Rattle.sheet.specs.Sheet.{named_fields};
 
 use definitions::ArrowStats;
@@ -42,7 +42,7 @@ impl Field {
 /// One field of a tally.
 pub fn field_at(fields: &[Field; FIELD_COUNT], i: usize) -> &Field
     requires { i < FIELD_COUNT }
-    ensures { result.now ≡ get_or fields.now i ([], 0) }
+    ensures { result.now ≡ slice_index_or fields.now i ([], 0) }
 {
     &fields[i]
 }

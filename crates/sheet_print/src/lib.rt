@@ -89,7 +89,7 @@ fn tally_lines(page: &mut Page, figures: &SheetFigures) -> Result<(), Full>
     Ok(())
 }
 
-#[tactic(auto, using(page::proofs::Pages::keeps_then), unfolding(crate::specs::Print::head_of_tally))]
+#[tactic(auto, unfolding(crate::specs::Print::head_of_tally))]
 fn tally_head(page: &mut Page) -> Result<(), Full>
     ensures { Prints page.old head_of_tally page.new result }
 {
@@ -105,7 +105,7 @@ fn tallies(page: &mut Page, figures: &SheetFigures) -> Result<(), Full>
     Ok(())
 }
 
-#[tactic(auto, using(page::proofs::Pages::keeps_then), unfolding(crate::specs::Print::head_of_densities))]
+#[tactic(auto, unfolding(crate::specs::Print::head_of_densities))]
 fn density_head(page: &mut Page) -> Result<(), Full>
     ensures { Prints page.old head_of_densities page.new result }
 {
@@ -152,7 +152,7 @@ fn density_lines(page: &mut Page, densities: &[u32], spacing: &[u8]) -> Result<(
     Ok(())
 }
 
-#[tactic(auto, using(page::proofs::Pages::keeps_then), unfolding(crate::specs::Print::head_of_held))]
+#[tactic(auto, unfolding(crate::specs::Print::head_of_held))]
 fn held_head(page: &mut Page) -> Result<(), Full>
     ensures { Prints page.old head_of_held page.new result }
 {
