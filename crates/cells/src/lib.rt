@@ -1,7 +1,7 @@
 // The cells of a row, byte by byte: what a byte stands for and what it does.
 #![tactic(auto)]
 
-ghost use Rattle.std.specs.Prelude.{◌≡◌, List, ℕ, ◌≤◌, length};
+ghost use Rattle.std.specs.Prelude.{◌≡◌, List, ℕ, length};
 ghost use Rattle.definitions.specs.Cells.{cell_of, is_arrow};
 ghost use Rattle.definitions.specs.Figures.{is_step};
 ghost use Rattle.definitions.specs.Tracker.{hold_at};

@@ -1,7 +1,7 @@
 // A tally counted anew with only tracker-paired heads, over rows that are read back out of minimised text.
 #![tactic(auto)]
 
-ghost use Rattle.std.specs.Prelude.{◌≡◌, ℕ, ◌≤◌, length, slice_index, replicate, List};
+ghost use Rattle.std.specs.Prelude.{◌≡◌, ℕ, length, slice_index, replicate, List};
 ghost use Rattle.definitions.specs.Sizes.{count_bound};
 ghost use Rattle.definitions.specs.Tally.{row_sum, tally_with_row, tally};
 ghost use Rattle.definitions.specs.Lines.{Row};

@@ -1,5 +1,5 @@
 -- Document 01, "Lines, cells, measures": the lines of a text, and what a line is.
-use Rattle.std.specs.Prelude.{Bool, true, false, if◌then◌else◌, List, [], ◌∷◌, ℕ, ◌==◌, nat_le, length, take}
+use Rattle.std.specs.Prelude.{Bool, if◌then◌else◌, List, [], ◌∷◌, ℕ, ◌==◌, nat_le, length, take}
 use Rattle.std.specs.List.{slice_split}
 use Rattle.definitions.specs.Lists.{among}
 use Rattle.definitions.specs.declared.LineKind.{LineKind}

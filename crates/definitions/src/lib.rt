@@ -3,7 +3,7 @@
 
 mod lane_count;
 
-ghost use Rattle.std.specs.Prelude.{◌≡◌, codes};
+ghost use Rattle.std.specs.Prelude.{◌≡◌};
 ghost use Rattle.definitions.specs.Refusals.{number_of, cause_of, words_of};
 
 pub use lane_count::Lanes;

@@ -3,7 +3,7 @@
 
 pub mod entry;
 
-ghost use Rattle.std.specs.Prelude.{◌≡◌, [], ℕ, ◌+◌, ◌*◌, ◌≤◌, ◌<◌, length, Some};
+ghost use Rattle.std.specs.Prelude.{◌≡◌, [], ℕ, ◌≤◌, ◌<◌, length, Some};
 ghost use Rattle.definitions.specs.Tracker.{hold_at};
 ghost use Rattle.definitions.specs.declared.DepthEffect;
 ghost use Rattle.holds.specs.Stacks.{stack_of, Sized, TrackReady, TrackStepped, ended_at};

@@ -1,7 +1,7 @@
 // Note records: ten bytes each, row and tail as four bytes with the low byte first, then column and kind. Reading one, and writing its bytes.
 #![tactic(auto)]
 
-ghost use Rattle.std.specs.Prelude.{◌≡◌, ◌+◌, ◌*◌, ◌≤◌, ◌<◌, length};
+ghost use Rattle.std.specs.Prelude.{◌≡◌, ◌+◌, ◌*◌, ◌≤◌, length};
 ghost use lib.Seq.{sets};
 ghost use Rattle.definitions.specs.Records.{word, bytes4, fields, number_of_kind, plain_of, held_of, note_of, note_of_record};
 ghost use Rattle.note_records.specs.Fields.{fields_at};

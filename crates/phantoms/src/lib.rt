@@ -1,7 +1,7 @@
 // The phantom depths of a chart's rows, its heads and tails, and whether its tally is counted anew.
 #![tactic(auto)]
 
-ghost use Rattle.std.specs.Prelude.{◌≡◌, true, List, [], ℕ, ◌≤◌, ◌<◌, nat_lt};
+ghost use Rattle.std.specs.Prelude.{◌≡◌, List, [], ℕ, ◌≤◌, ◌<◌, nat_lt};
 ghost use Rattle.definitions.specs.Lists.{some_column};
 ghost use Rattle.definitions.specs.Lines.{Row};
 ghost use Rattle.definitions.specs.Correction.{corrects};

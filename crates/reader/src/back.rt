@@ -1,5 +1,5 @@
 // Reading minimised text back, as `parse_minimized_rows` does: by lines, with no blanks stripped, no comment known and no end at `;`.
-ghost use Rattle.std.specs.Prelude.{◌≡◌, ◌&&◌, not, ◌+◌, ◌≤◌, ◌<◌, length};
+ghost use Rattle.std.specs.Prelude.{◌≡◌, ◌&&◌, not, ◌<◌};
 ghost use Rattle.definitions.specs.Lines.{is_row_line};
 ghost use Rattle.definitions.specs.ReadBack.{begins_mark};
 ghost use Rattle.reader.specs.Reading.{LineWidth};

@@ -5,7 +5,7 @@
 pub mod back;
 pub mod charts;
 
-ghost use Rattle.std.specs.Prelude.{◌≡◌, ◌+◌, ◌-◌, ◌≤◌, length};
+ghost use Rattle.std.specs.Prelude.{◌≡◌, ◌≤◌, length};
 ghost use Rattle.definitions.specs.Lines.{is_row_line, kind_of};
 ghost use Rattle.reader.specs.Reading.{LineWidth, just_row, near_row};
 

@@ -6,8 +6,6 @@ mod agreements;
 mod sm;
 mod texts;
 
-ghost use Rattle.std.specs.Prelude.{◌<◌, IfOk};
-
 use std::io;
 use std::io::{BufReader, Print, Read};
 use stored::sample::{read_head, read_record, read_up_to};

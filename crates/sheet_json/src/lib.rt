@@ -1,7 +1,7 @@
 // The form `json` of a sheet: one object on one line.
 #![tactic(auto)]
 
-ghost use Rattle.std.specs.Prelude.{◌≡◌, ◌/◌, length};
+ghost use Rattle.std.specs.Prelude.{length};
 ghost use Rattle.definitions.specs.Records.{note_of_record};
 ghost use Rattle.page.specs.Prints.{Prints};
 ghost use Rattle.sheet_json.specs.Json.{separator, named, figure, last_beat_of, json_heads, member, members, json_tallies, entry_of_density, entries_of_densities, truth, entry_of_spacing, entries_of_spacings, value_of_tail, value_of_note, value_of_record, entry_of_record, entries_of_records, json_lists, json_of};

@@ -1,7 +1,7 @@
 // The form `print` of a sheet, for a printout.
 #![tactic(auto)]
 
-ghost use Rattle.std.specs.Prelude.{◌≡◌, ◌/◌, ◌≤◌, length};
+ghost use Rattle.std.specs.Prelude.{◌≡◌, ◌≤◌, length};
 ghost use Rattle.definitions.specs.Records.{note_of_record};
 ghost use Rattle.page.specs.Prints.{Prints};
 ghost use Rattle.sheet_print.specs.Print.{line_of_count, three, line_of_last_beat, print_heads, line_of_tally, lines_of_tally, head_of_tally, print_tallies, start_of_line, mark, entry_of_density, lines_of_densities, head_of_densities, word_of_held, line_of_held, held_line_of_record, lines_of_held, head_of_held, print_of};

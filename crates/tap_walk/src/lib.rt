@@ -1,7 +1,7 @@
 // Ordinary rows of a measure, which the main call counts and notes by their masks.
 #![tactic(auto)]
 
-ghost use Rattle.std.specs.Prelude.{List, ◌+◌, ◌-◌, ◌*◌, ◌≤◌, ◌<◌, length, take, drop};
+ghost use Rattle.std.specs.Prelude.{List, ◌+◌, ◌-◌, ◌*◌, ◌≤◌, length, take, drop};
 ghost use Rattle.definitions.specs.Lines.{Row};
 ghost use Rattle.reduction.specs.Rows.{rows_at};
 ghost use Rattle.measure_tally.specs.Counted.{Counted};

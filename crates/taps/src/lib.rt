@@ -5,9 +5,9 @@ mod counts;
 mod five_counts;
 mod table;
 
-ghost use Rattle.std.specs.Prelude.{◌≡◌, ◌++◌, ℕ, ◌+◌, ◌*◌, ◌≤◌, ◌<◌, length, take, drop};
+ghost use Rattle.std.specs.Prelude.{◌≡◌, ◌++◌, ℕ, ◌+◌, ◌*◌, ◌≤◌, ◌<◌, length, take};
 ghost use Rattle.definitions.specs.Lines.{Row};
-ghost use Rattle.lines.specs.Words.{half_word_at, word_of, Bytes};
+ghost use Rattle.lines.specs.Words.{word_of, Bytes};
 ghost use Rattle.taps.specs.Taps.{number_of, Small, Tells, BitsPlaced, tap_mask, mask_of_line, taps_if_free, spread, zero_cells, unlike_mask};
 ghost use Rattle.taps.specs.declared.Taps;
 
