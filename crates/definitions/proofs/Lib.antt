@@ -17,4 +17,5 @@ pub mod WriterMakes
 pub mod Damage
 pub mod Figures
 pub mod SmBlocks
+pub mod Consequences
 pub mod Refusals

@@ -27,3 +27,4 @@ pub mod Examples
 pub mod RequestExamples
 pub mod Damage
 pub mod DamageExample
+pub mod Consequences
