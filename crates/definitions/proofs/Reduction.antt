@@ -193,4 +193,4 @@ largest-halved (suc k) rs = go (halvable rs) refl (largest-halved k (evens rs))
 -- The two forms are one.
 pub reduce-halved : ReduceHalved
 unfolding ReduceHalved reduce stride
-reduce-halved rs = largest-halved (length rs) rs
+reduce-halved rs = search (largest-halved (length rs) rs)

@@ -88,9 +88,9 @@ pub blocks-apart : BlocksApart
 unfolding BlocksApart sm_tag
 blocks-apart file =
     record {
-      nonempty = λ i h. (placed_at no_tag i (rising file) h).nonempty;
-      within = λ i h. (placed_at no_tag i (rising file) h).within;
-      rising = λ i j. apart-at no_tag i j (rising file);
+      nonempty = λ i h. omega (arith, (placed_at no_tag i (rising file) h).nonempty);
+      within = λ i h. omega (arith, (placed_at no_tag i (rising file) h).within);
+      rising = λ i j h l. omega (arith, apart-at no_tag i j (rising file) h l);
     }
 
 -- ---- The data of a block
@@ -133,7 +133,7 @@ pub data-in-file : DataInFile
 unfolding DataInFile
 data-in-file file k =
     record {
-      parts = around-part file (sm_data file k) (after 59 (drop (sm_tag file k).end file)) (sm_start file k) (data-then file k);
+      parts = search (around-part file (sm_data file k) (after 59 (drop (sm_tag file k).end file)) (sm_start file k) (data-then file k));
       within = omega (arith, data-to-end file k, block_within file k);
     }
 
@@ -171,7 +171,6 @@ pub least-refused : LeastRefused
 unfolding LeastRefused
 least-refused file short =
     record {
-      answered = from-blocks file (length (blocks file)) short (omega arith);
-      least = only-from-blocks file;
-      greater = λ k. from-blocks file k short;
+      answered = λ k h. from-blocks file k short (omega (arith, h));
+      least = λ k e. omega (arith, only-from-blocks file k e);
     }

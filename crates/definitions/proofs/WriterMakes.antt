@@ -1,6 +1,5 @@
 -- What the writer makes: every note of an accepted text keeps the limits, and its record is read back as that note.
-use Rattle.std.specs.Prelude.{Result, Ok}
-use mathlib.Core.Path.{◌≡◌, refl, ap}
+use mathlib.Core.Path.{◌≡◌, refl}
 use mathlib.Core.List.{List, [], ◌∷◌}
 use Rattle.std.specs.Prelude.{Option, Some, None}
 use Prim.Native.Nat.{ℕ, zero, suc, ◌+◌, ◌≤◌, ◌<◌}
@@ -15,9 +14,7 @@ use Rattle.definitions.specs.Lines.{Row}
 use Rattle.definitions.specs.Cells.{cell_of}
 use Rattle.definitions.specs.Reduction.{minimised}
 use Rattle.definitions.specs.Notes.{effect_of, effect_at, tail_row_of, cell_notes, row_notes, notes_from, notes}
-use Rattle.definitions.specs.Records.{number_of_kind, records, note_of_record}
-use Rattle.definitions.specs.Refusals.{number_told, replaces}
-use Rattle.definitions.specs.Entries.{figures_of_note}
+use Rattle.definitions.specs.Records.{number_of_kind}
 use Rattle.definitions.specs.WriterMakes.{TailMade, Made, ReadsBack, WriterMakes}
 use Rattle.definitions.specs.declared.Cell.{Cell}
 use Rattle.definitions.specs.declared.Cell.TheVariants as cell
@@ -25,7 +22,6 @@ use Rattle.definitions.specs.declared.Kind.{Kind}
 use Rattle.definitions.specs.declared.Kind.TheVariants.{Tap, Hold, Roll, Mine, Lift, Fake}
 use Rattle.definitions.specs.declared.Tail.TheVariants as tail
 use Rattle.definitions.specs.declared.Note.{Note}
-use Rattle.definitions.specs.declared.Refusal.{Refusal}
 use Rattle.definitions.specs.declared.NoteEffect.{NoteEffect}
 use Rattle.definitions.specs.declared.NoteEffect.TheVariants.{Nothing, Closes, Single, Head}
 use Rattle.definitions.proofs.Lists.{All, none as no_more, one, all_append, all_map, all-joined}
@@ -53,7 +49,7 @@ Proper (Head k) = (i j : ℕ) → (i < j) × (j < row_numbers_bound) → TailMad
 proper : (x : Cell) → Proper (effect_of x)
 proper cell.Empty = tt
 proper cell.Tap = λ i. tt
-proper cell.Hold = λ i j h. h
+proper cell.Hold = λ i j h. (omega (arith, h.0), h.1)
 proper cell.Tail = tt
 proper cell.Roll = λ i j h. h
 proper cell.Mine = λ i. tt
@@ -72,9 +68,9 @@ made-cell : (x : NoteEffect) → Proper x → (i c : ℕ) → i < row_numbers_bo
     → All Made (cell_notes x i c t)
 made-cell Nothing p i c hi hc t h = no_more
 made-cell Closes p i c hi hc t h = no_more
-made-cell (Single k) p i c hi hc t h = one (record { column = hc; kind = kind-below k; row = hi; tail = p i }) no_more
+made-cell (Single k) p i c hi hc t h = one (record { column = omega (arith, hc); kind = omega (arith, kind-below k); row = omega (arith, hi); tail = p i }) no_more
 made-cell (Head k) p i c hi hc None h = no_more
-made-cell (Head k) p i c hi hc (Some j) h = one (record { column = hc; kind = kind-below k; row = hi; tail = p i j (h j refl) }) no_more
+made-cell (Head k) p i c hi hc (Some j) h = one (record { column = omega (arith, hc); kind = omega (arith, kind-below k); row = omega (arith, hi); tail = p i j (h j refl) }) no_more
 
 made_row : (i c : ℕ) (bs : Row) (rs : List Row) → i + suc (length rs) ≤ row_numbers_bound → c + length bs ≤ 10 → All Made (row_notes i c bs rs)
 made_row i c [] rs h w = no_more
@@ -104,24 +100,21 @@ module _ (L : ℕ) (some_lane : 1 ≤ L) (ten-lanes : L ≤ 10) (text : List ℕ
 
 -- ---- Reading back
 -- a note to name where there is none
-no_note : Note
+pub no_note : Note
 no_note = record { row = 0; tail = tail.Without; column = 0; kind = Tap }
 
-stands_at : (ns : List Note) (k : ℕ) → k < length ns → slice_get ns k ≡ Some (get_or ns k no_note)
+pub stands_at : (ns : List Note) (k : ℕ) → k < length ns → slice_get ns k ≡ Some (get_or ns k no_note)
 stands_at [] k h = absurd (omega arith)
 stands_at (n ∷ ns) zero h = refl
 stands_at (n ∷ ns) (suc k) h = stands_at ns k (omega arith)
 
 reads-back : (ns : List Note) → All Made ns → (k : ℕ) → k < length ns → ReadsBack ns k
 reads-back ns all k h =
-    let back : note_of_record (records ns) k ≡ Ok (get_or ns k no_note) = read_back ns no_note k all h in
     record {
       note = get_or ns k no_note;
-      stands = stands_at ns k h;
+      stands = search (stands_at ns k h);
       limits = all-at ns no_note k all h;
-      read = back;
-      number = ap number_told back;
-      places = λ old. ap (λ (r : Result Note Refusal). replaces r figures_of_note old) back;
+      read = search (read_back ns no_note k all h);
     }
 
 pub writer-makes : WriterMakes

@@ -12,6 +12,7 @@ use Rattle.definitions.specs.Notes.{notes}
 use Rattle.definitions.specs.Records.{number_of_kind, number_of_tail, records, note_of_record}
 use Rattle.definitions.specs.Refusals.{number_told, replaces}
 use Rattle.definitions.specs.Entries.{figures_of_note, row_count, bits_of_last_beat}
+use Rattle.definitions.specs.WriterMakes.{Made}
 use Rattle.definitions.specs.SmFile.{Tag, block_end, blocks, sm_tag, sm_data, sm_start, sm_number}
 use Rattle.definitions.specs.Damage.{rows_above, rows_of, earlier, later, all_later, byte_in, head_kind, open_in, HoldObject}
 use Rattle.definitions.specs.declared.Tail.{Tail}
@@ -111,6 +112,10 @@ NotesInRange ns =
     × All (λ n. (number_of_tail n.tail ≡ 4294967295) ⊎ ((n.row < number_of_tail n.tail) × (number_of_tail n.tail < row_numbers_bound))) ns
     × All (λ n. n.column < 10) ns
     × All (λ n. number_of_kind n.kind < 6) ns
+
+-- any notes that keep the limits are read back so, whether or not a text has them
+unfoldable pub LimitsSuffice : Type 0
+LimitsSuffice = (ns : List Note) → All Made ns → RecordsRead ns
 
 -- of each text that no call refuses for its length
 unfoldable pub RecordsOfTexts : Type 0

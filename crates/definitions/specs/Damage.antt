@@ -1,5 +1,6 @@
 -- Document 01's section "Damage": when two texts differ only in lines of one measure, and what is then the same in both.
 use Rattle.std.specs.Prelude.{◌≡◌, ◌≢◌, ◌⊎◌, Bool, true, false, if◌then◌else◌, ◌&&◌, not, List, [], ◌∷◌, ℕ, suc, ◌+◌, ◌≤◌, ◌<◌, ◌==◌, nat_lt, nat_le, length, take, drop, slice_get, slice_index_or, filter}
+use Rattle.std.specs.List.{AllZip}
 use Rattle.definitions.specs.Lists.{among, joined}
 use Rattle.definitions.specs.Lines.{Row, cut, line_kind}
 use Rattle.definitions.specs.Cells.{byte_at}
@@ -62,11 +63,6 @@ pub record SameBut {A : Type 0} (d : ℕ) (s t : List A) : Type 0 where
   pub count : length s ≡ length t
   pub others : (i : ℕ) → i ≢ d → slice_get s i ≡ slice_get t i
 
--- two lists as long, and R between what stands at the same place
-pub data Each {A : Type 0} (R : A → A → Type 0) : List A → List A → Type 0 where
-  end : Each R [] []
-  next : {a b : A} {s t : List A} → R a b → Each R s t → Each R (a ∷ s) (b ∷ t)
-
 -- Of a text at L lanes: the minimised rows before measure d, those of d and those of the later measures.
 abbrev pub rows_above : ℕ → ℕ → List ℕ → List Row
 rows_above L d text = joined (take d (minimised L text))
@@ -93,9 +89,11 @@ later L d text = filter (λ x. nat_le (length (rows_above L (suc d) text)) x.row
 
 -- "The shift, from old to new, is d's minimised row count in the new text less that in the old; a note without a tail stays without one."
 -- With a rows in the old text and b in the new, x moves to y where y + a = x + b.
-pub data ShiftedTail (a b : ℕ) : Tail → Tail → Type 0 where
-  without : ShiftedTail a b tail.Without tail.Without
-  with_tail : {x y : ℕ} → y + a ≡ x + b → ShiftedTail a b (tail.Row x) (tail.Row y)
+abbrev pub ShiftedTail : ℕ → ℕ → Tail → Tail → Type 0
+ShiftedTail a b tail.Without tail.Without = Unit {0}
+ShiftedTail a b tail.Without (tail.Row y) = ⊥
+ShiftedTail a b (tail.Row x) tail.Without = ⊥
+ShiftedTail a b (tail.Row x) (tail.Row y) = y + a ≡ x + b
 
 -- x of the old text is y in the new: row and tail with the shift, column and kind the same
 pub record Shifted (a b : ℕ) (x y : Note) : Type 0 where
@@ -160,7 +158,7 @@ pub record DamageStays (L d : ℕ) (old new : List ℕ) : Type 0 where
   pub same_density : SameBut d (densities L old) (densities L new)
   pub same_spacing : SameBut d (spacings L old) (spacings L new)
   -- The notes headed in later measures are the same in number, order and every field, but for the one shift added to rows and tails.
-  pub later_notes : Each (Shifted (length (rows_of L d old)) (length (rows_of L d new))) (later L d old) (later L d new)
+  pub later_notes : AllZip (Shifted (length (rows_of L d old)) (length (rows_of L d new))) (later L d old) (later L d new)
   -- The notes headed earlier are the same in number, order and every field, leaving out exactly those of the heads open where d begins,
   -- which are heads of the rows before d, the same in both texts.
   pub same_before : rows_above L d old ≡ rows_above L d new

@@ -29,9 +29,8 @@ BlocksApart = (file : List ℕ) → Apart file
 
 -- "the number of blocks is the least k that is answered 11", and every greater k is answered 11 too
 pub record Least (file : List ℕ) : Type 0 where
-  pub answered : sm_number file (length (blocks file)) ≡ 11
+  pub answered : (k : ℕ) → length (blocks file) ≤ k → sm_number file k ≡ 11
   pub least : (k : ℕ) → sm_number file k ≡ 11 → length (blocks file) ≤ k
-  pub greater : (k : ℕ) → length (blocks file) ≤ k → sm_number file k ≡ 11
 
 -- for every file that is not refused for its length
 unfoldable pub LeastRefused : Type 0

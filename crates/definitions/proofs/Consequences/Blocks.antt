@@ -37,7 +37,7 @@ one-at-last b (x ∷ y ∷ s) h =
 
 pub one-semicolon : SemicolonLast → OneSemicolon
 unfolding SemicolonLast OneSemicolon
-one-semicolon f file k = one-at-last 59 (sm_data file k) (f file k)
+one-semicolon f file k = one-at-last 59 (sm_data file k) (λ i h. f file k i (omega (arith, h)))
 
 -- ---- Where blocks lie
 -- at least i bytes stand before the end of block i
@@ -67,7 +67,7 @@ blocks-disjoint f file p i j h g x y = elim (dec_lt i j) [
 -- ---- What 11 says
 pub eleven-says : LeastRefused → ElevenSays
 unfolding LeastRefused ElevenSays
-eleven-says f file short = (says, first-passing (λ k. eqb (sm_number file k) 11) n below (eq-eqb (sm_number file n) 11 l.answered))
+eleven-says f file short = (says, first-passing (λ k. eqb (sm_number file k) 11) n below (eq-eqb (sm_number file n) 11 (l.answered n (omega arith))))
   where
     l : Least file
     l = f file short
@@ -81,5 +81,5 @@ eleven-says f file short = (says, first-passing (λ k. eqb (sm_number file k) 11
     says : (k : ℕ) → eqb (sm_number file k) 11 ≡ leb n k
     says k = elim (dec_lt k n) [
       | yes h ↦ below k h ∙ sym (lt-leb n k h)
-      | no h ↦ eq-eqb (sm_number file k) 11 (l.greater k (omega arith)) ∙ sym (le-leb n k (omega arith))
+      | no h ↦ eq-eqb (sm_number file k) 11 (l.answered k (omega arith)) ∙ sym (le-leb n k (omega arith))
     ]

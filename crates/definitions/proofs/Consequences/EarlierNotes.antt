@@ -4,6 +4,7 @@ use mathlib.Core.Logic.{◌⊎◌, inl, inr}
 use mathlib.Core.Bool.{Bool, true, false, ◌&&◌, not, true≢false, false≢true, cond}
 use mathlib.Core.List.{List, [], ◌∷◌}
 use Prim.Native.Nat.{ℕ}
+use native.Mathlib.Omega.{arith}
 use borrow.Author.Tests.{le-ltb, lt-ltb, eq-eqb}
 use lib.Dec.{eqb, ltb}
 use lib.ListN.{length}
@@ -78,7 +79,7 @@ unfolding MissingOrLate
 missing-or-late s n i c k ns (inl e) f = rw e none
 missing-or-late s n i c k ns (inr (j, late, there, e)) f =
     let x : Note = record { row = i; tail = tail.Row j; column = c; kind = k } in
-    rw e (one (f x refl (rw (le-ltb j s late) (and-false (ltb i s))) (lt-ltb j n there)) none)
+    rw e (one (f x refl (rw (le-ltb j s (omega (arith, late))) (and-false (ltb i s))) (lt-ltb j n (omega (arith, there)))) none)
 
 not-true : (b : Bool) → (b ≡ true → ⊥) → not b ≡ true
 not-true true h = absurd (h refl)

@@ -5,7 +5,8 @@ use mathlib.Core.List.{List, [], ◌∷◌, map}
 use Prim.Native.Nat.{ℕ, zero, ◌<◌}
 use native.Mathlib.Nat.{zero-add}
 use lib.ListN.{length, get_or, replicate}
-use Rattle.std.specs.Prelude.{Ok}
+use Rattle.std.specs.Prelude.{Ok, Result}
+use Rattle.definitions.specs.declared.Refusal.{Refusal}
 use Rattle.definitions.specs.Sizes.{row_numbers_bound}
 use Rattle.definitions.specs.Lanes.{lanes_of}
 use Rattle.definitions.specs.Notes.{notes}
@@ -13,12 +14,15 @@ use Rattle.definitions.specs.Records.{number_of_tail, records, note_of_record}
 use Rattle.definitions.specs.Refusals.{number_told, replaces}
 use Rattle.definitions.specs.Entries.{figures_of_note}
 use Rattle.definitions.specs.WriterMakes.{TailMade, Made, ReadsBack, WriterMakes}
-use Rattle.definitions.specs.Consequences.{RecordsRead, RecordsTold, NotesInRange, RecordsOfTexts}
+use Rattle.definitions.specs.Consequences.{RecordsRead, RecordsTold, NotesInRange, LimitsSuffice, RecordsOfTexts}
 use Rattle.definitions.specs.declared.Kind.{Kind}
 use Rattle.definitions.specs.declared.Kind.TheVariants.{Tap, Hold, Roll, Mine, Lift, Fake}
 use Rattle.definitions.specs.declared.Tail.{Tail}
 use Rattle.definitions.specs.declared.Tail.TheVariants.{Without, Row}
 use Rattle.definitions.specs.declared.Note.{Note}
+use Rattle.definitions.proofs.Lists.{all-from_index}
+use Rattle.definitions.proofs.ReadBack.{read_back}
+use Rattle.definitions.proofs.WriterMakes.{no_note, stands_at}
 use Rattle.definitions.proofs.Consequences.Places.{got, by-places}
 
 zeros : {A : Type 0} (s : List A) → map (λ a. zero) s ≡ replicate (length s) zero
@@ -43,10 +47,10 @@ module _ (ns : List Note) (r : (k : ℕ) → k < length ns → ReadsBack ns k) w
   records-told : RecordsTold ns
   records-told old = (
     by-places (λ k. number_told (note_of_record (records ns) k)) (λ n. 0) ns 0
-        (λ k h. let b = r k h in (b.note, b.stands, ap (λ k. number_told (note_of_record (records ns) k)) (zero-add k) ∙ b.number))
+        (λ k h. let b = r k h in (b.note, b.stands, ap (λ k. number_told (note_of_record (records ns) k)) (zero-add k) ∙ ap number_told b.read))
         ∙ zeros ns,
     by-places (λ k. replaces (note_of_record (records ns) k) figures_of_note old) figures_of_note ns 0
-        (λ k h. let b = r k h in (b.note, b.stands, ap (λ k. replaces (note_of_record (records ns) k) figures_of_note old) (zero-add k) ∙ b.places old)),
+        (λ k h. let b = r k h in (b.note, b.stands, ap (λ k. replaces (note_of_record (records ns) k) figures_of_note old) (zero-add k) ∙ ap (λ (r : Result Note Refusal). replaces r figures_of_note old) b.read)),
   )
 
   made-at : (k : ℕ) (d : Note) → k < length ns → Made (get_or ns k d)
@@ -66,3 +70,13 @@ records-of_texts w lanes text short =
     let ns = notes (lanes_of lanes) text in
     let r = w lanes text short in
     (records-read ns r, records-told ns r, notes-in_range ns r)
+
+pub limits-suffice : LimitsSuffice
+unfolding LimitsSuffice
+limits-suffice ns made =
+    by-places (note_of_record (records ns)) Ok ns 0
+    (λ k h. (
+      get_or ns k no_note,
+      stands_at ns k h,
+      ap (note_of_record (records ns)) (zero-add k) ∙ read_back ns no_note k (all-from_index Made ns made) h,
+    ))

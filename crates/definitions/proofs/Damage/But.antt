@@ -69,7 +69,7 @@ module _ {A : Type 0} where
   gets (here e h) (suc i) n = gets h i (λ e. n (omega arith))
 
   pub same-but : {d : ℕ} {s t : List A} → But d 0 s t → SameBut d s t
-  same-but h = record { count = lengths h; others = λ i n. gets h i (λ e. n (omega arith)) }
+  same-but h = record { count = omega (arith, lengths h); others = λ i n. gets h i (λ e. omega arith) }
 
 pub but-map : {A B : Type 0} (f : A → B) {d k : ℕ} {s t : List A} → But d k s t → But d k (map f s) (map f t)
 but-map f none = none
@@ -80,6 +80,9 @@ pub but-beats : {d k : ℕ} {s t : List (List Row)} → But d k s t → But d k 
 but-beats none = none
 but-beats (other h) = other (but-beats h)
 but-beats (here e h) = here e (but-beats h)
+
+-- How a list that is made measure by measure agrees.
+pub ruleset same_measures = (same-but, but-map, but-beats)
 
 -- The key law. What a line makes of measures that agree but at d, agrees but at d: a line that stays, and a line of d that is struck out.
 data Rel (d : ℕ) : Standing → List (List Row) → List (List Row) → Type 0 where

@@ -11,7 +11,7 @@ use borrow.Author.Tests.{lt-ltb, le-ltb, le-leb, lt-leb, eq-eqb, ne_eqb, ltb-tru
 use lib.Dec.{eqb, ltb, leb}
 use lib.ListN.{length, drop, get_or, length-append, length-drop, get_or-eq_default, get_or-append}
 use lib.Seq.{drop-append-le}
-use Rattle.std.specs.List.{filter}
+use Rattle.std.specs.List.{filter, AllZip}
 use Rattle.std.proofs.lemmas.List.Elements.{filter-append}
 use Rattle.definitions.specs.Lines.{Row}
 use Rattle.definitions.specs.Cells.{byte_at}
@@ -22,7 +22,7 @@ use Rattle.definitions.specs.declared.NoteEffect.{NoteEffect}
 use Rattle.definitions.specs.declared.NoteEffect.TheVariants.{Nothing, Closes, Single, Head}
 use Rattle.definitions.proofs.Bools.{and_left, and_right, and-false}
 use Rattle.definitions.proofs.Lists.{All, none as all_none, one as all_one, all_append, all_map, filter-all, filter-left, filter-right}
-use Rattle.definitions.specs.Damage.{Each, end, next, without, with_tail, Shifted, is_head, head_kind, untouched, byte_in, open_in, MissingOrLate}
+use Rattle.definitions.specs.Damage.{Shifted, is_head, head_kind, untouched, byte_in, open_in, MissingOrLate}
 use Rattle.definitions.proofs.Tails.{tail_within}
 use Rattle.definitions.proofs.Damage.Bytes.{stopping, heading, stops-is, head-is, head-kind}
 
@@ -103,30 +103,36 @@ module _ (a b : ℕ) where
   tail-shift c i j e [] = no_row
   tail-shift c i j e (r ∷ rs) = meets-shift (effect_at (byte_at c r)) i j e (tail-shift c (suc i) (suc j) (omega arith) rs)
 
-  each_append : {R : Note → Note → Type 0} {s t u v : List Note} → Each R s t → Each R u v → Each R (s ++ u) (t ++ v)
-  each_append end q = q
-  each_append (next h p) q = next h (each_append p q)
+  each_append : (s t u v : List Note) → AllZip (Shifted a b) s t → AllZip (Shifted a b) u v → AllZip (Shifted a b) (s ++ u) (t ++ v)
+  each_append [] [] u v p q = q
+  each_append [] (y ∷ t) u v p q = absurd p
+  each_append (x ∷ s) [] u v p q = absurd p
+  each_append (x ∷ s) (y ∷ t) u v p q = (p.0, each_append s t u v p.1 q)
 
   held-shift : (i j c : ℕ) → j + a ≡ i + b → (k : Kind) {t u : Option ℕ} → ShiftedRow t u
-      → Each (Shifted a b) (held_note i c k t) (held_note j c k u)
-  held-shift i j c e k no_row = end
-  held-shift i j c e k (row-to h) = next (record { row = e; tail = with_tail h; column = refl; kind = refl }) end
+      → AllZip (Shifted a b) (held_note i c k t) (held_note j c k u)
+  held-shift i j c e k no_row = tt
+  held-shift i j c e k (row-to h) = (record { row = omega (arith, e); tail = omega (arith, h); column = refl; kind = refl }, tt)
 
   cell-shift : (x : NoteEffect) (i j c : ℕ) → j + a ≡ i + b → {t u : Option ℕ} → ShiftedRow t u
-      → Each (Shifted a b) (cell_notes x i c t) (cell_notes x j c u)
-  cell-shift Nothing i j c e h = end
-  cell-shift Closes i j c e h = end
-  cell-shift (Single k) i j c e h = next (record { row = e; tail = without; column = refl; kind = refl }) end
+      → AllZip (Shifted a b) (cell_notes x i c t) (cell_notes x j c u)
+  cell-shift Nothing i j c e h = tt
+  cell-shift Closes i j c e h = tt
+  cell-shift (Single k) i j c e h = (record { row = omega (arith, e); tail = tt; column = refl; kind = refl }, tt)
   cell-shift (Head k) i j c e h = held-shift i j c e k h
 
-  row-shift : (i j c : ℕ) → j + a ≡ i + b → (bs : Row) (rs : List Row) → Each (Shifted a b) (row_notes i c bs rs) (row_notes j c bs rs)
-  row-shift i j c e [] rs = end
+  row-shift : (i j c : ℕ) → j + a ≡ i + b → (bs : Row) (rs : List Row) → AllZip (Shifted a b) (row_notes i c bs rs) (row_notes j c bs rs)
+  row-shift i j c e [] rs = tt
   row-shift i j c e (x ∷ bs) rs =
-      each_append (cell-shift (effect_at x) i j c e (tail-shift c (suc i) (suc j) (omega arith) rs)) (row-shift i j (suc c) e bs rs)
+      each_append (cell_notes (effect_at x) i c (tail_row_of c (suc i) rs)) (cell_notes (effect_at x) j c (tail_row_of c (suc j) rs))
+      (row_notes i (suc c) bs rs)
+      (row_notes j (suc c) bs rs)
+      (cell-shift (effect_at x) i j c e (tail-shift c (suc i) (suc j) (omega arith) rs))
+      (row-shift i j (suc c) e bs rs)
 
-  pub notes-shift : (i j : ℕ) → j + a ≡ i + b → (rs : List Row) → Each (Shifted a b) (notes_from i rs) (notes_from j rs)
-  notes-shift i j e [] = end
-  notes-shift i j e (r ∷ rs) = each_append (row-shift i j 0 e r rs) (notes-shift (suc i) (suc j) (omega arith) rs)
+  pub notes-shift : (i j : ℕ) → j + a ≡ i + b → (rs : List Row) → AllZip (Shifted a b) (notes_from i rs) (notes_from j rs)
+  notes-shift i j e [] = tt
+  notes-shift i j e (r ∷ rs) = each_append (row_notes i 0 r rs) (row_notes j 0 r rs) (notes_from (suc i) rs) (notes_from (suc j) rs) (row-shift i j 0 e r rs) (notes-shift (suc i) (suc j) (omega arith) rs)
 
 -- Earlier notes: a head that something stops before q has the same tail whatever q is; one that nothing stops is open.
 met : (x : NoteEffect) (i : ℕ) {t u : Option ℕ} → (stopping x ≡ false → t ≡ u) → meets x i t ≡ meets x i u
@@ -273,7 +279,7 @@ open-head i c ps q h = go (notes-here i c 0 i (zero-add i) (ps ++ q))
     -- the tail of a head that nothing stops lies in q
     last : (t : Option ℕ) → tail_row_of c (length ps) q ≡ t → ns ≡ held_note i c k t → MissingOrLate (length ps) (length (ps ++ q)) i c k (notes_from 0 (ps ++ q))
     last None e p = inl p
-    last (Some j) e p = let w = tail_within c (length ps) q j e in inr (j, w.0, omega (arith, w.1, length-append ps q), p)
+    last (Some j) e p = let w = tail_within c (length ps) q j e in inr (j, omega (arith, w.0), omega (arith, w.1, length-append ps q), p)
 
     go : (ns ≡ []) ⊎ (ns ≡ headed_by i c (drop (suc i) (ps ++ q)) (byte_at c (get_or (ps ++ q) i [])))
         → MissingOrLate (length ps) (length (ps ++ q)) i c k (notes_from 0 (ps ++ q))

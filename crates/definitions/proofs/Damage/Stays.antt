@@ -7,19 +7,19 @@ use native.Mathlib.Nat.{zero-add}
 use native.Mathlib.Omega.{arith}
 use lib.Dec.{ltb, leb}
 use lib.ListN.{length, drop, length-append}
-use Rattle.std.specs.List.{filter}
-use Rattle.definitions.specs.Lists.{number_of_bool, joined}
+use Rattle.std.specs.List.{filter, AllZip}
+use Rattle.definitions.specs.Lists.{joined}
 use Rattle.definitions.specs.Lines.{Row}
 use Rattle.definitions.specs.Measures.{chart}
 use Rattle.definitions.specs.Reduction.{reduce, minimised}
-use Rattle.definitions.specs.Figures.{density, spacing, densities, spacings}
+use Rattle.definitions.specs.Figures.{densities, spacings}
 use Rattle.definitions.specs.Beats.{measure_beats, row_to_beat}
 use Rattle.definitions.specs.Objects.{place48, last_object, last48, last_beat_of}
 use Rattle.definitions.specs.Notes.{notes, notes_from}
 use Rattle.definitions.specs.Entries.{row_count}
 use Rattle.definitions.proofs.Lists.{parts, parts-suc}
-use Rattle.definitions.specs.Damage.{Differ, DamageStays, Each, Shifted, rows_above, rows_of, rows_later, all_later, earlier, later, byte_in, head_kind, open_in, open_at, MissingOrLate, HoldObject, ObjectFirst}
-use Rattle.definitions.proofs.Damage.But.{But, charts-but, but-map, but-beats, same-but, takes, drops}
+use Rattle.definitions.specs.Damage.{Differ, DamageStays, Shifted, rows_above, rows_of, rows_later, all_later, earlier, later, byte_in, head_kind, open_in, open_at, MissingOrLate, HoldObject, ObjectFirst}
+use Rattle.definitions.proofs.Damage.But.{But, charts-but, but-map, same_measures, takes, drops}
 use Rattle.definitions.proofs.Damage.Notes.{headed, before-part, after-part, notes-shift, earlier-left, open-head}
 use Rattle.definitions.proofs.Damage.Objects.{Hold, First, last-later, hold-minimised, first-minimised}
 
@@ -55,14 +55,14 @@ module _ (L d : ℕ) (old new : List ℕ) (x : Differ L d old new) where
   same-later : drop (suc d) (minimised L old) ≡ drop (suc d) (minimised L new)
   same-later = drops but d (zero-add d)
 
-  later_notes : Each (Shifted (length (rows_of L d old)) (length (rows_of L d new))) (later L d old) (later L d new)
+  later_notes : AllZip (Shifted (length (rows_of L d old)) (length (rows_of L d new))) (later L d old) (later L d new)
   later_notes =
       let a : ℕ = length (rows_of L d old) in
       let b : ℕ = length (rows_of L d new) in
       let s : ℕ = length (rows_above L d old) in
       let t : ℕ = length (rows_above L d new) in
       let e : s ≡ t = ap length same_before in
-      subst₂ (Each (Shifted a b)) (sym (later-is L d old)) (ap (λ q. notes_from (t + b) (joined q)) same-later ∙ sym (later-is L d new))
+      subst₂ (AllZip (Shifted a b)) (sym (later-is L d old)) (ap (λ q. notes_from (t + b) (joined q)) same-later ∙ sym (later-is L d new))
       (notes-shift a b (s + a) (t + b) (omega arith) (rows_later L d old))
 
   earlier_notes : filter (λ x. not (open_at L d old x)) (earlier L d old) ≡ filter (λ x. not (open_at L d new x)) (earlier L d new)
@@ -100,13 +100,13 @@ module _ (L d : ℕ) (old new : List ℕ) (x : Differ L d old new) where
   unfolding densities spacings measure_beats
   damage-stays =
       record {
-        same_rows = same-but but;
-        same_beats = same-but (but-beats but);
-        same_density = same-but (but-map density but);
-        same_spacing = same-but (but-map (λ (m : List Row). number_of_bool (spacing m)) but);
-        later_notes = later_notes;
-        same_before = same_before;
-        earlier_notes = earlier_notes;
-        open_heads = λ i c h. (open_heads old refl i c h, open_heads new same_before i c h);
-        same_last = same_last;
+        same_rows = search (same_measures, but);
+        same_beats = search (same_measures, but);
+        same_density = search (same_measures, but);
+        same_spacing = search (same_measures, but);
+        later_notes = search later_notes;
+        same_before = search same_before;
+        earlier_notes = search earlier_notes;
+        open_heads = λ i c h. search (open_heads old refl i c h, open_heads new same_before i c h);
+        same_last = search same_last;
       }

@@ -1,0 +1,72 @@
+-- What a reader expects of `rest-answered`, by its statement and that of `least-refused` alone.
+use mathlib.Core.Path.{◌≡◌, refl, ap, ap₂, sym, ◌∙◌}
+use mathlib.Core.List.{List, ◌∷◌, map}
+use Prim.Native.Nat.{ℕ, zero, suc, ◌+◌, ◌≤◌, ◌<◌}
+use native.Mathlib.Nat.{add-zero, zero-add}
+use native.Mathlib.Omega.{arith}
+use lib.ListN.{length, drop, length-drop}
+use Rattle.std.specs.List.{range_with_len}
+use Rattle.definitions.specs.Sizes.{most_bytes}
+use Rattle.definitions.specs.SmFile.{blocks, sm_tag, sm_number}
+use Rattle.definitions.specs.SmBlocks.{Least, LeastRefused}
+use Rattle.files.specs.Sm.{line_past_block}
+use Rattle.files.specs.Rest.{chart_from, SameAnswer, RestAnswered, RestInOrder}
+
+-- what f makes of n numbers from a on is what g makes of n numbers from b on
+ranges-same : {A : Type 0} (f g : ℕ → A) (n a b : ℕ) → ((k : ℕ) → k < n → f (a + k) ≡ g (b + k)) → map f (range_with_len a n) ≡ map g (range_with_len b n)
+ranges-same f g zero a b h = refl
+ranges-same f g (suc n) a b h =
+    ap₂ (λ x l. x ∷ l) (ap f (sym (add-zero a)) ∙ h 0 (omega arith) ∙ ap g (add-zero b))
+    (ranges-same f g n (a + 1) (b + 1) (λ k l. moved f (a + 1 + k) (a + suc k) (omega arith) ∙ h (suc k) (omega arith) ∙ moved g (b + suc k) (b + 1 + k) (omega arith)))
+  where
+    moved : {A : Type 0} (f : ℕ → A) (i j : ℕ) → i ≡ j → f i ≡ f j
+    moved f i j e = ap f e
+
+-- one after the first
+first-then : {A : Type 0} (f g : ℕ → A) (m n : ℕ) → m ≡ suc n → ((k : ℕ) → k < n → g k ≡ f (suc k)) → map f (range_with_len 0 m) ≡ f 0 ∷ map g (range_with_len 0 n)
+first-then f g m n e h =
+    ap (λ m. map f (range_with_len 0 m)) e
+    ∙ ap (λ l. f 0 ∷ l) (ranges-same f g n (0 + 1) 0 (λ k l. ap f (omega arith) ∙ sym (h k l) ∙ ap g (sym (zero-add k))))
+
+module _ (rest : RestAnswered) (least : LeastRefused) (file : List ℕ) (short : length file ≤ most_bytes) (some : 0 < length (blocks file)) where
+  abbrev p : ℕ
+  p = line_past_block file (sm_tag file 0)
+
+  abbrev others : List ℕ
+  others = drop p file
+
+  same : (k : ℕ) → SameAnswer file p k
+  unfolding RestAnswered
+  same k = rest file short some k
+
+  -- 11 is answered by both from the same block on
+  one-less : length (blocks file) ≡ suc (length (blocks others))
+  unfolding LeastRefused
+  one-less = go (length (blocks file)) refl
+    where
+      n : ℕ
+      n = length (blocks others)
+
+      all : Least file
+      all = least file short
+
+      fewer : Least others
+      fewer = least others (omega (arith, length-drop p file))
+
+      go : (m : ℕ) → length (blocks file) ≡ m → length (blocks file) ≡ suc n
+      go zero e = absurd (omega arith)
+      go (suc q) e =
+          let past : length (blocks file) ≤ suc q = omega arith in
+          omega (arith, e, all.least (suc n) (omega (arith, (same n).number, fewer.answered n (omega arith))), fewer.least q (omega (arith, (same q).number, all.answered (suc q) past)))
+
+pub rest-in_order : RestAnswered → LeastRefused → RestInOrder
+unfolding RestInOrder
+rest-in_order rest least file short some =
+    let less = one-less rest least file short some in
+    let at = same rest least file short some in
+    let q = p rest least file short some in
+    let r = drop q file in (
+      less,
+      first-then (sm_number file) (sm_number r) (length (blocks file)) (length (blocks r)) less (λ k h. omega (arith, (at k).number)),
+      first-then (chart_from 0 file) (chart_from q r) (length (blocks file)) (length (blocks r)) less (λ k h. (at k).chart (omega (arith, h))),
+    )
