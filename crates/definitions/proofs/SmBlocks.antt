@@ -120,10 +120,10 @@ module _ (file : List ℕ) (k : ℕ) where
 
   -- a block ends within the file, and so does what is named where there is no block k
   block_within : block_end file (sm_tag file k) ≤ length file
-  unfolding BlocksApart sm_tag
+  unfolding sm_tag
   block_within =
       elim (dec_lt k (length (blocks file))) [
-        | yes h ↦ (blocks-apart file).within k h
+        | yes h ↦ (placed_at no_tag k (rising file) h).within
         | no h ↦
             let past : length (blocks file) ≤ k = omega arith in
             rw (get_or-eq_default (blocks file) no_tag past) (end-within file no_tag (omega arith))
