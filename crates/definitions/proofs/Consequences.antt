@@ -6,3 +6,4 @@ pub mod EarlierNotes
 pub mod Records
 pub mod Blocks
 pub mod Minimising
+pub mod Examples

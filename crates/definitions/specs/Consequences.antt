@@ -1,6 +1,6 @@
 -- What a reader expects of the main theorems, in other words: each of these follows from the statement of its theorem alone, so no part of a
 -- statement can say less unseen. proofs/Consequences.antt proves them.
-use Rattle.std.specs.Prelude.{◌≡◌, ◌≢◌, ◌⊎◌, Bool, true, false, ◌&&◌, List, map, filter, All, count_by, find, ℕ, suc, ◌+◌, ◌≤◌, ◌<◌, ◌==◌, nat_lt, nat_le, length, take, drop, replicate, Some, Ok}
+use Rattle.std.specs.Prelude.{◌≡◌, ◌≢◌, ◌⊎◌, Bool, true, false, ◌&&◌, List, [], ◌∷◌, map, filter, All, count_by, find, ℕ, suc, ◌+◌, ◌≤◌, ◌<◌, ◌==◌, nat_lt, nat_le, length, take, drop, replicate, Some, Ok}
 use Rattle.std.specs.List.{range_with_len}
 use Rattle.definitions.specs.Sizes.{most_bytes, row_numbers_bound}
 use Rattle.definitions.specs.Lanes.{lanes_of}
@@ -15,6 +15,8 @@ use Rattle.definitions.specs.Entries.{figures_of_note, row_count, bits_of_last_b
 use Rattle.definitions.specs.WriterMakes.{Made}
 use Rattle.definitions.specs.SmFile.{Tag, block_end, blocks, sm_tag, sm_data, sm_start, sm_number}
 use Rattle.definitions.specs.Damage.{rows_above, rows_of, earlier, later, all_later, byte_in, head_kind, open_in, HoldObject}
+use Rattle.definitions.specs.Examples as papers
+use Rattle.definitions.specs.RequestExamples as requests
 use Rattle.definitions.specs.declared.Tail.{Tail}
 use Rattle.definitions.specs.declared.Tail.TheVariants.{Without, Row as to_row}
 use Rattle.definitions.specs.declared.Note.{Note}
@@ -159,3 +161,10 @@ ElevenSays =
     → length file ≤ most_bytes
     → ((k : ℕ) → (sm_number file k == 11) ≡ nat_le (length (blocks file)) k)
     × (find (λ k. sm_number file k == 11) (range_with_len 0 (suc (length (blocks file)))) ≡ Some (length (blocks file)))
+
+-- ---- Of the examples: P1 to P11 are there, with so many things that each says, and as many of the requests'
+
+unfoldable pub ExamplesCounted : Type 0
+ExamplesCounted =
+    (map (λ (e : papers.Example). length e.says) papers.table ≡ 5 ∷ 4 ∷ 1 ∷ 5 ∷ 3 ∷ 4 ∷ 2 ∷ 3 ∷ 4 ∷ 1 ∷ 2 ∷ [])
+    × (length requests.table ≡ 16)

@@ -43,19 +43,25 @@ parts text =
     ∷ []
 
 -- a hold from row 0 to 1 and a tap in row 0; closed in row 3, which is in measure 1; a tap, a hold from row 5 to 6, a tap
-pub old-parts : parts old_text
-    ≡ ((0 ∷ 1 ∷ 0 ∷ 1 ∷ []) ∷ (0 ∷ 4294967295 ∷ 2 ∷ 0 ∷ []) ∷ [])
+abbrev pub parts_of_old : List (List (List ℕ))
+parts_of_old =
+    ((0 ∷ 1 ∷ 0 ∷ 1 ∷ []) ∷ (0 ∷ 4294967295 ∷ 2 ∷ 0 ∷ []) ∷ [])
     ∷ ((1 ∷ 3 ∷ 3 ∷ 1 ∷ []) ∷ [])
     ∷ ((4 ∷ 4294967295 ∷ 1 ∷ 0 ∷ []) ∷ (5 ∷ 6 ∷ 1 ∷ 1 ∷ []) ∷ (7 ∷ 4294967295 ∷ 0 ∷ 0 ∷ []) ∷ [])
     ∷ []
-unfolding old_text notes chart minimised reduce stride line_kind kind_of is_row_line is_blank_byte effect_at cell_of stops is_head
-old-parts = refl
 
 -- the same; dropped; the same one row earlier
-pub new-parts : parts new_text
-    ≡ ((0 ∷ 1 ∷ 0 ∷ 1 ∷ []) ∷ (0 ∷ 4294967295 ∷ 2 ∷ 0 ∷ []) ∷ [])
+abbrev pub parts_of_new : List (List (List ℕ))
+parts_of_new =
+    ((0 ∷ 1 ∷ 0 ∷ 1 ∷ []) ∷ (0 ∷ 4294967295 ∷ 2 ∷ 0 ∷ []) ∷ [])
     ∷ []
     ∷ ((3 ∷ 4294967295 ∷ 1 ∷ 0 ∷ []) ∷ (4 ∷ 5 ∷ 1 ∷ 1 ∷ []) ∷ (6 ∷ 4294967295 ∷ 0 ∷ 0 ∷ []) ∷ [])
     ∷ []
+
+pub old-parts : parts old_text ≡ parts_of_old
+unfolding old_text notes chart minimised reduce stride line_kind kind_of is_row_line is_blank_byte effect_at cell_of stops is_head
+old-parts = refl
+
+pub new-parts : parts new_text ≡ parts_of_new
 unfolding new_text notes chart minimised reduce stride line_kind kind_of is_row_line is_blank_byte effect_at cell_of stops is_head
 new-parts = refl

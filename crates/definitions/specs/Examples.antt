@@ -86,7 +86,7 @@ abbrev pub at4 : String → List Says → Example
 at4 s says = record { lanes = 4; given = bytes s; says = says }
 
 -- P1 to P11
-pub table : List Example
+unfoldable pub table : List Example
 table =
     -- P1
     at4 ""

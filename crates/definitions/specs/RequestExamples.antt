@@ -32,7 +32,7 @@ abbrev pub refused : String → ℕ → ℕ → Example
 refused file k number = record { file = file; k = k; answer = number ∷ [] }
 
 -- E1
-pub table : List Example
+unfoldable pub table : List Example
 table =
     -- an empty file has no block
     refused "" 0 11

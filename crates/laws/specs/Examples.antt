@@ -1,7 +1,7 @@
 -- What the examples say, as statements.
 use Rattle.std.specs.Prelude.{◌≡◌, true, map}
-use Rattle.definitions.specs.Damage.{Differ, DamageStays}
-use Rattle.definitions.specs.DamageExample.{old_text, new_text}
+use Rattle.definitions.specs.Damage.{Differ, DamageStays, rows_above, open_in}
+use Rattle.definitions.specs.DamageExample.{old_text, new_text, parts, parts_of_old, parts_of_new}
 use Rattle.definitions.specs.Objects.{last_beat_of}
 use Rattle.definitions.specs.Examples as papers
 use Rattle.definitions.specs.RequestExamples as requests
@@ -26,9 +26,15 @@ CardExample =
 abbrev pub BeatsRight : Type 0
 BeatsRight = all_right results ≡ true
 
--- the two texts of the damage theorem's example differ only in lines of measure 1, and the rest stays
+-- The two texts of the damage theorem's example differ only in lines of measure 1, and the rest stays. The head in row 1 and column 3 is open where
+-- measure 1 begins, and each part of the theorem has notes to speak of.
 abbrev pub DamageMet : Type 0
-DamageMet = Differ 4 1 old_text new_text × DamageStays 4 1 old_text new_text
+DamageMet =
+    Differ 4 1 old_text new_text
+    × DamageStays 4 1 old_text new_text
+    × (open_in (rows_above 4 1 old_text) 1 3 ≡ true)
+    × (parts old_text ≡ parts_of_old)
+    × (parts new_text ≡ parts_of_new)
 
 -- and so does their last beat
 abbrev pub LastBeatStays : Type 0

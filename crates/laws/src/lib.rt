@@ -7,7 +7,8 @@ ghost use Rattle.definitions.specs.Damage.{Differ, DamageStays};
 ghost use Rattle.definitions.specs.Halving.{ReduceHalved};
 ghost use Rattle.definitions.specs.WriterMakes.{WriterMakes};
 ghost use Rattle.definitions.specs.SmBlocks.{DataInFile, SemicolonLast, BlocksApart, LeastRefused};
-ghost use Rattle.files.specs.Rest.{RestAnswered};
+ghost use Rattle.definitions.specs.Consequences.{MeasuresAround, LaterNotes, NothingOpen, NotesBefore, OpenHeads, SameLastBeat, ReducedStays, LimitsSuffice, RecordsOfTexts, DataThere, OneSemicolon, FewBlocks, BlocksDisjoint, ElevenSays, ExamplesCounted};
+ghost use Rattle.files.specs.Rest.{RestAnswered, RestInOrder};
 ghost use Rattle.sheet_print.specs.Example.{PrintExample};
 ghost use Rattle.sheet_json.specs.Example.{JsonExample};
 ghost use Rattle.laws.specs.Examples.{ExamplesHold, RequestExamplesHold, CardExample, BeatsRight, DamageMet, LastBeatStays};
@@ -52,7 +53,7 @@ pub fn damage_stays()
     ensures { (L d : ℕ) (old new : List ℕ) → Differ L d old new → DamageStays L d old new }
 {}
 
-/// Two texts meet each hypothesis of that, and what it promises holds of them.
+/// Two texts meet each hypothesis of that, and what it promises holds of them, part by part.
 pub fn damage_met()
     ensures { DamageMet }
 {}
@@ -90,4 +91,86 @@ pub fn least_refused()
 /// What follows the line on which a file's first block ends has the other charts, each with the same answer.
 pub fn rest_answered()
     ensures { RestAnswered }
+{}
+
+// What a reader expects of these, each by the statement alone.
+
+/// Where two texts differ only in lines of measure d, the measures before d are the same and so are those after it.
+pub fn measures_around()
+    ensures { (L d : ℕ) (old new : List ℕ) → Differ L d old new → MeasuresAround L d old new }
+{}
+
+/// The columns and kinds of the later notes are the same lists, their rows and tails the same less the shift.
+pub fn later_notes()
+    ensures { (L d : ℕ) (old new : List ℕ) → Differ L d old new → LaterNotes L d old new }
+{}
+
+/// Where no head is open at d, the earlier notes are the same.
+pub fn nothing_open()
+    ensures { (L d : ℕ) (old new : List ℕ) → Differ L d old new → NothingOpen L d old new }
+{}
+
+/// The notes that lie before d are the same, whatever is open there.
+pub fn notes_before()
+    ensures { (L d : ℕ) (old new : List ℕ) → Differ L d old new → NotesBefore L d old new }
+{}
+
+/// The note of a head that is open at d has the head's kind and its tail in a row of the text.
+pub fn open_heads()
+    ensures { (L d : ℕ) (old new : List ℕ) → Differ L d old new → OpenHeads L d old new }
+{}
+
+/// Where the later measures hold a 1, M, L, F or K and no 3, the last beat has the same bits.
+pub fn same_last_beat()
+    ensures { (L d : ℕ) (old new : List ℕ) → Differ L d old new → SameLastBeat L d old new }
+{}
+
+/// What is minimised stays as it is.
+pub fn reduced_stays()
+    ensures { ReducedStays }
+{}
+
+/// Notes that keep the writer's limits are read back, whether or not a text has them.
+pub fn limits_suffice()
+    ensures { LimitsSuffice }
+{}
+
+/// The records of a text, read one after the other, give its notes, and what the call answers for each is in range.
+pub fn records_of_texts()
+    ensures { RecordsOfTexts }
+{}
+
+/// The bytes of the file at the place that is answered are the data.
+pub fn data_there()
+    ensures { DataThere }
+{}
+
+/// The data holds one `;` at most.
+pub fn one_semicolon()
+    ensures { OneSemicolon }
+{}
+
+/// A file has no more blocks than bytes.
+pub fn few_blocks()
+    ensures { FewBlocks }
+{}
+
+/// No place of a file lies in two blocks.
+pub fn blocks_disjoint()
+    ensures { BlocksDisjoint }
+{}
+
+/// 11 says that k is not below the number of blocks, which is the first that is answered so.
+pub fn eleven_says()
+    ensures { ElevenSays }
+{}
+
+/// A file's charts are that of its first block and then those of what follows it, which has one block less.
+pub fn rest_in_order()
+    ensures { RestInOrder }
+{}
+
+/// The examples are all there.
+pub fn examples_counted()
+    ensures { ExamplesCounted }
 {}
