@@ -11,13 +11,13 @@ use borrow.Author.Tests.{eqb-true, eqb-false}
 use lib.Pow.{pow_pos}
 use lib.ListN.{length}
 use Rattle.definitions.specs.Sizes.{row_count_bound}
+use Rattle.std.specs.List.{AllZip}
 use Rattle.definitions.specs.Lists.{only_if}
 use Rattle.definitions.specs.Lines.{Row}
 use Rattle.definitions.specs.Measures.{chart}
 use Rattle.definitions.specs.Reduction.{all_zero, multiple, off_zero, at_multiples, stride, reduce, minimised}
 use Rattle.definitions.specs.Objects.{Depths, after_row, after_rows, object_row, Place, objects_in, objects_from, last_of, last_object, place48, last48}
 use Rattle.definitions.specs.Beats.{last_row}
-use Rattle.definitions.specs.Damage.{Each, end, next}
 use Rattle.definitions.proofs.Bools.{and_left, and_right}
 use Rattle.definitions.proofs.Reduction.{stride-is}
 use Rattle.definitions.proofs.Thinned.{Thinned, none as thin-none, keep, leave, reduce-thin}
@@ -104,36 +104,44 @@ record Scaled (p q : Place) : Type 0 where
   some : 0 < by
   is : p ≡ times by q
 
-scaled-each : (k : ℕ) → 0 < k → (l : List Place) → Each Scaled (map (times k) l) l
-scaled-each k p [] = end
-scaled-each k p (q ∷ l) = next (record { by = k; some = p; is = refl }) (scaled-each k p l)
+scaled-each : (k : ℕ) → 0 < k → (l : List Place) → AllZip Scaled (map (times k) l) l
+scaled-each k p [] = tt
+scaled-each k p (q ∷ l) = (record { by = k; some = p; is = refl }, scaled-each k p l)
 
-each_append : {s t u v : List Place} → Each Scaled s t → Each Scaled u v → Each Scaled (s ++ u) (t ++ v)
-each_append end h = h
-each_append (next x g) h = next x (each_append g h)
+each_append : (s t u v : List Place) → AllZip Scaled s t → AllZip Scaled u v → AllZip Scaled (s ++ u) (t ++ v)
+each_append [] [] u v g h = h
+each_append [] (q ∷ t) u v g h = absurd g
+each_append (p ∷ s) [] u v g h = absurd g
+each_append (p ∷ s) (q ∷ t) u v g h = (g.0, each_append s t u v g.1 h)
 
-scaled-all : (D : Depths) (m : ℕ) (ms : List (List Row)) → Each Scaled (objects_from D m ms) (objects_from D m (map reduce ms))
-scaled-all D m [] = end
+scaled-all : (D : Depths) (m : ℕ) (ms : List (List Row)) → AllZip Scaled (objects_from D m ms) (objects_from D m (map reduce ms))
+scaled-all D m [] = tt
 scaled-all D m (x ∷ ms) =
     let w = raw-measure D m x in
-    each_append
-    (subst (λ l. Each Scaled l (objects_in D m 0 (length (reduce x)) (reduce x))) (sym w.3) (scaled-each w.0 w.1 (objects_in D m 0 (length (reduce x)) (reduce x))))
-    (subst (λ E. Each Scaled (objects_from (after_rows D x) (suc m) ms) (objects_from E (suc m) (map reduce ms))) (thin-depths D (reduce-thin x)) (scaled-all (after_rows D x) (suc m) ms))
+    each_append (objects_in D m 0 (length x) x) (objects_in D m 0 (length (reduce x)) (reduce x))
+    (objects_from (after_rows D x) (suc m) ms)
+    (objects_from (after_rows D (reduce x)) (suc m) (map reduce ms))
+    (subst (λ l. AllZip Scaled l (objects_in D m 0 (length (reduce x)) (reduce x))) (sym w.3) (scaled-each w.0 w.1 (objects_in D m 0 (length (reduce x)) (reduce x))))
+    (subst (λ E. AllZip Scaled (objects_from (after_rows D x) (suc m) ms) (objects_from E (suc m) (map reduce ms))) (thin-depths D (reduce-thin x)) (scaled-all (after_rows D x) (suc m) ms))
 
 data LastScaled : Option Place → Option Place → Type 0 where
   neither : LastScaled None None
   both : {p q : Place} → Scaled p q → LastScaled (Some p) (Some q)
 
-last-each : {s t : List Place} → Each Scaled s t → LastScaled (last_of s) (last_of t)
-last-each end = neither
-last-each (next x end) = both x
-last-each (next x (next y h)) = last-each (next y h)
+last-each : (s t : List Place) → AllZip Scaled s t → LastScaled (last_of s) (last_of t)
+last-each [] [] h = neither
+last-each [] (q ∷ t) h = absurd h
+last-each (p ∷ s) [] h = absurd h
+last-each (p ∷ []) (q ∷ []) h = both h.0
+last-each (p ∷ []) (q ∷ q' ∷ t) h = absurd h.1
+last-each (p ∷ p' ∷ s) (q ∷ []) h = absurd h.1
+last-each (p ∷ p' ∷ s) (q ∷ q' ∷ t) h = last-each (p' ∷ s) (q' ∷ t) h.1
 
 -- The last beat in 48ths from the last raw object row, which lies in its measure.
 pub last-raw : (L : ℕ) (text : List ℕ) (o : Option Place) → o ≡ last_of (objects_from (λ c. 0) 0 (chart L text))
     → ((p : Place) → o ≡ Some p → (p.r < p.n) × (p.n ≤ row_count_bound)) → place48 o ≡ last48 L text
 unfolding last48 last_object minimised
-last-raw L text o e h = go o h (subst (λ x. LastScaled x (last_of (objects_from (λ c. 0) 0 (map reduce (chart L text))))) (sym e) (last-each (scaled-all (λ c. 0) 0 (chart L text))))
+last-raw L text o e h = go o h (subst (λ x. LastScaled x (last_of (objects_from (λ c. 0) 0 (map reduce (chart L text))))) (sym e) (last-each _ _ (scaled-all (λ c. 0) 0 (chart L text))))
   where
     go : (o : Option Place) → ((p : Place) → o ≡ Some p → (p.r < p.n) × (p.n ≤ row_count_bound)) → {u : Option Place} → LastScaled o u → place48 o ≡ place48 u
     go None f neither = refl
