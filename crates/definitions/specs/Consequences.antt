@@ -1,5 +1,5 @@
--- What a reader expects of the main theorems, in other words: each of these follows from the statement of its theorem alone, so no part of a
--- statement can say less unseen. proofs/Consequences.antt proves them.
+-- What a reader expects of the main theorems, in other words. Each follows from the statement of its theorem alone, so no part of a statement can
+-- say less unseen; only `LimitsSuffice` is of any notes, and `ExamplesCounted` of the tables. proofs/Consequences.antt proves them.
 use Rattle.std.specs.Prelude.{◌≡◌, ◌≢◌, ◌⊎◌, Bool, true, false, ◌&&◌, List, [], ◌∷◌, map, filter, All, count_by, find, ℕ, suc, ◌+◌, ◌≤◌, ◌<◌, ◌==◌, nat_lt, nat_le, length, take, drop, replicate, Some, Ok}
 use Rattle.std.specs.List.{range_with_len}
 use Rattle.definitions.specs.Sizes.{most_bytes, row_numbers_bound}
@@ -55,12 +55,12 @@ LaterNotes L d old new =
 abbrev pub NothingOpen : ℕ → ℕ → List ℕ → List ℕ → Type 0
 NothingOpen L d old new = ((i c : ℕ) → open_in (rows_above L d old) i c ≡ false) → earlier L d old ≡ earlier L d new
 
--- a note lies before row s: its head, and its tail if it has one
+-- no tail, or one before row s
 abbrev pub tail_before : ℕ → Tail → Bool
 tail_before s Without = true
 tail_before s (to_row j) = nat_lt j s
 
--- a note with all of it before row s
+-- a note that lies before row s: its head, and its tail if it has one
 abbrev pub lies_before : ℕ → Note → Bool
 lies_before s x = nat_lt x.row s && tail_before s x.tail
 
@@ -140,11 +140,11 @@ OneSemicolon = (file : List ℕ) (k : ℕ) → count_by (λ b. b == 59) (sm_data
 unfoldable pub FewBlocks : Type 0
 FewBlocks = (file : List ℕ) → length (blocks file) ≤ length file
 
--- a place lies in a block
+-- a place of the file lies in a block
 abbrev pub LiesIn : List ℕ → ℕ → Tag → Type 0
 LiesIn file p t = (t.line ≤ p) × (p < block_end file t)
 
--- and no place of it lies in two
+-- no place lies in two blocks
 unfoldable pub BlocksDisjoint : Type 0
 BlocksDisjoint =
     (file : List ℕ) (p i j : ℕ)

@@ -9,7 +9,7 @@ use native.Mathlib.Omega.{arith}
 use lib.Dec.{leb}
 use lib.ListN.{length, get_or, drop, length-drop, length-map, drop_of_length-le}
 use lib.Seq.{drop-drop}
-use borrow.Author.Tests.{le-leb, lt-leb, le-ltb}
+use borrow.Author.Tests.{le-leb, lt-leb, le-ltb, lt-ltb}
 use Rattle.definitions.specs.Sizes.{most_bytes}
 use Rattle.definitions.specs.Lists.{only_if, through}
 use Rattle.definitions.specs.Lines.{cut}
@@ -22,7 +22,7 @@ use Rattle.lines.specs.Lines.{lines_from}
 use Rattle.lines.proofs.Lines.{lines_start}
 use Rattle.files.specs.Tags.{first_tag}
 use Rattle.files.specs.Sm.{line_past_block}
-use Rattle.files.specs.Rest.{chart_from, RestAnswered}
+use Rattle.files.specs.Rest.{chart_from, answer_from, RestAnswered}
 use Rattle.std.specs.Prelude.{Option}
 use Rattle.std.specs.Prelude.{Some, None}
 use Rattle.files.proofs.Words.{drop_head}
@@ -185,10 +185,17 @@ module _ (file : List ℕ) (short : length file ≤ most_bytes) (some : 0 < leng
           (least-refused rest less).answered k past ∙ sym ((least-refused file short).answered (suc k) past_all)
     ]
 
+    answer-same : answer_from p rest k ≡ answer_from 0 file (suc k)
+    answer-same = elim (dec_lt k (length (blocks rest))) [
+      | yes h ↦
+          let more : suc k < length (blocks file) = omega (arith, count) in
+          rw (number_same, lt-ltb k (length (blocks rest)) h, lt-ltb (suc k) (length (blocks file)) more, chart-same h)
+      | no h ↦
+          let past : length (blocks rest) ≤ k = omega arith in
+          let past_all : length (blocks file) ≤ suc k = omega (arith, count) in
+          rw (number_same, le-ltb k (length (blocks rest)) past, le-ltb (suc k) (length (blocks file)) past_all)
+    ]
+
 pub rest-answered : RestAnswered
 unfolding RestAnswered
-rest-answered file short some k =
-    record {
-      number = omega (arith, number_same file short some k);
-      chart = λ h. chart-same file short some k (omega (arith, h));
-    }
+rest-answered file short some = search (answer-same file short some)

@@ -4,13 +4,15 @@ use mathlib.Core.List.{List, ◌∷◌, map}
 use Prim.Native.Nat.{ℕ, zero, suc, ◌+◌, ◌≤◌, ◌<◌}
 use native.Mathlib.Nat.{add-zero, zero-add}
 use native.Mathlib.Omega.{arith}
+use borrow.Author.Tests.{lt-ltb}
 use lib.ListN.{length, drop, length-drop}
 use Rattle.std.specs.List.{range_with_len}
 use Rattle.definitions.specs.Sizes.{most_bytes}
 use Rattle.definitions.specs.SmFile.{blocks, sm_tag, sm_number}
 use Rattle.definitions.specs.SmBlocks.{Least, LeastRefused}
+use Rattle.definitions.proofs.Consequences.Places.{some-same}
 use Rattle.files.specs.Sm.{line_past_block}
-use Rattle.files.specs.Rest.{chart_from, SameAnswer, RestAnswered, RestInOrder}
+use Rattle.files.specs.Rest.{chart_from, BlockAnswer, answer_from, RestAnswered, numbers, charts, RestInOrder}
 
 -- what f makes of n numbers from a on is what g makes of n numbers from b on
 ranges-same : {A : Type 0} (f g : ℕ → A) (n a b : ℕ) → ((k : ℕ) → k < n → f (a + k) ≡ g (b + k)) → map f (range_with_len a n) ≡ map g (range_with_len b n)
@@ -35,9 +37,12 @@ module _ (rest : RestAnswered) (least : LeastRefused) (file : List ℕ) (short :
   abbrev others : List ℕ
   others = drop p file
 
-  same : (k : ℕ) → SameAnswer file p k
+  same : (k : ℕ) → answer_from p others k ≡ answer_from 0 file (suc k)
   unfolding RestAnswered
-  same k = rest file short some k
+  same k = search arith
+
+  same-number : (k : ℕ) → sm_number others k ≡ sm_number file (suc k)
+  same-number k = ap (λ (a : BlockAnswer). a.number) (same k)
 
   -- 11 is answered by both from the same block on
   one-less : length (blocks file) ≡ suc (length (blocks others))
@@ -57,16 +62,22 @@ module _ (rest : RestAnswered) (least : LeastRefused) (file : List ℕ) (short :
       go zero e = absurd (omega arith)
       go (suc q) e =
           let past : length (blocks file) ≤ suc q = omega arith in
-          omega (arith, e, all.least (suc n) (omega (arith, (same n).number, fewer.answered n (omega arith))), fewer.least q (omega (arith, (same q).number, all.answered (suc q) past)))
+          omega (arith, e, all.least (suc n) (omega (arith, same-number n, fewer.answered n (omega arith))), fewer.least q (omega (arith, same-number q, all.answered (suc q) past)))
+
+  same-chart : (k : ℕ) → k < length (blocks others) → chart_from p others k ≡ chart_from 0 file (suc k)
+  same-chart k h =
+      let more : suc k < length (blocks file) = omega (arith, one-less) in
+      some-same (rw (lt-ltb k (length (blocks others)) h, lt-ltb (suc k) (length (blocks file)) more) at (ap (λ (a : BlockAnswer). a.chart) (same k)))
+
+  in-order : (length (blocks file) ≡ suc (length (blocks others)))
+      × (numbers file ≡ sm_number file 0 ∷ numbers others)
+      × (charts 0 file ≡ chart_from 0 file 0 ∷ charts p others)
+  in-order = (
+    one-less,
+    first-then (sm_number file) (sm_number others) (length (blocks file)) (length (blocks others)) one-less (λ k h. same-number k),
+    first-then (chart_from 0 file) (chart_from p others) (length (blocks file)) (length (blocks others)) one-less same-chart,
+  )
 
 pub rest-in_order : RestAnswered → LeastRefused → RestInOrder
 unfolding RestInOrder
-rest-in_order rest least file short some =
-    let less = one-less rest least file short some in
-    let at = same rest least file short some in
-    let q = p rest least file short some in
-    let r = drop q file in (
-      less,
-      first-then (sm_number file) (sm_number r) (length (blocks file)) (length (blocks r)) less (λ k h. omega (arith, (at k).number)),
-      first-then (chart_from 0 file) (chart_from q r) (length (blocks file)) (length (blocks r)) less (λ k h. (at k).chart (omega (arith, h))),
-    )
+rest-in_order rest least file short some = in-order rest least file short some

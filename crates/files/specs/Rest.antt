@@ -1,6 +1,6 @@
 -- How the charts of a file are found one after the other: what follows the line on which its first block ends is a file that has the other
 -- blocks, each with the same answer. `rest-answered` in proofs/Rest.antt proves it, and `rest-in_order` what a reader expects of it.
-use Rattle.std.specs.Prelude.{◌≡◌, List, ◌∷◌, map, ℕ, suc, ◌+◌, ◌≤◌, ◌<◌, length, drop, Option}
+use Rattle.std.specs.Prelude.{◌≡◌, List, ◌∷◌, map, ℕ, suc, ◌+◌, ◌≤◌, ◌<◌, nat_lt, if◌then◌else◌, length, drop, Option, Some, None}
 use Rattle.std.specs.List.{range_with_len}
 use Rattle.definitions.specs.Sizes.{most_bytes}
 use Rattle.definitions.specs.SmFile.{blocks, sm_tag, sm_lanes, sm_data, sm_start, sm_number}
@@ -16,14 +16,23 @@ pub record BlockChart : Type 0 where
 abbrev pub chart_from : ℕ → List ℕ → ℕ → BlockChart
 chart_from p file k = record { lanes = sm_lanes file k; start = p + sm_start file k; part = sm_data file k }
 
--- the answer for block k of the file from p on is that for the next block of the whole, its data at the same place of the whole
-pub record SameAnswer (file : List ℕ) (p k : ℕ) : Type 0 where
-  pub number : sm_number (drop p file) k ≡ sm_number file (suc k)
-  pub chart : k < length (blocks (drop p file)) → chart_from p (drop p file) k ≡ chart_from 0 file (suc k)
+-- What is answered for a block: the number, and the chart where there is such a block.
+pub record BlockAnswer : Type 0 where
+  pub number : ℕ
+  pub chart : Option BlockChart
 
--- for every file that is not refused for its length and has a block
+-- of block k of a file that begins p bytes into another
+abbrev pub answer_from : ℕ → List ℕ → ℕ → BlockAnswer
+answer_from p file k = record { number = sm_number file k; chart = if nat_lt k (length (blocks file)) then Some (chart_from p file k) else None }
+
+-- For every file that is not refused for its length and has a block: the answer for block k of what follows is that for the next block of the
+-- whole, its data at the same place of the whole.
 unfoldable pub RestAnswered : Type 0
-RestAnswered = (file : List ℕ) → length file ≤ most_bytes → 0 < length (blocks file) → (k : ℕ) → SameAnswer file (line_past_block file (sm_tag file 0)) k
+RestAnswered =
+    (file : List ℕ)
+    → length file ≤ most_bytes
+    → 0 < length (blocks file)
+    → (k : ℕ) → let p = line_past_block file (sm_tag file 0) in answer_from p (drop p file) k ≡ answer_from 0 file (suc k)
 
 -- The numbers and the charts of all blocks, in their order.
 abbrev pub numbers : List ℕ → List ℕ
