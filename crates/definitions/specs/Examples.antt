@@ -1,10 +1,13 @@
--- Document 01's examples P1 to P11 as one table with a single claim, `examples-hold`. In a text `|` is byte 10 and `^` is byte 13.
+-- Document 01's examples P1 to P11 as one table with a single claim, `examples-hold`. In a text `|` is byte 10 and `^` is byte 13. The table of
+-- RuleExamples.antt is of the same form.
 use Rattle.std.specs.Prelude.{◌≡◌, refl, if◌then◌else◌, List, [], ◌∷◌, map, ℕ, ◌==◌, length}
 use Prim.Native.Char.{code}
 use Prim.Native.String.{String, [] as end, ◌∷◌ as ◌then◌}
 use Rattle.std.specs.Float.{binary32, binary64}
 use Rattle.std.specs.Float.Ieee.{to_bits, of_int, round, add, mul, div}
-use Rattle.definitions.specs.Lists.{joined}
+use Rattle.definitions.specs.Lists.{number_of_bool, joined}
+use Rattle.definitions.specs.Lanes.{lanes_of}
+use Rattle.definitions.specs.Refusals.{number_told, replaces}
 use Rattle.definitions.specs.Lines.{Row, is_blank_byte, is_row_line, kind_of, line_kind}
 use Rattle.definitions.specs.Cells.{cell_of}
 use Rattle.definitions.specs.Measures.{chart}
@@ -14,11 +17,13 @@ use Rattle.definitions.specs.Beats.{f32, f64, step, fused, beat_of_row, measure_
 use Rattle.definitions.specs.Objects.{object_at, last_object, last48, last_beat_of}
 use Rattle.definitions.specs.Tracker.{hold_at, pairs}
 use Rattle.definitions.specs.Notes.{effect_at, notes}
+use Rattle.definitions.specs.Records.{records, note_of_record}
 use Rattle.definitions.specs.Tally.{row_sum_by, row_sum, tally_with_row, tally}
 use Rattle.definitions.specs.Correction.{corrects, paired_only, corrected}
 use Rattle.definitions.specs.ReadBack.{rows_read_back, main_tally, kept_tally}
-use Rattle.definitions.specs.Judged.{judged_sum, judge_row, open_before, judged_rows, judged_tally}
-use Rattle.definitions.specs.Entries.{figures_of_note}
+use Rattle.definitions.specs.Judged.{judged_sum, judge_row, open_before, judged_rows, judged_tally, flagged_tally}
+use Rattle.definitions.specs.TimingRows.{timing_rows, timing_heads}
+use Rattle.definitions.specs.Entries.{tally_figures, figures_of_note}
 use Rattle.definitions.specs.declared.ArrowStats.{ArrowStats}
 
 -- the bytes of a text in ASCII, `|` (124) for byte 10 and `^` (94) for byte 13
@@ -26,23 +31,36 @@ abbrev pub bytes : String → List ℕ
 bytes end = []
 bytes (◌then◌ c s) = (if code c == 124 then 10 else if code c == 94 then 13 else code c) ∷ bytes s
 
--- The fields of a tally that the examples name.
+-- The fields of a tally, by the examples' names for them; `every` stands for all of them in their order.
 pub data Field : Type 0 where
-  arrows left steps mines holds : Field
+  arrows left down up right steps jumps hands mines holds rolls lifts fakes holding every : Field
 
 -- the value of that field
-abbrev pub field : Field → ArrowStats → ℕ
-field arrows t = t.total_arrows
-field left t = t.left
-field steps t = t.total_steps
-field mines t = t.mines
-field holds t = t.holds
+abbrev pub field : Field → ArrowStats → List ℕ
+field arrows t = t.total_arrows ∷ []
+field left t = t.left ∷ []
+field down t = t.down ∷ []
+field up t = t.up ∷ []
+field right t = t.right ∷ []
+field steps t = t.total_steps ∷ []
+field jumps t = t.jumps ∷ []
+field hands t = t.hands ∷ []
+field mines t = t.mines ∷ []
+field holds t = t.holds ∷ []
+field rolls t = t.rolls ∷ []
+field lifts t = t.lifts ∷ []
+field fakes t = t.fakes ∷ []
+field holding t = t.holding ∷ []
+field every t = tally_figures t
 
 -- What an example speaks of. `row_counts` are the minimised rows of each measure; `note_list` has for each note its row, tail (4,294,967,295 for
--- none), column and kind.
+-- none), column and kind, and `note_bytes` their records. `timing` are the timing rows, and `timing_head` says whether they have a 2 or 4.
+-- `flagged` is the judged tally with these flags. `record_read` is what reading that record of the given bytes answers.
 pub data Figure : Type 0 where
-  text density spacing row_counts beat_list last note_list : Figure
+  text density spacing row_counts beat_list last last_48ths note_list note_bytes timing timing_head : Figure
   main kept judged : Field → Figure
+  flagged : List ℕ → Field → Figure
+  record_read : ℕ → Figure
 
 -- that figure of a text at L lanes, in numbers; floats by their bits
 unfoldable pub figure : Figure → ℕ → List ℕ → List ℕ
@@ -52,10 +70,16 @@ figure spacing L s = spacings L s
 figure row_counts L s = map (λ (m : List Row). length m) (minimised L s)
 figure beat_list L s = map (to_bits binary32) (beats L s)
 figure last L s = to_bits binary64 (last_beat_of L s) ∷ []
+figure last_48ths L s = last48 L s ∷ []
 figure note_list L s = joined (map figures_of_note (notes L s))
-figure (main f) L s = field f (main_tally L s) ∷ []
-figure (kept f) L s = field f (kept_tally L s) ∷ []
-figure (judged f) L s = field f (judged_tally L s) ∷ []
+figure note_bytes L s = records (notes L s)
+figure timing L s = timing_rows L s
+figure timing_head L s = number_of_bool (timing_heads L s) ∷ []
+figure (main f) L s = field f (main_tally L s)
+figure (kept f) L s = field f (kept_tally L s)
+figure (judged f) L s = field f (judged_tally L s)
+figure (flagged flags f) L s = field f (flagged_tally L flags s)
+figure (record_read k) L s = number_told (note_of_record s k) ∷ replaces (note_of_record s k) figures_of_note []
 
 -- whole beats as the bits of 32-bit floats, and one as those of a 64-bit float
 abbrev pub whole_beats : List ℕ → List ℕ
@@ -75,15 +99,19 @@ infix 4 ◌is◌
 abbrev pub ◌is◌ : Figure → List ℕ → Says
 f is v = record { of = f; value = v }
 
--- a lane count, a text and what is said of it
+-- a caller's lane number, a text and what is said of it
 pub record Example : Type 0 where
   pub lanes : ℕ
   pub given : List ℕ
   pub says : List Says
 
+-- an example at this lane number
+abbrev pub at : ℕ → List ℕ → List Says → Example
+at n s says = record { lanes = n; given = s; says = says }
+
 -- an example at 4 lanes
 abbrev pub at4 : String → List Says → Example
-at4 s says = record { lanes = 4; given = bytes s; says = says }
+at4 s says = at 4 (bytes s) says
 
 -- P1 to P11
 unfoldable pub table : List Example
@@ -147,17 +175,17 @@ table =
     -- P10
     ∷ at4 "1000|,1111|0100" ((row_counts is 1 ∷ 1 ∷ []) ∷ [])
     -- P11
-    ∷ record { lanes = 5; given = bytes "00001"; says = (main arrows is 1 ∷ []) ∷ (main left is 1 ∷ []) ∷ [] }
+    ∷ at 5 (bytes "00001") ((main arrows is 1 ∷ []) ∷ (main left is 1 ∷ []) ∷ [])
     ∷ []
 
 -- what the definitions give for an example, and what it says
 abbrev pub given_by_definitions : Example → List (List ℕ)
-given_by_definitions e = map (λ (s : Says). figure s.of e.lanes e.given) e.says
+given_by_definitions e = map (λ (s : Says). figure s.of (lanes_of e.lanes) e.given) e.says
 
 -- what an example says
 abbrev pub said : Example → List (List ℕ)
 said e = map (λ (s : Says). s.value) e.says
 
 pub examples-hold : map given_by_definitions table ≡ map said table
-unfolding table figure minimised_text densities spacings is_step beats measure_beats beat_of_row fused step beat whole last_row row_to_beat last_beat_of last48 last_object object_at notes effect_at main_tally kept_tally judged_tally judged_rows open_before judge_row judged_sum corrected corrects paired_only pairs hold_at tally tally_with_row row_sum row_sum_by rows_read_back minimised reduce stride chart line_kind kind_of is_row_line is_blank_byte cell_of to_bits of_int round add mul div
+unfolding table figure lanes_of minimised_text densities spacings is_step beats measure_beats beat_of_row fused step beat whole last_row row_to_beat last_beat_of last48 last_object object_at notes effect_at main_tally kept_tally judged_tally judged_rows open_before judge_row judged_sum corrected corrects paired_only pairs hold_at tally tally_with_row row_sum row_sum_by rows_read_back minimised reduce stride chart line_kind kind_of is_row_line is_blank_byte cell_of to_bits of_int round add mul div
 examples-hold = refl

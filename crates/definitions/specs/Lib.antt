@@ -24,6 +24,7 @@ pub mod SmFile
 pub mod SmBlocks
 pub mod WriterMakes
 pub mod Examples
+pub mod RuleExamples
 pub mod RequestExamples
 pub mod Damage
 pub mod DamageExample

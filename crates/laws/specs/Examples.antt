@@ -4,6 +4,7 @@ use Rattle.definitions.specs.Damage.{Differ, DamageStays, rows_above, open_in}
 use Rattle.definitions.specs.DamageExample.{old_text, new_text, parts, parts_of_old, parts_of_new}
 use Rattle.definitions.specs.Objects.{last_beat_of}
 use Rattle.definitions.specs.Examples as papers
+use Rattle.definitions.specs.RuleExamples as rules
 use Rattle.definitions.specs.RequestExamples as requests
 use Rattle.beats.specs.Vectors.{all_right, results}
 use Rattle.sheet.specs.Card.{card}
@@ -11,6 +12,10 @@ use Rattle.sheet.specs.Card.{card}
 -- of each example of the papers: the figures that the definitions give are those that the table says
 abbrev pub ExamplesHold : Type 0
 ExamplesHold = map papers.given_by_definitions papers.table ≡ map papers.said papers.table
+
+-- of each example that pins a rule, too
+abbrev pub RuleExamplesHold : Type 0
+RuleExamplesHold = map papers.given_by_definitions rules.table ≡ map papers.said rules.table
 
 -- of each example of the requests: the answer that the definitions give is the one that the table says
 abbrev pub RequestExamplesHold : Type 0

@@ -11,11 +11,16 @@ ghost use Rattle.definitions.specs.Consequences.{MeasuresAround, LaterNotes, Not
 ghost use Rattle.files.specs.Rest.{RestAnswered, RestInOrder};
 ghost use Rattle.sheet_print.specs.Example.{PrintExample};
 ghost use Rattle.sheet_json.specs.Example.{JsonExample};
-ghost use Rattle.laws.specs.Examples.{ExamplesHold, RequestExamplesHold, CardExample, BeatsRight, DamageMet, LastBeatStays};
+ghost use Rattle.laws.specs.Examples.{ExamplesHold, RuleExamplesHold, RequestExamplesHold, CardExample, BeatsRight, DamageMet, LastBeatStays};
 
 /// The papers' examples are what the definitions give.
 pub fn examples_hold()
     ensures { ExamplesHold }
+{}
+
+/// So are those that pin the rules one by one.
+pub fn rule_examples_hold()
+    ensures { RuleExamplesHold }
 {}
 
 /// The examples of the requests, too.

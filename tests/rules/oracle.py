@@ -1,0 +1,111 @@
+"""The oracle's answers (`tests/oracle`), and random short texts to ask it about."""
+
+import codecs
+import struct
+import subprocess
+import tempfile
+
+ORACLE = "target/oracle/oracle"
+
+
+def answers(lanes, flags, text):
+    """The figures of a text that the oracle has, under the names of the examples; a tally is all its fields, and some figures have several calls."""
+    with tempfile.NamedTemporaryFile() as file:
+        file.write(bytes(flags))
+        file.flush()
+        run = subprocess.run([ORACLE, "figures", str(lanes), file.name], input=text, capture_output=True, check=True)
+    calls = {}
+    for line in run.stdout.decode().splitlines():
+        if line.startswith("  "):
+            call.append(line[2:])
+        else:
+            call = calls.setdefault(line, [])
+    main = calls["minimize_chart_count_rows_notes"]
+    kept = calls["process_chart_kept"]
+    timing = calls["minimize_timing_rows"]
+    last = calls["chart_last_beat"]
+    return [
+        ("text", quoted(main)),
+        ("text", quoted(kept)),
+        ("density", listed(main, "densities")),
+        ("density", listed(kept, "densities")),
+        ("density", listed(calls["measure_densities"], "densities")),
+        ("spacing", listed(calls["equally_spaced"], "spacing")),
+        ("beat_list", beats(main)),
+        ("beat_list", beats(timing)),
+        ("last", [int(word(main, "last_beat")[2])]),
+        ("last", [int(word(last, "last_beat")[2])]),
+        ("last_48ths", listed(main, "last_beat_48ths")),
+        ("last_48ths", listed(last, "last_beat_48ths")),
+        ("note_list", notes(main)),
+        ("main", tally(main)),
+        ("kept", tally(kept)),
+        ("judged", tally(calls["process_rows_judgable"])),
+        ("flagged", tally(calls["process_timing_rows"])),
+        ("timing", quoted(timing)),
+        ("timing_head", listed(timing, "has_heads")),
+    ]
+
+
+def word(lines, name):
+    """The words after a name."""
+    return next(line for line in lines if line.split(" ")[0] == name).split(" ")[1:]
+
+
+def listed(lines, name):
+    """The numbers after a name."""
+    return [int(number) for number in word(lines, name)]
+
+
+def quoted(lines):
+    """The bytes of the text."""
+    line = next(line for line in lines if line.startswith('text "'))
+    return list(codecs.escape_decode(line[6:-1].encode("ascii"))[0])
+
+
+def beats(lines):
+    """The bits of the beats."""
+    return [struct.unpack("<I", struct.pack("<f", float(beat)))[0] for beat in word(lines, "beats")]
+
+
+def notes(lines):
+    """Row, tail row, column and kind of each note."""
+    found = []
+    for line in lines:
+        if line.startswith("note "):
+            row, column, kind, tail = line.split(" ")[1:]
+            found += [int(row), 4294967295 if tail == "-" else int(tail), int(column), int(kind)]
+    return found
+
+
+def tally(lines):
+    """The tally's fields in their order."""
+    at = next(i for i, line in enumerate(lines) if line.startswith("total_arrows "))
+    return [int(line.split(" ")[1]) for line in lines[at : at + 14]]
+
+
+def random_text(draw):
+    """A lane number, flags and a text of a few lines, most of them rows."""
+    lanes = draw.choice((4, 4, 5, 8, 10, 10, 0, 6, 9))
+    width = lanes if lanes in (5, 8, 10) else 4
+    cells = draw.choice(("01", "0001234", "0012344MLFKmlf", "002233", "0000MLFKmlf123", "0123456789MLFKmlfxX \r"))
+    marks = draw.choice((0.0, 0.1, 0.4))
+    zeros = draw.choice((0.0, 0.3, 0.8))
+    column = draw.random() < 0.15
+    lines = []
+    for _ in range(draw.choice((1, 3, 6, 8, 12, 20, 24))):
+        if draw.random() < marks:
+            line = draw.choice((",", ",", ", 1111", ";", "", "/", "//100", "/000", " ", "1", "123", "\t,", " ;", "\r", "," * 5, "0" * (width - 1)))
+        elif draw.random() < zeros:
+            line = "0" * width
+        elif column:
+            line = draw.choice("222333144L") + "0" * (width - 1)
+        else:
+            line = "".join(draw.choice(cells) for _ in range(width))
+        if draw.random() < marks / 2:
+            line = draw.choice(" \t\r\x0b\x0c") + line
+        if draw.random() < marks / 2:
+            line += draw.choice(("\r", "\r\r", "0", " x"))
+        lines.append(line)
+    flags = [draw.choice((0, 0, 1, 1, 2)) for _ in range(draw.choice((0, 1, 4, 12)))]
+    return lanes, flags, "\n".join(lines).encode("latin-1")
