@@ -64,7 +64,7 @@ def argument(x):
 
 
 def numbers(x):
-    """A list of numbers: digits, strings (`|` is byte 10 and `^` byte 13), and the words of the tables for whole beats, no tail and rows 0000."""
+    """A list of numbers: digits, strings (`|` is byte 10 and `^` byte 13), and the words of the tables for whole beats, no tail, rows 0000 and repeats."""
     if isinstance(x, str):
         if x.startswith('"'):
             return [{124: 10, 94: 13}.get(byte, byte) for byte in x[1:-1].encode("ascii")]
@@ -74,6 +74,8 @@ def numbers(x):
         return [model.bits32(number) for number in inside]
     if "whole_beat" in x:
         return [model.bits64(number) for number in inside]
+    if "replicate" in x:
+        return inside[0] * inside[1:]
     if "zero_rows" in x:
         return inside[:-1] + list(b"0000\n" * inside[-1])
     return inside

@@ -14,6 +14,31 @@ def lanes_of(number):
     return number if number in (5, 8, 10) else 4
 
 
+# What a call can be told
+
+
+def told_length(length):
+    """The number that is answered to a text for its length."""
+    return 1 if length > 16777215 else 0
+
+
+def told(L, length, slices):
+    """The number that the main call answers, lent slices of these lengths: text, measures, beats, work, notes."""
+    rows = (length + 1) // (L + 1)
+    least = [length + 1, (length + 1) // 2 + 1, rows, rows, 10 * L * rows]
+    for number in (2, 3, 4, 5, 6):
+        if slices[number - 2] < least[number - 2]:
+            return number
+    return told_length(length)
+
+
+def left(number, answer, room):
+    """What a call that answers this number leaves in a slice of so many bytes 7."""
+    if number != 0:
+        return [7] * room
+    return answer + [0] * (room - len(answer))
+
+
 # Lines and measures
 
 
@@ -387,6 +412,14 @@ def figure(name, arguments, lanes, text):
         return list(b"".join(record(note) for note in notes(L, text)))
     if name == "record_read":
         return read_note(text, *arguments)
+    if name == "told_length":
+        return [told_length(*arguments)]
+    if name == "told":
+        return [told(L, len(text), arguments)]
+    if name == "left_text":
+        return left(told(L, len(text), arguments), list(minimised_text(L, text)), arguments[0])
+    if name == "left_work":
+        return left(told(L, len(text), arguments), [], arguments[3])
     if name == "main":
         return field_of(main_tally(L, text), *arguments)
     if name == "kept":

@@ -1,10 +1,11 @@
 -- Examples that pin the rules of document 01 one by one, as a second table with a single claim, `rule-examples-hold`: for every rule there is an
--- example that a wrong rule fails. The answers are the Rust's, but for the records of R33 and R34, which the Rust has not. `tests/rules` has a
+-- example that a wrong rule fails. The answers are the Rust's, but for R33 to R35, of records and refusals, which the Rust has not. `tests/rules` has a
 -- list of wrong rules, and says which examples tell each. In a text `|` is byte 10 and `^` is byte 13.
 use Rattle.std.specs.Prelude.{◌≡◌, refl, List, [], ◌∷◌, ◌++◌, map, ℕ, replicate}
 use Rattle.std.specs.Float.Ieee.{to_bits, of_int, round, add, mul, div}
 use Rattle.definitions.specs.Lists.{joined}
-use Rattle.definitions.specs.Lanes.{lanes_of}
+use Rattle.definitions.specs.Lanes.{lanes_of, most_rows_in}
+use Rattle.definitions.specs.Refusals.{long_text, short_text, short_measures, short_beats, short_work, short_notes}
 use Rattle.definitions.specs.Lines.{is_blank_byte, is_row_line, kind_of, line_kind}
 use Rattle.definitions.specs.Cells.{cell_of}
 use Rattle.definitions.specs.Measures.{chart}
@@ -20,7 +21,8 @@ use Rattle.definitions.specs.Correction.{corrects, paired_only, corrected}
 use Rattle.definitions.specs.ReadBack.{rows_read_back, main_tally, kept_tally}
 use Rattle.definitions.specs.Judged.{judged_at, judged_sum, judge_row, open_before, judged_rows, judged_tally, flagged_tally}
 use Rattle.definitions.specs.TimingRows.{timing_rows, timing_heads}
-use Rattle.definitions.specs.Examples.{Example, arrows, steps, holds, holding, every, text, density, spacing, row_counts, beat_list, last, last_48ths, note_list, note_bytes, timing, timing_head, main, kept, judged, flagged, record_read, bytes, figure, whole_beat, ◌is◌, at, at4, given_by_definitions, said}
+use Rattle.definitions.specs.Entries.{main_answer}
+use Rattle.definitions.specs.Examples.{Example, arrows, steps, holds, holding, every, text, density, spacing, row_counts, beat_list, last, last_48ths, note_list, note_bytes, timing, timing_head, main, kept, judged, flagged, record_read, told, left_text, left_work, told_length, bytes, figure, whole_beat, ◌is◌, at, at4, given_by_definitions, said}
 
 -- the number of no tail
 abbrev pub none : ℕ
@@ -38,7 +40,7 @@ ten r0 r1 r2 r3 t0 t1 t2 t3 c k = r0 ∷ r1 ∷ r2 ∷ r3 ∷ t0 ∷ t1 ∷ t2 �
 abbrev pub zero_rows : ℕ → List ℕ
 zero_rows n = joined (replicate n (bytes "0000|"))
 
--- R1 to R34
+-- R1 to R35
 pub table : List Example
 table =
     -- R1: another lane number than 5, 8 and 10 is 4; a 2 is a head of the timing rows
@@ -279,8 +281,27 @@ table =
     ∷ [])
     -- R34: the length is a multiple of 10
     ∷ at 4 (ten 5 0 0 0 7 0 0 0 9 1 ++ (0 ∷ [])) ((record_read 0 is 7 ∷ []) ∷ [])
+    -- R35: refusals 1 to 6, in their order; zeros past the answer, and nothing where a call is refused
+    ∷ at4 "1000|0100|0010|0001"
+    ((told_length 16777215 is 0 ∷ [])
+    ∷ (told_length 16777216 is 1 ∷ [])
+    ∷ (told 20 11 4 4 160 is 0 ∷ [])
+    ∷ (told 19 11 4 4 160 is 2 ∷ [])
+    ∷ (told 20 10 4 4 160 is 3 ∷ [])
+    ∷ (told 20 11 3 4 160 is 4 ∷ [])
+    ∷ (told 20 11 4 3 160 is 5 ∷ [])
+    ∷ (told 20 11 4 4 159 is 6 ∷ [])
+    ∷ (told 19 10 3 3 159 is 2 ∷ [])
+    ∷ (told 20 10 3 3 159 is 3 ∷ [])
+    ∷ (told 20 11 3 3 159 is 4 ∷ [])
+    ∷ (told 20 11 4 3 159 is 5 ∷ [])
+    ∷ (left_text 22 11 4 5 160 is bytes "1000|0100|0010|0001|" ++ (0 ∷ 0 ∷ []))
+    ∷ (left_text 22 11 4 5 159 is replicate 22 7)
+    ∷ (left_work 22 11 4 5 160 is replicate 5 0)
+    ∷ (left_work 22 11 4 5 159 is replicate 5 7)
+    ∷ [])
     ∷ []
 
 pub rule-examples-hold : map given_by_definitions table ≡ map said table
-unfolding table figure lanes_of minimised_text densities spacings is_step beats measure_beats beat_of_row fused step beat whole last_row row_to_beat last_beat_of last48 last_object object_at notes effect_at records encode fields note_of_record note_of word main_tally kept_tally judged_tally flagged_tally judged_rows judged_at open_before judge_row judged_sum corrected corrects paired_only pairs hold_at tally tally_with_row row_sum row_sum_by rows_read_back timing_rows timing_heads minimised reduce stride chart line_kind kind_of is_row_line is_blank_byte cell_of to_bits of_int round add mul div
+unfolding table figure lanes_of minimised_text densities spacings is_step beats measure_beats beat_of_row fused step beat whole last_row row_to_beat last_beat_of last48 last_object object_at notes effect_at records encode fields note_of_record note_of word main_answer long_text short_text short_measures short_beats short_work short_notes most_rows_in main_tally kept_tally judged_tally flagged_tally judged_rows judged_at open_before judge_row judged_sum corrected corrects paired_only pairs hold_at tally tally_with_row row_sum row_sum_by rows_read_back timing_rows timing_heads minimised reduce stride chart line_kind kind_of is_row_line is_blank_byte cell_of to_bits of_int round add mul div
 rule-examples-hold = refl
