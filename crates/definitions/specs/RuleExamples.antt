@@ -97,7 +97,7 @@ table =
     ∷ (main holds is 1 ∷ [])
     ∷ (judged every is counts 2 2 0 0 0 2 0 0 1 1 0 1 1 0)
     ∷ [])
-    -- R9: 1, M, L and F make it 0, empty the stack and drop the note
+    -- R9: 1, M, L and F make that depth 0, empty the tracker's stack and drop the open note; L is a judged arrow, and a mine is none
     ∷ at4 "2222|1MLF|3333"
     ((last_48ths is 64 ∷ [])
     ∷ (note_list is 1 ∷ none ∷ 0 ∷ 0 ∷ 1 ∷ none ∷ 1 ∷ 3 ∷ 1 ∷ none ∷ 2 ∷ 4 ∷ 1 ∷ none ∷ 3 ∷ 5 ∷ [])
@@ -111,7 +111,7 @@ table =
     ∷ (judged every is counts 0 0 0 0 0 0 0 0 0 0 0 0 1 0)
     ∷ (note_list is 0 ∷ none ∷ 2 ∷ 5 ∷ [])
     ∷ [])
-    -- R11: a 3 takes the newest head off and asks for a depth in its own column; the steps are kept; a 4 is no hold
+    -- R11: a 3 takes the newest head off, lowers the depth by one and asks for one in its own column; the steps are kept; a 4 is no hold
     ∷ at4 "4442|0314|/000|0332"
     ((last_48ths is 64 ∷ [])
     ∷ (note_list is 0 ∷ 1 ∷ 1 ∷ 2 ∷ 1 ∷ none ∷ 2 ∷ 0 ∷ [])
@@ -135,22 +135,23 @@ table =
     ∷ (judged every is counts 2 1 1 0 0 1 1 0 0 1 0 0 0 0)
     ∷ (flagged (1 ∷ 0 ∷ []) every is counts 2 1 1 0 0 1 1 0 0 1 0 0 0 0)
     ∷ [])
-    -- R14: hands and jumps by holding, with its floor; an unpaired tail stays; a 2 drops an older head's note; holds open through their tail's
-    -- row, and those of unjudged rows do not
+    -- R14: holding and its floor; a tail that is not paired stays; a 2 drops an older head's note, a 0 does not; a judged hold is open through its
+    -- tail's row, one of an unjudged row never; a flag 2 is judged
     ∷ at4 "2322|2030|2333|3222|0020|3020"
     ((note_list is 0 ∷ 1 ∷ 2 ∷ 1 ∷ 0 ∷ 2 ∷ 3 ∷ 1 ∷ 2 ∷ 3 ∷ 0 ∷ 1 ∷ [])
     ∷ (main every is counts 4 2 0 1 1 6 1 0 0 4 0 0 0 0)
     ∷ (judged every is counts 4 2 0 1 1 3 1 2 0 4 0 0 0 0)
     ∷ (flagged (2 ∷ 0 ∷ 1 ∷ []) every is counts 3 1 0 1 1 2 1 0 0 3 0 0 1 0)
     ∷ [])
-    -- R15: ten columns: directions, every kind of note, their order and their records
+    -- R15: ten columns: directions; every kind of note, and their order
     ∷ at 10 (bytes "0000111111|2M000l0L42|00F0f0m033|100K000000")
     ((note_list is 0 ∷ none ∷ 4 ∷ 0 ∷ 0 ∷ none ∷ 5 ∷ 0 ∷ 0 ∷ none ∷ 6 ∷ 0 ∷ 0 ∷ none ∷ 7 ∷ 0 ∷ 0 ∷ none ∷ 8 ∷ 0 ∷ 0 ∷ none ∷ 9 ∷ 0 ∷ 1 ∷ none ∷ 1 ∷ 3 ∷ 1 ∷ none ∷ 5 ∷ 4 ∷ 1 ∷ none ∷ 7 ∷ 4 ∷ 1 ∷ 2 ∷ 8 ∷ 2 ∷ 1 ∷ 2 ∷ 9 ∷ 1 ∷ 2 ∷ none ∷ 2 ∷ 5 ∷ 2 ∷ none ∷ 4 ∷ 5 ∷ 2 ∷ none ∷ 6 ∷ 3 ∷ 3 ∷ none ∷ 0 ∷ 0 ∷ [])
     ∷ (main every is counts 9 4 3 1 1 3 2 1 2 1 1 2 2 0)
     ∷ (judged every is counts 11 4 4 1 2 3 2 2 2 1 1 2 2 0)
     ∷ (flagged (0 ∷ 0 ∷ 1 ∷ []) every is counts 1 1 0 0 0 1 0 0 1 0 0 0 13 0)
     ∷ [])
-    -- R16: the ninth head is not pushed, nor counted anew or judged; depth 2 and more; nested heads and a 1 in another column correct nothing
+    -- R16: a ninth head is not pushed, so the judged tally has 8 holds; nested heads and a 1 in another column correct nothing, so the main tally
+    -- has 9; depths go up to 9
     ∷ at4 "2000|2000|2000|2000|2000|2000|2000|2000|2100|3000|3000|3000|3000|3000|3000|3000|3000|3000"
     ((last_48ths is 181 ∷ [])
     ∷ (main every is counts 10 9 1 0 0 9 1 7 0 9 0 0 0 0)
@@ -170,7 +171,7 @@ table =
     ((last_48ths is 64 ∷ [])
     ∷ (main every is counts 0 0 0 0 0 1 0 0 1 0 0 0 0 0)
     ∷ [])
-    -- R19: F is met, and is an object
+    -- R19: F is met, and is an object; a 4 is a head of the timing rows
     ∷ at 5 (bytes "00004|0000F|00003")
     ((last_48ths is 64 ∷ [])
     ∷ (main every is counts 0 0 0 0 0 1 0 0 0 0 0 0 1 0)
@@ -182,13 +183,13 @@ table =
     ∷ (last_48ths is 64 ∷ [])
     ∷ (main every is counts 0 0 0 0 0 1 0 0 0 0 0 1 0 0)
     ∷ [])
-    -- R21: 1 is met; another byte drops no note
+    -- R21: 1 is met; another byte drops no note; the bytes of records
     ∷ at 10 (bytes "0000000042|000000001x|0000000033")
     ((note_list is 0 ∷ 2 ∷ 9 ∷ 1 ∷ 1 ∷ none ∷ 8 ∷ 0 ∷ [])
     ∷ (note_bytes is 0 ∷ 0 ∷ 0 ∷ 0 ∷ 2 ∷ 0 ∷ 0 ∷ 0 ∷ 9 ∷ 1 ∷ 1 ∷ 0 ∷ 0 ∷ 0 ∷ 255 ∷ 255 ∷ 255 ∷ 255 ∷ 8 ∷ 0 ∷ [])
     ∷ (main every is counts 2 1 1 0 0 2 0 0 0 1 0 0 0 0)
     ∷ [])
-    -- R22: a 1 empties the whole stack
+    -- R22: a 1 empties the whole stack of the tracker
     ∷ at4 "2000|2000|1000|3000|3000"
     ((main holds is 0 ∷ [])
     ∷ (judged holds is 0 ∷ [])
@@ -216,7 +217,7 @@ table =
     ∷ (main every is counts 1 1 0 0 0 1 0 0 0 0 1 0 0 0)
     ∷ (kept every is counts 1 1 0 0 0 1 0 0 1 0 1 0 0 0)
     ∷ [])
-    -- R27: without a head nothing is corrected
+    -- R27: without a head nothing is corrected; a 3 and a 1 are no heads of the timing rows
     ∷ at4 "3000|100^"
     ((main arrows is 1 ∷ [])
     ∷ (timing_head is 0 ∷ [])
