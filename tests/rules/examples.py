@@ -64,7 +64,7 @@ def argument(x):
 
 
 def numbers(x):
-    """A list of numbers: digits, strings (`|` is byte 10 and `^` byte 13), and the words of the tables for whole beats, no tail, rows 0000 and repeats."""
+    """A list of numbers: digits, strings (`|` is byte 10 and `^` byte 13), and the tables' words for whole beats, no tail and repeats."""
     if isinstance(x, str):
         if x.startswith('"'):
             return [{124: 10, 94: 13}.get(byte, byte) for byte in x[1:-1].encode("ascii")]

@@ -26,10 +26,12 @@ def told(L, length, slices):
     """The number that the main call answers, lent slices of these lengths: text, measures, beats, work, notes."""
     rows = (length + 1) // (L + 1)
     least = [length + 1, (length + 1) // 2 + 1, rows, rows, 10 * L * rows]
+    if told_length(length) != 0:
+        return told_length(length)
     for number in (2, 3, 4, 5, 6):
         if slices[number - 2] < least[number - 2]:
             return number
-    return told_length(length)
+    return 0
 
 
 def left(number, answer, room):
