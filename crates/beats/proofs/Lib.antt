@@ -8,4 +8,5 @@ mod Upto
 mod Last
 pub mod Beats
 pub mod Placed
+pub mod LastRows
 pub mod Scaled

@@ -12,6 +12,7 @@ pub mod Counts
 pub mod Tails
 pub mod Blocks
 pub mod ReadBack
+pub mod RowBounds
 pub mod LastByte
 pub mod WriterMakes
 pub mod Damage

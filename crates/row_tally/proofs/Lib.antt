@@ -1,6 +1,7 @@
 -- Laws of the tallies, by topic.
 pub mod Sums
 pub mod Bounds
+pub mod Tallies
 pub mod Loops
 pub mod Kept
 pub mod Rows
