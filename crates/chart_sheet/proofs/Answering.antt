@@ -3,16 +3,20 @@ use mathlib.Core.Path.{◌≡◌}
 use mathlib.Core.Bool.{Bool, true, false, cond}
 use mathlib.Core.List.{List}
 use Prim.Native.Nat.{ℕ, ◌+◌, ◌*◌, ◌≤◌}
+use native.Mathlib.Omega.{arith}
 use lib.Dec.{eqb}
 use lib.ListN.{length}
+use Rattle.std.proofs.lemmas.List.Elements.{All-set}
 use Rattle.definitions.specs.Sizes.{most_bytes}
 use Rattle.definitions.specs.Lanes.{lanes_of}
 use Rattle.definitions.specs.Figures.{densities, spacings}
 use Rattle.definitions.specs.Notes.{notes}
 use Rattle.definitions.specs.Records.{records}
+use Rattle.definitions.specs.Entries.{figures_of_chart, places_of_chart}
+use Rattle.figures.proofs.Fit.{Fits, AllFit, chart-fits}
 use Rattle.sheet_answers.specs.Answers.{sheet_figures}
+use Rattle.chart_sheet.specs.Entry.{places_of_sheet}
 use Rattle.chart_sheet.specs.Forms.{form_of, printed, json_object, sheet_in_form}
-use Rattle.chart_sheet.proofs.Fits.{FiguresFit}
 use Rattle.chart_sheet.proofs.Lines.{card-lines}
 use Rattle.chart_sheet.proofs.CardRoom.{card-room}
 use Rattle.chart_sheet.proofs.PrintRoom.{print-room}
@@ -32,12 +36,21 @@ pick-room n false true a b c p q r = q
 pick-room n false false a b c p q r = r
 
 -- every form of them has room
-pub form-room : (form lanes : ℕ) (text : List ℕ) → length text ≤ most_bytes → FiguresFit (sheet_figures (lanes_of lanes) text)
+pub form-room : (form lanes : ℕ) (text : List ℕ) → length text ≤ most_bytes
     → length (form_of form (sheet_figures (lanes_of lanes) text) (densities (lanes_of lanes) text) (spacings (lanes_of lanes) text) (records (notes (lanes_of lanes) text))) + 300
     ≤ 42 * (length text + 1) + 3000
 unfolding form_of sheet_figures
-form-room form lanes text short fit =
+form-room form lanes text short =
     pick-room (42 * (length text + 1) + 3000) (eqb form 0) (eqb form 1) _ _ _
-    (card-room lanes text short fit.heads)
-    (print-room _ lanes text short fit)
-    (json-room _ lanes text short fit)
+    (card-room lanes text short)
+    (print-room lanes text short)
+    (json-room lanes text short)
+
+-- so every form of the text's sheet has room
+pub sheet-room : (lanes form : ℕ) (text : List ℕ) → length text ≤ most_bytes → length (sheet_in_form form (lanes_of lanes) text) ≤ 42 * (length text + 1) + 3000
+sheet-room lanes form text short = rw (← form-sheet form lanes text short) (omega (arith, form-room form lanes text short))
+
+-- and its bytes, as every figure that the call answers, are below 2 ^ 64
+pub sheet-fits : (lanes form : ℕ) (text : List ℕ) → length text ≤ most_bytes → AllFit (places_of_sheet form (lanes_of lanes) text)
+sheet-fits lanes form text short =
+    All-set Fits (places_of_chart (figures_of_chart (lanes_of lanes) text)) 7 (length (sheet_in_form form (lanes_of lanes) text)) (omega (arith, sheet-room lanes form text short)) (chart-fits lanes text short)

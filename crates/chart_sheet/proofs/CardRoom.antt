@@ -18,8 +18,9 @@ use Rattle.definitions.specs.declared.Tail.TheVariants.{Without, Row}
 use Rattle.definitions.specs.declared.Note.{Note}
 use Rattle.sheet.specs.Sheet.{line_of_figure, line_of_measure, field_of_tail, line_of_note, line_of_record, lines_of_measures, lines_of_records, lines_of_head, sheet_of}
 use Rattle.definitions.specs.declared.ChartFigures.{ChartFigures}
+use Rattle.sheet_answers.specs.Answers.{sheet_figures}
 use Rattle.chart_sheet.proofs.Lengths.{field-digit, field-short, field-length, listed-most}
-use Rattle.chart_sheet.proofs.Fits.{HeadsFit}
+use Rattle.chart_sheet.proofs.Fits.{HeadsFit, printed-fit}
 use Rattle.chart_sheet.proofs.Counts.{measure-below, density-below, spacing-below, tail-below, reads, room-enough}
 
 -- a head line has a number of at most twenty digits
@@ -77,11 +78,10 @@ module _ (lanes : ℕ) (text : List ℕ) (short : length text ≤ most_bytes) wh
       let back = reads lanes text short k h in
       rw back.read (note-line back.note back.limits)
 
-  pub card-room : HeadsFit (figures_of_chart (lanes_of lanes) text)
-      → length (sheet_of (figures_of_chart (lanes_of lanes) text) (densities (lanes_of lanes) text) (spacings (lanes_of lanes) text) (records (notes (lanes_of lanes) text))) + 300
+  pub card-room : length (sheet_of (figures_of_chart (lanes_of lanes) text) (densities (lanes_of lanes) text) (spacings (lanes_of lanes) text) (records (notes (lanes_of lanes) text))) + 300
       ≤ 42 * (length text + 1) + 3000
-  unfolding figures_of_chart
-  card-room fit =
+  unfolding figures_of_chart sheet_figures
+  card-room =
       let L = lanes_of lanes in
       let f = figures_of_chart L text in
       let ds = densities L text in
@@ -97,5 +97,5 @@ module _ (lanes : ℕ) (text : List ℕ) (short : length text ≤ most_bytes) wh
         arith,
         sheet-parts f ds ss rs,
         room-enough lanes text (length (lines_of_head f)) (length (lines_of_measures ds ss (measure_count L text))) (length (lines_of_records rs n))
-            (omega (arith, head-lines f fit)) measures (omega (arith, lines)),
+            (omega (arith, head-lines f (printed-fit lanes text short).heads)) measures (omega (arith, lines)),
       )

@@ -1,9 +1,17 @@
--- Figures as calls answer them: each is below 2 ^ 64.
-use Rattle.std.proofs.Common.{ℕ, zero, suc, ◌^◌, ◌<◌, List, [], ◌∷◌, get_or, arith}
+-- The figures that a sheet prints, each below 2 ^ 64.
+use Rattle.std.proofs.Common.{ℕ, zero, suc, ◌^◌, ◌<◌, ◌≤◌, List, [], ◌∷◌, length, get_or, arith}
+use Rattle.std.proofs.lemmas.List.Elements.{recursion_from_All}
+use Rattle.definitions.specs.Sizes.{most_bytes}
+use Rattle.definitions.specs.Lanes.{lanes_of}
+use Rattle.definitions.specs.Figures.{minimised_text}
+use Rattle.definitions.specs.Judged.{judged_tally}
+use Rattle.definitions.specs.Entries.{figures_of_chart, places_of_chart, figures_of_kept, places_of_kept, places_of_judged}
 use Rattle.definitions.specs.declared.ArrowStats.{ArrowStats}
 use Rattle.definitions.specs.declared.ChartFigures.{ChartFigures}
 use Rattle.sheet.specs.Sheet.{named_fields, field_at}
 use Rattle.sheet.specs.declared.SheetFigures.{SheetFigures}
+use Rattle.sheet_answers.specs.Answers.{sheet_figures}
+use Rattle.figures.proofs.Fit.{Fits, chart-fits, kept-fits, sheet_judged-fits}
 
 -- of named counts
 abbrev pub AllFit : List (List ℕ × ℕ) → Type 0
@@ -35,3 +43,18 @@ pub record FiguresFit (f : SheetFigures) : Type 0 where
   pub main : TallyFits f.chart.stats
   pub kept : TallyFits f.kept.stats
   pub judged : TallyFits f.judged
+
+-- those of an accepted text are
+pub printed-fit : (lanes : ℕ) (text : List ℕ) → length text ≤ most_bytes → FiguresFit (sheet_figures (lanes_of lanes) text)
+unfolding sheet_figures named_fields
+printed-fit lanes text short =
+    let L = lanes_of lanes in
+    let chart = recursion_from_All Fits (places_of_chart (figures_of_chart L text)) (chart-fits lanes text short) in
+    let kept = recursion_from_All Fits (places_of_kept (figures_of_kept L text)) (kept-fits lanes text short) in
+    let judged = recursion_from_All Fits (places_of_judged (judged_tally L (minimised_text L text))) (sheet_judged-fits lanes text short) in
+    record {
+      heads = omega arith;
+      main = record { fields = omega arith };
+      kept = record { fields = omega arith };
+      judged = record { fields = omega arith };
+    }

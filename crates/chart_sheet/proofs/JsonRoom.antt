@@ -21,10 +21,11 @@ use Rattle.definitions.specs.declared.ArrowStats.{ArrowStats}
 use Rattle.definitions.specs.declared.ChartFigures.{ChartFigures}
 use Rattle.sheet.specs.Sheet.{field_count, field_at}
 use Rattle.sheet.specs.declared.SheetFigures.{SheetFigures}
+use Rattle.sheet_answers.specs.Answers.{sheet_figures}
 use Rattle.sheet.proofs.Names.{field-name}
 use Rattle.sheet_json.specs.Json.{separator, named, figure, last_beat_of, json_heads, member, members, json_tallies, entry_of_density, entries_of_densities, truth, entry_of_spacing, entries_of_spacings, value_of_tail, value_of_note, entry_of_record, entries_of_records, json_lists, json_of}
 use Rattle.chart_sheet.proofs.Lengths.{number-length, number_short, field-digit, field-short, listed-most}
-use Rattle.chart_sheet.proofs.Fits.{TallyFits, HeadsFit, FiguresFit, field-fits}
+use Rattle.chart_sheet.proofs.Fits.{TallyFits, HeadsFit, FiguresFit, field-fits, printed-fit}
 use Rattle.chart_sheet.proofs.Counts.{densities-count, spacings-count, records-count, density-below, tail-below, reads, room-enough}
 
 -- ---- Heads and tallies, with numbers of at most twenty digits
@@ -127,16 +128,15 @@ unfolding json_of json_lists
 json-parts f densities spacings records fit =
     simp length-append (omega (arith, json-heads f.chart fit.heads, json-tallies f fit))
 
-module _ (f : SheetFigures) (lanes : ℕ) (text : List ℕ) (short : length text ≤ most_bytes) where
+module _ (lanes : ℕ) (text : List ℕ) (short : length text ≤ most_bytes) where
   record-entry : (k : ℕ) → k < length (notes (lanes_of lanes) text) → length (entry_of_record k (note_of_record (records (notes (lanes_of lanes) text)) k)) ≤ 24
   record-entry k h =
       let back = reads lanes text short k h in
       rw back.read (found-entry k back.note back.limits)
 
-  pub json-room : FiguresFit f
-      → length (json_of f (densities (lanes_of lanes) text) (spacings (lanes_of lanes) text) (records (notes (lanes_of lanes) text))) + 300
+  pub json-room : length (json_of (sheet_figures (lanes_of lanes) text) (densities (lanes_of lanes) text) (spacings (lanes_of lanes) text) (records (notes (lanes_of lanes) text))) + 300
       ≤ 42 * (length text + 1) + 3000
-  json-room fit =
+  json-room =
       let L = lanes_of lanes in
       let ds = densities L text in
       let ss = spacings L text in
@@ -152,7 +152,7 @@ module _ (f : SheetFigures) (lanes : ℕ) (text : List ℕ) (short : length text
       in
       omega (
         arith,
-        json-parts f ds ss rs fit,
+        json-parts (sheet_figures L text) ds ss rs (printed-fit lanes text short),
         room-enough lanes text 1800 (length (entries_of_densities ds (length ds)) + length (entries_of_spacings ss (length ss))) (length (entries_of_records rs (length rs / 10)))
             (omega arith) (omega (arith, densities-count L text, spacings-count L text)) (omega (arith, records-count (notes L text))),
       )

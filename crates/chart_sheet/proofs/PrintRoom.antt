@@ -20,10 +20,11 @@ use Rattle.page.specs.Texts.{aligned, aligned_left}
 use Rattle.sheet.specs.Sheet.{field_count, field_at}
 use Rattle.sheet.proofs.Names.{field-name}
 use Rattle.sheet.specs.declared.SheetFigures.{SheetFigures}
+use Rattle.sheet_answers.specs.Answers.{sheet_figures}
 use Rattle.definitions.specs.declared.ChartFigures.{ChartFigures}
 use Rattle.sheet_print.specs.Print.{line_of_count, three, line_of_last_beat, print_heads, line_of_tally, lines_of_tally, head_of_tally, print_tallies, start_of_line, entry_of_density, lines_of_densities, head_of_densities, word_of_held, line_of_held, held_line_of_record, lines_of_held, head_of_held, print_of}
 use Rattle.chart_sheet.proofs.Lengths.{number-length, aligned-length, aligned-short, listed-most}
-use Rattle.chart_sheet.proofs.Fits.{HeadsFit, FiguresFit, field-fits}
+use Rattle.chart_sheet.proofs.Fits.{HeadsFit, FiguresFit, field-fits, printed-fit}
 use Rattle.chart_sheet.proofs.Counts.{densities-count, records-count, measure-below, density-below, tail-below, reads, room-enough}
 
 -- ---- Heads and tallies, with numbers of at most twenty digits
@@ -125,16 +126,15 @@ unfolding print_of head_of_densities head_of_held
 print-parts f densities spacings records fit =
     simp length-append (omega (arith, print-heads f.chart fit.heads, print-tallies f fit))
 
-module _ (f : SheetFigures) (lanes : ℕ) (text : List ℕ) (short : length text ≤ most_bytes) where
+module _ (lanes : ℕ) (text : List ℕ) (short : length text ≤ most_bytes) where
   held-record : (k : ℕ) → k < length (notes (lanes_of lanes) text) → length (held_line_of_record (note_of_record (records (notes (lanes_of lanes) text)) k)) ≤ 32
   held-record k h =
       let back = reads lanes text short k h in
       rw back.read (held-line back.note back.note.tail back.limits back.limits.tail)
 
-  pub print-room : FiguresFit f
-      → length (print_of f (densities (lanes_of lanes) text) (spacings (lanes_of lanes) text) (records (notes (lanes_of lanes) text))) + 300
+  pub print-room : length (print_of (sheet_figures (lanes_of lanes) text) (densities (lanes_of lanes) text) (spacings (lanes_of lanes) text) (records (notes (lanes_of lanes) text))) + 300
       ≤ 42 * (length text + 1) + 3000
-  print-room fit =
+  print-room =
       let L = lanes_of lanes in
       let ds = densities L text in
       let ss = spacings L text in
@@ -148,7 +148,7 @@ module _ (f : SheetFigures) (lanes : ℕ) (text : List ℕ) (short : length text
       in
       omega (
         arith,
-        print-parts f ds ss rs fit,
+        print-parts (sheet_figures L text) ds ss rs (printed-fit lanes text short),
         room-enough lanes text 1785 (length (lines_of_densities ds ss (length ds))) (length (lines_of_held rs (length rs / 10)))
             (omega arith) (omega (arith, densities-count L text)) (omega (arith, records-count (notes L text))),
       )

@@ -1,5 +1,5 @@
 -- From what the calls leave of an accepted text to its sheet.
-use mathlib.Core.Path.{◌≡◌, ap, sym, ◌∙◌, subst}
+use mathlib.Core.Path.{◌≡◌, ap, sym, ◌∙◌}
 use mathlib.Core.List.{List}
 use Prim.Native.Nat.{ℕ, ◌+◌, ◌*◌, ◌≤◌}
 use native.Mathlib.Nat.{mul-le-mul_right, div-le_self}
@@ -20,7 +20,6 @@ use Rattle.definitions.specs.declared.ChartFigures.{ChartFigures}
 use Rattle.sheet.specs.declared.SheetFigures.{SheetFigures}
 use Rattle.sheet_answers.specs.Answers.{sheet_figures}
 use Rattle.chart_sheet.specs.Forms.{form_of, sheet_in_form}
-use Rattle.chart_sheet.proofs.Fits.{FiguresFit}
 use Rattle.chart_sheet.proofs.Counts.{densities-count, spacings-count}
 use Rattle.chart_sheet.proofs.Answering.{form-sheet, form-room}
 
@@ -103,5 +102,5 @@ module _ {lanes : ℕ} {text ds ss ns : List ℕ} {d s n : ℕ} {a : SheetFigure
   pub form-is : (form : ℕ) → form_to_put form ≡ sheet_in_form form (lanes_of lanes) text
   form-is form = whole form ∙ form-sheet form lanes text g.short
 
-  pub form-fits : (form : ℕ) → FiguresFit a → length (form_to_put form) + 300 ≤ 42 * (length text + 1) + 3000
-  form-fits form fit = rw (whole form) (form-room form lanes text g.short (subst FiguresFit g.answers fit))
+  pub form-fits : (form : ℕ) → length (form_to_put form) + 300 ≤ 42 * (length text + 1) + 3000
+  form-fits form = rw (whole form) (form-room form lanes text g.short)

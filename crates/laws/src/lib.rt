@@ -2,7 +2,11 @@
 // is not built.
 #![tactic(auto)]
 
-ghost use Rattle.std.specs.Prelude.{ℕ, List};
+ghost use Rattle.std.specs.Prelude.{ℕ, ◌+◌, ◌*◌, ◌^◌, ◌<◌, ◌≤◌, List, length, All};
+ghost use Rattle.definitions.specs.Sizes.{most_bytes};
+ghost use Rattle.definitions.specs.Lanes.{lanes_of};
+ghost use Rattle.definitions.specs.Judged.{judged_tally, flagged_tally};
+ghost use Rattle.definitions.specs.Entries.{measure_count, figures_of_chart, places_of_chart, figures_of_kept, places_of_kept, figures_of_timing, places_of_timing, places_of_measures, figures_of_last, places_of_last, places_of_judged};
 ghost use Rattle.definitions.specs.Damage.{Differ, DamageStays};
 ghost use Rattle.definitions.specs.Halving.{ReduceHalved};
 ghost use Rattle.definitions.specs.WriterMakes.{WriterMakes};
@@ -11,6 +15,8 @@ ghost use Rattle.definitions.specs.Consequences.{MeasuresAround, LaterNotes, Not
 ghost use Rattle.files.specs.Rest.{RestAnswered, RestInOrder};
 ghost use Rattle.sheet_print.specs.Example.{PrintExample};
 ghost use Rattle.sheet_json.specs.Example.{JsonExample};
+ghost use Rattle.chart_sheet.specs.Forms.{sheet_in_form};
+ghost use Rattle.chart_sheet.specs.Entry.{places_of_sheet};
 ghost use Rattle.laws.specs.Examples.{ExamplesHold, RuleExamplesHold, RequestExamplesHold, CardExample, BeatsRight, DamageMet, LastBeatStays};
 
 /// The papers' examples are what the definitions give.
@@ -71,6 +77,23 @@ pub fn last_beat_stays()
 /// A note record is what the writer makes of a note, and is read back as that note.
 pub fn writer_makes()
     ensures { WriterMakes }
+{}
+
+/// Every figure that a call answers of an accepted text is below 2 ^ 64, in its place among the 32.
+pub fn figures_fit()
+    ensures chart { (lanes : ℕ) (text : List ℕ) → length text ≤ most_bytes → All (λ (x : ℕ). x < 2 ^ 64) (places_of_chart (figures_of_chart (lanes_of lanes) text)) }
+    ensures kept { (lanes : ℕ) (text : List ℕ) → length text ≤ most_bytes → All (λ (x : ℕ). x < 2 ^ 64) (places_of_kept (figures_of_kept (lanes_of lanes) text)) }
+    ensures timing { (lanes : ℕ) (text : List ℕ) → length text ≤ most_bytes → All (λ (x : ℕ). x < 2 ^ 64) (places_of_timing (figures_of_timing (lanes_of lanes) text)) }
+    ensures measures { (lanes : ℕ) (text : List ℕ) → length text ≤ most_bytes → All (λ (x : ℕ). x < 2 ^ 64) (places_of_measures (measure_count (lanes_of lanes) text)) }
+    ensures last { (lanes : ℕ) (text : List ℕ) → length text ≤ most_bytes → All (λ (x : ℕ). x < 2 ^ 64) (places_of_last (figures_of_last (lanes_of lanes) text)) }
+    ensures judged { (lanes : ℕ) (text : List ℕ) → length text ≤ most_bytes → All (λ (x : ℕ). x < 2 ^ 64) (places_of_judged (judged_tally (lanes_of lanes) text)) }
+    ensures flagged { (lanes : ℕ) (text flags : List ℕ) → length text ≤ most_bytes → All (λ (x : ℕ). x < 2 ^ 64) (places_of_judged (flagged_tally (lanes_of lanes) flags text)) }
+    ensures sheet { (lanes form : ℕ) (text : List ℕ) → length text ≤ most_bytes → All (λ (x : ℕ). x < 2 ^ 64) (places_of_sheet form (lanes_of lanes) text) }
+{}
+
+/// Every form of its sheet has room in the slice that is asked for.
+pub fn sheet_has_room()
+    ensures { (lanes form : ℕ) (text : List ℕ) → length text ≤ most_bytes → length (sheet_in_form form (lanes_of lanes) text) ≤ 42 * (length text + 1) + 3000 }
 {}
 
 /// The data that is found in a file is a part of it.

@@ -3,7 +3,6 @@ use mathlib.Core.Path.{refl, ap, sym, ◌∙◌}
 use mathlib.Core.List.{List}
 use Prim.Native.Nat.{ℕ, ◌*◌}
 use native.Mathlib.Omega.{arith}
-use Rattle.std.proofs.Common.{rules}
 use lib.ListN.{length, set}
 use lib.Seq.{length-take-le}
 use Rattle.definitions.specs.Lists.{padded}
@@ -15,8 +14,6 @@ use Rattle.definitions.specs.Entries.{figures_of_chart, places_of_chart}
 use Rattle.sheet_answers.specs.Answers.{sheet_figures}
 use Rattle.slices.proofs.Zeroed.{zeroed-answer}
 use Rattle.chart_sheet.specs.Forms.{sheet_in_form}
-use Rattle.sheet.specs.Sheet.{named_fields}
-use Rattle.chart_sheet.proofs.Fits.{FiguresFit}
 use Rattle.chart_sheet.proofs.Writing.{Gathered, measures-fit, spacings-fit, notes-fit, notes-small, form-is, form-fits, chart_is}
 use Rattle.chart_sheet.proofs.write_sheet.Goals as goal
 use Rattle.chart_sheet.proofs.write_sheet.Goals.{After-sheet_answers-figures}
@@ -45,17 +42,6 @@ gathered c =
       densities_length = x.auto.densities;
       spacings_length = x.auto.spacing;
       notes_length = x.auto.notes;
-    }
-
--- each of the figures is a number of at most 64 bits
-fits : (c : After-sheet_answers-figures) → FiguresFit c.sheet_answers-figures.result
-unfolding named_fields
-fits c =
-    record {
-      heads = record { measures = omega arith; rows = omega arith; notes = omega arith; last_row = omega arith; arrows = omega arith; steps = omega arith };
-      main = record { fields = search rules };
-      kept = record { fields = search rules };
-      judged = record { fields = search rules };
     }
 
 pub sheet_answers-figures-requires : goal.sheet_answers-figures-requires
@@ -100,7 +86,7 @@ put_form-bytes-requires c =
     let ds = length-take-le _ _ (measures-fit g) in
     let ss = length-take-le _ _ (spacings-fit g) in
     record {
-      room = omega (arith, form-fits g c.args.form (fits (goal.at.put_form-bytes-requires c).After-sheet_answers-figures));
+      room = omega (arith, form-fits g c.args.form);
       densities_in_bounds = omega (arith, ds);
       spacing_in_bounds = omega (arith, ds, ss);
     }
