@@ -30,25 +30,19 @@ unfolding form_of sheet_in_form printed json_object sheet_figures
 form-sheet form lanes text short = rw (card-lines lanes text short)
 
 -- one of three lists has room where each has
-pick-room : (n : ℕ) (t u : Bool) (a b c : List ℕ) → length a + 300 ≤ n → length b + 300 ≤ n → length c + 300 ≤ n → length (cond t a (cond u b c)) + 300 ≤ n
+pick-room : (n : ℕ) (t u : Bool) (a b c : List ℕ) → length a ≤ n → length b ≤ n → length c ≤ n → length (cond t a (cond u b c)) ≤ n
 pick-room n true u a b c p q r = p
 pick-room n false true a b c p q r = q
 pick-room n false false a b c p q r = r
 
--- every form of them has room
-pub form-room : (form lanes : ℕ) (text : List ℕ) → length text ≤ most_bytes
-    → length (form_of form (sheet_figures (lanes_of lanes) text) (densities (lanes_of lanes) text) (spacings (lanes_of lanes) text) (records (notes (lanes_of lanes) text))) + 300
-    ≤ 42 * (length text + 1) + 3000
-unfolding form_of sheet_figures
-form-room form lanes text short =
+-- every form of the text's sheet has room
+pub sheet-room : (lanes form : ℕ) (text : List ℕ) → length text ≤ most_bytes → length (sheet_in_form form (lanes_of lanes) text) ≤ 42 * (length text + 1) + 3000
+unfolding sheet_in_form
+sheet-room lanes form text short =
     pick-room (42 * (length text + 1) + 3000) (eqb form 0) (eqb form 1) _ _ _
     (card-room lanes text short)
     (print-room lanes text short)
     (json-room lanes text short)
-
--- so every form of the text's sheet has room
-pub sheet-room : (lanes form : ℕ) (text : List ℕ) → length text ≤ most_bytes → length (sheet_in_form form (lanes_of lanes) text) ≤ 42 * (length text + 1) + 3000
-sheet-room lanes form text short = rw (← form-sheet form lanes text short) (omega (arith, form-room form lanes text short))
 
 -- and its bytes, as every figure that the call answers, are below 2 ^ 64
 pub sheet-fits : (lanes form : ℕ) (text : List ℕ) → length text ≤ most_bytes → AllFit (places_of_sheet form (lanes_of lanes) text)

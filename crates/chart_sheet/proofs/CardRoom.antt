@@ -20,7 +20,9 @@ use Rattle.sheet.specs.Sheet.{line_of_figure, line_of_measure, field_of_tail, li
 use Rattle.definitions.specs.declared.ChartFigures.{ChartFigures}
 use Rattle.sheet_answers.specs.Answers.{sheet_figures}
 use Rattle.chart_sheet.proofs.Lengths.{field-digit, field-short, field-length, listed-most}
+use Rattle.sheet.specs.Card.{sheet}
 use Rattle.chart_sheet.proofs.Fits.{HeadsFit, printed-fit}
+use Rattle.chart_sheet.proofs.Lines.{card-lines}
 use Rattle.chart_sheet.proofs.Counts.{measure-below, density-below, spacing-below, tail-below, reads, room-enough}
 
 -- a head line has a number of at most twenty digits
@@ -78,8 +80,7 @@ module _ (lanes : ℕ) (text : List ℕ) (short : length text ≤ most_bytes) wh
       let back = reads lanes text short k h in
       rw back.read (note-line back.note back.limits)
 
-  pub card-room : length (sheet_of (figures_of_chart (lanes_of lanes) text) (densities (lanes_of lanes) text) (spacings (lanes_of lanes) text) (records (notes (lanes_of lanes) text))) + 300
-      ≤ 42 * (length text + 1) + 3000
+  pub card-room : length (sheet (lanes_of lanes) text) ≤ 42 * (length text + 1) + 3000
   unfolding figures_of_chart sheet_figures
   card-room =
       let L = lanes_of lanes in
@@ -93,9 +94,10 @@ module _ (lanes : ℕ) (text : List ℕ) (short : length text ≤ most_bytes) wh
       (λ k h. measure-line k (get_or ds k 0) (get_or ss k 0) (measure-below lanes text short k h) (density-below lanes text short k) (spacing-below L text k))
       in
       let lines : length (lines_of_records rs n) ≤ 24 * n = listed-most (λ (k : ℕ). line_of_record (note_of_record rs k)) n 24 record-line in
-      omega (
+      rw (← card-lines lanes text short)
+      (omega (
         arith,
         sheet-parts f ds ss rs,
         room-enough lanes text (length (lines_of_head f)) (length (lines_of_measures ds ss (measure_count L text))) (length (lines_of_records rs n))
             (omega (arith, head-lines f (printed-fit lanes text short).heads)) measures (omega (arith, lines)),
-      )
+      ))

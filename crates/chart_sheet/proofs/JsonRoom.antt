@@ -22,6 +22,7 @@ use Rattle.definitions.specs.declared.ChartFigures.{ChartFigures}
 use Rattle.sheet.specs.Sheet.{field_count, field_at}
 use Rattle.sheet.specs.declared.SheetFigures.{SheetFigures}
 use Rattle.sheet_answers.specs.Answers.{sheet_figures}
+use Rattle.chart_sheet.specs.Forms.{json_object}
 use Rattle.sheet.proofs.Names.{field-name}
 use Rattle.sheet_json.specs.Json.{separator, named, figure, last_beat_of, json_heads, member, members, json_tallies, entry_of_density, entries_of_densities, truth, entry_of_spacing, entries_of_spacings, value_of_tail, value_of_note, entry_of_record, entries_of_records, json_lists, json_of}
 use Rattle.chart_sheet.proofs.Lengths.{number-length, number_short, field-digit, field-short, listed-most}
@@ -134,8 +135,8 @@ module _ (lanes : ℕ) (text : List ℕ) (short : length text ≤ most_bytes) wh
       let back = reads lanes text short k h in
       rw back.read (found-entry k back.note back.limits)
 
-  pub json-room : length (json_of (sheet_figures (lanes_of lanes) text) (densities (lanes_of lanes) text) (spacings (lanes_of lanes) text) (records (notes (lanes_of lanes) text))) + 300
-      ≤ 42 * (length text + 1) + 3000
+  pub json-room : length (json_object (lanes_of lanes) text) ≤ 42 * (length text + 1) + 3000
+  unfolding json_object
   json-room =
       let L = lanes_of lanes in
       let ds = densities L text in

@@ -21,6 +21,7 @@ use Rattle.sheet.specs.Sheet.{field_count, field_at}
 use Rattle.sheet.proofs.Names.{field-name}
 use Rattle.sheet.specs.declared.SheetFigures.{SheetFigures}
 use Rattle.sheet_answers.specs.Answers.{sheet_figures}
+use Rattle.chart_sheet.specs.Forms.{printed}
 use Rattle.definitions.specs.declared.ChartFigures.{ChartFigures}
 use Rattle.sheet_print.specs.Print.{line_of_count, three, line_of_last_beat, print_heads, line_of_tally, lines_of_tally, head_of_tally, print_tallies, start_of_line, entry_of_density, lines_of_densities, head_of_densities, word_of_held, line_of_held, held_line_of_record, lines_of_held, head_of_held, print_of}
 use Rattle.chart_sheet.proofs.Lengths.{number-length, aligned-length, aligned-short, listed-most}
@@ -132,8 +133,8 @@ module _ (lanes : ℕ) (text : List ℕ) (short : length text ≤ most_bytes) wh
       let back = reads lanes text short k h in
       rw back.read (held-line back.note back.note.tail back.limits back.limits.tail)
 
-  pub print-room : length (print_of (sheet_figures (lanes_of lanes) text) (densities (lanes_of lanes) text) (spacings (lanes_of lanes) text) (records (notes (lanes_of lanes) text))) + 300
-      ≤ 42 * (length text + 1) + 3000
+  pub print-room : length (printed (lanes_of lanes) text) ≤ 42 * (length text + 1) + 3000
+  unfolding printed
   print-room =
       let L = lanes_of lanes in
       let ds = densities L text in

@@ -21,7 +21,7 @@ use Rattle.sheet.specs.declared.SheetFigures.{SheetFigures}
 use Rattle.sheet_answers.specs.Answers.{sheet_figures}
 use Rattle.chart_sheet.specs.Forms.{form_of, sheet_in_form}
 use Rattle.chart_sheet.proofs.Counts.{densities-count, spacings-count}
-use Rattle.chart_sheet.proofs.Answering.{form-sheet, form-room}
+use Rattle.chart_sheet.proofs.Answering.{form-sheet, sheet-room}
 
 -- the answers of a text, and what is left in the slices of densities, spacings and notes
 pub record Gathered (lanes : ℕ) (text ds ss ns : List ℕ) (d s n : ℕ) (a : SheetFigures) : Type 0 where
@@ -102,5 +102,5 @@ module _ {lanes : ℕ} {text ds ss ns : List ℕ} {d s n : ℕ} {a : SheetFigure
   pub form-is : (form : ℕ) → form_to_put form ≡ sheet_in_form form (lanes_of lanes) text
   form-is form = whole form ∙ form-sheet form lanes text g.short
 
-  pub form-fits : (form : ℕ) → length (form_to_put form) + 300 ≤ 42 * (length text + 1) + 3000
-  form-fits form = rw (whole form) (form-room form lanes text g.short)
+  pub form-fits : (form : ℕ) → length (form_to_put form) ≤ 42 * (length text + 1) + 3000
+  form-fits form = rw (form-is form) (sheet-room lanes form text g.short)
