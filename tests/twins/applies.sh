@@ -1,6 +1,8 @@
 #!/bin/sh
-# Shows in a second, with no proof, that each must-fail edit and each twin (`run.sh`) can be applied, and that none is without the other. Each
-# old text must stand exactly once in its file, the pairs before it applied: so no line that an edit or a twin quotes is changed unseen. The gate
+# Shows in a second, with no proof, that each must-fail edit and each twin (`run.sh`) can be applied, that none is without the other, and that
+# each twin has its edit's form. Each old text must stand exactly once in its file, the pairs before it applied: so no line that an edit or a twin
+# quotes is changed unseen. Of its edit's form is a twin that names the same files and old texts in the same order, each with a new text of as many
+# statements and blocks: as many `let`, `;` (outside brackets) and `{`. One that cannot have it says why in a comment, its first line. The gate
 # begins with it, since proofs would find an edit that cannot be applied late, and no twin.
 # `sh tests/twins/applies.sh [CRATE..]` looks at the crates named, or at all. The last line is 'N passed, M failed'.
 set -eu
@@ -24,6 +26,11 @@ awk '
         print change ": " why
         bad = 1
     }
+    # How many statements and blocks a new text has. The `;` of an array ends no statement.
+    function shape(text) {
+        while (gsub(/\[[^][]*\]/, "", text)) continue
+        return gsub(/(^|[^A-Za-z0-9_])let /, "", text) " " gsub(/;/, "", text) " " gsub(/[{]/, "", text)
+    }
     # What the file before this line leaves to say, and its count.
     function done() {
         if (change == "") return
@@ -41,7 +48,9 @@ awk '
         crate = edit ? part[2] : part[3]
         name = part[4]
         sub(/[.][a-z]+$/, "", name)
-        if (edit) edits[crate "/" name]; else twins[crate "/" name]
+        both = crate "/" name
+        if (edit) edits[both]; else twins[both]
+        if (!edit && $0 ~ /^# ./) other[both]
     }
     index($0, "file: ") == 1 {
         file = after("file: ")
@@ -59,6 +68,8 @@ awk '
     index($0, "new: ") == 1 {
         open--
         pairs++
+        if (edit) form[both] = form[both] file "\n" old "\n" shape(after("new: ")) "\n"
+        else twin_form[both] = twin_form[both] file "\n" old "\n" shape(after("new: ")) "\n"
         at = index(text[file], old)
         rest = substr(text[file], at + length(old))
         if (!at) wrong("not in " file ": " old)
@@ -68,7 +79,12 @@ awk '
     END {
         done()
         for (name in edits) if (!(name in twins)) { print name ": no twin"; failed++ }
-        for (name in twins) if (!(name in edits)) { print name ": no edit"; failed++ }
+        for (name in twins) {
+            if (!(name in edits)) { print name ": no edit"; failed++ }
+            else if (form[name] == twin_form[name]) same++
+            else if (!(name in other)) { print name ": the twin has not the form of its edit, and does not say why"; failed++ }
+        }
+        print same + 0 " twins of their edit\047s form, " length(other) " that say why not"
         print passed + 0 " passed, " failed + 0 " failed"
         exit failed > 0
     }' $changes

@@ -1,7 +1,7 @@
 #!/bin/sh
 # Shows that the must-fail edits are refused for what they mean. Each edit crates/CRATE/must-fail/NAME.edit has a twin, tests/twins/CRATE/NAME.twin:
-# a change of the same form, in the same lines and in the same three words, that means the same as before. The prover must accept it. Where it does
-# not, the edit may be refused for its form alone, and shows nothing.
+# a change of the same lines, of the same form, that means the same as before. The prover must accept it. Where it does not, the edit may be
+# refused for its form alone, and shows nothing. What the same form is, and which twins have another, `applies.sh` says and looks at.
 # `sh tests/twins/run.sh [CRATE..]` tries those of the crates named, or of all, on a copy of the repository. The twins of a crate are tried
 # together, those that change the same text in turn, and in halves where they are refused together. The last line is 'N passed, M failed'.
 set -eu
