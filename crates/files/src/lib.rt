@@ -84,16 +84,14 @@ pub fn type_lanes(name: &[u8]) -> Option<usize>
 pub fn next_tag<'a>(text: &'a [u8], word: &[u8]) -> Option<&'a [u8]>
     ensures { option_copied result ≡ after_tag word.now text.now }
 {
-    let mut rest = text;
-    loop {
-        let line = lines::next_line(rest, 0);
+    let mut start = 0;
+    while start <= text.len() {
+        let line = lines::next_line(text, start);
         let bare = lines::skip_ws(line);
         if let Some(after) = bare.strip_prefix(word) {
-            return Some(&rest[line.len() - after.len()..]);
+            return Some(&text[start + line.len() - after.len()..]);
         }
-        if line.len() == rest.len() {
-            return None;
-        }
-        rest = &rest[line.len() + 1..];
+        start += line.len() + 1;
     }
+    None
 }

@@ -4,7 +4,6 @@
 pub mod words;
 
 ghost use Rattle.std.specs.Prelude.{◌≡◌, ◌==◌, ◌+◌, ◌≤◌, length, take, drop, position};
-ghost use Rattle.definitions.specs.Lists.{after};
 ghost use Rattle.definitions.specs.Lines.{is_blank_byte, trim};
 ghost use Rattle.definitions.specs.ReadBack.{without_cr};
 ghost use Rattle.lines.specs.Search.{count_of};
@@ -115,14 +114,9 @@ pub fn next_line(data: &[u8], start: usize) -> &[u8]
     }
 }
 
-/// A text's first line, without its newline, and what follows that newline: nothing where there is none.
-#[tactic(auto, using(crate::proofs::Search::found), unfolding(crate::specs::Lines::first_line))]
-pub fn split_line(text: &[u8]) -> (&[u8], &[u8])
-    ensures line { result.0.now ≡ first_line text.now }
-    ensures rest { result.1.now ≡ after 10 text.now }
+/// What of a text stands from `start` on: nothing past its end.
+pub fn text_from(data: &[u8], start: usize) -> &[u8]
+    ensures { result.now ≡ drop start «data».now }
 {
-    match find_byte(text, 10) {
-        Some(end) => (&text[..end], &text[end + 1..]),
-        None => (text, &text[..0]),
-    }
+    &data[start.min(data.len())..]
 }

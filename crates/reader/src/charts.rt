@@ -47,34 +47,32 @@ struct Ahead<'a> {
 fn look_ahead(text: &[u8], lanes: usize) -> Ahead<'_>
     ensures { YieldsFirstBy mark_of (λ s. s) (chart_marks lanes text.now) result.line (chart_marks lanes result.rest.now) }
 {
-    let mut rest = text;
-    while !rest.is_empty() {
-        let (line, below) = lines::split_line(rest);
+    let mut start = 0;
+    while start < text.len() {
+        let line = lines::next_line(text, start);
+        start += line.len() + 1;
         let bare = lines::skip_ws(line);
         match crate::line_kind(bare, lanes) {
             LineKind::Passed => {}
             LineKind::Comma => {
                 return Ahead {
                     line: Some(ChartLine::Comma),
-                    rest: below,
+                    rest: lines::text_from(text, start),
                 };
             }
-            LineKind::Semi => {
-                return Ahead {
-                    line: None,
-                    rest: &rest[..0],
-                };
-            }
+            LineKind::Semi => break,
             LineKind::Row => {
                 return Ahead {
                     line: Some(ChartLine::Row(&bare[..lanes])),
-                    rest: below,
+                    rest: lines::text_from(text, start),
                 };
             }
         }
-        rest = below;
     }
-    Ahead { line: None, rest }
+    Ahead {
+        line: None,
+        rest: &text[..0],
+    }
 }
 
 impl<'a> Iterator for ChartLines<'a> {

@@ -1,67 +1,72 @@
--- `files::next_tag` meets its contract: a line that begins with the tag has the first; below another line stands what stood from that line on.
-use Rattle.std.proofs.Common.{◌≡◌, Bool, Some, List, ℕ, ◌+◌, ◌-◌, ◌≤◌, ◌<◌, length, nat_eq, sym, ap, ◌∙◌, arith}
+-- `files::next_tag` meets its contract: a line that begins with the word has the tag; else the lines below it are looked at.
+use Rattle.std.proofs.Common.{◌≡◌, Bool, Option, Some, List, ℕ, ◌+◌, ◌-◌, ◌≤◌, length, nat_eq, option_map, sym, ap, ◌∙◌, arith}
 use lib.ListN.{take, drop}
 use Rattle.std.specs.Cmp.Lexicographic.{pointwise, nat_list_eq_equiv}
 use Rattle.std.specs.List.{starts_with}
+use Rattle.definitions.specs.SmFile.{Tag}
 use Rattle.definitions.proofs.ChartRows.{trim-short}
+use Rattle.lines.specs.Lines.{lines_from}
 use Rattle.lines.proofs.Trims.{part-all}
-use Rattle.files.specs.Tags.{after_tag}
-use Rattle.files.proofs.Tags.{after-here, after-next, after-last, line-short, below-less, below-part}
+use Rattle.lines.proofs.Lines.{lines_start, line-within}
+use Rattle.files.specs.Tags.{first_tag, after_tag}
+use Rattle.files.proofs.Tags.{tag-none, tag-here, tag-next}
 use Rattle.files.proofs.next_tag.Goals as goal
-use Rattle.files.proofs.next_tag.Goals.{In-Some, Else-line-rest}
+use Rattle.files.proofs.next_tag.Goals.{In-Some}
 
--- the tag stands on the line
-bare-short : (c : In-Some) → length c.skip_ws-bare.result.now ≤ length c.next_line-line.result.now
-bare-short c = rw c.skip_ws-bare.ensures (trim-short _)
+-- what follows the first tag of some lines of a text, which are those from a place on
+abbrev below : List ℕ → List ℕ → ℕ → List (List ℕ) → Option (List ℕ)
+below word text at lines = option_map (λ (t : Tag). drop t.end text) (first_tag word at lines)
 
-line-within : (c : In-Some) → length c.next_line-line.result.now ≤ length c.loop-after.rest.now
-line-within c = rw c.next_line-line.ensures (line-short _)
+pub loop-start-init : goal.loop-start-init
+unfolding after_tag
+loop-start-init c = ap (below c.args.word.now c.args.text.now 0) (sym (lines_start c.args.text.now))
+
+-- the line ends in the text, and the word stands on it
+ends : (c : In-Some) → length c.next_line-line.result.now + c.loop-start.start ≤ length c.args.text.now
+ends c = rw c.next_line-line.ensures (line-within c.args.text.now c.loop-start.start (omega (arith, c.loop-start-test.true)))
+
+fits : (c : In-Some) → length c.in-Some.after.now + length c.args.word.now ≤ length c.next_line-line.result.now
+fits c =
+    let short : length c.skip_ws-bare.result.now ≤ length c.next_line-line.result.now = rw c.skip_ws-bare.ensures (trim-short _) in
+    omega (arith, short, c.in-Some.ensures.cases)
 
 pub overflow_sub-result : goal.overflow_sub-result
-overflow_sub-result c = omega (arith, bare-short c, c.in-Some.ensures.cases)
-
-pub slice_bounds-result-start : goal.slice_bounds-result-start
-slice_bounds-result-start c = omega (arith, line-within c)
+overflow_sub-result c = omega (arith, fits c)
 
 pub slice_bounds-result-count : goal.slice_bounds-result-count
-slice_bounds-result-count c = omega (arith, line-within c)
+slice_bounds-result-count c = omega (arith, ends c)
 
--- what is left of a line without its tag is told by the place past the tag
-past : (a b w l : ℕ) → a + w ≡ b → b ≤ l → l - b + w ≡ l - a
-past a b w l e h = omega arith
+pub slice_bounds-result-start : goal.slice_bounds-result-start
+slice_bounds-result-start c = omega (arith, ends c)
 
 -- std's test of a prefix, and that of the definitions
 begun : {t : Bool} (s word : List ℕ) → pointwise nat_eq (take (length word) s) word ≡ t → starts_with nat_eq s word ≡ t
 begun s word e = sym (nat_list_eq_equiv.symm (take (length word) s) word) ∙ e
 
+-- the place past the tag, by what of the line is left
+past : (at a b w l : ℕ) → a + w ≡ b → b ≤ l → at + (l - b) + w ≡ at + l - a
+past at a b w l e h = omega arith
+
 pub returns-in-Some : goal.returns-in-Some
 returns-in-Some c =
+    let short : length c.skip_ws-bare.result.now ≤ length c.next_line-line.result.now = rw c.skip_ws-bare.ensures (trim-short _) in
+    let here =
+    tag-here c.args.word.now c.args.text.now c.loop-start.start _ _ (omega (arith, c.loop-start-test.true)) c.next_line-line.ensures c.skip_ws-bare.ensures
+    (begun c.skip_ws-bare.result.now c.args.word.now c.in-Some.ensures.cases.0) in
     rw part-all
-    (sym (c.loop-after.invariant ∙ after-here _ _ _ _ c.next_line-line.ensures c.skip_ws-bare.ensures (begun c.skip_ws-bare.result.now c.args.word.now c.in-Some.ensures.cases.0)
-    ∙ ap (λ n. Some (drop n c.loop-after.rest.now)) (past _ _ _ _ c.in-Some.ensures.cases.2 (bare-short (goal.at.returns-in-Some c).In-Some))))
+    (sym (c.loop-start.invariant
+    ∙ ap (option_map (λ (t : Tag). drop t.end c.args.text.now)) here
+    ∙ ap (λ n. Some (drop n c.args.text.now)) (past _ _ _ _ _ c.in-Some.ensures.cases.2 short)))
 
-pub returns-then-line-rest : goal.returns-then-line-rest
-returns-then-line-rest c =
-    sym (c.loop-after.invariant
-    ∙ after-last _ _ _ _ c.next_line-line.ensures c.skip_ws-bare.ensures (begun c.skip_ws-bare.result.now c.args.word.now c.in_default.ensures.cases) c.if-line-rest.true)
+pub loop-start-preserved : goal.loop-start-preserved
+loop-start-preserved c =
+    let next : c.loop-start.start + length c.next_line-line.result.now + 1 ≡ c.loop-start.start + (length c.next_line-line.result.now + 1) = omega arith in
+    c.loop-start.invariant
+    ∙ ap (option_map (λ (t : Tag). drop t.end c.args.text.now))
+    (tag-next c.args.word.now c.args.text.now c.loop-start.start _ _ (omega (arith, c.loop-start-test.true)) c.next_line-line.ensures c.skip_ws-bare.ensures
+    (begun c.skip_ws-bare.result.now c.args.word.now c.in_default.ensures.cases))
+    ∙ ap (λ n. below c.args.word.now c.args.text.now n (lines_from c.args.text.now n)) next
 
--- another line is below it
-more : (c : Else-line-rest) → length c.next_line-line.result.now < length c.loop-after.rest.now
-more c =
-    let short : length c.next_line-line.result.now ≤ length c.loop-after.rest.now = rw c.next_line-line.ensures (line-short _) in
-    omega (arith, short, c.if-line-rest.false)
-
-pub slice_bounds-rest-start : goal.slice_bounds-rest-start
-slice_bounds-rest-start c = omega (arith, more c)
-
-pub slice_bounds-rest-count : goal.slice_bounds-rest-count
-slice_bounds-rest-count c = omega (arith, more c)
-
-pub loop-after-smaller : goal.loop-after-smaller
-loop-after-smaller c = below-less _ _ (omega (arith, more (goal.at.loop-after-smaller c).Else-line-rest)) (below-part _ _ c.next_line-line.ensures)
-
-pub loop-after-preserved : goal.loop-after-preserved
-loop-after-preserved c =
-    c.loop-after.invariant
-    ∙ after-next _ _ _ _ c.next_line-line.ensures c.skip_ws-bare.ensures (begun c.skip_ws-bare.result.now c.args.word.now c.in_default.ensures.cases) (more (goal.at.loop-after-preserved c).Else-line-rest)
-    ∙ ap (after_tag c.args.word.now) (sym (below-part _ _ c.next_line-line.ensures))
+pub returns : goal.returns
+returns c =
+    sym (c.loop-start.invariant ∙ ap (option_map (λ (t : Tag). drop t.end c.args.text.now)) (tag-none c.args.word.now c.args.text.now c.loop-start.start (omega (arith, c.loop-start-test.false))))
