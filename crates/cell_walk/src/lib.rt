@@ -47,25 +47,21 @@ fn walk_blocking(at: CellAt, kind: Kind, slots: &mut [u8]) -> WalkCell
     requires { CellFits at slots.old }
     ensures { Blocking kind at slots.old slots.new result }
 {
-    let head = at.head;
-    let count = at.count;
-    row_notes::put_note(head, count, at.row, at.column, kind, slots);
-    let phantom = PhantomCell {
-        depth: at.depth,
-        heads: 0,
-        tails: 0,
-        met: 0 < at.depth,
-    };
-    let object = ObjectCell {
-        object: true,
-        depth: 0,
-    };
+    row_notes::put_note(at.head, at.count, at.row, at.column, kind, slots);
     WalkCell {
-        phantom,
-        object,
+        phantom: PhantomCell {
+            depth: at.depth,
+            heads: 0,
+            tails: 0,
+            met: 0 < at.depth,
+        },
+        object: ObjectCell {
+            object: true,
+            depth: 0,
+        },
         head: row_notes::NO_HEAD,
-        count: count + 1,
-        invalid: head != row_notes::NO_HEAD,
+        count: at.count + 1,
+        invalid: at.head != row_notes::NO_HEAD,
         kind: note_records::kind_number(kind),
     }
 }
@@ -75,25 +71,21 @@ fn walk_lower(at: CellAt, kind: Kind, slots: &mut [u8]) -> WalkCell
     requires { CellFits at slots.old }
     ensures { Lower kind at slots.old slots.new result }
 {
-    let head = at.head;
-    let count = at.count;
-    row_notes::put_note(head, count, at.row, at.column, kind, slots);
-    let phantom = PhantomCell {
-        depth: at.depth,
-        heads: 0,
-        tails: 0,
-        met: false,
-    };
-    let object = ObjectCell {
-        object: false,
-        depth: at.low,
-    };
+    row_notes::put_note(at.head, at.count, at.row, at.column, kind, slots);
     WalkCell {
-        phantom,
-        object,
+        phantom: PhantomCell {
+            depth: at.depth,
+            heads: 0,
+            tails: 0,
+            met: false,
+        },
+        object: ObjectCell {
+            object: false,
+            depth: at.low,
+        },
         head: row_notes::NO_HEAD,
-        count: count + 1,
-        invalid: head != row_notes::NO_HEAD,
+        count: at.count + 1,
+        invalid: at.head != row_notes::NO_HEAD,
         kind: note_records::kind_number(kind),
     }
 }
@@ -103,25 +95,21 @@ fn walk_opening(at: CellAt, kind: Kind, slots: &mut [u8]) -> WalkCell
     requires { CellFits at slots.old }
     ensures { Opening kind at slots.old slots.new result }
 {
-    let head = at.head;
-    let count = at.count;
-    row_notes::put_note(head, count, at.row, at.column, kind, slots);
-    let phantom = PhantomCell {
-        depth: at.depth + 1,
-        heads: 1,
-        tails: 0,
-        met: false,
-    };
-    let object = ObjectCell {
-        object: false,
-        depth: at.low + 1,
-    };
+    row_notes::put_note(at.head, at.count, at.row, at.column, kind, slots);
     WalkCell {
-        phantom,
-        object,
-        head: count as u32,
-        count: count + 1,
-        invalid: head != row_notes::NO_HEAD,
+        phantom: PhantomCell {
+            depth: at.depth + 1,
+            heads: 1,
+            tails: 0,
+            met: false,
+        },
+        object: ObjectCell {
+            object: false,
+            depth: at.low + 1,
+        },
+        head: at.count as u32,
+        count: at.count + 1,
+        invalid: at.head != row_notes::NO_HEAD,
         kind: note_records::kind_number(kind),
     }
 }
@@ -132,19 +120,17 @@ fn walk_closing(at: CellAt, slots: &mut [u8]) -> WalkCell
     ensures { Closing at slots.old slots.new result }
 {
     row_notes::end_note(at.head, at.row, slots);
-    let phantom = PhantomCell {
-        depth: at.depth.saturating_sub(1),
-        heads: 0,
-        tails: 1,
-        met: false,
-    };
-    let object = ObjectCell {
-        object: 0 < at.low,
-        depth: at.low.saturating_sub(1),
-    };
     WalkCell {
-        phantom,
-        object,
+        phantom: PhantomCell {
+            depth: at.depth.saturating_sub(1),
+            heads: 0,
+            tails: 1,
+            met: false,
+        },
+        object: ObjectCell {
+            object: 0 < at.low,
+            depth: at.low.saturating_sub(1),
+        },
         head: row_notes::NO_HEAD,
         count: at.count,
         invalid: false,
@@ -156,14 +142,13 @@ fn walk_closing(at: CellAt, slots: &mut [u8]) -> WalkCell
 fn walk_unnoted(at: CellAt, object: ObjectCell) -> WalkCell
     ensures { Unnoted at object result }
 {
-    let phantom = PhantomCell {
-        depth: at.depth,
-        heads: 0,
-        tails: 0,
-        met: false,
-    };
     WalkCell {
-        phantom,
+        phantom: PhantomCell {
+            depth: at.depth,
+            heads: 0,
+            tails: 0,
+            met: false,
+        },
         object,
         head: at.head,
         count: at.count,
@@ -186,21 +171,25 @@ pub fn walk_cell(b: u8, at: CellAt, slots: &mut [u8]) -> WalkCell
         Cell::Lift => walk_blocking(at, Kind::Lift, slots),
         Cell::Fake => walk_blocking(at, Kind::Fake, slots),
         Cell::KeySound => {
-            let object = ObjectCell {
-                object: true,
-                depth: 0,
-            };
-            walk_unnoted(at, object)
+            walk_unnoted(
+                at,
+                ObjectCell {
+                    object: true,
+                    depth: 0,
+                },
+            )
         }
         Cell::LowerMine => walk_lower(at, Kind::Mine, slots),
         Cell::LowerLift => walk_lower(at, Kind::Lift, slots),
         Cell::LowerFake => walk_lower(at, Kind::Fake, slots),
         Cell::Empty => {
-            let object = ObjectCell {
-                object: false,
-                depth: at.low,
-            };
-            walk_unnoted(at, object)
+            walk_unnoted(
+                at,
+                ObjectCell {
+                    object: false,
+                    depth: at.low,
+                },
+            )
         }
     }
 }

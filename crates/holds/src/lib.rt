@@ -12,6 +12,9 @@ ghost use Rattle.holds.specs.Tracks.{marked, judged_head, Reached, CellsTracked,
 use definitions::DepthEffect;
 use taps::Taps;
 
+/// How many open heads a column keeps.
+const HOLD_STACK_CAP: u32 = 8;
+
 /// The open heads of ten columns: column c has the places 8 * c to 8 * c + 7, and `depths` says how many of them are in use. `busy` has the
 /// columns with an open head as a mask.
 #[derive(Drop)]
@@ -40,8 +43,7 @@ impl Tracker {
         ensures { TrackStepped DepthEffect.Opens row column self.old self.new [] }
     {
         let depth = self.depths[column];
-        let room = depth < 8;
-        if room {
+        if depth < HOLD_STACK_CAP {
             let at = 8 * column + depth as usize;
             self.heads[at] = row;
             self.depths[column] = depth + 1;

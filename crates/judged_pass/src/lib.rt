@@ -123,9 +123,5 @@ pub fn judge_clean(data: &[u8], lanes: Lanes) -> Option<ArrowStats>
     for row in reader::back::back_rows(data, lanes, true) {
         rows.add_row(row, &table)?;
     }
-    let heads_are_open = rows.active != 0;
-    if heads_are_open {
-        return None;
-    }
-    Some(rows.stats)
+    (rows.active == 0).then_some(rows.stats)
 }

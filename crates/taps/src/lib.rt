@@ -114,8 +114,7 @@ fn line_number(row: &[u8]) -> u32
     if n == 8 {
         return number8(row);
     }
-    let is_ten = n == 10;
-    if is_ten {
+    if n == 10 {
         return number10(row);
     }
     NO_MASK

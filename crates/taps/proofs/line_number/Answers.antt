@@ -28,10 +28,10 @@ pub returns-then-n-eq8 : goal.returns-then-n-eq8
 returns-then-n-eq8 c =
     told c.args.row.now 8 c.number8.result c.number8.ensures c.if-n-eq8.true (ap has_mask c.if-n-eq8.true)
 
-pub returns-then-is_ten : goal.returns-then-is_ten
-returns-then-is_ten c =
-    subst (Tells c.number10.result) (line-mask c.args.row.now (ap has_mask c.if-is_ten.true)) c.number10.ensures
+pub returns-then-n-eq10 : goal.returns-then-n-eq10
+returns-then-n-eq10 c =
+    subst (Tells c.number10.result) (line-mask c.args.row.now (ap has_mask c.if-n-eq10.true)) c.number10.ensures
 
 pub returns : goal.returns
 returns c =
-    tells-number (mask_of_line c.args.row.now) 65536 (ap number_of (line_other c.args.row.now (no-width (length c.args.row.now) c.if-n.false c.if-n-eq8.false c.if-is_ten.false)))
+    tells-number (mask_of_line c.args.row.now) 65536 (ap number_of (line_other c.args.row.now (no-width (length c.args.row.now) c.if-n.false c.if-n-eq8.false c.if-n-eq10.false)))

@@ -2,8 +2,8 @@
 use Rattle.holds.proofs.Stacks.{step-opens, step-full}
 use Rattle.holds.proofs.Tracker.push.Goals as goal
 
-pub returns-then-room : goal.returns-then-room
-returns-then-room c = step-opens _ _ c.requires _ c.if-room.true
+pub returns-then-depth-lt-HOLD_STACK_CAP : goal.returns-then-depth-lt-HOLD_STACK_CAP
+returns-then-depth-lt-HOLD_STACK_CAP c = step-opens _ _ c.requires _ c.if-depth-lt-HOLD_STACK_CAP.true
 
-pub returns-else-room : goal.returns-else-room
-returns-else-room c = step-full _ _ c.requires _ c.if-room.false
+pub returns-else-depth-lt-HOLD_STACK_CAP : goal.returns-else-depth-lt-HOLD_STACK_CAP
+returns-else-depth-lt-HOLD_STACK_CAP c = step-full _ _ c.requires _ c.if-depth-lt-HOLD_STACK_CAP.false
