@@ -62,12 +62,15 @@ fn nth_block(file: &[u8], k: usize) -> Option<Block<'_>>
     blocks(file).nth(k)
 }
 
-// The data of a block, by its text: what follows its five fields.
+// How many fields of a block stand before its data.
+const FIELDS: usize = 5;
+
+// The data of a block, by its text: what follows its fields.
 fn note_data(text: &[u8]) -> Option<&[u8]>
     ensures { option_copied result ≡ data_part text.now }
 {
     let mut rest = text;
-    for passed in 0..5usize {
+    for _ in 0..FIELDS {
         rest = crate::after_byte(rest, b':')?;
     }
     Some(rest)

@@ -25,13 +25,11 @@ loop-start-init c = ap (below c.args.word.now c.args.text.now 0) (sym (lines_sta
 ends : (c : In-Some) → length c.next_line-line.result.now + c.loop-start.start ≤ length c.args.text.now
 ends c = rw c.next_line-line.ensures (line-within c.args.text.now c.loop-start.start (omega (arith, c.loop-start-test.true)))
 
-fits : (c : In-Some) → length c.in-Some.after.now + length c.args.word.now ≤ length c.next_line-line.result.now
-fits c =
-    let short : length c.skip_ws-bare.result.now ≤ length c.next_line-line.result.now = rw c.skip_ws-bare.ensures (trim-short _) in
-    omega (arith, short, c.in-Some.ensures.cases)
+short : (c : In-Some) → length c.skip_ws-bare.result.now ≤ length c.next_line-line.result.now
+short c = rw c.skip_ws-bare.ensures (trim-short _)
 
 pub overflow_sub-result : goal.overflow_sub-result
-overflow_sub-result c = omega (arith, fits c)
+overflow_sub-result c = omega (arith, short c, c.in-Some.ensures.cases)
 
 pub slice_bounds-result-count : goal.slice_bounds-result-count
 slice_bounds-result-count c = omega (arith, ends c)
@@ -49,14 +47,13 @@ past at a b w l e h = omega arith
 
 pub returns-in-Some : goal.returns-in-Some
 returns-in-Some c =
-    let short : length c.skip_ws-bare.result.now ≤ length c.next_line-line.result.now = rw c.skip_ws-bare.ensures (trim-short _) in
     let here =
     tag-here c.args.word.now c.args.text.now c.loop-start.start _ _ (omega (arith, c.loop-start-test.true)) c.next_line-line.ensures c.skip_ws-bare.ensures
     (begun c.skip_ws-bare.result.now c.args.word.now c.in-Some.ensures.cases.0) in
     rw part-all
     (sym (c.loop-start.invariant
     ∙ ap (option_map (λ (t : Tag). drop t.end c.args.text.now)) here
-    ∙ ap (λ n. Some (drop n c.args.text.now)) (past _ _ _ _ _ c.in-Some.ensures.cases.2 short)))
+    ∙ ap (λ n. Some (drop n c.args.text.now)) (past _ _ _ _ _ c.in-Some.ensures.cases.2 (short (goal.at.returns-in-Some c).In-Some))))
 
 pub loop-start-preserved : goal.loop-start-preserved
 loop-start-preserved c =

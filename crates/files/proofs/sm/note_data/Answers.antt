@@ -3,17 +3,17 @@ use Rattle.std.proofs.Common.{◌≡◌, ◌+◌, ◌-◌, suc, sym, ap, ◌∙�
 use Rattle.files.proofs.Fields.{part_from, part-all, part-few, part-next}
 use Rattle.files.proofs.sm.note_data.Goals as goal
 
-pub loop-passed-init : goal.loop-passed-init
-loop-passed-init c = part-all _
+pub loop-init : goal.loop-init
+loop-init c = part-all _
 
 pub returns-in_err-rest : goal.returns-in_err-rest
 returns-in_err-rest c =
     ap option_copied c.from_residual.ensures
-    ∙ sym (c.loop-passed.invariant ∙ part-few (5 - c.loop-passed.passed) _ (omega arith) (sym c.after_byte.ensures ∙ ap option_copied (c.in_err-rest.was)))
+    ∙ sym (c.loop.invariant ∙ part-few (5 - c.loop.counter) _ (omega arith) (sym c.after_byte.ensures ∙ ap option_copied (c.in_err-rest.was)))
 
-pub loop-passed-preserved : goal.loop-passed-preserved
-loop-passed-preserved c =
-    let one : 5 - c.loop-passed.passed ≡ suc (5 - (c.loop-passed.passed + 1)) = omega arith in
-    c.loop-passed.invariant
-    ∙ ap (λ n. part_from n c.loop-passed.rest.now) one
+pub loop-preserved : goal.loop-preserved
+loop-preserved c =
+    let one : 5 - c.loop.counter ≡ suc (5 - (c.loop.counter + 1)) = omega arith in
+    c.loop.invariant
+    ∙ ap (λ n. part_from n c.loop.rest.now) one
     ∙ part-next _ _ _ (sym c.after_byte.ensures ∙ ap option_copied (c.in_ok-rest.was))

@@ -4,5 +4,5 @@ use Rattle.files.specs.Sm.{data_part}
 use Rattle.files.proofs.Fields.{part_from}
 use Rattle.files.proofs.sm.note_data.Given as goal
 
-abbrev pub invariant-loop-passed : goal.invariant-loop-passed
-invariant-loop-passed l = data_part l.text ≡ part_from (5 - l.passed) l.rest
+abbrev pub invariant-loop : goal.invariant-loop
+invariant-loop l = data_part l.text ≡ part_from (5 - l.counter) l.rest
