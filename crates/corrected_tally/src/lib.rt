@@ -86,7 +86,7 @@ pub fn corrected_stats(
     ensures value { (rows : List Row) → Counts lanes.count rows p → stats ≡ tally rows → result ≡ corrected lanes.count rows (rows_back trim lanes.count text.now) }
     ensures work_after { work.new ≡ replicate (length work.old) 0 }
 {
-    if phantoms::is_corrected(p, lanes) {
+    if phantoms::is_corrected(p, lanes.count) {
         let anew = recalc_phantom_stats(text, lanes, trim, work);
         row_tally::with_steps(anew, stats.total_steps)
     } else {

@@ -54,7 +54,7 @@ impl Draft {
         ensures drafted { (done : List (List Row)) (cur : List Row) → Drafted lanes.count self.old text.old done cur → Drafted lanes.count self.new text.new done (reduce cur) }
         ensures no_more { (self.new.out ≤ self.old.out) × (self.new.rows ≤ self.old.rows) × (self.new.midx ≡ self.old.midx) }
     {
-        let kept = reduction::reduce_output_measure(text, self.start, self.rows, lanes);
+        let kept = reduction::reduce_output_measure(text, self.start, self.rows, lanes.count);
         self.out = self.start + kept * (lanes.count + 1);
         self.rows = kept;
     }

@@ -7,7 +7,7 @@ ghost use Rattle.definitions.specs.Lines.{Row};
 ghost use Rattle.definitions.specs.Correction.{corrects};
 ghost use Rattle.phantoms.specs.Phantoms.{phantom_at, Counts, CellCounted};
 
-use definitions::{DepthEffect, Lanes};
+use definitions::DepthEffect;
 
 /// The phantom depth of each column, of up to ten; the heads and tails so far; and whether a 1, M, L or F met a phantom depth.
 #[derive(Clone, Copy)]
@@ -73,15 +73,15 @@ pub fn phantom_cell(b: u8, depth: u32) -> PhantomCell
 }
 
 // Whether a phantom depth of the first columns is left over.
-fn is_left_over(p: Phantoms, lanes: Lanes) -> bool
-    ensures { result ≡ some_column lanes.count (λ c. nat_lt 0 (phantom_at p c)) }
+fn is_left_over(p: Phantoms, lanes: usize) -> bool
+    ensures { result ≡ some_column lanes (λ c. nat_lt 0 (phantom_at p c)) }
 {
-    p.depths[..lanes.count].iter().any(|&depth| 0 < depth)
+    p.depths.iter().take(lanes).any(|&depth| 0 < depth)
 }
 
 /// Whether the tally of the rows that were counted, of so many lanes, is counted anew.
-pub fn is_corrected(p: Phantoms, lanes: Lanes) -> bool
-    ensures { (rows : List Row) → Counts lanes.count rows p → result ≡ corrects lanes.count rows }
+pub fn is_corrected(p: Phantoms, lanes: usize) -> bool
+    ensures { (rows : List Row) → Counts lanes rows p → result ≡ corrects lanes rows }
 {
     (0 < p.heads) & ((p.heads != p.tails) | p.met | is_left_over(p, lanes))
 }

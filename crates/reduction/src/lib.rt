@@ -9,7 +9,6 @@ ghost use Rattle.definitions.specs.Figures.{row_text};
 ghost use Rattle.definitions.specs.Reduction.{all_zero, stride, reduce};
 ghost use Rattle.reduction.specs.Rows.{rows_at, compacted, RowsStand, Reduced};
 
-use definitions::Lanes;
 use lines::words;
 
 // Whether every byte of a row is `0`, byte by byte.
@@ -49,8 +48,8 @@ pub fn measure_reduce_shift(
     width: usize,
     lanes: usize,
 ) -> usize
-    requires lanes_nonzero { (0 < lanes) × (lanes ≤ width) }
-    requires width_in_bounds { start + rows * width ≤ length text.now }
+    requires width { (0 < width) × (lanes ≤ width) }
+    requires in_text { start + rows * width ≤ length text.now }
     ensures result_value { 2 ^ result ≡ stride (rows_at width lanes rows (drop start text.now)) }
     ensures result_value_2 { rows % 2 ^ result ≡ 0 }
 {
@@ -146,32 +145,33 @@ pub fn compact_output_rows(
     kept
 }
 
-// Search and compaction of `rows` rows from `start` on, one every `width` bytes. A measure without rows stays as it is.
-fn reduce_measure(text: &mut [u8], start: usize, rows: usize, width: usize, lanes: usize) -> usize
-    requires lanes_nonzero { (0 < lanes) × (lanes ≤ width) }
-    requires width_in_bounds { start + rows * width ≤ length text.old }
-    ensures value { result ≡ length (reduce (rows_at width lanes rows (drop start text.old))) }
-    ensures text_after { text.new ≡ compacted width rows (stride (rows_at width lanes rows (drop start text.old))) start text.old }
+// Search and compaction of `rows` rows from `start` on, each with `after` bytes after its cells. A measure without rows stays as it is.
+fn reduce_measure(text: &mut [u8], start: usize, rows: usize, lanes: usize, after: usize) -> usize
+    requires wide { 0 < lanes + after }
+    requires in_text { start + rows * (lanes + after) ≤ length text.old }
+    ensures value { result ≡ length (reduce (rows_at (lanes + after) lanes rows (drop start text.old))) }
+    ensures text_after { text.new ≡ compacted (lanes + after) rows (stride (rows_at (lanes + after) lanes rows (drop start text.old))) start text.old }
 {
     if rows == 0 {
         return 0;
     }
+    let width = lanes + after;
     let shift = measure_reduce_shift(text, start, rows, width, lanes);
     compact_output_rows(text, start, rows, shift, width)
 }
 
-/// A measure minimised in the text that is written: each row has byte 10 after it.
-pub fn reduce_output_measure(text: &mut [u8], start: usize, rows: usize, lanes: Lanes) -> usize
-    requires { start + rows * (lanes.count + 1) ≤ length text.old }
-    ensures { (rs : List Row) → RowsStand row_text lanes.count rows start rs text.old → Reduced row_text start rs text.old result text.new }
+/// A measure minimised in the text that is written: each row has byte 10 after it. Rows may be of any width.
+pub fn reduce_output_measure(text: &mut [u8], start: usize, rows: usize, lanes: usize) -> usize
+    requires { start + rows * (lanes + 1) ≤ length text.old }
+    ensures { (rs : List Row) → RowsStand row_text lanes rows start rs text.old → Reduced row_text start rs text.old result text.new }
 {
-    reduce_measure(text, start, rows, lanes.count + 1, lanes.count)
+    reduce_measure(text, start, rows, lanes, 1)
 }
 
-/// A measure minimised whose rows stand back to back.
-pub fn reduce_rows(text: &mut [u8], start: usize, rows: usize, lanes: Lanes) -> usize
-    requires { start + rows * lanes.count ≤ length text.old }
-    ensures { (rs : List Row) → RowsStand joined lanes.count rows start rs text.old → Reduced joined start rs text.old result text.new }
+/// A measure minimised whose rows stand back to back. They may be of any width but none: rows of no cell are as many as one likes.
+pub fn reduce_rows(text: &mut [u8], start: usize, rows: usize, lanes: usize) -> usize
+    requires { (0 < lanes) × (start + rows * lanes ≤ length text.old) }
+    ensures { (rs : List Row) → RowsStand joined lanes rows start rs text.old → Reduced joined start rs text.old result text.new }
 {
-    reduce_measure(text, start, rows, lanes.count, lanes.count)
+    reduce_measure(text, start, rows, lanes, 0)
 }

@@ -64,7 +64,7 @@ impl TimingPass {
         ensures timed { (done : List (List Row)) (cur : List Row) → Timed lanes.count self.old text.old beats.old done cur → Timed lanes.count self.new text.new beats.new (done ++ (reduce cur ∷ [])) [] }
         ensures no_more { (self.new.out ≤ self.old.out) × (self.new.kept ≤ self.old.kept + self.old.rows) }
     {
-        let kept = reduction::reduce_rows(text, self.start, self.rows, lanes);
+        let kept = reduction::reduce_rows(text, self.start, self.rows, lanes.count);
         let end = self.start + kept * lanes.count;
         let count = kept as u32;
         beats::append_row_beats(beats, self.kept, self.midx, count);

@@ -3,4 +3,4 @@ use Rattle.reduction.proofs.Forms.{in-text, form-reduced}
 use Rattle.reduction.proofs.reduce_output_measure.Goals as goal
 
 pub returns : goal.returns
-returns c rs h = form-reduced (in-text c.args.lanes.count) h (c.reduce_measure.ensures.value, c.reduce_measure.ensures.text_after)
+returns c rs h = form-reduced (in-text c.args.lanes) h (c.reduce_measure.ensures.value, c.reduce_measure.ensures.text_after)
