@@ -70,17 +70,15 @@ impl Walk {
         ensures counting_stays { counting self.new ≡ counting self.old }
         ensures columns_stay { self.new.columns ≡ self.old.columns }
     {
-        let last = self.run.last;
-        let measure = self.midx;
-        self.run.last = 0;
-        self.midx += 1;
-        if first < last {
+        if first < self.run.last {
             self.found = Some(RowPlace {
-                measure,
-                row: last - 1 - first,
+                measure: self.midx,
+                row: self.run.last - 1 - first,
                 rows: self.run.row - first,
             });
         }
+        self.run.last = 0;
+        self.midx += 1;
     }
 
     /// The rows of a measure that stand in a text from `start` on, each with a newline byte after it; for the notes the measure then ends.
@@ -103,7 +101,7 @@ impl Walk {
         let lanes = table.lanes.count;
         let first = self.run.row;
         let mut run = self.run;
-        'walk: loop {
+        loop {
             tap_walk::walk_taps(
                 &mut run,
                 &self.columns,
@@ -150,9 +148,8 @@ impl Walk {
     pub fn phantoms(&self) -> Phantoms
         ensures { result ≡ (counting self.now).phantoms }
     {
-        let depths = self.columns.depths;
         Phantoms {
-            depths,
+            depths: self.columns.depths,
             heads: self.run.marks.heads,
             tails: self.run.marks.tails,
             met: self.run.marks.met,
@@ -163,9 +160,8 @@ impl Walk {
     pub fn scratch(&self) -> ChartNotesScratch
         ensures { result ≡ (noting self.now).scratch }
     {
-        let hold_heads = self.columns.hold_heads;
         ChartNotesScratch {
-            hold_heads,
+            hold_heads: self.columns.hold_heads,
             count: self.run.count,
             row_index: self.run.row,
             has_invalid: self.run.marks.invalid,

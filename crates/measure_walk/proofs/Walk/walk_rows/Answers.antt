@@ -25,8 +25,8 @@ use Rattle.measure_walk.proofs.Walk.walk_rows.Goals.{After-walk_taps}
 none : (n : ℕ) (ms : List Row) → [] ≡ take (n - n) ms
 none n ms = let zero : 0 ≡ n - n = omega arith in ap (λ i. take i ms) zero
 
-pub walk-init : goal.walk-init
-walk-init c =
+pub loop-run-init : goal.loop-run-init
+loop-run-init c =
     let n = c.args.self.now.run.row in
     let ms = rows_of c.args.table.now.lanes.count c.args.rows c.args.text.now c.args.start in (
       omega arith,
@@ -39,11 +39,11 @@ walk-init c =
 
 pub walk_taps-requires : goal.walk_taps-requires
 walk_taps-requires c =
-    let v = c.walk.invariant in
+    let v = c.loop-run.invariant in
     record {
       in_text = (c.requires.in_text, v.0, v.1);
       running = record {
-        rest = rest c.walk.self;
+        rest = rest c.loop-run.self;
         walking = walked_on _ _ _ _ _ _ _ _ 0 _ c.requires.walking v.2 v.4 v.5;
       };
     }
@@ -61,11 +61,11 @@ number c = c.walk_taps.new.run.row - c.args.self.now.run.row
 -- what is walked
 walked : (c : After-walk_taps) →
     let t = c.walk_taps in
-    Walking c.args.table.now.lanes.count (counting_of (rest c.walk.self) c.walk.self.columns t.new.run) (noting_of c.args.self.now.run.row (rest c.walk.self) c.walk.self.columns t.new.run) t.new.slots (all c) (number c)
+    Walking c.args.table.now.lanes.count (counting_of (rest c.loop-run.self) c.loop-run.self.columns t.new.run) (noting_of c.args.self.now.run.row (rest c.loop-run.self) c.loop-run.self.columns t.new.run) t.new.slots (all c) (number c)
 walked c =
     let t = c.walk_taps in
-    let v = c.walk.invariant in
-    walked_on _ _ _ _ _ _ _ _ 0 _ c.requires.walking (t.auto.slots ∙ v.2) (λ done x. t.ensures.counted (rest c.walk.self) done (v.4 done x)) (λ done x. t.ensures.noted_rows (rest c.walk.self) done (v.5 done x))
+    let v = c.loop-run.invariant in
+    walked_on _ _ _ _ _ _ _ _ 0 _ c.requires.walking (t.auto.slots ∙ v.2) (λ done x. t.ensures.counted (rest c.loop-run.self) done (v.4 done x)) (λ done x. t.ensures.noted_rows (rest c.loop-run.self) done (v.5 done x))
 
 -- ---- no row is left
 
@@ -74,18 +74,18 @@ end_rows-requires c =
     let k = (goal.at.end_rows-requires c).After-walk_taps in
     let h : number k ≤ length (all k) = rw rows-length (omega (arith, c.walk_taps.ensures.onwards.1)) in
     let ready = measure-ready _ _ _ _ _ _ (walked k) h in
-    (omega (arith, c.walk_taps.ensures.onwards.0, c.walk.invariant.0), ready.0, ready.1)
+    (omega (arith, c.walk_taps.ensures.onwards.0, c.loop-run.invariant.0), ready.0, ready.1)
 
 pub returns-then-rows-i : goal.returns-then-rows-i
 returns-then-rows-i c =
     let k = (goal.at.returns-then-rows-i c).After-walk_taps in
-    let v = c.walk.invariant in
+    let v = c.loop-run.invariant in
     let t = c.walk_taps.ensures in
     let whole = take_all (number k) (all k) (rw rows-length c.if-rows-i.true) in
     record {
       ten = rw c.end_rows.ensures.columns_stay v.3;
-      counted = λ done x. rw c.end_rows.ensures.counting_stays (subst (Counted c.args.table.now.lanes.count _ done) whole (t.counted (rest k.walk.self) done (v.4 done x)));
-      noted = λ done x. c.end_rows.ensures.noted c.args.table.now.lanes.count _ done (all k) (subst (NotedRows c.args.table.now.lanes.count _ _ done) whole (t.noted_rows (rest k.walk.self) done (v.5 done x)));
+      counted = λ done x. rw c.end_rows.ensures.counting_stays (subst (Counted c.args.table.now.lanes.count _ done) whole (t.counted (rest k.loop-run.self) done (v.4 done x)));
+      noted = λ done x. c.end_rows.ensures.noted c.args.table.now.lanes.count _ done (all k) (subst (NotedRows c.args.table.now.lanes.count _ _ done) whole (t.noted_rows (rest k.loop-run.self) done (v.5 done x)));
     }
 
 -- ---- the next row is not ordinary
@@ -102,27 +102,27 @@ walk_cells-s-requires c =
     let row = part L a.text.now at in
     let wide = row-wide L a.rows a.text.now a.start c.requires.in_text (number k) at c.if-rows-i.false refl in
     let ready = note-ready _ _ _ _ _ _ (walked k) h row wide narrow in
-    cells-asked a.self.now.run.row (rest k.walk.self) c.walk.self.columns c.walk_taps.new.run row _ few.0 few.1 ready c.walk.invariant.3
+    cells-asked a.self.now.run.row (rest k.loop-run.self) c.loop-run.self.columns c.walk_taps.new.run row _ few.0 few.1 ready c.loop-run.invariant.3
 
 pub add_cells-requires : goal.add_cells-requires
 add_cells-requires c =
     let k = (goal.at.add_cells-requires c).After-walk_taps in
     let h : number k < length (all k) = rw rows-length c.if-rows-i.false in
     let few = count-few _ _ _ _ _ _ (walked k) h in
-    (stats-few (rest k.walk.self) c.walk.self.columns c.walk_taps.new.run few.0 few.1, c.walk_cells-s.ensures.under, few.0)
+    (stats-few (rest k.loop-run.self) c.loop-run.self.columns c.walk_taps.new.run few.0 few.1, c.walk_cells-s.ensures.under, few.0)
 
-pub walk-preserved : goal.walk-preserved
-walk-preserved c =
-    let k = (goal.at.walk-preserved c).After-walk_taps in
+pub loop-run-preserved : goal.loop-run-preserved
+loop-run-preserved c =
+    let k = (goal.at.loop-run-preserved c).After-walk_taps in
     let a = c.args in
     let L = c.args.table.now.lanes.count in
     let narrow = c.args.table.now.lanes.within.1 in
-    let v = c.walk.invariant in
-    let columns = c.walk.self.columns in
+    let v = c.loop-run.invariant in
+    let columns = c.loop-run.self.columns in
     let t = c.walk_taps in
     let w = c.walk_cells-s in
     let e = c.add_cells.ensures in
-    let q = rest k.walk.self in
+    let q = rest k.loop-run.self in
     let i = number k in
     let ms = all k in
     let at = a.start + i * (L + 1) in

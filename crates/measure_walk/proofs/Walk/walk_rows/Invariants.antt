@@ -12,10 +12,10 @@ use Rattle.measure_tally.proofs.Places.{rows_of}
 use Rattle.measure_walk.specs.Views.{rest, counting, noting}
 use Rattle.measure_walk.proofs.Walk.walk_rows.Given as goal
 
-abbrev pub invariant-walk : goal.invariant-walk
-invariant-walk l = (l.first ≤ l.run.row) × (l.run.row ≤ l.first + l.rows) × (length l.slots ≡ length l.initial.slots) × Ten l.self.columns
+abbrev pub invariant-loop-run : goal.invariant-loop-run
+invariant-loop-run l = (l.first ≤ l.run.row) × (l.run.row ≤ l.first + l.rows) × (length l.slots ≡ length l.initial.slots) × Ten l.self.columns
     × ((done : List (List Row)) → Counted l.lanes (counting l.initial.self) done [] → Counted l.lanes (counting_of (rest l.self) l.self.columns l.run) done (take (l.run.row - l.first) (rows_of l.lanes l.rows l.text l.start)))
     × ((done : List (List Row)) → NotedRows l.lanes (noting l.initial.self) l.initial.slots done [] → NotedRows l.lanes (noting_of l.first (rest l.self) l.self.columns l.run) l.slots done (take (l.run.row - l.first) (rows_of l.lanes l.rows l.text l.start)))
 
-abbrev pub decreases-walk : goal.decreases-walk
-decreases-walk l = l.first + l.rows - l.run.row
+abbrev pub decreases-loop-run : goal.decreases-loop-run
+decreases-loop-run l = l.first + l.rows - l.run.row
