@@ -2,8 +2,9 @@
 # Shows in a second, with no proof, that each must-fail edit and each twin (`run.sh`) can be applied, that none is without the other, and that
 # each twin has its edit's form. Each old text must stand exactly once in its file, the pairs before it applied: so no line that an edit or a twin
 # quotes is changed unseen. Of its edit's form is a twin that names the same files and old texts in the same order, each with a new text of as many
-# statements and blocks: as many `let`, `;` and `{`, those in strings and brackets aside. One that cannot have it says why in a comment, its first
-# line. The gate begins with it, since proofs would find an edit that cannot be applied late, and no twin.
+# statements and blocks: as many `let`, `;` and `{`, those in strings and brackets aside, and a value that a `let` names for itself alone counted
+# as the value. One that cannot have it says why in a comment, its first line. The gate begins with it, since proofs would find an edit that cannot
+# be applied late, and no twin.
 # `sh tests/twins/applies.sh [CRATE..]` looks at the crates named, or at all. The last line is 'N passed, M failed'.
 set -eu
 cd "$(dirname "$0")/../.."
@@ -26,10 +27,12 @@ awk '
         print change ": " why
         bad = 1
     }
-    # How many statements and blocks a new text has. The `;` of an array or a string ends no statement.
+    # How many statements and blocks a new text has. The `;` of an array or a string ends no statement, and a value with a name is a value.
     function shape(text) {
         gsub(/"[^"]*"/, "", text)
         while (gsub(/\[[^][]*\]/, "", text)) continue
+        gsub(/[{] let [a-z_]+ = [^;{}]*; [*a-z_.]+ [}]/, "", text)
+        gsub(/let [^=]+ = .* in /, "", text)
         return gsub(/(^|[^A-Za-z0-9_])let /, "", text) " " gsub(/;/, "", text) " " gsub(/[{]/, "", text)
     }
     # What the file before this line leaves to say, and its count.
