@@ -1,9 +1,13 @@
 -- The laws of the filling loops, over the element.
 use mathlib.Core.Path.{◌≡◌, refl, ap, sym, ◌∙◌}
-use mathlib.Core.List.{List}
-use Prim.Native.Nat.{ℕ, zero, suc, ◌≤◌}
+use mathlib.Core.List.{List, ◌++◌, append_assoc}
+use Prim.Native.Nat.{ℕ, zero, suc, ◌+◌, ◌-◌, ◌≤◌}
 use lib.ListN.{length, get_or, take, replicate}
 use lib.Seq.{length-take-le}
+use lib.ListN.{length-replicate, replicate-append-replicate}
+use native.Mathlib.Omega.{arith}
+use borrow.Rule.Slice.PartMut.{put_mid}
+use Rattle.std.proofs.lemmas.Slice.{take-put_mid}
 use Rattle.definitions.specs.Lists.{padded}
 use Rattle.slices.specs.Zeroed.{zeroed}
 
@@ -25,3 +29,12 @@ pub zeros-none : (n i : ℕ) → ◌≡◌ {A = ℕ} (get_or (replicate n 0) i 0
 zeros-none zero i = refl
 zeros-none (suc n) zero = refl
 zeros-none (suc n) (suc i) = zeros-none n i
+
+-- one part more of zeros, after those from f to a
+pub zeroed-next : {A : Type 0} (z : A) (l s part : List A) (f a k n m : ℕ) → f ≤ a → a ≤ length s → take a s ≡ take f l ++ replicate (a - f) z → part ≡ replicate m z → m ≡ n → take (a + n) (put_mid a k s part) ≡ take f l ++ replicate (a + n - f) z
+zeroed-next z l s part f a k n m h room so zeros all =
+    take-put_mid a k s part (a + n) (omega (arith, ap length zeros, length-replicate m z)) room
+    ∙ ap (λ (xs : List _). xs ++ part) so
+    ∙ append_assoc (take f l) (replicate (a - f) z) part
+    ∙ ap (λ (ys : List _). take f l ++ (replicate (a - f) z ++ ys)) zeros
+    ∙ ap (λ (ys : List _). take f l ++ ys) (replicate-append-replicate (a - f) m z ∙ ap (λ (j : ℕ). replicate j z) (omega arith))

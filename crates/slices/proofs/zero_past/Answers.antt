@@ -1,0 +1,11 @@
+-- `slices::zero_past` meets its contract. Assumes nothing.
+use Rattle.std.proofs.Common.{arith}
+use Rattle.slices.proofs.Zeroed.{zeroed-next}
+use Rattle.slices.proofs.zero_past.Goals as goal
+
+pub loop-at-preserved : goal.loop-at-preserved
+loop-at-preserved g c = (
+  omega arith,
+  omega arith,
+  zeroed-next _ _ _ _ _ _ _ _ _ c.loop-at.invariant.0 (omega arith) c.loop-at.invariant.2 c.zero_part.ensures (omega arith),
+)
