@@ -4,7 +4,8 @@
 # more is told. `--write` stores the counts instead. The library is built first, or taken from PADCHECK_LIB_DIR where that is set.
 # The last line is 'N passed, 0 failed'.
 #
-# What is counted are the instructions of libpadcheck.a's own functions. Those of the C library's memset and memcpy are left
+# What is counted are the instructions of libpadcheck.a's own functions. Those that ask whether a slice is 0 already are counted by
+# themselves: they go by the length of what is lent, and not by the text. Those of the C library's memset and memcpy are left
 # out, since it picks them by the processor; how often they are called a row is counted instead, and may not grow either.
 set -eu
 cd "$(dirname "$0")/.."
@@ -36,12 +37,14 @@ valgrind --tool=callgrind --callgrind-out-file="$counts/count" --toggle-collect=
     exit 1
 }
 
-# Instructions and calls into other objects of one count, by the lines of callgrind's format: `ob=` is the object that
-# the following costs belong to, `cob=` that of a called function, and the line after `calls=` has what the callee cost.
+# Instructions, those of the asking, and calls into other objects of one count, by the lines of callgrind's format: `ob=` is the
+# object and `fn=` the function that the following costs belong to, `cob=` the object of a called function, and the line after
+# `calls=` has what the callee cost.
 count() {
     awk -v own="/$program" '
         function is_own(name) { return substr(name, length(name) - length(own) + 1) == own }
         /^ob=/ { here = is_own($0); next }
+        /^fn=/ { asks = index($0, "fn=slices::are_all") == 1; next }
         /^cob=/ { elsewhere = !is_own($0); next }
         /^calls=/ {
             if (here && elsewhere) { sub(/^calls=/, "", $1); calls += $1 }
@@ -49,14 +52,17 @@ count() {
             of_callee = 1
             next
         }
-        /^[0-9]/ { if (here && !of_callee) instructions += $2; of_callee = 0 }
-        END { print instructions + 0, calls + 0 }' "$1"
+        /^[0-9]/ {
+            if (here && !of_callee) { if (asks) asking += $2; else instructions += $2 }
+            of_callee = 0
+        }
+        END { print instructions + 0, asking + 0, calls + 0 }' "$1"
 }
 number=0
 while read -r call text lines lanes rows; do
     number=$((number + 1))
     count "$counts/count.$number" |
-        awk -v cell="$call $text $lines $lanes" -v rows="$rows" '{ printf "%s %.2f %.3f\n", cell, $1 / rows, $2 / rows }'
+        awk -v cell="$call $text $lines $lanes" -v rows="$rows" '{ printf "%s %.2f %.2f %.3f\n", cell, $1 / rows, $2 / rows, $3 / rows }'
 done <"$counts/cells" >"$counts/measured"
 if [ "$number" -eq 0 ] || [ -e "$counts/count.$((number + 1))" ]; then
     echo "instructions.sh: the counts and the calls are not as many"
@@ -72,7 +78,7 @@ fi
 compare() {
     awk '
         { cell = $1 " " $2 " " $3 " " $4 }
-        NR == FNR { instructions[cell] = $5; calls[cell] = $6; next }
+        NR == FNR { instructions[cell] = $5; asking[cell] = $6; calls[cell] = $7; next }
         !(cell in instructions) { print cell ": no stored figure"; failed = 1; next }
         {
             seen[cell] = 1
@@ -83,8 +89,12 @@ compare() {
             } else if ($5 < 0.95 * was) {
                 printf "%s: %.2f instructions a row, stored %.2f: fell by %.1f percent, --write stores it\n", cell, $5, was, 100 * (1 - $5 / was)
             }
-            if ($6 > 1.05 * calls[cell] + 0.01) {
-                printf "%s: %.3f calls of memset and memcpy a row, stored %.3f\n", cell, $6, calls[cell]
+            if ($6 > 1.05 * asking[cell] + 0.01) {
+                printf "%s: %.2f instructions a row that ask for zeros, stored %.2f\n", cell, $6, asking[cell]
+                failed = 1
+            }
+            if ($7 > 1.05 * calls[cell] + 0.01) {
+                printf "%s: %.3f calls of memset and memcpy a row, stored %.3f\n", cell, $7, calls[cell]
                 failed = 1
             }
         }
@@ -112,15 +122,16 @@ changed() {
     fi
     passed=$((passed + 1))
 }
-read -r call text lines lanes is calls <"$counts/measured"
+read -r call text lines lanes is asking calls <"$counts/measured"
 cell="$call $text $lines $lanes"
 by() { awk -v is="$1" -v by="$2" -v less="$3" -v form="$4" 'BEGIN { printf form, is / by - less }'; }
-lower=$(by "$is" 1.1 0 %.2f) higher=$(by "$is" 0.9 0 %.2f) fewer=$(by "$calls" 1.1 0.02 %.3f)
+lower=$(by "$is" 1.1 0 %.2f) higher=$(by "$is" 0.9 0 %.2f) less=$(by "$asking" 1.1 0.02 %.2f) fewer=$(by "$calls" 1.1 0.02 %.3f)
 changed 0 '' ''
 changed 0 '' '$5 = $5 / 1.04'
 changed 0 "$cell: $is instructions a row, stored $higher: fell by 10.0 percent, --write stores it" "\$5 = $higher"
 changed 1 "$cell: $is instructions a row, stored $lower: grew by 10.0 percent" "\$5 = $lower"
-changed 1 "$cell: $calls calls of memset and memcpy a row, stored $fewer" "\$6 = $fewer"
+changed 1 "$cell: $asking instructions a row that ask for zeros, stored $less" "\$6 = $less"
+changed 1 "$cell: $calls calls of memset and memcpy a row, stored $fewer" "\$7 = $fewer"
 changed 1 "$cell: no stored figure" next
 changed 1 "$call $text $lines 99: stored, but not counted" "print; \$4 = 99"
 echo "$passed passed, 0 failed"

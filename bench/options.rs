@@ -13,7 +13,7 @@ of N runs each (N is 7). A ratio is ours to the Rust's: over 1.00 ours is faster
 the worst first, at most 30 of the entries and 30 of the binding, with the speeds of both in MB of text a second (1 MB is
 1,000,000 bytes), and those of the entries that their zeros alone keep there; the least and the greatest ratio of each
 call at each lane count, over all texts and line ends; and the ratios of all cells. Where an entry is under its goal,
-1.20 in the main call and 1.00 elsewhere, the ratio that it has less a memset of the same bytes as its zeros stands
+1.20 in the main call and 1.00 elsewhere, the ratio that it has less a look at the same bytes as its zeros stands
 beside it.
 
 A LIST has its words parted by commas, and leaves out the others:
@@ -28,7 +28,7 @@ A LIST has its words parted by commas, and leaves out the others:
            pack      2,000 charts of 20,000 bytes, one after the other
            unclosed  the long text and a head that nothing closes, so that the tally is counted anew
   --lines  lf crlf
-  --speeds also prints, at the end, the speeds of every cell, of the Rust, and of the memset of an entry's zeros
+  --speeds also prints, at the end, the speeds of every cell, of the Rust, and of a look at an entry's zeros
   --growth prints instead what a byte costs an entry in texts of 1, 4 and 16 MB, as many as make 16 MB, each with slices
            of its own
   --memory prints instead how many bytes an entry is lent for the longest text

@@ -22,7 +22,7 @@ pub struct Cell {
     pub bytes: f64,
     pub ours: f64,
     pub rust: f64,
-    /// A memset of the same bytes as the call's zeros; an entry that is lent a slice has it.
+    /// A look at the same bytes as the call's zeros; an entry that is lent a slice has it.
     pub zeros: Option<f64>,
 }
 
@@ -157,7 +157,7 @@ fn print_head(columns: &str, lanes: &[usize]) {
 /// The speeds of cells, one a line.
 pub fn print_speeds<'a>(cells: impl Iterator<Item = &'a Cell>) {
     println!(
-        "| way | call | text | lines | lanes | ours, MB/s | the Rust, MB/s | ratio | memset of its zeros, MB/s | ratio less zeros |"
+        "| way | call | text | lines | lanes | ours, MB/s | the Rust, MB/s | ratio | a look at its zeros, MB/s | ratio less zeros |"
     );
     println!("|---|---|---|---|---|---|---|---|---|---|");
     for cell in cells {

@@ -129,30 +129,35 @@ impl Pair {
         self.loans.iter().any(|loan| bytes(loan) > 0)
     }
 
-    /// Sets what the entry left as zeros to 0 once more, once for each text: all past its answer, and the work slice.
+    /// Looks at what the entry left as zeros once more, once for each text: all past its answer, and the work slice.
     pub fn run_zeros(&mut self, load: &Load) {
         let sets = self.loans.len();
         for place in 0..load.texts.len() {
-            let Some(loan) = self.loans.get_mut(place % sets.max(1)) else {
+            let Some(loan) = self.loans.get(place % sets.max(1)) else {
                 return;
             };
             let figure = |place: usize| loan.figures[place] as usize;
             let (text, measures) = (figure(TEXT_BYTES), figure(MEASURES));
             let (rows, notes) = (figure(ROWS), NOTE_BYTES * figure(NOTES));
-            past(&mut loan.text, text).fill(0);
-            past(&mut loan.densities, measures).fill(0);
-            past(&mut loan.spacing, measures).fill(0);
-            past(&mut loan.beats, rows).fill(0.0);
-            past(&mut loan.notes, notes).fill(0);
-            loan.work.fill(0);
-            black_box(loan);
+            let zeros = are_zero(past(&loan.text, text), |&byte| byte == 0)
+                & are_zero(past(&loan.densities, measures), |&density| density == 0)
+                & are_zero(past(&loan.spacing, measures), |&byte| byte == 0)
+                & are_zero(past(&loan.beats, rows), |beat| beat.to_bits() == 0)
+                & are_zero(past(&loan.notes, notes), |&byte| byte == 0)
+                & are_zero(&loan.work, |&entry| entry == 0);
+            take(zeros);
         }
     }
 }
 
 /// What a slice has from a place on; a slice that is not lent is empty.
-fn past<T>(slice: &mut [T], place: usize) -> &mut [T] {
-    slice.get_mut(place..).unwrap_or_default()
+fn past<T>(slice: &[T], place: usize) -> &[T] {
+    slice.get(place..).unwrap_or_default()
+}
+
+/// Whether all of a slice is 0, asked to its end whatever is met, as the entries ask.
+fn are_zero<T>(slice: &[T], is_zero: impl Fn(&T) -> bool) -> bool {
+    slice.iter().fold(true, |all, x| all & is_zero(x))
 }
 
 /// Whether an entry answers every text of a load as the Rust does, zeros and figures included.
