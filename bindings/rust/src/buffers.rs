@@ -121,10 +121,10 @@ pub(crate) fn with_kept<T>(call: impl FnOnce(&mut Buffers) -> T) -> T {
 
 /// Lets go of what this thread has kept for the calls that allocate their answers.
 ///
-/// An entry writes zeros past its answer, so it is lent the most that a text of that length could need:
-/// some 12 bytes for each byte of the text in the main call ([`Lengths`]). The functions of the crate's root and of
-/// [`stats`](crate::stats) keep these slices from call to call, each thread its own, since fresh memory costs about
-/// as much as the call itself. They are at most twice as long as the thread's longest text needed, and go with the thread.
+/// An entry is lent the most that a text of that length could need: some 12 bytes for each byte of the text in the main
+/// call ([`Lengths`]). Of fresh slices that is address space: memory takes what an answer was written to. The functions of
+/// the crate's root and of [`stats`](crate::stats) keep these slices from call to call, each thread its own, since a call
+/// over fresh ones takes longer. They are at most twice as long as the thread's longest text needed, and go with the thread.
 ///
 /// ```
 /// let densities = padcheck::measure_densities(b"1000\n", 4)?;
@@ -337,8 +337,8 @@ impl Buffers {
         Ok(ArrowStats::from_figures(&self.figures))
     }
 
-    /// The sheet of a chart, in bytes of ASCII. The slice that it is written to has 42 bytes for each byte of the text, and
-    /// stays with the buffers.
+    /// The sheet of a chart, in bytes of ASCII. The slice that it is written to has 42 bytes for each byte of the text, of which
+    /// memory takes what the sheet has, and stays with the buffers.
     ///
     /// ```
     /// use padcheck::{Buffers, SheetForm};

@@ -1,5 +1,6 @@
-//! Large pages for fresh buffers. A call writes all that it is lent, so every page of a buffer is mapped, and the kernel
-//! maps and clears 2 MiB at once in less time than it takes for 512 pages of 4 KiB.
+//! Large pages for fresh buffers. A call looks at all that it is lent, so every page of a buffer is mapped, and the kernel
+//! maps 2 MiB at once in less time than it takes for 512 pages of 4 KiB. Where nothing is written it maps its one page of
+//! zeros, which takes no memory; the page in which an answer ends is taken whole.
 
 /// Asks for large pages wherever a buffer spans whole ones. It is advice: where the kernel has none to give, nothing changes.
 #[cfg(all(target_os = "linux", target_arch = "x86_64"))]

@@ -206,7 +206,7 @@ pub fn process_timing_rows(data: &[u8], lanes: usize, flags: &[u8]) -> Result<Ar
 /// ```
 ///
 /// While the call is made, the slice that the sheet is written to has 42 bytes for each byte of the text ([`Lengths`]), some
-/// 700,000,000 for the longest one.
+/// 700,000,000 for the longest one. That is address space: memory takes what the sheet has.
 ///
 /// # Errors
 ///
