@@ -2,11 +2,15 @@
 use mathlib.Core.Path.{◌≡◌, refl, ap, sym, ◌∙◌}
 use mathlib.Core.List.{List, ◌++◌, append_assoc}
 use Prim.Native.Nat.{ℕ, zero, suc, ◌+◌, ◌-◌, ◌≤◌}
-use lib.ListN.{length, get_or, take, replicate}
+use lib.Ieee.{Float, binary32, fits, to_bits, of_bits}
+use lib.Ieee.Bits.{of_bits-to_bits}
+use lib.ListN.{length, get_or, take, replicate, length-replicate, replicate-append-replicate}
 use lib.Seq.{length-take-le}
-use lib.ListN.{length-replicate, replicate-append-replicate}
 use native.Mathlib.Omega.{arith}
 use borrow.Rule.Slice.PartMut.{put_mid}
+use Rattle.std.specs.Prelude.{true, nat_eq}
+use Rattle.std.specs.Bool.{passes}
+use Rattle.std.proofs.Common.{eqb-true}
 use Rattle.std.proofs.lemmas.Slice.{take-put_mid}
 use Rattle.definitions.specs.Lists.{padded}
 use Rattle.slices.specs.Zeroed.{zeroed}
@@ -38,3 +42,10 @@ zeroed-next z l s part f a k n m h room so zeros all =
     ∙ append_assoc (take f l) (replicate (a - f) z) part
     ∙ ap (λ (ys : List _). take f l ++ (replicate (a - f) z ++ ys)) zeros
     ∙ ap (λ (ys : List _). take f l ++ ys) (replicate-append-replicate (a - f) m z ∙ ap (λ (j : ℕ). replicate j z) (omega arith))
+
+-- floats with the same bits are the same
+pub same_bits : (x y : Float) → fits binary32 x ≡ true → fits binary32 y ≡ true → nat_eq (to_bits binary32 x) (to_bits binary32 y) ≡ true → x ≡ y
+same_bits x y fx fy same =
+    sym (of_bits-to_bits binary32 x (passes _ fx))
+    ∙ ap (of_bits binary32) (eqb-true _ _ same)
+    ∙ of_bits-to_bits binary32 y (passes _ fy)

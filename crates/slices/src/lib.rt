@@ -33,6 +33,7 @@ impl Bits for u32 {
 }
 
 impl Bits for f32 {
+    #[tactic(auto, using(crate::proofs::Zeroed::same_bits))]
     fn is(self, it: f32) -> bool {
         !self.is_nan() && !it.is_nan() && self.to_bits() == it.to_bits()
     }
