@@ -10,14 +10,15 @@ bench [--runs N] [--thread] [--ways LIST] [--lanes LIST] [--texts LIST] [--lines
 
 Times each call, or those of the given names, beside the Rust: both in one process, on the same texts, in turns, the best
 of N runs each (N is 7). A ratio is ours to the Rust's: over 1.00 ours is faster. It prints the cells under 1.00,
-the worst first, at most 30 of the entries and 30 of the binding, with the speeds of both in MB of text a second (1 MB is
+the worst first, at most 30 of the entries, of them over resident slices and of the binding, with the speeds of both in MB of text a second (1 MB is
 1,000,000 bytes), and those of the entries that their zeros alone keep there; the least and the greatest ratio of each
 call at each lane count, over all texts and line ends; and the ratios of all cells. Where an entry is under its goal,
 1.20 in the main call and 1.00 elsewhere, the ratio that it has less a look at the same bytes as its zeros stands
 beside it.
 
 A LIST has its words parted by commas, and leaves out the others:
-  --ways   entry     an exported entry, slices and the Rust's buffers reused
+  --ways   entry     an exported entry, its slices (at first as the allocator gives them) and the Rust's buffers reused
+           resident  the same over slices of which every page is resident
            buffers   padcheck::Buffers of bindings/rust, one for all charts, the notes read one by one
            stats     padcheck::stats, the Rust's own signatures, one scratch for all charts
            anew      the functions of bindings/rust that allocate what they answer; the Rust with nothing kept

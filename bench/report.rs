@@ -69,13 +69,13 @@ impl Cell {
     }
 }
 
-/// How many of the entries' cells under 1.00 are printed with their speeds, and of the binding's as many.
+/// How many cells under 1.00 are printed with their speeds of each of the three kinds.
 const WORST: usize = 30;
 
-/// How many cells are under 1.00, the entries' and the binding's apart, and the worst of them first.
+/// How many cells are under 1.00, the entries', those over resident slices and the binding's apart, and the worst of them first.
 pub fn print_worst(cells: &[Cell]) {
-    for (name, of_entries) in [("entries", true), ("the binding's calls", false)] {
-        let is_here = |cell: &&Cell| (cell.way == Way::Entry) == of_entries;
+    for name in [ENTRIES, RESIDENT, BINDING] {
+        let is_here = |cell: &&Cell| kind(cell.way) == name;
         let count = cells.iter().filter(is_here).count();
         let mut worst: Vec<&Cell> = cells.iter().filter(is_here).collect();
         worst.retain(|cell| cell.is_under());
@@ -84,6 +84,19 @@ pub fn print_worst(cells: &[Cell]) {
         if !worst.is_empty() {
             print_speeds(worst.into_iter().take(WORST));
         }
+    }
+}
+
+const ENTRIES: &str = "entries";
+const RESIDENT: &str = "entries over resident slices";
+const BINDING: &str = "the binding's calls";
+
+/// What a way's cells are told with.
+fn kind(way: Way) -> &'static str {
+    match way {
+        Way::Entry => ENTRIES,
+        Way::Resident => RESIDENT,
+        _ => BINDING,
     }
 }
 

@@ -2,7 +2,7 @@
 
 use crate::entries::{ENTRIES, Entry};
 use crate::loads::Load;
-use crate::loans::{bytes, lent};
+use crate::loans::{bytes, lent, marked};
 use oracle::calls::{Call, MEASURES, NOTE_BYTES, NOTES, ROWS, TEXT_BYTES};
 use oracle::entry::{Loan, enter};
 use oracle::timed;
@@ -12,8 +12,11 @@ use std::hint::black_box;
 /// How a call is made.
 #[derive(Clone, Copy, PartialEq, Eq, PartialOrd, Ord)]
 pub enum Way {
-    /// An exported entry over slices that are lent again and again; the Rust with its buffers reused.
+    /// An exported entry over slices that are lent again and again, at first as the allocator gives them; the Rust with its
+    /// buffers reused.
     Entry,
+    /// The same over slices of which every page is resident, since something was written to all of it before.
+    Resident,
     /// `padcheck::Buffers`, one for all charts, the notes read one by one; the Rust in the same way.
     Buffers,
     /// `padcheck::stats`, which has the Rust's own signatures, with one scratch for all charts; the Rust in the same way.
@@ -25,8 +28,9 @@ pub enum Way {
 }
 
 impl Way {
-    pub const ALL: [Self; 5] = [
+    pub const ALL: [Self; 6] = [
         Self::Entry,
+        Self::Resident,
         Self::Buffers,
         Self::Stats,
         Self::Anew,
@@ -36,6 +40,7 @@ impl Way {
     pub fn name(self) -> &'static str {
         match self {
             Self::Entry => "entry",
+            Self::Resident => "resident",
             Self::Buffers => "buffers",
             Self::Stats => "stats",
             Self::Anew => "anew",
@@ -48,7 +53,7 @@ impl Way {
         match self {
             Self::Entry | Self::Anew => true,
             // The last beat needs no buffer.
-            Self::Buffers | Self::First => call != Call::ChartLastBeat,
+            Self::Resident | Self::Buffers | Self::First => call != Call::ChartLastBeat,
             Self::Stats => matches!(
                 call,
                 Call::MinimizeChartCountRowsNotes
@@ -76,12 +81,17 @@ impl Pair {
     /// `sets` is how many sets of slices the texts are given in turn.
     pub fn new(way: Way, call: Call, load: &Load, sets: usize) -> Self {
         let entry = ENTRIES.iter().find(|entry| entry.call == call);
-        let sets = if way == Way::Entry { sets } else { 0 };
+        let (len, lanes) = (load.longest(), load.lanes);
+        let loans = match way {
+            Way::Entry => (0..sets).map(|_| lent(call, len, lanes)).collect(),
+            Way::Resident => (0..sets).map(|_| marked(call, len, lanes)).collect(),
+            _ => Vec::new(),
+        };
         Self {
             call,
             way,
             entry: entry.expect("every call has its entry"),
-            loans: vec![lent(call, load.longest(), load.lanes); sets],
+            loans,
             buffers: padcheck::Buffers::new(),
             scratch: ChartNotesScratch::default(),
             rust: timed::Buffers::default(),
@@ -93,7 +103,7 @@ impl Pair {
         let (lanes, flags) = (load.lanes, &load.flags);
         for (place, text) in load.texts.iter().enumerate() {
             match self.way {
-                Way::Entry => {
+                Way::Entry | Way::Resident => {
                     let set = place % self.loans.len();
                     (self.entry.enter)(text, lanes, flags, &mut self.loans[set]);
                 }
@@ -114,7 +124,7 @@ impl Pair {
         let buffers = &mut self.rust;
         for text in &load.texts {
             match self.way {
-                Way::Entry => timed::run(call, text, lanes, flags, buffers),
+                Way::Entry | Way::Resident => timed::run(call, text, lanes, flags, buffers),
                 Way::Buffers => timed::run_and_read(call, text, lanes, flags, buffers),
                 Way::Stats if call == Call::MinimizeChartCountRowsNotes => {
                     timed::run_and_read(call, text, lanes, flags, buffers);
@@ -162,7 +172,7 @@ fn are_zero<T>(slice: &[T], is_zero: impl Fn(&T) -> bool) -> bool {
 
 /// Whether an entry answers every text of a load as the Rust does, zeros and figures included.
 pub fn agrees(call: Call, load: &Load) -> bool {
-    let mut pair = Pair::new(Way::Entry, call, load, 1);
+    let mut pair = Pair::new(Way::Resident, call, load, 1);
     load.texts.iter().all(|text| {
         let loan = &mut pair.loans[0];
         let mut want = loan.clone();
