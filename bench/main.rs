@@ -120,7 +120,7 @@ fn growth(options: &Options) -> Result<(), String> {
                     let count = 16_000_000 / len as u64;
                     let load = Load::of(count, len, chart::Kind::Closed, lines, lanes);
                     compare(call, &load)?;
-                    let mut pair = Pair::new(Way::Entry, call, &load, load.texts.len());
+                    let mut pair = Pair::new(Way::Resident, call, &load, load.texts.len());
                     let [ours] = timed(&mut pair, &load, [Pair::run_ours], options);
                     *cost = ours * 1e9 / load.bytes();
                 }

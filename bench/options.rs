@@ -31,7 +31,7 @@ A LIST has its words parted by commas, and leaves out the others:
   --lines  lf crlf
   --speeds also prints, at the end, the speeds of every cell, of the Rust, and of a look at an entry's zeros
   --growth prints instead what a byte costs an entry in texts of 1, 4 and 16 MB, as many as make 16 MB, each with slices
-           of its own
+           of its own, all of them resident
   --memory prints instead how many bytes an entry is lent for the longest text
   --files  times instead sm_chart beside its plain reference in the oracle, which the Rust does not have: files of 16 MB with
            one chart, a pack of charts of 20,000 bytes, charts of one line, and none, asked for the first block, the last and
