@@ -1,13 +1,13 @@
 #!/bin/sh
 # release.sh GATE-LOG, or release.sh --gate LINE: makes target/release/padcheck-VERSION-x86_64-linux.tar.gz, with the program padcheck,
-# libpadcheck.a, padcheck.h, a pkg-config file, NOTICE and LICENSE, the commit with the gate's last line, and checksums.
+# libpadcheck.a, padcheck.h, a pkg-config file, NOTICE and LICENSE, the commit with the gate's last line, what it needs, and checksums.
 # GATE-LOG is what .ci/run printed; its last line, or LINE, has to read 'N passed, 0 failed'. A second run gives the same bytes.
 # --commit ID and --date SECONDS say of which commit it is and when that was made; without them git is asked.
 # The library is taken from PADCHECK_LIB_DIR, else from target/staticlib.
 set -eu
 cd "$(dirname "$0")/.."
 . tests/need.sh
-need "the release is made with it" rustc tar gzip sha256sum
+need "the release is made with it" rustc objdump tar gzip sha256sum
 
 refuse() {
     echo "release.sh: $1" >&2
@@ -75,9 +75,12 @@ Cflags: -I\${prefix}/include
 Libs: -L\${prefix}/lib -lpadcheck
 END
 printf 'commit %s\ngate: %s\n' "$commit" "$gate" >"$out/$name/GATE"
+# The latest version of a symbol of glibc that the program asks for.
+glibc=$(objdump -T "$out/$name/bin/padcheck" | sed -n 's/.*GLIBC_\([0-9.]*\).*/\1/p' | sort -V | tail -n 1)
+printf 'processor: x86-64-v2 (SSE4.2, POPCNT)\nsystem: Linux, glibc %s or later\n' "$glibc" >"$out/$name/NEEDS"
 (cd "$out/$name" && find . -type f | LC_ALL=C sort | sed 's,^\./,,' | xargs sha256sum) >"$out/SHA256SUMS"
 mv "$out/SHA256SUMS" "$out/$name"
-chmod 644 "$out/$name/GATE" "$out/$name/SHA256SUMS" "$out/$name/lib/pkgconfig/padcheck.pc"
+chmod 644 "$out/$name/GATE" "$out/$name/NEEDS" "$out/$name/SHA256SUMS" "$out/$name/lib/pkgconfig/padcheck.pc"
 find "$out/$name" -type d -exec chmod 755 {} +
 
 archive=$out/$name-x86_64-linux.tar.gz

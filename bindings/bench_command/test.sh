@@ -1,13 +1,14 @@
 #!/bin/sh
 # Tests the program padcheck without network, over target/staticlib or the folder in PADCHECK_LIB_DIR: its unit tests, each word beside stored
-# output and beside the page docs/BENCH.md, every exit status, the longest files, full and closed outputs, the card form beside the program
-# card and the oracle's, what `rig` leaves, and the release. The last line is 'N passed, 0 failed'.
+# output and beside the page docs/BENCH.md, every exit status, files that are wrong beside files that are not, the longest files, too little
+# memory, full and closed outputs, the card form beside the program card and the oracle's, what `rig` leaves, and the release. The last line
+# is 'N passed, 0 failed'.
 set -eu
 cd "$(dirname "$0")"
 . ../../tests/need.sh
 need "the program is built with it" cargo
 need "the kit's identity is asked for with it" rt
-need "the release is tried with it" cc tar sha256sum
+need "the release and an old processor are tried with it" cc objdump tar sha256sum
 export CARGO_TARGET_DIR=../../target/cargo
 mkdir -p "$CARGO_TARGET_DIR"
 log=$CARGO_TARGET_DIR/bench_command.log
@@ -30,7 +31,9 @@ mkdir -p "$out"
 . "$tests/cases.sh"
 . "$tests/words.sh"
 . "$tests/statuses.sh"
+. "$tests/wrong.sh"
 . "$tests/cards.sh"
 . "$tests/files.sh"
+. "$tests/memory.sh"
 . "$tests/release.sh"
 echo "$passed passed, 0 failed"

@@ -12,14 +12,21 @@ use std::path::PathBuf;
 pub enum Request {
     /// A text of the program's own.
     Text(String),
-    /// The charts of these files.
-    Charts(Vec<PathBuf>),
+    /// The charts of files.
+    Charts(Charts),
     /// The sheets of files.
     Sheet(Sheet),
     /// Records and beats of a chart.
     Rig(Rig),
     /// Two files side by side.
     Diff(Diff),
+}
+
+/// `padcheck charts`.
+#[derive(Debug, PartialEq)]
+pub struct Charts {
+    pub files: Vec<PathBuf>,
+    pub force: bool,
 }
 
 /// `padcheck sheet`.
@@ -59,7 +66,7 @@ pub fn request(mut words: impl Iterator<Item = OsString>) -> Result<Request, Str
     let (help, known): (&str, &[&str]) = match &*word {
         "--help" | "-h" => return Ok(Request::Text(help::WHOLE.to_owned())),
         "--version" | "-V" => return Ok(Request::Text(help::version())),
-        "charts" => (help::CHARTS, &[]),
+        "charts" => (help::CHARTS, &["--force"]),
         "sheet" => (help::SHEET, &["--chart", "--lanes", "--form", "--force"]),
         "rig" => (
             help::RIG,
@@ -168,7 +175,9 @@ impl Options {
     }
 
     fn charts(self) -> Result<Request, String> {
-        self.files().map(Request::Charts)
+        let force = self.force;
+        let files = self.files()?;
+        Ok(Request::Charts(Charts { files, force }))
     }
 
     fn sheet(self) -> Result<Request, String> {
@@ -297,7 +306,7 @@ mod tests {
             ("", "charts, sheet, rig or diff is wanted"),
             ("print a", "`print` is no word"),
             ("charts", "charts: a file is wanted"),
-            ("charts a --force", "`--force` is not known here"),
+            ("charts a --chart 0", "`--chart` is not known here"),
             ("sheet a --chart", "--chart needs a value"),
             (
                 "sheet a --chart one",

@@ -1,15 +1,24 @@
 //! The charts of an SM file, and the word `charts`. Which there are and which of them are read is the library's answer.
 
+use crate::args::Charts;
 use crate::input::{contents, shown};
-use crate::output::{Status, fault};
+use crate::left::Left;
+use crate::lines::lines;
+use crate::memory::push;
+use crate::output::{Status, doubtful, fault};
+use crate::select::whole_file;
 use padcheck::{Refusal, SmChart, sm_charts};
+use std::borrow::Cow;
 use std::io::{self, Write};
 use std::iter;
-use std::path::{Path, PathBuf};
+use std::path::Path;
 
 /// What is said of an SM file without a chart.
-pub const NO_CHART: &str =
+const NO_CHART: &str =
     "no chart: none of its lines begins with #NOTES:, and bare note data needs --lanes";
+
+/// The tag of a chart in an SM file.
+const TAG: &[u8] = b"#NOTES:";
 
 /// A chart of an SM file.
 #[derive(Clone, Copy, Debug, PartialEq)]
@@ -26,27 +35,60 @@ pub struct Listed<'a> {
     pub answer: Result<SmChart<'a>, Refusal>,
 }
 
-/// The charts of an SM file, or why it has none that can be listed: it is too long, or has none at all.
-pub fn listed(file: &[u8]) -> Result<Vec<Listed<'_>>, Refusal> {
-    let answers: Vec<_> = sm_charts(file).collect();
-    match answers[..] {
-        [] => return Err(Refusal::NoChart),
-        [Err(Refusal::TextTooLong)] => return Err(Refusal::TextTooLong),
-        _ => {}
+/// The charts of an SM file, or why it has none that can be listed: it is too long, is an SSC file, or has none at all.
+pub fn listed(file: &[u8]) -> Result<Vec<Listed<'_>>, Left> {
+    let mut charts = Vec::new();
+    let mut blocks = blocks(file);
+    for answer in sm_charts(file) {
+        if answer == Err(Refusal::TextTooLong) {
+            return Err(Refusal::TextTooLong.into());
+        }
+        let block = blocks.next().unwrap_or_default();
+        let data = answer.map_or_else(|_| written_data(block), |chart| chart.data);
+        let chart = Listed {
+            number: charts.len(),
+            name: written_type(block),
+            place: data.as_ptr().addr() - file.as_ptr().addr(),
+            length: data.len(),
+            answer,
+        };
+        push(&mut charts, chart)?;
     }
-    let charts = answers.into_iter().zip(blocks(file)).enumerate();
-    Ok(charts
-        .map(|(number, (answer, block))| {
-            let data = answer.map_or_else(|_| written_data(block), |chart| chart.data);
-            Listed {
-                number,
-                name: written_type(block),
-                place: data.as_ptr().addr() - file.as_ptr().addr(),
-                length: data.len(),
-                answer,
-            }
-        })
-        .collect())
+    if let Some(left) = ssc_file(file, &charts) {
+        return Err(left);
+    }
+    if charts.is_empty() {
+        return Err(no_chart(file, NO_CHART));
+    }
+    Ok(charts)
+}
+
+/// Refuses a file that has the tag of a chart in an SSC file and no chart that the library reads. The refusal is that of its first chart.
+fn ssc_file(file: &[u8], charts: &[Listed]) -> Option<Left> {
+    if charts.iter().any(|chart| chart.answer.is_ok()) {
+        return None;
+    }
+    let place = lines(file).position(|line| line.trim_ascii_start().starts_with(b"#NOTEDATA:"))?;
+    let refusal = charts.first().and_then(|chart| chart.answer.err());
+    let line = place + 1;
+    Some(Left::Refused(
+        refusal.unwrap_or(Refusal::NoChart),
+        format!("an SSC file, which is not read: line {line} begins with #NOTEDATA:").into(),
+    ))
+}
+
+/// The refusal of a file that has no chart, or not the one that is asked for, in these words and with the first line that has
+/// the tag in other letters.
+pub fn no_chart(file: &[u8], words: &'static str) -> Left {
+    let tag = |line: &[u8]| line.trim_ascii_start().get(..TAG.len()).map(<[u8]>::to_vec);
+    let other = |tag: &Vec<u8>| tag != TAG && tag.eq_ignore_ascii_case(TAG);
+    let mut tags = lines(file).map(|line| tag(line).filter(other)).enumerate();
+    let seen = tags.find_map(|(place, tag)| Some((place + 1, tag?)));
+    let words = seen.map_or(Cow::Borrowed(words), |(line, tag)| {
+        let tag = tag.escape_ascii();
+        format!("{words}; line {line} begins with {tag}, and tags are in capitals").into()
+    });
+    Left::Refused(Refusal::NoChart, words)
 }
 
 /// What follows the tag of each chart of an SM file, through its `;`. It is for the eye: where a refused chart stands, which
@@ -56,7 +98,7 @@ fn blocks(file: &[u8]) -> impl Iterator<Item = &[u8]> {
     iter::from_fn(move || {
         while !rest.is_empty() {
             let line = rest.trim_ascii_start();
-            if let Some(block) = line.strip_prefix(b"#NOTES:") {
+            if let Some(block) = line.strip_prefix(TAG) {
                 let (block, after) = cut_after(block, b';');
                 rest = cut_after(after, b'\n').1;
                 return Some(block);
@@ -90,16 +132,23 @@ fn written_data(block: &[u8]) -> &[u8] {
 /// A type from a file, in one short line whatever its bytes are.
 pub fn shortened(name: &[u8]) -> String {
     const MOST: usize = 40;
-    let cut = if name.len() > MOST { "..." } else { "" };
-    format!("{}{cut}", name[..name.len().min(MOST)].escape_ascii())
+    let mut short = String::new();
+    for byte in name {
+        let letter = byte.escape_ascii();
+        if short.len() + letter.len() > MOST {
+            return short + "...";
+        }
+        short.extend(letter.map(char::from));
+    }
+    short
 }
 
 /// `padcheck charts`.
-pub fn run(files: &[PathBuf], out: &mut dyn Write) -> io::Result<Status> {
+pub fn run(asked: &Charts, out: &mut dyn Write) -> io::Result<Status> {
     let mut worst = Status::Done;
-    for path in files {
+    for path in &asked.files {
         let status = match contents(path) {
-            Ok(file) => list(path, &file, out)?,
+            Ok(file) => list(path, &file, asked.force, out)?,
             Err(message) => fault(out, &message)?,
         };
         worst = worst.max(status);
@@ -108,18 +157,16 @@ pub fn run(files: &[PathBuf], out: &mut dyn Write) -> io::Result<Status> {
 }
 
 /// The list of one file.
-fn list(path: &Path, file: &[u8], out: &mut dyn Write) -> io::Result<Status> {
+fn list(path: &Path, file: &[u8], force: bool, out: &mut dyn Write) -> io::Result<Status> {
     let path = shown(path);
-    let charts = match listed(file) {
+    let charts = match whole_file(file, force).and_then(listed) {
         Ok(charts) => charts,
-        Err(Refusal::NoChart) => {
-            writeln!(out, "{path}: {NO_CHART}")?;
+        Err(Left::Refused(refusal, words)) => {
+            writeln!(out, "{path}: refused {}: {words}", refusal.number())?;
             return Ok(Status::Refused);
         }
-        Err(refusal) => {
-            writeln!(out, "{path}: {refusal}")?;
-            return Ok(Status::Refused);
-        }
+        Err(Left::Doubtful(why)) => return doubtful(out, &path, &why),
+        Err(Left::NoMemory(lack)) => return fault(out, &format!("{path}: {lack}")),
     };
     let refused = charts.iter().filter(|chart| chart.answer.is_err()).count();
     writeln!(out, "{path}: {} charts, {refused} refused", charts.len())?;
@@ -127,11 +174,7 @@ fn list(path: &Path, file: &[u8], out: &mut dyn Write) -> io::Result<Status> {
     for chart in &charts {
         line(chart, out)?;
     }
-    Ok(if refused == 0 {
-        Status::Done
-    } else {
-        Status::Refused
-    })
+    Ok(Status::Done)
 }
 
 /// The line of one chart, and another where it is refused.
@@ -223,8 +266,39 @@ mod tests {
 
     #[test]
     fn a_file_too_long_or_without_charts() {
-        assert_eq!(listed(&vec![b'0'; MAX_LEN + 1]), Err(Refusal::TextTooLong));
-        assert_eq!(listed(b"1000\n0100\n"), Err(Refusal::NoChart));
+        let long = vec![b'0'; MAX_LEN + 1];
+        assert_eq!(listed(&long), Err(Refusal::TextTooLong.into()));
+        let none = listed(b"1000\n0100\n");
+        assert_eq!(none, Err(Left::Refused(Refusal::NoChart, NO_CHART.into())));
+    }
+
+    /// The words in which a file is refused.
+    fn refused(file: &[u8]) -> (Refusal, String) {
+        match listed(file) {
+            Err(Left::Refused(refusal, words)) => (refusal, words.into_owned()),
+            other => panic!("{other:?}"),
+        }
+    }
+
+    #[test]
+    fn a_tag_in_other_letters_is_told() {
+        let (refusal, words) = refused(b"#TITLE:x;\n #Notes:\ndance-single:::::\n#notes:;");
+        assert_eq!(refusal, Refusal::NoChart);
+        assert!(words.ends_with("; line 2 begins with #Notes:, and tags are in capitals"));
+        for file in [&b"#NOTE:;\n"[..], b"x #Notes:;\n", b"#Notes"] {
+            assert_eq!(refused(file).1, NO_CHART);
+        }
+    }
+
+    #[test]
+    fn an_ssc_file_is_told() {
+        let words = "an SSC file, which is not read: line 2 begins with #NOTEDATA:";
+        let ssc = b"#VERSION:0.83;\n\t#NOTEDATA:;\n#STEPSTYPE:dance-single;\n#NOTES:\n1000\n;\n";
+        assert_eq!(refused(ssc), (Refusal::FewFields, words.to_owned()));
+        let none = b"\n#NOTEDATA:;\n#STEPSTYPE:dance-single;\n";
+        assert_eq!(refused(none), (Refusal::NoChart, words.to_owned()));
+        let read = b"#NOTEDATA:;\n#NOTES:dance-single:::::\n1000\n;\n";
+        assert_eq!(listed(read).unwrap().len(), 1);
     }
 
     #[test]
@@ -232,5 +306,9 @@ mod tests {
         assert_eq!(shortened(&[b'x'; 41]), format!("{}...", "x".repeat(40)));
         assert_eq!(shortened(&[b'x'; 40]), "x".repeat(40));
         assert_eq!(shortened(b"dance\n-SINGLE\xFF"), "dance\\n-SINGLE\\xff");
+        assert_eq!(shortened(&[0xFF; 11]), format!("{}...", "\\xff".repeat(10)));
+        assert_eq!(shortened(&[b'\n'; 20]), "\\n".repeat(20));
+        let odd = [&[b'x'; 39][..], b"\n"].concat();
+        assert_eq!(shortened(&odd), format!("{}...", "x".repeat(39)));
     }
 }

@@ -1,4 +1,24 @@
-//! The checksum that `cksum FILE` prints: the CRC of POSIX.
+//! By what a file is told from another: its length, and the checksum that `cksum FILE` prints, the CRC of POSIX.
+
+use padcheck::MAX_LEN;
+
+/// The length and the checksum of a file.
+#[derive(Clone, Copy, Debug, PartialEq, Eq)]
+pub struct Sum {
+    pub length: usize,
+    pub cksum: u32,
+}
+
+impl Sum {
+    /// Those of a file that was read; of one that is too long not all was read, so it has none.
+    pub fn of(file: &[u8]) -> Option<Self> {
+        let (length, whole) = (file.len(), file.len() <= MAX_LEN);
+        whole.then(|| Self {
+            length,
+            cksum: cksum(file),
+        })
+    }
+}
 
 /// The polynomial of the CRC, highest power first and without x^32.
 const POLYNOMIAL: u32 = 0x04C1_1DB7;
@@ -28,7 +48,7 @@ fn with_byte(crc: u32, byte: u8) -> u32 {
 }
 
 /// The CRC of these bytes and of their number, its low byte first and without zeros at its end; every bit turned over.
-pub fn cksum(bytes: &[u8]) -> u32 {
+fn cksum(bytes: &[u8]) -> u32 {
     let mut crc = bytes.iter().fold(0, |crc, &byte| with_byte(crc, byte));
     let mut length = bytes.len();
     while length != 0 {
@@ -41,6 +61,15 @@ pub fn cksum(bytes: &[u8]) -> u32 {
 #[cfg(test)]
 mod tests {
     use super::*;
+
+    #[test]
+    fn a_file_that_is_too_long_has_none() {
+        let mut file = vec![0; MAX_LEN];
+        let length = Sum::of(&file).map(|sum| sum.length);
+        assert_eq!(length, Some(MAX_LEN));
+        file.push(0);
+        assert_eq!(Sum::of(&file), None);
+    }
 
     /// What `cksum` of coreutils prints.
     #[test]

@@ -82,8 +82,7 @@ impl Damage<'_> {
     fn later_notes(&self) -> Found {
         let [old, new] = [self.old, self.new].map(|figures| {
             let end = figures.range(self.d).end;
-            let notes = figures.notes().iter();
-            notes.filter(move |note| note.row_index >= end).copied()
+            figures.notes().filter(move |note| note.row_index >= end)
         });
         let (before, after) = (self.old.range(self.d).len(), self.new.range(self.d).len());
         let shifted = old.map(|note| ParsedChartNote {
@@ -102,8 +101,7 @@ impl Damage<'_> {
     fn earlier_notes(&self) -> Found {
         let [old, new] = [self.old, self.new].map(|figures| {
             let (start, open) = (figures.range(self.d).start, self.heads(figures));
-            let notes = figures.notes().iter().copied();
-            notes.filter(move |note| {
+            figures.notes().filter(move |note| {
                 note.row_index < start && !open.iter().any(|head| head.is(note))
             })
         });
@@ -153,13 +151,13 @@ impl Damage<'_> {
 
     fn missing_or_late(&self, head: &OpenHead, figures: &Figures) -> Result<(), String> {
         let start = figures.range(self.d).start;
-        let mut here = figures.notes().iter().filter(|note| head.is(note));
+        let mut here = figures.notes().filter(|note| head.is(note));
         match (here.next(), here.next()) {
             (None, _) => Ok(()),
-            (Some(note), None) if note.note_type == head.kind && late(note, start, figures) => {
+            (Some(note), None) if note.note_type == head.kind && late(&note, start, figures) => {
                 Ok(())
             }
-            (Some(note), _) => Err(said(Some(note))),
+            (Some(note), _) => Err(said(Some(&note))),
         }
     }
 

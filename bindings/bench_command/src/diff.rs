@@ -1,13 +1,14 @@
 //! The word `diff`: which measures of a chart differ between two files, and what the damage theorem says of the rest.
 
 use crate::args::Diff;
-use crate::checksum::cksum;
+use crate::checksum::Sum;
 use crate::damage::Damage;
 use crate::figures::Figures;
 use crate::input::{contents, shown};
+use crate::left::Left;
 use crate::lines::MeasureLines;
 use crate::output::{Status, doubtful, fault};
-use crate::select::{Left, Selected, selected};
+use crate::select::{Selected, selected};
 use std::io::{self, Write};
 use std::path::Path;
 
@@ -29,8 +30,10 @@ pub fn run(asked: &Diff, out: &mut dyn Write) -> io::Result<Status> {
         }
     }
     for side in &sides {
-        let (path, length, sum) = (shown(side.path), side.bytes.len(), cksum(&side.bytes));
-        writeln!(out, "{} {path}: length {length}, cksum {sum}", side.name)?;
+        let sum = Sum::of(&side.bytes).map_or_else(String::new, |Sum { length, cksum }| {
+            format!(": length {length}, cksum {cksum}")
+        });
+        writeln!(out, "{} {}{sum}", side.name, shown(side.path))?;
     }
     let mut charts = Vec::new();
     for side in &sides {
@@ -61,35 +64,40 @@ fn left_out(side: &Side, title: &str, left: &Left, out: &mut dyn Write) -> io::R
             Ok(Status::Refused)
         }
         Left::Doubtful(why) => doubtful(out, &format!("{}{title}", shown(side.path)), why),
+        Left::NoMemory(lack) => fault(out, &format!("{}{title}: {lack}", shown(side.path))),
     }
 }
 
-/// The comparison of one chart.
+/// The comparison of one chart, which one of the files may not have.
 fn chart(
     force: bool,
     sides: &[Side],
     pair: [Option<&Selected>; 2],
     out: &mut dyn Write,
 ) -> io::Result<Status> {
-    let title = pair
+    let here: Vec<_> = sides
         .iter()
-        .flatten()
-        .next()
-        .map_or_else(String::new, |chart| chart.title());
-    let (Some(old), Some(new)) = (pair[0], pair[1]) else {
-        let side = if pair[0].is_some() { "old" } else { "new" };
-        writeln!(out, "\nonly {side} has{title}")?;
-        return Ok(Status::Done);
-    };
-    if !title.is_empty() {
+        .zip(pair)
+        .filter_map(|(side, chart)| Some((side, chart?)))
+        .collect();
+    let title = here
+        .first()
+        .map_or_else(String::new, |(_, chart)| chart.title());
+    if let [(side, _)] = here[..] {
+        writeln!(out, "\nonly {} has{title}", side.name)?;
+    } else if !title.is_empty() {
         writeln!(out, "\n{}", title.trim_start())?;
     }
     let mut worst = Status::Done;
     let mut read = Vec::new();
-    for (side, chart) in sides.iter().zip([old, new]) {
+    for (side, chart) in here {
         match Read::of(chart, force) {
             Ok(chart) => read.push(chart),
             Err(left) => worst = worst.max(left_out(side, &title, &left, out)?),
+        }
+        // Without memory for the one the other is not asked about.
+        if worst == Status::Fault {
+            break;
         }
     }
     if let [old, new] = &read[..] {
@@ -108,7 +116,7 @@ impl<'a> Read<'a> {
     fn of(chart: &'a Selected, force: bool) -> Result<Self, Left> {
         let chart = chart.taken(force)?;
         let figures = Figures::of(chart.data, chart.lanes)?;
-        let lines = MeasureLines::of(chart.data, figures.lanes());
+        let lines = MeasureLines::of(chart.data, figures.lanes())?;
         Ok(Self { lines, figures })
     }
 }
@@ -145,14 +153,15 @@ fn compare(old: &Read, new: &Read, out: &mut dyn Write) -> io::Result<()> {
     }
 }
 
-/// A line for each measure that differs, and the numbers of those that differ by their lines.
+/// A line for each measure that differs, and the numbers of the first two that differ by their lines.
 fn measures(old: &Read, new: &Read, out: &mut dyn Write) -> io::Result<Vec<usize>> {
     let mut differing = Vec::new();
     let count = old.figures.measures().max(new.figures.measures());
     for measure in 0..count {
         let lines = old.lines.measures.get(measure) != new.lines.measures.get(measure);
         let told = differences(&old.figures, &new.figures, measure);
-        if lines {
+        // More than two say no more than two.
+        if lines && differing.len() < 2 {
             differing.push(measure);
         }
         match (lines, told.is_empty()) {
@@ -235,7 +244,7 @@ mod tests {
     /// What is said of two texts, and the status.
     fn said(old: &[u8], new: &[u8]) -> String {
         let [old, new] = [old, new].map(|data| {
-            let lines = MeasureLines::of(data, 4);
+            let lines = MeasureLines::of(data, 4).unwrap();
             let figures = Figures::of(data, 4).unwrap();
             Read { lines, figures }
         });

@@ -7,14 +7,18 @@ use padcheck::lanes_in_force;
 /// The marks with which a text may say how its letters are written: UTF-8, and UTF-16 in both orders.
 const BYTE_ORDER_MARKS: [&[u8]; 3] = [b"\xEF\xBB\xBF", b"\xFE\xFF", b"\xFF\xFE"];
 
+/// The bytes that a cell may be.
+const CELLS: &[u8] = b"01234MKLFmlf";
+
 /// Why a whole file is doubtful, whether it is an SM file or note data.
 pub fn file_doubt(file: &[u8]) -> Option<&'static str> {
     let marked = BYTE_ORDER_MARKS.iter().any(|mark| file.starts_with(mark));
     marked.then_some("it begins with a byte-order mark")
 }
 
-/// Why the note data of one chart is doubtful at these lanes.
-pub fn data_doubt(data: &[u8], lanes: usize) -> Option<String> {
+/// Why the note data of one chart is doubtful at these lanes. `before` is what its file has before it, so that lines are
+/// counted from 1 through the file.
+pub fn data_doubt(before: &[u8], data: &[u8], lanes: usize) -> Option<String> {
     let start = data.trim_ascii_start();
     if let Some(why) = file_doubt(start) {
         return Some(why.to_owned());
@@ -32,50 +36,122 @@ pub fn data_doubt(data: &[u8], lanes: usize) -> Option<String> {
     if data.contains(&0) {
         return Some(String::from("it has a NUL byte"));
     }
-    row_doubt(&Counts::of(data, lanes), lanes_in_force(lanes))
+    let lanes = lanes_in_force(lanes);
+    let seen = Seen::of(data, lanes);
+    seen.line_doubt(before).or_else(|| seen.row_doubt(lanes))
 }
 
-/// Why rows like these are doubtful.
-fn row_doubt(counts: &Counts, lanes: usize) -> Option<String> {
-    let Counts { rows, past, short } = *counts;
-    if rows == 0 && short > 0 {
-        Some(format!("every line is shorter than {lanes} lanes"))
-    } else if rows == 0 {
-        Some(String::from("it has no rows at all"))
-    } else if past > rows / 2 {
-        Some(format!(
-            "{past} of {rows} rows have cells past {lanes} lanes"
-        ))
-    } else {
-        None
-    }
-}
-
-/// How many lines of note data are rows, rows with more than their cells, and lines too short for a row.
+/// What is seen in the lines of note data, up to the one that ends the reading. The places are those of lines, from 0.
 #[derive(Debug, Default, PartialEq, Eq)]
-struct Counts {
+struct Seen {
+    /// How many rows there are.
     rows: usize,
+    /// How many of them have more than a comment after their cells.
     past: usize,
+    /// How many lines are too short for a row.
     short: usize,
+    /// The first line with a `:` outside its comment.
+    colon: Option<usize>,
+    /// The first row that has such a byte among its cells, which none may be.
+    cell: Option<(usize, u8)>,
+    /// The first line too short for a row between two rows of one measure.
+    gap: Option<usize>,
 }
 
-impl Counts {
+impl Seen {
     fn of(data: &[u8], lanes: usize) -> Self {
-        let lanes = lanes_in_force(lanes);
-        let mut counts = Self::default();
-        for line in lines(data) {
-            match line_kind(line, lanes) {
-                LineKind::Semi => break,
+        let mut seen = Self::default();
+        let mut measure = Measure::default();
+        for (place, line) in lines(data).enumerate() {
+            let kind = line_kind(line, lanes);
+            if kind == LineKind::Semi {
+                break;
+            }
+            if has_colon(line) {
+                seen.colon.get_or_insert(place);
+            }
+            match kind {
                 LineKind::Row => {
-                    counts.rows += 1;
-                    counts.past += usize::from(goes_on(&line.trim_ascii_start()[lanes..]));
+                    let (cells, rest) = line.trim_ascii_start().split_at(lanes);
+                    seen.row(place, cells, rest);
+                    seen.gap = seen.gap.or(measure.short.take());
+                    measure.begun = true;
                 }
-                LineKind::Short => counts.short += 1,
-                LineKind::Passed | LineKind::Comma => {}
+                LineKind::Short => {
+                    seen.short += 1;
+                    if measure.begun {
+                        measure.short.get_or_insert(place);
+                    }
+                }
+                LineKind::Comma => measure = Measure::default(),
+                LineKind::Passed | LineKind::Semi => {}
             }
         }
-        counts
+        seen
     }
+
+    /// Sees a row.
+    fn row(&mut self, place: usize, cells: &[u8], rest: &[u8]) {
+        self.rows += 1;
+        self.past += usize::from(goes_on(rest));
+        let other = cells.iter().find(|cell| !CELLS.contains(cell));
+        self.cell = self.cell.or(other.map(|&cell| (place, cell)));
+    }
+
+    /// Why a line like these is doubtful.
+    fn line_doubt(&self, before: &[u8]) -> Option<String> {
+        let first = 1 + before.iter().filter(|&&byte| byte == b'\n').count();
+        if let Some(place) = self.colon {
+            let line = first + place;
+            return Some(format!(
+                "line {line} has a : outside comments, as the fields before note data have"
+            ));
+        }
+        if let Some((place, cell)) = self.cell {
+            let (line, cell) = (first + place, cell.escape_ascii());
+            return Some(format!("line {line} has the byte `{cell}` among its cells"));
+        }
+        let line = first + self.gap?;
+        Some(format!(
+            "line {line} stands between rows of one measure and is too short for a row"
+        ))
+    }
+
+    /// Why so many rows and lines are doubtful.
+    fn row_doubt(&self, lanes: usize) -> Option<String> {
+        let Self {
+            rows, past, short, ..
+        } = *self;
+        if rows == 0 && short > 0 {
+            Some(format!("every line is shorter than {lanes} lanes"))
+        } else if rows == 0 {
+            Some(String::from("it has no rows at all"))
+        } else if past > rows / 2 {
+            Some(format!(
+                "{past} of {rows} rows have cells past {lanes} lanes"
+            ))
+        } else {
+            None
+        }
+    }
+}
+
+/// What was seen of a measure that has not ended.
+#[derive(Default)]
+struct Measure {
+    /// Whether it has a row.
+    begun: bool,
+    /// The first line too short for a row since its last row.
+    short: Option<usize>,
+}
+
+/// Whether a line has a `:` before its comment. One that begins with `/` is a comment.
+fn has_colon(line: &[u8]) -> bool {
+    let first = line.iter().position(|&byte| byte == b':');
+    first.is_some_and(|place| {
+        let before = line[..place].trim_ascii_start();
+        !before.starts_with(b"/") && !before.windows(2).any(|pair| pair == b"//")
+    })
 }
 
 /// Whether something other than blanks and a comment follows a row's cells.
@@ -90,23 +166,27 @@ mod tests {
 
     /// Whether this text is doubtful at 4 lanes for a reason with these words.
     fn doubted(data: &[u8], words: &str) -> bool {
-        data_doubt(data, 4).is_some_and(|why| why.contains(words))
+        data_doubt(b"", data, 4).is_some_and(|why| why.contains(words))
     }
 
     #[test]
     fn a_chart_is_not_doubtful() {
-        let charts: [&[u8]; 5] = [
+        let charts: [&[u8]; 9] = [
             b"1000\n",
             b"\n  // measure 0\r\n1000\r\n,  // x\r\n0000 // y\r\n;",
             b"0000",
             b"1000 x\n0100\n",
-            b"2000\n100\n1000;\n3000\n;",
+            b"2000\n1000;\n3000\n;",
+            b"1234\nMKLF\nmlf0\n",
+            b"// a: b\n1000 // c: d\n/ e:\n,// f:\n0000\n; g:\nh:\n",
+            b"100\n1000\n \t\r\n0100\n100\n,\n10\n1000\n",
+            b"1000\n,\n10\n,\n1000\n",
         ];
         for data in charts {
-            assert_eq!(data_doubt(data, 4), None, "{}", data.escape_ascii());
+            assert_eq!(data_doubt(b"", data, 4), None, "{}", data.escape_ascii());
         }
         let chart = include_bytes!("../../../examples/first-steps.txt");
-        assert_eq!(data_doubt(chart, 4), None);
+        assert_eq!(data_doubt(b"", chart, 4), None);
     }
 
     #[test]
@@ -123,6 +203,32 @@ mod tests {
     }
 
     #[test]
+    fn a_doubtful_line_is_named() {
+        assert!(doubted(
+            b"0.1,0.2:\n1000\n",
+            "line 1 has a : outside comments"
+        ));
+        assert!(doubted(b"1000\n, a:b // c\n0000\n", "line 2 has a :"));
+        assert!(doubted(
+            b"1000\n1[12]000\n",
+            "line 2 has the byte `[` among its cells"
+        ));
+        assert!(doubted(
+            b"1000\n0100\n100\r\n",
+            "line 3 has the byte `\\r` among"
+        ));
+        assert!(doubted(b"10 0\n", "line 1 has the byte ` ` among"));
+        assert!(doubted(
+            b"1000\n\n100\n// x\n0100\n",
+            "line 3 stands between rows"
+        ));
+        assert!(doubted(b"10x0\n1000\n,:\n", "line 3 has a :"));
+        assert!(doubted(b"1000\n1\n1000\n1x00\n", "line 4 has the byte"));
+        let why = data_doubt(b"#NOTES:\n\n", b"1000\n100x\n", 4).unwrap();
+        assert!(why.starts_with("line 4 has"), "{why}");
+    }
+
+    #[test]
     fn rows_of_another_width_are_doubtful() {
         assert!(doubted(b"", "no rows at all"));
         assert!(doubted(b"// x\n,\n;\n1000\n", "no rows at all"));
@@ -131,10 +237,10 @@ mod tests {
             b"10000\n00100\n0000\n",
             "2 of 3 rows have cells past 4 lanes"
         ));
-        assert_eq!(data_doubt(b"10000\n0000\n", 4), None);
-        assert_eq!(data_doubt(b"10000\n00100\n", 5), None);
+        assert_eq!(data_doubt(b"", b"10000\n0000\n", 4), None);
+        assert_eq!(data_doubt(b"", b"10000\n00100\n", 5), None);
         // Another lane number means 4.
-        assert!(data_doubt(b"100000\n", 6).is_some_and(|why| why.contains("past 4 lanes")));
+        assert!(data_doubt(b"", b"100000\n", 6).is_some_and(|why| why.contains("past 4 lanes")));
     }
 
     #[test]

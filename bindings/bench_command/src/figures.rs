@@ -1,61 +1,44 @@
 //! The library's figures of a chart, each measure's by itself, for the comparison of two charts.
 
-use padcheck::{
-    OwnedChart, ParsedChartNote, Refusal, equally_spaced, lanes_in_force,
-    minimize_chart_count_rows_notes,
-};
+use crate::left::Left;
+use crate::measures::Measures;
+use crate::slices::Slices;
+use padcheck::{NOTE_BYTES, ParsedChartNote, lanes_in_force, read_note};
 use std::ops::Range;
 
 /// The figures of a chart.
 pub struct Figures {
-    /// Minimised text, densities, row beats, notes and last beat.
-    chart: OwnedChart,
-    /// For each measure whether it is equally spaced.
-    spacing: Vec<bool>,
-    /// Where each minimised row begins in the text.
-    rows: Vec<usize>,
-    /// For each measure its first row, and behind them all the number of rows.
-    starts: Vec<usize>,
+    /// The answers of the main call, and the spacing.
+    chart: Slices,
+    /// The minimised rows of each measure.
+    measures: Measures,
     /// The lane count in force.
     lanes: usize,
 }
 
 impl Figures {
     /// The figures of note data.
-    pub fn of(data: &[u8], lanes: usize) -> Result<Self, Refusal> {
-        let chart = minimize_chart_count_rows_notes(data, lanes)?;
-        let spacing = equally_spaced(data, lanes)?;
+    pub fn of(data: &[u8], lanes: usize) -> Result<Self, Left> {
+        let mut chart = Slices::default();
+        chart.main_call(data, lanes)?;
+        chart.equally_spaced(data, lanes)?;
         let lanes = lanes_in_force(lanes);
-        let (mut rows, mut starts) = (Vec::new(), vec![0]);
-        let mut place = 0;
-        // Each line of minimised text is a row or a `,`, and no row begins with that.
-        while let Some(&byte) = chart.text.get(place) {
-            if byte == b',' {
-                starts.push(rows.len());
-                place += 2;
-            } else {
-                rows.push(place);
-                place += lanes + 1;
-            }
-        }
-        starts.push(rows.len());
+        let measures = Measures::of(chart.text(), lanes, chart.densities().len())?;
         Ok(Self {
             chart,
-            spacing,
-            rows,
-            starts,
+            measures,
             lanes,
         })
     }
 
     /// How many measures there are.
     pub fn measures(&self) -> usize {
-        self.starts.len() - 1
+        self.measures.count()
     }
 
     /// How many minimised rows there are.
     pub fn row_count(&self) -> usize {
-        self.rows.len()
+        self.measures.row_count()
     }
 
     /// The lane count in force.
@@ -65,15 +48,13 @@ impl Figures {
 
     /// The rows of a measure; none where there is no such measure.
     pub fn range(&self, measure: usize) -> Range<usize> {
-        match self.starts.get(measure..measure + 2) {
-            Some(&[start, end]) => start..end,
-            _ => 0..0,
-        }
+        self.measures.rows(measure)
     }
 
-    /// The cells of a row.
+    /// The cells of a row. In the text a line of two bytes ends each measure before its own.
     pub fn row(&self, row: usize) -> &[u8] {
-        &self.chart.text[self.rows[row]..][..self.lanes]
+        let place = row * (self.lanes + 1) + 2 * self.measures.of_row(row);
+        &self.chart.text()[place..][..self.lanes]
     }
 
     /// The rows of a measure, each by its cells.
@@ -83,33 +64,35 @@ impl Figures {
 
     /// The row beats of a measure, by their bits.
     pub fn beats(&self, measure: usize) -> impl Iterator<Item = u32> {
-        let beats = &self.chart.beats[self.range(measure)];
+        let beats = &self.chart.beats()[self.range(measure)];
         beats.iter().map(|beat| beat.to_bits())
     }
 
     /// The density of a measure.
-    pub fn density(&self, measure: usize) -> Option<usize> {
-        self.chart.densities.get(measure).copied()
+    pub fn density(&self, measure: usize) -> Option<u32> {
+        self.chart.densities().get(measure).copied()
     }
 
     /// Whether a measure is equally spaced.
     pub fn spacing(&self, measure: usize) -> Option<bool> {
-        self.spacing.get(measure).copied()
+        self.chart.spacing().get(measure).map(|&spaced| spaced == 1)
     }
 
     /// The notes.
-    pub fn notes(&self) -> &[ParsedChartNote] {
-        &self.chart.notes
+    pub fn notes(&self) -> impl Iterator<Item = ParsedChartNote> {
+        let records = self.chart.records();
+        let notes = (0..records.len() / NOTE_BYTES).map(|number| read_note(records, number));
+        notes.map(|note| note.expect("the library reads the records that it wrote"))
     }
 
     /// The last beat, by its bits.
     pub fn last_bits(&self) -> u64 {
-        self.chart.last.beat.to_bits()
+        self.chart.last_bits()
     }
 
     /// The last beat in 48ths.
     pub fn last_in_48ths(&self) -> u64 {
-        self.chart.last.in_48ths
+        self.chart.last_in_48ths()
     }
 }
 
@@ -157,12 +140,12 @@ mod tests {
             let words = (0..5).map(|place| WORDS[number / 8usize.pow(place) % 8]);
             let text: String = words.collect();
             let figures = Figures::of(text.as_bytes(), 4).unwrap();
-            assert_eq!(figures.measures(), figures.chart.densities.len());
-            assert_eq!(figures.row_count(), figures.chart.beats.len());
-            let lines = MeasureLines::of(text.as_bytes(), 4).measures;
-            assert_eq!(figures.measures(), lines.len(), "{text:?}");
-            for (measure, lines) in lines.iter().enumerate() {
-                let rows = lines.iter().any(|line| line_kind(line, 4) == LineKind::Row);
+            assert_eq!(figures.measures(), figures.chart.densities().len());
+            assert_eq!(figures.row_count(), figures.chart.beats().len());
+            let parts = MeasureLines::of(text.as_bytes(), 4).unwrap().measures;
+            assert_eq!(figures.measures(), parts.len(), "{text:?}");
+            for (measure, part) in parts.into_iter().enumerate() {
+                let rows = part.lines().any(|line| line_kind(line, 4) == LineKind::Row);
                 assert_eq!(rows, !figures.range(measure).is_empty(), "{text:?}");
             }
         }

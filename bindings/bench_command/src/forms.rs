@@ -1,23 +1,43 @@
 //! What stands around the library's sheet: head and foot on paper, the names of file and chart in JSON.
 
 use crate::charts::shortened;
+use crate::checksum::Sum;
 use crate::help::{KIT, LIBRARY};
 use crate::input::shown;
 use crate::json::quoted;
+use crate::measures::Measures;
 use padcheck::{Refusal, SheetForm};
+use std::fmt::Display;
 use std::io::{self, Write};
+use std::mem;
 use std::path::Path;
 
 /// Whose sheet it is.
 pub struct Subject<'a> {
     /// The file.
     pub path: &'a Path,
-    /// Its length in bytes.
-    pub length: usize,
-    /// Its checksum.
-    pub cksum: u32,
+    /// Its length and checksum; none where it is too long.
+    pub sum: Option<Sum>,
     /// The chart's number in it and its type as it is written; none for bare note data, or where the whole file is refused.
     pub chart: Option<(usize, &'a [u8])>,
+}
+
+/// The columns of a line on paper.
+const COLUMNS: usize = 80;
+
+/// The columns that stand before the first density of a line of the library's.
+const DENSITY_INDENT: usize = 8;
+
+/// The names of the columns of holds and rolls, as the library writes them.
+const HELD_HEAD: &[u8] = b"          row   column     tail\n";
+
+/// Where the rows of a chart stand.
+#[derive(Default)]
+pub struct Places<'a> {
+    /// In which measure.
+    pub measures: Measures,
+    /// At which beat.
+    pub beats: &'a [f32],
 }
 
 /// Writes sheets in one form.
@@ -40,7 +60,13 @@ impl<'a> Sheets<'a> {
     }
 
     /// The sheet of a chart, of which the library wrote `figures`.
-    pub fn sheet(&mut self, subject: &Subject, lanes: usize, figures: &[u8]) -> io::Result<()> {
+    pub fn sheet(
+        &mut self,
+        subject: &Subject,
+        lanes: usize,
+        figures: &[u8],
+        places: &Places,
+    ) -> io::Result<()> {
         match self.form {
             SheetForm::Card => {
                 if let Some((number, name)) = subject.chart {
@@ -51,16 +77,12 @@ impl<'a> Sheets<'a> {
             SheetForm::Print => {
                 self.head(subject)?;
                 writeln!(self.out, "{:<11}{lanes:>10}\n", "lanes")?;
-                self.out.write_all(figures)?;
+                self.figures_on_paper(figures, places)?;
                 self.foot()
             }
             SheetForm::Json => {
-                let (file, chart) = (json_file(subject), json_chart(subject));
-                let (length, cksum) = (subject.length, subject.cksum);
-                let head = format!(
-                    "{{{file},\"length\":{length},\"cksum\":{cksum},{chart},\"lanes\":{lanes},\"figures\":"
-                );
-                self.out.write_all(head.as_bytes())?;
+                let subject = json_subject(subject);
+                write!(self.out, "{{{subject},\"lanes\":{lanes},\"figures\":")?;
                 self.out.write_all(figures)?;
                 self.out.write_all(b"}\n")
             }
@@ -81,14 +103,16 @@ impl<'a> Sheets<'a> {
             (SheetForm::Card, None) => writeln!(self.out, "refused {number}: {words}"),
             (SheetForm::Print, _) => {
                 self.head(subject)?;
-                writeln!(self.out, "refused {number}: {words}")
+                for line in wrapped(&format!("refused {number}: {words}")) {
+                    writeln!(self.out, "{line}")?;
+                }
+                Ok(())
             }
             (SheetForm::Json, _) => {
-                let (file, chart) = (json_file(subject), json_chart(subject));
-                let words = quoted(words);
+                let (subject, words) = (json_subject(subject), quoted(words));
                 writeln!(
                     self.out,
-                    "{{{file},{chart},\"refused\":{number},\"words\":{words}}}"
+                    "{{{subject},\"refused\":{number},\"words\":{words}}}"
                 )
             }
         }
@@ -101,17 +125,57 @@ impl<'a> Sheets<'a> {
         }
         self.begun = true;
         let mut label = "file";
-        for part in folded(&shown(subject.path), 68) {
+        for part in folded(&shown(subject.path), COLUMNS - 12) {
             writeln!(self.out, "{label:<12}{part}")?;
             label = "";
         }
-        writeln!(self.out, "{:<11}{:>10}", "length", subject.length)?;
-        writeln!(self.out, "{:<11}{:>10}", "cksum", subject.cksum)?;
+        if let Some(Sum { length, cksum }) = subject.sum {
+            writeln!(self.out, "{:<11}{length:>10}", "length")?;
+            writeln!(self.out, "{:<11}{cksum:>10}", "cksum")?;
+        }
         if let Some((number, name)) = subject.chart {
             let line = format!("{:<11}{number:>10}  {}", "chart", shortened(name));
             writeln!(self.out, "{}", line.trim_end())?;
         }
         Ok(())
+    }
+
+    /// The library's lines on paper, with measure and beat beside those of holds and rolls.
+    fn figures_on_paper(&mut self, figures: &[u8], places: &Places) -> io::Result<()> {
+        let mut lines = figures.split_inclusive(|&byte| byte == b'\n');
+        for line in lines.by_ref() {
+            if line == HELD_HEAD {
+                self.beside(line, "measure", "beat")?;
+                break;
+            }
+            self.line_on_paper(line)?;
+        }
+        for line in lines {
+            let row = held_row(line).expect("the library writes a row's number there");
+            self.beside(line, places.measures.of_row(row), places.beats[row])?;
+        }
+        Ok(())
+    }
+
+    /// A line, and beside it two columns more.
+    fn beside(&mut self, line: &[u8], measure: impl Display, beat: impl Display) -> io::Result<()> {
+        self.out.write_all(line.trim_ascii_end())?;
+        writeln!(self.out, "{measure:>9} {beat:>12}")
+    }
+
+    /// A line of the library's. Of one of densities that is too long, some of 1,000 or more, the rest stands below.
+    fn line_on_paper(&mut self, line: &[u8]) -> io::Result<()> {
+        let (mut rest, mut columns) = (line, COLUMNS);
+        while rest.trim_ascii_end().len() > columns {
+            let mark = rest[..columns]
+                .iter()
+                .rposition(|byte| b"=-".contains(byte));
+            let (part, after) = rest.split_at(mark.map_or(columns, |place| place + 1));
+            self.out.write_all(part)?;
+            write!(self.out, "\n{:DENSITY_INDENT$}", "")?;
+            (rest, columns) = (after, COLUMNS - DENSITY_INDENT);
+        }
+        self.out.write_all(rest)
     }
 
     /// The foot on paper.
@@ -124,17 +188,56 @@ impl<'a> Sheets<'a> {
     }
 }
 
-/// A text in parts of so many letters; an empty one is one empty part.
-fn folded(text: &str, width: usize) -> Vec<String> {
-    let letters: Vec<char> = text.chars().collect();
-    if letters.is_empty() {
-        return vec![String::new()];
-    }
-    letters.chunks(width).map(String::from_iter).collect()
+/// The row in a line of holds and rolls, which stands after the first word.
+fn held_row(line: &[u8]) -> Option<usize> {
+    let line = str::from_utf8(line).ok()?;
+    line.split_ascii_whitespace().nth(1)?.parse().ok()
 }
 
-fn json_file(subject: &Subject) -> String {
-    format!("\"file\":{}", quoted(&subject.path.to_string_lossy()))
+/// A text in parts of so many columns, of which a letter that is not ASCII may take two; an empty one is one empty part.
+fn folded(text: &str, columns: usize) -> Vec<String> {
+    let mut parts = Vec::new();
+    let (mut part, mut taken) = (String::new(), 0);
+    for letter in text.chars() {
+        let wide = if letter.is_ascii() { 1 } else { 2 };
+        if taken + wide > columns {
+            parts.push(mem::take(&mut part));
+            taken = 0;
+        }
+        part.push(letter);
+        taken += wide;
+    }
+    parts.push(part);
+    parts
+}
+
+/// A sentence in lines that end between words; those after the first are set in.
+fn wrapped(sentence: &str) -> Vec<String> {
+    let mut lines = Vec::new();
+    let mut line = String::new();
+    for word in sentence.split(' ') {
+        if line.is_empty() {
+            line += word;
+        } else if line.len() + 1 + word.len() <= COLUMNS {
+            line = line + " " + word;
+        } else {
+            lines.push(line);
+            line = format!("{:4}{word}", "");
+        }
+    }
+    lines.push(line);
+    lines
+}
+
+/// The file and the chart in JSON, and the file's length and checksum where it has them.
+fn json_subject(subject: &Subject) -> String {
+    let file = quoted(&subject.path.to_string_lossy());
+    let sum = subject
+        .sum
+        .map_or_else(String::new, |Sum { length, cksum }| {
+            format!("\"length\":{length},\"cksum\":{cksum},")
+        });
+    format!("\"file\":{file},{sum}{}", json_chart(subject))
 }
 
 fn json_chart(subject: &Subject) -> String {
@@ -161,8 +264,10 @@ mod tests {
     fn subject<'a>(path: &'a str, chart: Option<(usize, &'a [u8])>) -> Subject<'a> {
         Subject {
             path: Path::new(path),
-            length: 7,
-            cksum: 4_294_967_295,
+            sum: Some(Sum {
+                length: 7,
+                cksum: 4_294_967_295,
+            }),
             chart,
         }
     }
@@ -171,7 +276,7 @@ mod tests {
     fn a_sheet_on_paper_has_head_and_foot() {
         let of = subject("a.sm", Some((2, b"dance-single")));
         let sheet = written(SheetForm::Print, |sheets| {
-            sheets.sheet(&of, 4, b"measures\n")
+            sheets.sheet(&of, 4, b"measures\n", &Places::default())
         });
         let wanted = "file        a.sm\n\
                       length              7\n\
@@ -188,7 +293,9 @@ mod tests {
     fn a_long_name_is_folded_within_80_columns() {
         let path = "x".repeat(150);
         let of = subject(&path, None);
-        let sheet = written(SheetForm::Print, |sheets| sheets.sheet(&of, 4, b""));
+        let sheet = written(SheetForm::Print, |sheets| {
+            sheets.sheet(&of, 4, b"", &Places::default())
+        });
         let names: Vec<_> = sheet.lines().take(3).collect();
         assert_eq!(
             names.iter().map(|line| line.len()).collect::<Vec<_>>(),
@@ -196,24 +303,34 @@ mod tests {
         );
         assert!(names[0].starts_with("file        x") && names[1].starts_with("            x"));
         assert_eq!(folded("", 68), [""]);
+        assert_eq!(
+            folded("ab\u{97f3}c\u{97f3}\u{97f3}", 4),
+            ["ab\u{97f3}", "c\u{97f3}", "\u{97f3}"]
+        );
     }
 
     #[test]
     fn an_object_has_its_names() {
         let of = subject("a\"b", Some((0, b"dance-single")));
-        let sheet = written(SheetForm::Json, |sheets| sheets.sheet(&of, 4, b"{}"));
+        let sheet = written(SheetForm::Json, |sheets| {
+            sheets.sheet(&of, 4, b"{}", &Places::default())
+        });
         assert_eq!(
             sheet,
             "{\"file\":\"a\\\"b\",\"length\":7,\"cksum\":4294967295,\"chart\":0,\
              \"type\":\"dance-single\",\"lanes\":4,\"figures\":{}}\n"
         );
-        let bare = written(SheetForm::Json, |sheets| {
-            sheets.refused(&subject("a", None), Refusal::TextTooLong, "long")
-        });
-        assert_eq!(
-            bare,
-            "{\"file\":\"a\",\"chart\":null,\"type\":null,\"refused\":1,\"words\":\"long\"}\n"
-        );
+        let bare = |of: &Subject| {
+            written(SheetForm::Json, |sheets| {
+                sheets.refused(of, Refusal::TextTooLong, "long")
+            })
+        };
+        let mut of = subject("a", None);
+        let end = "\"chart\":null,\"type\":null,\"refused\":1,\"words\":\"long\"}\n";
+        let sum = "\"length\":7,\"cksum\":4294967295,";
+        assert_eq!(bare(&of), format!("{{\"file\":\"a\",{sum}{end}"));
+        of.sum = None;
+        assert_eq!(bare(&of), format!("{{\"file\":\"a\",{end}"));
     }
 
     #[test]

@@ -24,9 +24,10 @@ padcheck WORD ...
   --version              versions of the program and library, and the kit's identity
 
 The exit status is the worst of all files and charts:
-  0  done
-  1  the library refused a file or a chart; its number and words stand in the output
-  2  the arguments, an input or the output are at fault; standard error says which
+  0  done; a refused chart stands in the output with its number and words
+  1  the library refused a file, all its charts, or one that was asked for by number
+  2  the arguments, an input, the output, memory or the processor are at fault;
+     standard error says which
   3  note data looks like something else and was not read; --force reads it all the same
 
 Charts, measures, rows and columns count from 0.
@@ -34,12 +35,14 @@ Charts, measures, rows and columns count from 0.
 
 /// The word `charts`.
 pub const CHARTS: &str = "\
-padcheck charts FILE...
+padcheck charts FILE... [--force]
 
 Lists the charts of each SM file: number, lane count, place and length in bytes of its
 note data, and type. A chart that is refused is listed too, with the refusal's number
 and words; where it has fewer than five fields, place and length are those of what
 follows its #NOTES: instead.
+
+  --force   lists a file that begins with a byte-order mark all the same
 ";
 
 /// The word `sheet`.
@@ -61,7 +64,9 @@ other number means 4.
 
 Note data is doubtful where it or its file begins with a byte-order mark, where its
 first byte after blanks is #, where it has a line that begins with #NOTES:, a NUL
-byte, no rows or only lines shorter than the lanes, or where most of its rows have
+byte, a : outside comments, a row with a byte among its cells that is none of
+0 1 2 3 4 M K L F m l f, a line between rows of one measure that is too short for a
+row, no rows or only lines shorter than the lanes, or where most of its rows have
 more than a comment after their cells.
 ";
 
@@ -77,7 +82,10 @@ Writes what the rig reads of chart K of an SM file, or with --lanes of bare note
   --beats OUT   the beat of each row, a float of 4 bytes, low byte first
   --force       takes doubtful note data all the same (see padcheck sheet --help)
 
-Both are written to new files beside OUT, which take its name when both are whole.
+Both are written to new files, which take these names when both are whole and what is
+printed has gone out: first the old beats and notes are removed, then the new notes
+take their name, then the new beats. Whenever it is killed, both files are the old
+ones, both are the new ones, or one is missing.
 ";
 
 /// The word `diff`.
@@ -92,7 +100,8 @@ theorem says of the rest, and checks each of it on the two files.
 
   --force   takes doubtful note data all the same (see padcheck sheet --help)
 
-The exit status is 0 whether they differ or not.
+The exit status is 0 whether they differ or not, and 1 where a chart is refused in
+either file.
 ";
 
 #[cfg(test)]

@@ -1,16 +1,29 @@
 //! Files that are read.
 
+use crate::memory::room;
 use padcheck::{MAX_LEN, Refusal, sm_chart};
+use std::error::Error;
 use std::fs::File;
 use std::io::Read;
 use std::path::Path;
 
 /// A file's bytes; of one that is too long just enough to be refused.
 pub fn contents(path: &Path) -> Result<Vec<u8>, String> {
-    let mut data = Vec::new();
-    let read =
-        File::open(path).and_then(|file| file.take(MAX_LEN as u64 + 1).read_to_end(&mut data));
-    read.map_err(|error| format!("cannot read {}: {error}", shown(path)))?;
+    read(path).map_err(|error| format!("cannot read {}: {error}", shown(path)))
+}
+
+fn read(path: &Path) -> Result<Vec<u8>, Box<dyn Error>> {
+    let file = File::open(path)?;
+    let found = file.metadata()?;
+    let length = usize::try_from(found.len()).unwrap_or(MAX_LEN);
+    // A pipe or a device does not say how long it is.
+    let length = if found.is_file() {
+        length.min(MAX_LEN)
+    } else {
+        MAX_LEN
+    };
+    let mut data = room(length + 1)?;
+    file.take(MAX_LEN as u64 + 1).read_to_end(&mut data)?;
     Ok(data)
 }
 

@@ -1,5 +1,8 @@
 //! The lines of note data, by document 01: for doubt and for the comparison of two files. Figures are not made from these.
 
+use crate::memory::{NoMemory, push};
+use std::ops::Range;
+
 /// What a line is.
 #[derive(Clone, Copy, Debug, PartialEq, Eq)]
 pub enum LineKind {
@@ -32,40 +35,65 @@ pub fn line_kind(line: &[u8], lanes: usize) -> LineKind {
     }
 }
 
+/// Lines of a text that stand one after the other. They are the same as others where their number and their bytes are.
+#[derive(Clone, Copy, Debug, Default, PartialEq, Eq)]
+pub struct Part<'a> {
+    count: usize,
+    text: &'a [u8],
+}
+
+#[cfg(test)]
+impl<'a> Part<'a> {
+    /// The lines.
+    pub fn lines(self) -> impl Iterator<Item = &'a [u8]> {
+        lines(self.text).take(self.count)
+    }
+}
+
 /// A text's lines by the measure they stand in.
 #[derive(Debug, Default, PartialEq, Eq)]
 pub struct MeasureLines<'a> {
     /// For each measure the lines in it, without the one that ends it.
-    pub measures: Vec<Vec<&'a [u8]>>,
+    pub measures: Vec<Part<'a>>,
     /// The lines that end a measure or the reading.
     pub ends: Vec<&'a [u8]>,
-    /// The lines after the one that ends the reading.
-    pub rest: Vec<&'a [u8]>,
+    /// What follows the line that ends the reading, if any line does.
+    pub rest: Option<&'a [u8]>,
 }
 
 impl<'a> MeasureLines<'a> {
     /// The lines of a text at this lane count.
-    pub fn of(text: &'a [u8], lanes: usize) -> Self {
+    pub fn of(text: &'a [u8], lanes: usize) -> Result<Self, NoMemory> {
         let mut cut = Self::default();
-        let mut open = Vec::new();
-        let mut left = lines(text);
-        for line in left.by_ref() {
-            match line_kind(line, lanes) {
-                LineKind::Semi => {
-                    cut.ends.push(line);
-                    break;
-                }
-                LineKind::Comma => {
-                    cut.ends.push(line);
-                    cut.measures.push(std::mem::take(&mut open));
-                }
-                _ => open.push(line),
+        let (mut start, mut place, mut count) = (0, 0, 0);
+        for line in lines(text) {
+            let next = place + line.len() + 1;
+            let kind = line_kind(line, lanes);
+            if matches!(kind, LineKind::Comma | LineKind::Semi) {
+                push(&mut cut.ends, line)?;
+                push(&mut cut.measures, part(text, start..place, count))?;
+                (start, count) = (next, 0);
+            } else {
+                count += 1;
             }
+            if kind == LineKind::Semi {
+                cut.rest = text.get(next..);
+                return Ok(cut);
+            }
+            place = next;
         }
-        cut.measures.push(open);
-        cut.rest = left.collect();
-        cut
+        push(&mut cut.measures, part(text, start..place, count))?;
+        Ok(cut)
     }
+}
+
+/// So many lines of a text, each with the place of the byte that ends it.
+fn part(text: &[u8], places: Range<usize>, count: usize) -> Part<'_> {
+    let text = match count {
+        0 => &[],
+        _ => &text[places.start..places.end - 1],
+    };
+    Part { count, text }
 }
 
 #[cfg(test)]
@@ -94,23 +122,35 @@ mod tests {
         assert_eq!(line_kind(b"1000", 5), Short);
     }
 
+    /// For each measure its lines, and what follows the reading.
+    fn cut(text: &[u8]) -> (Vec<Vec<&[u8]>>, Option<&[u8]>) {
+        let cut = MeasureLines::of(text, 4).unwrap();
+        let measures = cut.measures.iter().map(|part| part.lines().collect());
+        (measures.collect(), cut.rest)
+    }
+
     #[test]
     fn lines_stand_in_their_measures() {
-        let cut = MeasureLines::of(b"1000\n, x\n// y\n0100\n;\n,\n", 4);
-        assert_eq!(
-            cut.measures,
-            [vec![&b"1000"[..]], vec![&b"// y"[..], b"0100"]]
-        );
-        assert_eq!(cut.ends, [&b", x"[..], b";"]);
-        assert_eq!(cut.rest, [&b","[..], b""]);
+        let text = b"1000\n, x\n// y\n0100\n;\n,\n";
+        let measures = vec![vec![&b"1000"[..]], vec![&b"// y"[..], b"0100"]];
+        assert_eq!(cut(text), (measures, Some(&b",\n"[..])));
+        let ends = MeasureLines::of(text, 4).unwrap().ends;
+        assert_eq!(ends, [&b", x"[..], b";"]);
     }
 
     #[test]
     fn a_text_without_a_semicolon_ends_its_last_measure() {
-        let cut = MeasureLines::of(b"1000\n,", 4);
-        assert_eq!(cut.measures, [vec![&b"1000"[..]], vec![]]);
-        assert!(cut.rest.is_empty());
-        let empty = MeasureLines::of(b"", 4);
-        assert_eq!(empty.measures, [vec![&b""[..]]]);
+        assert_eq!(cut(b"1000\n,"), (vec![vec![&b"1000"[..]], vec![]], None));
+        assert_eq!(cut(b",\n\n"), (vec![vec![], vec![&b""[..]; 2]], None));
+        assert_eq!(cut(b""), (vec![vec![&b""[..]]], None));
+    }
+
+    #[test]
+    fn an_empty_line_is_one() {
+        assert_eq!(cut(b";"), (vec![vec![]], None));
+        assert_eq!(cut(b"\n;\n"), (vec![vec![&b""[..]]], Some(&b""[..])));
+        let [none, one] = [&b",\n;"[..], b"\n,\n;"].map(|text| MeasureLines::of(text, 4).unwrap());
+        assert_ne!(none.measures[0], one.measures[0]);
+        assert_eq!(none.measures[1], one.measures[1]);
     }
 }

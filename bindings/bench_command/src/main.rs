@@ -12,11 +12,18 @@ mod forms;
 mod help;
 mod input;
 mod json;
+mod left;
 mod lines;
+mod measures;
+mod memory;
 mod output;
+mod pair;
+mod processor;
 mod rig;
 mod select;
 mod sheet;
+mod slices;
+mod unnamed;
 
 use args::Request;
 use output::{Status, complain};
@@ -32,8 +39,8 @@ fn main() -> ExitCode {
             return Status::Fault.into();
         }
     };
-    if closed::output_closed() {
-        complain("cannot write the output: it is closed");
+    if let Some(message) = hindrance(&request) {
+        complain(&message);
         return Status::Fault.into();
     }
     let mut out = BufWriter::new(io::stdout().lock());
@@ -45,11 +52,22 @@ fn main() -> ExitCode {
     status.into()
 }
 
+/// What stands in the way of a request before anything is read. A text of the program's own makes no call of the library.
+fn hindrance(request: &Request) -> Option<String> {
+    if closed::output_closed() {
+        return Some(String::from("cannot write the output: it is closed"));
+    }
+    match request {
+        Request::Text(_) => None,
+        _ => processor::lack(),
+    }
+}
+
 /// Does what is asked for. An error is one of the output; every other fault has been told and is in the status.
 fn run(request: &Request, out: &mut dyn Write) -> io::Result<Status> {
     match request {
         Request::Text(text) => out.write_all(text.as_bytes()).map(|()| Status::Done),
-        Request::Charts(files) => charts::run(files, out),
+        Request::Charts(asked) => charts::run(asked, out),
         Request::Sheet(asked) => sheet::run(asked, out),
         Request::Rig(asked) => rig::run(asked, out),
         Request::Diff(asked) => diff::run(asked, out),

@@ -1,7 +1,9 @@
 //! Which charts of a file are asked for, and which of them are taken.
 
-use crate::charts::{NO_CHART, listed};
+use crate::charts::{listed, no_chart};
 use crate::doubt::{data_doubt, file_doubt};
+use crate::left::Left;
+use crate::memory::push;
 use padcheck::{MAX_LEN, Refusal, SmChart};
 
 /// Which charts of a file are asked for.
@@ -20,23 +22,10 @@ pub enum Selection {
 pub struct Selected<'a> {
     /// Its number in the SM file and its type as it is written there; none for bare note data.
     pub chart: Option<(usize, &'a [u8])>,
+    /// What the file has before its note data.
+    pub before: &'a [u8],
     /// What the library says of it.
     pub answer: Result<SmChart<'a>, Refusal>,
-}
-
-/// Why a chart or a whole file is not taken.
-#[derive(Clone, Debug, PartialEq)]
-pub enum Left {
-    /// The library refuses it, in these words.
-    Refused(Refusal, &'static str),
-    /// It looks like something else.
-    Doubtful(String),
-}
-
-impl From<Refusal> for Left {
-    fn from(refusal: Refusal) -> Self {
-        Self::Refused(refusal, refusal.meaning())
-    }
 }
 
 impl Selected<'_> {
@@ -46,7 +35,7 @@ impl Selected<'_> {
         if data.len() > MAX_LEN {
             return Err(Refusal::TextTooLong.into());
         }
-        match data_doubt(data, lanes) {
+        match data_doubt(self.before, data, lanes) {
             Some(why) if !force => Err(Left::Doubtful(why)),
             _ => Ok(SmChart { lanes, data }),
         }
@@ -59,37 +48,38 @@ impl Selected<'_> {
     }
 }
 
+/// A file that is taken as an SM file, unless it is doubtful as a whole and not forced.
+pub fn whole_file(file: &[u8], force: bool) -> Result<&[u8], Left> {
+    // A file that is too long is refused, doubtful or not.
+    match file_doubt(file) {
+        Some(why) if !force && file.len() <= MAX_LEN => Err(Left::Doubtful(why.to_owned())),
+        _ => Ok(file),
+    }
+}
+
 /// The charts of a file that are asked for.
 pub fn selected(file: &[u8], selection: Selection, force: bool) -> Result<Vec<Selected<'_>>, Left> {
     if let Selection::Bare(lanes) = selection {
-        let answer = Ok(SmChart { lanes, data: file });
         return Ok(vec![Selected {
             chart: None,
-            answer,
+            before: &[],
+            answer: Ok(SmChart { lanes, data: file }),
         }]);
     }
-    // A file that is too long is refused, doubtful or not.
-    if let Some(why) = file_doubt(file).filter(|_| !force && file.len() <= MAX_LEN) {
-        return Err(Left::Doubtful(why.to_owned()));
-    }
-    let charts = listed(file).map_err(|refusal| match refusal {
-        Refusal::NoChart => Left::Refused(refusal, NO_CHART),
-        _ => refusal.into(),
-    })?;
-    let wanted = |number| match selection {
-        Selection::Chart(chart) => number == chart,
-        _ => true,
-    };
-    let charts: Vec<_> = charts
-        .iter()
-        .filter(|chart| wanted(chart.number))
-        .map(|chart| Selected {
+    let mut charts = Vec::new();
+    for chart in listed(whole_file(file, force)?)? {
+        if matches!(selection, Selection::Chart(number) if number != chart.number) {
+            continue;
+        }
+        let chart = Selected {
             chart: Some((chart.number, chart.name)),
+            before: &file[..chart.place],
             answer: chart.answer,
-        })
-        .collect();
+        };
+        push(&mut charts, chart)?;
+    }
     if charts.is_empty() {
-        return Err(Refusal::NoChart.into());
+        return Err(no_chart(file, Refusal::NoChart.meaning()));
     }
     Ok(charts)
 }
@@ -122,8 +112,31 @@ mod tests {
 
     #[test]
     fn a_file_without_charts_is_refused_in_its_own_words() {
-        let left = selected(b"1000\n", Selection::All, false);
-        assert_eq!(left, Err(Left::Refused(Refusal::NoChart, NO_CHART)));
+        let Err(Left::Refused(refusal, words)) = selected(b"1000\n", Selection::All, false) else {
+            panic!("it is taken");
+        };
+        assert_eq!(refusal, Refusal::NoChart);
+        assert!(words.contains("bare note data needs --lanes"));
+    }
+
+    #[test]
+    fn a_chart_that_is_not_there_is_looked_for_in_other_letters() {
+        let file = b"#NOTES:dance-single:::::\n1000\n;\n#notes:dance-single:::::\n;\n";
+        let Err(Left::Refused(_, words)) = selected(file, Selection::Chart(1), false) else {
+            panic!("it is taken");
+        };
+        let end = "; line 4 begins with #notes:, and tags are in capitals";
+        assert_eq!(words, format!("{}{end}", Refusal::NoChart.meaning()));
+    }
+
+    #[test]
+    fn a_doubtful_line_is_counted_through_the_file() {
+        let file = b"#TITLE:x;\n#NOTES:\ndance-single:a\\:b:Easy:1:\n0,0:\n1000\n;\n";
+        let charts = selected(file, Selection::All, false).unwrap();
+        let Err(Left::Doubtful(why)) = charts[0].taken(false) else {
+            panic!("it is taken");
+        };
+        assert!(why.starts_with("line 4 has a : outside comments"), "{why}");
     }
 
     #[test]
@@ -141,12 +154,9 @@ mod tests {
 
     #[test]
     fn doubt_gives_way_to_force_and_refusals_do_not() {
-        let taken = |data, force| {
-            let answer = Ok(SmChart { lanes: 4, data });
-            let chart = None;
-            Selected { chart, answer }
-                .taken(force)
-                .map(|chart| chart.data.len())
+        let taken = |data: &[u8], force| {
+            let charts = selected(data, Selection::Bare(4), force)?;
+            charts[0].taken(force).map(|chart| chart.data.len())
         };
         assert!(matches!(taken(b"100\n", false), Err(Left::Doubtful(_))));
         assert_eq!(taken(b"100\n", true), Ok(4));

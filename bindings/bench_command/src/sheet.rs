@@ -1,22 +1,27 @@
 //! The word `sheet`: every figure of a chart, as the library writes it.
 
 use crate::args::Sheet;
-use crate::checksum::cksum;
-use crate::forms::{Sheets, Subject};
+use crate::checksum::Sum;
+use crate::forms::{Places, Sheets, Subject};
 use crate::input::{contents, shown};
+use crate::left::Left;
+use crate::measures::Measures;
+use crate::memory::NoMemory;
 use crate::output::{Status, doubtful, fault};
-use crate::select::{Left, Selected, selected};
-use padcheck::{chart_sheet, lanes_in_force};
+use crate::select::selected;
+use crate::slices::Slices;
+use padcheck::{SheetForm, lanes_in_force};
 use std::io::{self, Write};
 use std::path::Path;
 
 /// `padcheck sheet`.
 pub fn run(asked: &Sheet, out: &mut dyn Write) -> io::Result<Status> {
     let mut sheets = Sheets::new(asked.form, out);
+    let mut slices = Slices::default();
     let mut worst = Status::Done;
     for path in &asked.files {
         let status = match contents(path) {
-            Ok(file) => file_sheets(asked, path, &file, &mut sheets)?,
+            Ok(file) => file_sheets(asked, path, &file, &mut slices, &mut sheets)?,
             Err(message) => fault(sheets.out(), &message)?,
         };
         worst = worst.max(status);
@@ -24,55 +29,70 @@ pub fn run(asked: &Sheet, out: &mut dyn Write) -> io::Result<Status> {
     Ok(worst)
 }
 
-/// The sheets of one file.
-fn file_sheets(asked: &Sheet, path: &Path, file: &[u8], sheets: &mut Sheets) -> io::Result<Status> {
+/// The sheets of one file. It is refused where all its charts that are asked for are; beside another the reason in the place
+/// of a refused one's sheet will do.
+fn file_sheets(
+    asked: &Sheet,
+    path: &Path,
+    file: &[u8],
+    slices: &mut Slices,
+    sheets: &mut Sheets,
+) -> io::Result<Status> {
     let mut subject = Subject {
         path,
-        length: file.len(),
-        cksum: cksum(file),
+        sum: Sum::of(file),
         chart: None,
     };
     let charts = match selected(file, asked.selection, asked.force) {
         Ok(charts) => charts,
         Err(left) => return left_out(&subject, &left, sheets),
     };
-    let mut worst = Status::Done;
+    let mut worst = None;
     for chart in &charts {
         subject.chart = chart.chart;
-        let status = match chart_figures(asked, chart) {
-            Ok((lanes, figures)) => {
-                sheets.sheet(&subject, lanes, &figures)?;
+        let made = chart.taken(asked.force).and_then(|chart| {
+            let lanes = lanes_in_force(chart.lanes);
+            slices.make_sheet(chart.data, lanes, asked.form)?;
+            Ok((lanes, measures(slices, lanes, asked.form)?))
+        });
+        let status = match made {
+            Ok((lanes, measures)) => {
+                let beats = slices.beats();
+                let places = Places { measures, beats };
+                sheets.sheet(&subject, lanes, slices.sheet(), &places)?;
                 Status::Done
             }
             Err(left) => left_out(&subject, &left, sheets)?,
         };
-        worst = worst.max(status);
+        if status != Status::Refused {
+            worst = worst.max(Some(status));
+        }
     }
-    Ok(worst)
+    Ok(worst.unwrap_or(Status::Refused))
 }
 
-/// The lane count in force and the library's sheet of a chart.
-fn chart_figures(asked: &Sheet, chart: &Selected) -> Result<(usize, Vec<u8>), Left> {
-    let chart = chart.taken(asked.force)?;
-    let figures = chart_sheet(chart.data, chart.lanes, asked.form)?;
-    Ok((lanes_in_force(chart.lanes), figures))
+/// The measures of a chart, which a sheet on paper names beside holds and rolls.
+fn measures(slices: &Slices, lanes: usize, form: SheetForm) -> Result<Measures, NoMemory> {
+    match form {
+        SheetForm::Print => Measures::of(slices.text(), lanes, slices.densities().len()),
+        _ => Ok(Measures::default()),
+    }
 }
 
-/// Says why there is no sheet: a refusal in its place, a doubt on standard error.
+/// Says why there is no sheet: a refusal in its place, anything else on standard error.
 fn left_out(subject: &Subject, left: &Left, sheets: &mut Sheets) -> io::Result<Status> {
+    let path = shown(subject.path);
+    let whose = subject.chart.map_or_else(
+        || path.clone(),
+        |(number, _)| format!("{path} chart {number}"),
+    );
     match left {
         Left::Refused(refusal, words) => {
             sheets.refused(subject, *refusal, words)?;
             Ok(Status::Refused)
         }
-        Left::Doubtful(why) => {
-            let path = shown(subject.path);
-            let whose = subject.chart.map_or_else(
-                || path.clone(),
-                |(number, _)| format!("{path} chart {number}"),
-            );
-            doubtful(sheets.out(), &whose, why)
-        }
+        Left::Doubtful(why) => doubtful(sheets.out(), &whose, why),
+        Left::NoMemory(lack) => fault(sheets.out(), &format!("{whose}: {lack}")),
     }
 }
 
@@ -81,7 +101,7 @@ mod tests {
     use super::*;
     use crate::json::after_value;
     use crate::select::Selection;
-    use padcheck::SheetForm;
+    use padcheck::MAX_LEN;
 
     /// All that is printed of a file, and the status.
     fn printed(file: &[u8], selection: Selection, form: SheetForm) -> (String, Status) {
@@ -93,7 +113,8 @@ mod tests {
         };
         let mut out = Vec::new();
         let mut sheets = Sheets::new(form, &mut out);
-        let status = file_sheets(&asked, Path::new("x"), file, &mut sheets).unwrap();
+        let mut slices = Slices::default();
+        let status = file_sheets(&asked, Path::new("x"), file, &mut slices, &mut sheets).unwrap();
         (String::from_utf8(out).unwrap(), status)
     }
 
@@ -103,10 +124,21 @@ mod tests {
     #[test]
     fn every_chart_of_an_sm_file_has_its_sheet_or_its_refusal() {
         let (sheets, status) = printed(SM_FILE, Selection::All, SheetForm::Card);
-        assert_eq!((&*sheets, status), (SM_SHEET, Status::Refused));
+        assert_eq!((&*sheets, status), (SM_SHEET, Status::Done));
         let crlf = String::from_utf8_lossy(SM_FILE).replace('\n', "\r\n");
         let (sheets, _) = printed(crlf.as_bytes(), Selection::All, SheetForm::Card);
         assert_eq!(sheets, SM_SHEET);
+    }
+
+    #[test]
+    fn a_file_is_refused_where_all_that_is_asked_for_is() {
+        let status = |file: &[u8], selection| printed(file, selection, SheetForm::Card).1;
+        assert_eq!(status(SM_FILE, Selection::Chart(0)), Status::Done);
+        assert_eq!(status(SM_FILE, Selection::Chart(1)), Status::Refused);
+        let lights = b"#NOTES:lights-cabinet:::::\n;\n#NOTES:a:;\n";
+        assert_eq!(status(lights, Selection::All), Status::Refused);
+        let doubted = [&lights[..], b"#NOTES:dance-single:::::\n100\n;\n"].concat();
+        assert_eq!(status(&doubted, Selection::All), Status::Doubtful);
     }
 
     #[test]
@@ -132,17 +164,80 @@ mod tests {
     fn each_line_of_json_is_one_object() {
         let file = [SM_FILE, b"#NOTES:\n\"\\x\t\xFF :::::;\n#NOTES:;\n"].concat();
         let (sheets, status) = printed(&file, Selection::All, SheetForm::Json);
-        assert_eq!((sheets.lines().count(), status), (5, Status::Refused));
+        assert_eq!((sheets.lines().count(), status), (5, Status::Done));
         for line in sheets.lines() {
             assert!(line.starts_with("{\"file\":\"x\","));
             assert_eq!(after_value(line), Some(""), "{line}");
         }
     }
 
+    /// As many measures as a line of densities has, each of so many taps.
+    fn measures_of(taps: usize) -> String {
+        let measure = "1000\n".repeat(taps);
+        let data = vec![measure; 16].join(",\n");
+        format!("#NOTES:dance-single:::::\n{data};\n")
+    }
+
     #[test]
     fn a_sheet_on_paper_has_80_columns_at_most() {
-        let (sheets, _) = printed(SM_FILE, Selection::All, SheetForm::Print);
-        assert!(sheets.lines().all(|line| line.chars().count() <= 80));
-        assert_eq!(sheets.matches("checked by").count(), 2);
+        let dense: String = [999, 1000, 12_345].map(measures_of).concat();
+        let long_type = [b"#NOTES:", &[0xFF; 99][..], b":::::;\n"].concat();
+        let too_long = vec![b'0'; MAX_LEN + 1];
+        let files: [(&[u8], usize); 8] = [
+            (SM_FILE, 2),
+            (dense.as_bytes(), 3),
+            (&long_type, 0),
+            (&too_long, 0),
+            (b"1000\n", 0),
+            (b"#Notes:;\n", 0),
+            (b"#NOTEDATA:;\n#NOTES:;\n", 0),
+            (b"#NOTES:a;\n", 0),
+        ];
+        for (file, count) in files {
+            for selection in [Selection::All, Selection::Chart(9)] {
+                let (sheets, _) = printed(file, selection, SheetForm::Print);
+                for line in sheets.lines() {
+                    assert!(line.chars().count() <= 80, "{line}");
+                }
+                let wanted = if selection == Selection::All {
+                    count
+                } else {
+                    0
+                };
+                assert_eq!(sheets.matches("checked by").count(), wanted);
+            }
+        }
+    }
+
+    #[test]
+    fn holds_and_rolls_have_measure_and_beat_beside_their_rows() {
+        let data = b"2000\n0000\n3000\n0000\n,\n,\n1000\n0400\n0300\n,\n0000\n2000\n3000\n";
+        let (sheet, _) = printed(data, Selection::Bare(4), SheetForm::Print);
+        let (_, held) = sheet.split_once("holds and rolls\n").unwrap();
+        let wanted = "          row   column     tail  measure         beat\n\
+                      hold        0        0        1        0            0\n\
+                      roll        3        1        4        2     9.333333\n\
+                      hold        6        0        7        3    13.333333\n\n";
+        assert!(held.starts_with(wanted), "{held}");
+    }
+
+    #[test]
+    fn densities_of_1000_and_more_go_on_below() {
+        let (sheet, _) = printed(
+            measures_of(1000).as_bytes(),
+            Selection::All,
+            SheetForm::Print,
+        );
+        let (_, densities) = sheet.split_once("not\n").unwrap();
+        let lines: Vec<_> = densities.lines().take(3).collect();
+        let [first, second] = [14, 2].map(|count| "1000=".repeat(count));
+        assert_eq!(
+            lines,
+            [
+                format!("      0:{first}"),
+                format!("        {second}"),
+                String::new()
+            ]
+        );
     }
 }

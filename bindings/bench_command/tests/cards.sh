@@ -12,7 +12,9 @@ same_sheets() {
     "$oracle" sheet card "$2" <"$out/text" | cmp "$out/stdout" - || failed "$1: not the oracle's card"
     run 0 sheet "$out/text" --lanes "$2" --force
     "$oracle" sheet print "$2" <"$out/text" >"$out/oracle"
-    sed '1,/^$/d' "$out/stdout" | head -n -4 | cmp "$out/oracle" - || failed "$1: not the oracle's figures in print"
+    # Measure and beat beside the rows of holds and rolls are the program's.
+    sed -E '1,/^$/d; /^holds and rolls$/,$ s/^(.{31}) +[^ ]+ +[^ ]+$/\1/' "$out/stdout" | head -n -4 |
+        cmp "$out/oracle" - || failed "$1: not the oracle's figures in print"
     run 0 sheet "$out/text" --lanes "$2" --form json --force
     "$oracle" sheet json "$2" <"$out/text" >"$out/oracle"
     echo >>"$out/oracle"

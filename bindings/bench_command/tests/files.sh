@@ -39,6 +39,19 @@ printed 0 "beats.bin: 20 row beats, 80 bytes" rig "$chart" --lanes 4 --notes "$f
 cmp "$out/notes.bin" "$folder/notes.bin"
 passed=$((passed + 1))
 
+# Names of 255 bytes, the most that a file has, are taken; one of 256 is not, and nothing is written.
+mkdir "$out/long_names"
+notes=$out/long_names/$(printf '%0255d' 1) beats=$out/long_names/$(printf '%0255d' 2)
+told 2 "File name too long" rig "$sm" --chart 0 --notes "$notes" --beats "${beats}0"
+[ -z "$(ls -A "$out/long_names")" ] || failed "rig leaves a file beside a name that is too long"
+for time in first second; do
+    run 0 rig "$sm" --chart 0 --notes "$notes" --beats "$beats"
+    cmp "$out/notes.bin" "$notes"
+    cmp "$folder/beats.bin" "$beats"
+    [ "$(ls -A "$out/long_names" | wc -l)" -eq 2 ] || failed "rig leaves a third file the $time time"
+done
+passed=$((passed + 2))
+
 # Where it fails, both files are as they were and no other is left.
 unchanged() {
     told "$@" --notes "$notes" --beats "$beats"
@@ -62,3 +75,18 @@ unchanged 2 "--notes and --beats name the same file" rig "$sm" --chart 2
 cp "$sm" "$out/input.sm"
 beats=$out/input.sm
 unchanged 2 "is the input" rig "$out/input.sm" --chart 2
+
+# Where the output is full or closed, it is not told what was written, and nothing is.
+beats=$folder/beats.bin
+for output in full closed; do
+    : >"$out/stdout"
+    status=0
+    case $output in
+    full) "$padcheck" rig "$sm" --chart 2 --notes "$notes" --beats "$beats" >/dev/full 2>"$out/stderr" || status=$? ;;
+    closed) "$padcheck" rig "$sm" --chart 2 --notes "$notes" --beats "$beats" >&- 2>"$out/stderr" || status=$? ;;
+    esac
+    [ "$status" -eq 2 ] || failed "rig with its output $output: status $status"
+    one_line "cannot write the output" "rig, its output $output"
+    [ "$(rig_files)" = "beats.bin notes.bin " ] || failed "rig leaves $(rig_files)"
+    cmp "$out/notes.bin" "$folder/notes.bin" || failed "rig changed a file"
+done

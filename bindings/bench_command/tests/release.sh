@@ -36,9 +36,16 @@ tar -x -z -f "$out/first.tar.gz" -C "$out"
 released=$out/padcheck-0.1.0
 (cd "$released" && sha256sum --check --strict --quiet SHA256SUMS) || failed "the release's checksums"
 (cd "$released" && find . -type f | LC_ALL=C sort) | tr '\n' ' ' >"$out/stdout"
-[ "$(cat "$out/stdout")" = "./GATE ./LICENSE ./NOTICE ./SHA256SUMS ./bin/padcheck ./include/padcheck.h ./lib/libpadcheck.a \
+[ "$(cat "$out/stdout")" = "./GATE ./LICENSE ./NEEDS ./NOTICE ./SHA256SUMS ./bin/padcheck ./include/padcheck.h ./lib/libpadcheck.a \
 ./lib/pkgconfig/padcheck.pc " ] || failed "the files of the release"
 printf 'commit 0123abc\ngate: 7 passed, 0 failed\n' | diff - "$released/GATE"
+# The pages name a glibc that is late enough.
+needed=$(sed -n 's/^system: Linux, glibc \([0-9.]*\) or later$/\1/p' "$released/NEEDS")
+[ -n "$needed" ] && grep -qxF "processor: x86-64-v2 (SSE4.2, POPCNT)" "$released/NEEDS" || failed "what the release needs"
+for page in README.md docs/BENCH.md docs/CALLS.md; do
+    named=$(sed -n 's/.*x86-64-v2.*glibc \([0-9.]*[0-9]\).*/\1/p' "$page")
+    [ "$(printf '%s\n' "$named" "$needed" | sort -V | tail -n 1)" = "$named" ] || failed "$page names glibc '$named' and not $needed"
+done
 if grep -qF "$PWD" -r "$released"; then failed "the release names a folder of this machine"; fi
 "$released/bin/padcheck" sheet examples/first-steps.txt --lanes 4 --form card | diff examples/first-steps.sheet.txt -
 cat >"$out/program.c" <<'END'

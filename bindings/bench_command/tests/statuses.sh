@@ -11,10 +11,11 @@ printed 1 "refused 1: the text is longer than 16777215 bytes" charts /dev/zero
 printed 1 '"chart":1,"type":"lights-cabinet","refused":10,"words":"the SM' sheet "$sm" --chart 1 --form json
 printed 1 "new refused 11" diff "$sm" "$chart" --chart 0
 printf '#NOTES:dance-single:x;\n#NOTES::::::;\n#NOTES:dance-single:::::\n1000\n;\n' >"$out/few.sm"
-printed 1 "chart 0 dance-single refused 9: the SM file's author gave this chart fewer than five fields" \
+printed 0 "chart 0 dance-single refused 9: the SM file's author gave this chart fewer than five fields" \
     sheet "$out/few.sm" --form card
-printed 1 "chart 1 refused 10: " sheet "$out/few.sm" --form card
-printed 1 "rows 1" sheet "$out/few.sm" --form card
+printed 0 "chart 1 refused 10: " sheet "$out/few.sm" --form card
+printed 0 "rows 1" sheet "$out/few.sm" --form card
+printed 1 "chart 1 refused 10: " sheet "$out/few.sm" --chart 1 --form card
 sed '/-lights-cabinet /,/^;/d' "$sm" >"$out/two-charts.sm"
 printed 0 "chart 1 dance-double" sheet "$out/two-charts.sm" --form card
 printed 0 "2 charts, 0 refused" charts "$out/two-charts.sm"
@@ -69,12 +70,12 @@ one_line "cannot read no/such/file" "several files"
 [ "$(grep -c '^chart ' "$out/stdout")" -eq 5 ] || failed "the other files are not there"
 run 3 sheet "$out/doubtful" no/such/file "$chart" --lanes 4 --form card
 diff "$out/stdout" examples/first-steps.sheet.txt
-run 1 charts "$out/two-charts.sm" "$sm" "$out/two-charts.sm"
+run 0 charts "$out/two-charts.sm" "$sm" "$out/two-charts.sm"
 [ "$(grep -c ' charts, ' "$out/stdout")" -eq 3 ] || failed "a file is not listed"
 passed=$((passed + 3))
 
 # Outputs that are full or closed: status 2 and one line, and no sheet is taken for whole.
-for words in "charts $sm" "sheet $sm" "sheet $sm --form json" "diff $sm $sm" --help; do
+for words in "charts $sm" "sheet $sm" "sheet $sm --form json" "diff $sm $sm" "rig $sm --chart 0 --notes $out/n --beats $out/b" --help; do
     : >"$out/stdout"
     status=0
     # The words have no blanks in them.
@@ -86,6 +87,7 @@ for words in "charts $sm" "sheet $sm" "sheet $sm --form json" "diff $sm $sm" --h
     [ "$status" -eq 2 ] || failed "padcheck $words >&-: status $status"
     one_line "cannot write the output: it is closed" "$words >&-"
 done
+[ ! -e "$out/n" ] && [ ! -e "$out/b" ] || failed "rig wrote a file that it could not tell of"
 yes 1000 | head -c 1000000 >"$out/long"
 {
     status=0

@@ -3,18 +3,18 @@ chart=examples/first-steps.txt
 sm=examples/first-steps.sm
 changed=bindings/bench_command/tests/changed.sm
 
-stored 1 charts charts "$sm"
-stored 1 sheet.print sheet "$sm"
-stored 1 sheet.print sheet --form print "$sm"
+stored 0 charts charts "$sm"
+stored 0 sheet.print sheet "$sm"
+stored 0 sheet.print sheet --form print "$sm"
 stored 0 sheet.lanes sheet "$chart" --lanes 4
 stored 0 sheet.chart sheet "$sm" --chart 2
-stored 1 sheet.json sheet "$sm" --form json
+stored 0 sheet.json sheet "$sm" --form json
 stored 0 sheet.lanes.json sheet "$chart" --lanes=4 --form=json
 stored 1 diff diff "$sm" "$changed"
 stored 0 diff.chart diff "$sm" "$changed" --chart 0
 stored 0 diff.lanes diff "$chart" "$chart" --lanes 4
-stored 1 charts.two charts "$sm" "$changed"
-run 1 sheet "$sm" --form card
+stored 0 charts.two charts "$sm" "$changed"
+run 0 sheet "$sm" --form card
 diff "$out/stdout" examples/first-steps.sm.sheet.txt
 run 0 sheet "$chart" --lanes 4 --form card
 diff "$out/stdout" examples/first-steps.sheet.txt
@@ -30,9 +30,9 @@ done
 
 # A file that ends its lines with bytes 13 and 10 has the same figures.
 sed 's/$/\r/' "$sm" >"$out/crlf.sm"
-run 1 sheet "$out/crlf.sm" --form card
+run 0 sheet "$out/crlf.sm" --form card
 diff "$out/stdout" examples/first-steps.sm.sheet.txt
-run 1 sheet "$out/crlf.sm" --form json
+run 0 sheet "$out/crlf.sm" --form json
 sed 's/.*"chart"/"chart"/' "$out/stdout" >"$out/crlf.json"
 sed 's/.*"chart"/"chart"/' "$tests/stored/sheet.json" | diff - "$out/crlf.json"
 passed=$((passed + 2))

@@ -1,0 +1,148 @@
+//! What the library is lent, kept from one chart to the next. Each slice is as long as the longest chart so far needs.
+
+use crate::left::Left;
+use crate::memory::part;
+use padcheck::{Figures, Lengths, NOTE_BYTES, SheetForm, lent, place};
+
+/// The slices that are lent to a call, and after it its answers.
+#[derive(Default)]
+pub struct Slices {
+    text: Vec<u8>,
+    densities: Vec<u32>,
+    spacing: Vec<u8>,
+    beats: Vec<f32>,
+    work: Vec<u16>,
+    notes: Vec<u8>,
+    sheet: Vec<u8>,
+    figures: Figures,
+}
+
+impl Slices {
+    /// Makes the sheet of a chart, and the figures of the main call.
+    pub fn make_sheet(&mut self, data: &[u8], lanes: usize, form: SheetForm) -> Result<(), Left> {
+        let lengths = Lengths::of(data.len(), lanes);
+        lent::chart_sheet(
+            data,
+            lanes,
+            form.number(),
+            part(&mut self.text, lengths.text)?,
+            part(&mut self.densities, lengths.measures)?,
+            part(&mut self.spacing, lengths.measures)?,
+            part(&mut self.beats, lengths.beats)?,
+            part(&mut self.work, lengths.work)?,
+            part(&mut self.notes, lengths.notes)?,
+            part(&mut self.sheet, lengths.sheet)?,
+            &mut self.figures,
+        )?;
+        Ok(())
+    }
+
+    /// Makes the main call.
+    pub fn main_call(&mut self, data: &[u8], lanes: usize) -> Result<(), Left> {
+        let lengths = Lengths::of(data.len(), lanes);
+        lent::minimize_chart_count_rows_notes(
+            data,
+            lanes,
+            part(&mut self.text, lengths.text)?,
+            part(&mut self.densities, lengths.measures)?,
+            part(&mut self.beats, lengths.beats)?,
+            part(&mut self.work, lengths.work)?,
+            part(&mut self.notes, lengths.notes)?,
+            &mut self.figures,
+        )?;
+        Ok(())
+    }
+
+    /// Asks for the spacing of a chart, beside the figures of the main call.
+    pub fn equally_spaced(&mut self, data: &[u8], lanes: usize) -> Result<(), Left> {
+        let measures = Lengths::of(data.len(), lanes).measures;
+        lent::equally_spaced(
+            data,
+            lanes,
+            part(&mut self.spacing, measures)?,
+            &mut Figures::default(),
+        )?;
+        Ok(())
+    }
+
+    /// The sheet.
+    pub fn sheet(&self) -> &[u8] {
+        &self.sheet[..self.count(place::SHEET_BYTES)]
+    }
+
+    /// Minimised text.
+    pub fn text(&self) -> &[u8] {
+        &self.text[..self.count(place::TEXT_BYTES)]
+    }
+
+    /// The density of each measure.
+    pub fn densities(&self) -> &[u32] {
+        &self.densities[..self.count(place::MEASURES)]
+    }
+
+    /// For each measure 1 where it is equally spaced, else 0.
+    pub fn spacing(&self) -> &[u8] {
+        &self.spacing[..self.count(place::MEASURES)]
+    }
+
+    /// The beat of each minimised row.
+    pub fn beats(&self) -> &[f32] {
+        &self.beats[..self.count(place::ROWS)]
+    }
+
+    /// The note records, back to back.
+    pub fn records(&self) -> &[u8] {
+        &self.notes[..NOTE_BYTES * self.count(place::NOTES)]
+    }
+
+    /// The last beat, by its bits.
+    pub fn last_bits(&self) -> u64 {
+        self.figures[place::LAST_BEAT]
+    }
+
+    /// The last beat in 48ths.
+    pub fn last_in_48ths(&self) -> u64 {
+        self.figures[place::LAST_BEAT_48THS]
+    }
+
+    /// A count in the figures. It never passes the length of a slice, so it fits.
+    fn count(&self, place: usize) -> usize {
+        self.figures[place] as usize
+    }
+}
+
+#[cfg(test)]
+mod tests {
+    use super::*;
+
+    #[test]
+    fn answers_are_those_of_the_last_chart() {
+        let mut slices = Slices::default();
+        for (data, notes, densities) in [
+            (&b"1000\n0100\n,\n2000\n3000\n"[..], 3, &[2, 1][..]),
+            (b"", 0, &[0]),
+            (b"1000\n,\n", 1, &[1, 0]),
+        ] {
+            slices.main_call(data, 4).unwrap();
+            slices.equally_spaced(data, 4).unwrap();
+            assert_eq!(slices.text(), data);
+            assert_eq!(slices.records().len(), notes * NOTE_BYTES);
+            assert_eq!(slices.densities(), densities);
+            assert_eq!(slices.spacing().len(), densities.len());
+        }
+        assert_eq!((slices.beats(), slices.last_in_48ths()), (&[0.0][..], 0));
+    }
+
+    #[test]
+    fn the_sheet_slice_is_kept() {
+        let mut slices = Slices::default();
+        let long = b"1000\n0100\n0010\n".repeat(9);
+        slices.make_sheet(&long, 4, SheetForm::Json).unwrap();
+        let kept = slices.sheet.as_ptr();
+        let short = b"2000\n3000\n";
+        slices.make_sheet(short, 4, SheetForm::Card).unwrap();
+        let lines = b"last 96\nm 0 1 0\nn 0 0 1 1\n";
+        assert!(slices.sheet().ends_with(lines));
+        assert_eq!(slices.sheet.as_ptr(), kept);
+    }
+}
