@@ -37,13 +37,11 @@ pub struct Listed<'a> {
 
 /// The charts of an SM file, or why it has none that can be listed: it is too long, is an SSC file, or has none at all.
 pub fn listed(file: &[u8]) -> Result<Vec<Listed<'_>>, Left> {
+    if sm_charts(file).next() == Some(Err(Refusal::TextTooLong)) {
+        return Err(Refusal::TextTooLong.into());
+    }
     let mut charts = Vec::new();
-    let mut blocks = blocks(file);
-    for answer in sm_charts(file) {
-        if answer == Err(Refusal::TextTooLong) {
-            return Err(Refusal::TextTooLong.into());
-        }
-        let block = blocks.next().unwrap_or_default();
+    for (answer, block) in sm_charts(file).zip(blocks(file)) {
         let data = answer.map_or_else(|_| written_data(block), |chart| chart.data);
         let chart = Listed {
             number: charts.len(),
@@ -78,17 +76,22 @@ fn ssc_file(file: &[u8], charts: &[Listed]) -> Option<Left> {
 }
 
 /// The refusal of a file that has no chart, or not the one that is asked for, in these words and with the first line that has
-/// the tag in other letters.
+/// a chart's tag in other letters.
 pub fn no_chart(file: &[u8], words: &'static str) -> Left {
-    let tag = |line: &[u8]| line.trim_ascii_start().get(..TAG.len()).map(<[u8]>::to_vec);
-    let other = |tag: &Vec<u8>| tag != TAG && tag.eq_ignore_ascii_case(TAG);
-    let mut tags = lines(file).map(|line| tag(line).filter(other)).enumerate();
-    let seen = tags.find_map(|(place, tag)| Some((place + 1, tag?)));
-    let words = seen.map_or(Cow::Borrowed(words), |(line, tag)| {
+    let words = other_letters(file).map_or(Cow::Borrowed(words), |(line, tag)| {
         let tag = tag.escape_ascii();
         format!("{words}; line {line} begins with {tag}, and tags are in capitals").into()
     });
     Left::Refused(Refusal::NoChart, words)
+}
+
+/// The first line that begins with a chart's tag in other letters, counted from 1, and the tag.
+fn other_letters(file: &[u8]) -> Option<(usize, &[u8])> {
+    lines(file).enumerate().find_map(|(place, line)| {
+        let tag = line.trim_ascii_start().get(..TAG.len())?;
+        let other = tag != TAG && tag.eq_ignore_ascii_case(TAG);
+        other.then_some((place + 1, tag))
+    })
 }
 
 /// What follows the tag of each chart of an SM file, through its `;`. It is for the eye: where a refused chart stands, which
