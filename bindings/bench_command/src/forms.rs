@@ -310,6 +310,19 @@ mod tests {
     }
 
     #[test]
+    fn a_long_line_of_densities_is_broken_after_marks() {
+        let of = subject("a", None);
+        let entries = |count| "1234-".repeat(count);
+        let line = format!("      0:{}\n", entries(29));
+        let sheet = written(SheetForm::Print, |sheets| {
+            sheets.sheet(&of, 4, line.as_bytes(), &Places::default())
+        });
+        let parts = sheet.lines().filter(|line| line.contains("1234-"));
+        let wanted = [("      0:", 14), ("        ", 14), ("        ", 1)];
+        assert!(parts.eq(wanted.map(|(start, count)| start.to_owned() + &entries(count))));
+    }
+
+    #[test]
     fn an_object_has_its_names() {
         let of = subject("a\"b", Some((0, b"dance-single")));
         let sheet = written(SheetForm::Json, |sheets| {
