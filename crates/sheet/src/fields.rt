@@ -1,5 +1,5 @@
 // The fields of a tally, each with its name.
-ghost use Rattle.std.specs.Prelude.{◌≡◌, ◌<◌, [], slice_index_or};
+ghost use Rattle.std.specs.Prelude.{◌≡◌};
 ghost use Rattle.sheet.specs.Sheet.{named_fields};
 
 use definitions::ArrowStats;
@@ -37,14 +37,6 @@ impl Field {
     {
         self.count as u64
     }
-}
-
-/// One field of a tally.
-pub fn field_at(fields: &[Field; FIELD_COUNT], i: usize) -> &Field
-    requires { i < FIELD_COUNT }
-    ensures { result.now ≡ slice_index_or fields.now i ([], 0) }
-{
-    &fields[i]
 }
 
 /// The fields of a tally in their order.

@@ -9,7 +9,7 @@ ghost use Rattle.page.specs.Prints.{Prints};
 mod fields;
 
 use definitions::{ArrowStats, ChartFigures, KeptFigures, Note, Tail};
-pub use fields::{FIELD_COUNT, Field, field_at, fields_of};
+pub use fields::{FIELD_COUNT, Field, fields_of};
 use note_records::{kind_number, read_note};
 use page::{Full, Page};
 

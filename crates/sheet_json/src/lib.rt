@@ -9,7 +9,7 @@ ghost use Rattle.sheet_json.specs.Json.{separator, named, figure, last_beat_of, 
 use definitions::{ArrowStats, ChartFigures, Note, Tail};
 use note_records::{kind_number, read_note};
 use page::{Full, Page};
-use sheet::{FIELD_COUNT, SheetFigures, field_at, fields_of};
+use sheet::{FIELD_COUNT, SheetFigures, fields_of};
 
 // Between two entries.
 fn separator(page: &mut Page, k: usize) -> Result<(), Full>
@@ -83,7 +83,7 @@ fn members(page: &mut Page, stats: &ArrowStats) -> Result<(), Full>
 {
     let fields = fields_of(stats);
     for i in 0..FIELD_COUNT {
-        let field = field_at(&fields, i);
+        let field = &fields[i];
         member(page, i, field.name(), field.count())?;
     }
     Ok(())

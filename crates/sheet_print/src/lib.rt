@@ -9,7 +9,7 @@ ghost use Rattle.sheet_print.specs.Print.{line_of_count, three, line_of_last_bea
 use definitions::{ChartFigures, Kind, Note, Tail};
 use note_records::{kind_number, read_note};
 use page::{Full, Page};
-use sheet::{FIELD_COUNT, SheetFigures, field_at, fields_of};
+use sheet::{FIELD_COUNT, Field, SheetFigures, fields_of};
 
 // A name and a number in nine columns.
 #[tactic(auto, using(page::proofs::Pages::keeps_then), unfolding(crate::specs::Print::line_of_count))]
@@ -61,11 +61,11 @@ fn head_lines(page: &mut Page, figures: &ChartFigures) -> Result<(), Full>
 
 // A field of the three tallies.
 #[tactic(auto, using(page::proofs::Pages::keeps_then), unfolding(crate::specs::Print::line_of_tally))]
-fn tally_line(page: &mut Page, name: &str, main: u64, kept: u64, judged: u64) -> Result<(), Full>
-    ensures { Prints page.old (line_of_tally name.now main kept judged) page.new result }
+fn tally_line(page: &mut Page, main: &Field, kept: &Field, judged: &Field) -> Result<(), Full>
+    ensures { Prints page.old (line_of_tally main.now.0 main.now.1 kept.now.1 judged.now.1) page.new result }
 {
-    page.left_aligned(name, 12)?;
-    three_columns(page, main, kept, judged)?;
+    page.left_aligned(main.name(), 12)?;
+    three_columns(page, main.count(), kept.count(), judged.count())?;
     Ok(())
 }
 
@@ -77,14 +77,7 @@ fn tally_lines(page: &mut Page, figures: &SheetFigures) -> Result<(), Full>
     let kept = fields_of(&figures.kept.stats);
     let judged = fields_of(&figures.judged);
     for i in 0..FIELD_COUNT {
-        let field = field_at(&main, i);
-        tally_line(
-            page,
-            field.name(),
-            field.count(),
-            field_at(&kept, i).count(),
-            field_at(&judged, i).count(),
-        )?;
+        tally_line(page, &main[i], &kept[i], &judged[i])?;
     }
     Ok(())
 }
