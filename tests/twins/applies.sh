@@ -31,7 +31,7 @@ awk '
     function shape(text) {
         gsub(/"[^"]*"/, "", text)
         while (gsub(/\[[^][]*\]/, "", text)) continue
-        gsub(/[{] let [a-z_]+ = [^;{}]*; [*a-z_.]+ [}]/, "", text)
+        gsub(/[{] let [a-z_]+ = [^;{}]*; [^;{}]* [}]/, "", text)
         gsub(/let [^=]+ = .* in /, "", text)
         return gsub(/(^|[^A-Za-z0-9_])let /, "", text) " " gsub(/;/, "", text) " " gsub(/[{]/, "", text)
     }
