@@ -65,8 +65,7 @@ fn put_card(data: &[u8], out: &mut [u8]) -> usize
     ensures within { result ≤ length out.new }
     ensures written { take result out.new ≡ card «data».now }
 {
-    let too_long = data.len() > 4095;
-    if too_long {
+    if data.len() > 4095 {
         return put_refusal(out);
     }
     put_chart(data, out)
