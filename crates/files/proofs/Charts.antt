@@ -4,7 +4,6 @@ use mathlib.Core.Bool.{Bool, true, false, cond}
 use mathlib.Core.List.{List, [], ◌∷◌, map}
 use Prim.Native.Nat.{ℕ, zero, suc, ◌+◌, ◌-◌, ◌≤◌, ◌<◌}
 use native.Mathlib.Omega.{arith}
-use native.Mathlib.Numerals.{add-one}
 use lib.Dec.{ltb}
 use lib.ListN.{length, get_or, drop, length-drop}
 use lib.Seq.{drop-drop, drop-append_seam}
@@ -89,11 +88,6 @@ module _ (file : List ℕ) where
   pub blocks-next : (u text below rest : List ℕ) → after_tag notes_tag file ≡ Some u → text ≡ through 59 u → below ≡ after 59 u → rest ≡ after 10 below
       → block_parts file ≡ record { text = text; below = below } ∷ block_parts rest
   blocks-next u text below rest e et eb er = rw (er, et, eb) (blocks-some u e)
-
--- what is below a text's first line
-pub below-line : (s line rest : List ℕ) → line ≡ first_line s → rest ≡ drop (length line + 1) s → rest ≡ after 10 s
-unfolding after first_line
-below-line s line rest e er = er ∙ rw (add-one, e) refl
 
 -- ---- The answer
 -- a refusal that `?` hands on

@@ -42,8 +42,8 @@ impl<'a> Iterator for SmBlocks<'a> {
     fn next(&mut self) -> Option<Block<'a>> {
         let tagged = crate::next_tag(self.rest, b"#NOTES:")?;
         let (text, below) = crate::split_after(tagged, b';');
-        let line = lines::next_line(below, 0);
-        self.rest = lines::text_from(below, line.len() + 1);
+        let (_, rest) = lines::split_line(below);
+        self.rest = rest;
         Some(Block { text, below })
     }
 }

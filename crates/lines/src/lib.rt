@@ -4,6 +4,7 @@
 pub mod words;
 
 ghost use Rattle.std.specs.Prelude.{◌≡◌, ◌==◌, ◌+◌, ◌≤◌, length, take, drop, position};
+ghost use Rattle.definitions.specs.Lists.{after};
 ghost use Rattle.definitions.specs.Lines.{is_blank_byte, trim};
 ghost use Rattle.definitions.specs.ReadBack.{without_cr};
 ghost use Rattle.lines.specs.Search.{count_of};
@@ -119,4 +120,13 @@ pub fn text_from(data: &[u8], start: usize) -> &[u8]
     ensures { result.now ≡ drop start «data».now }
 {
     &data[start.min(data.len())..]
+}
+
+/// A text's first line, without its newline, and what follows that newline: nothing where there is none.
+pub fn split_line(text: &[u8]) -> (&[u8], &[u8])
+    ensures line { result.0.now ≡ first_line text.now }
+    ensures rest { result.1.now ≡ after 10 text.now }
+{
+    let line = next_line(text, 0);
+    (line, text_from(text, line.len() + 1))
 }

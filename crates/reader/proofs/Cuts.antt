@@ -3,12 +3,12 @@ use mathlib.Core.Path.{◌≡◌, refl, ap, ◌∙◌}
 use mathlib.Core.Logic.{◌⊎◌, inl, inr}
 use mathlib.Core.Bool.{Bool, true, false, cond}
 use mathlib.Core.List.{List, [], ◌∷◌}
-use Prim.Native.Nat.{ℕ, suc, ◌+◌, ◌≤◌}
+use Prim.Native.Nat.{ℕ, suc, ◌+◌, ◌<◌, ◌≤◌}
 use native.Mathlib.Numerals.{add-one}
 use native.Mathlib.Omega.{arith}
 use lib.Dec.{eqb}
-use lib.ListN.{length, take, drop}
-use lib.Seq.{length-take-le, drop-drop}
+use lib.ListN.{length, take, drop, length-drop}
+use lib.Seq.{length-take-le}
 use Rattle.std.specs.List.{onto_first}
 use Rattle.definitions.specs.Lists.{up_to, after}
 use Rattle.definitions.specs.Lines.{cut}
@@ -40,10 +40,10 @@ pub after-line : (m : ℕ) (s : List ℕ) → m ≤ length s → first_line s �
 unfolding after first_line
 after-line m s h e = rw add-one (ap (λ k. drop (suc k) s) (ap length e ∙ length-take-le m s h))
 
--- what follows the line at a place of a text
-pub after-at : (s line : List ℕ) (at : ℕ) → line ≡ first_line (drop at s) → after 10 (drop at s) ≡ drop (at + (length line + 1)) s
-unfolding after first_line
-after-at s line at e = drop-drop (suc (length (up_to 10 (drop at s)))) at s ∙ ap (λ n. drop (at + n) s) (rw (e, add-one) refl)
+-- it is less than all of a text
+pub after-less : (rest below : List ℕ) → 0 < length rest → below ≡ after 10 rest → length below < length rest
+unfolding after
+after-less rest below h e = rw (e, length-drop) (omega arith)
 
 -- the lines' bytes, with a newline after each
 abbrev pub lines_bytes : List (List ℕ) → ℕ

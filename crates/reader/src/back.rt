@@ -72,22 +72,19 @@ fn look_ahead(text: &[u8], lanes: usize, trim: bool) -> RowAhead<'_>
     requires { 0 < lanes }
     ensures { YieldsFirstRef (λ s. s) (rows_back trim lanes text.now) result.row (rows_back trim lanes result.rest.now) }
 {
-    let mut start = 0;
-    while start < text.len() {
-        let line = lines::next_line(text, start);
-        start += line.len() + 1;
+    let mut rest = text;
+    while !rest.is_empty() {
+        let (line, below) = lines::split_line(rest);
         let bare = bare_line(line, trim);
         if is_back_row(bare, lanes) {
             return RowAhead {
                 row: Some(&bare[..lanes]),
-                rest: lines::text_from(text, start),
+                rest: below,
             };
         }
+        rest = below;
     }
-    RowAhead {
-        row: None,
-        rest: &text[..0],
-    }
+    RowAhead { row: None, rest }
 }
 
 impl<'a> Iterator for BackRows<'a> {

@@ -47,32 +47,34 @@ struct Ahead<'a> {
 fn look_ahead(text: &[u8], lanes: usize) -> Ahead<'_>
     ensures { YieldsFirstBy mark_of (λ s. s) (chart_marks lanes text.now) result.line (chart_marks lanes result.rest.now) }
 {
-    let mut start = 0;
-    while start < text.len() {
-        let line = lines::next_line(text, start);
-        start += line.len() + 1;
+    let mut rest = text;
+    while !rest.is_empty() {
+        let (line, below) = lines::split_line(rest);
         let bare = lines::skip_ws(line);
         match crate::line_kind(bare, lanes) {
             LineKind::Passed => {}
             LineKind::Comma => {
                 return Ahead {
                     line: Some(ChartLine::Comma),
-                    rest: lines::text_from(text, start),
+                    rest: below,
                 };
             }
-            LineKind::Semi => break,
+            LineKind::Semi => {
+                return Ahead {
+                    line: None,
+                    rest: &rest[..0],
+                };
+            }
             LineKind::Row => {
                 return Ahead {
                     line: Some(ChartLine::Row(&bare[..lanes])),
-                    rest: lines::text_from(text, start),
+                    rest: below,
                 };
             }
         }
+        rest = below;
     }
-    Ahead {
-        line: None,
-        rest: &text[..0],
-    }
+    Ahead { line: None, rest }
 }
 
 impl<'a> Iterator for ChartLines<'a> {

@@ -3,7 +3,7 @@
 use Rattle.std.proofs.Common.{◌≡◌, ◌∷◌, length, sym, ap, ◌∙◌, rules, option_copied}
 use Rattle.definitions.specs.SmFile.{notes_tag}
 use Rattle.files.specs.Sm.{block_parts}
-use Rattle.files.proofs.Charts.{blocks-none, blocks-next, below-line}
+use Rattle.files.proofs.Charts.{blocks-none, blocks-next}
 use Rattle.files.proofs.sm.SmBlocksIterator.next.Goals as goal
 
 pub returns-in_err-tagged-clause-steps : goal.returns-in_err-tagged-clause-steps
@@ -12,11 +12,11 @@ returns-in_err-tagged-clause-steps c =
     let none = sym c.self.view_is ∙ blocks-none _ (sym c.next_tag.ensures ∙ ap option_copied c.in_err-tagged.was) in
     rw c.from_residual.ensures (none, none)
 
-first : (c : goal.After-self-1) → c.args.self.now ≡ record { text = c.split_after.result.0.now; below = c.split_after.result.1.now } ∷ block_parts c.text_from-self-inside.result.now
+first : (c : goal.After-rest-2-1) → c.args.self.now ≡ record { text = c.split_after.result.0.now; below = c.split_after.result.1.now } ∷ block_parts c.split_line.result.1.now
 unfolding notes_tag
 first c =
     sym c.self.view_is
-    ∙ blocks-next _ _ _ _ _ (sym c.next_tag.ensures ∙ ap option_copied c.in_ok-tagged.was) c.split_after.ensures.front c.split_after.ensures.rest (below-line _ _ _ c.next_line-line.ensures c.text_from-self-inside.ensures)
+    ∙ blocks-next _ _ _ _ _ (sym c.next_tag.ensures ∙ ap option_copied c.in_ok-tagged.was) c.split_after.ensures.front c.split_after.ensures.rest c.split_line.ensures.rest
 
 pub returns-clause-steps : goal.returns-clause-steps
 returns-clause-steps c = first c
