@@ -86,7 +86,7 @@ pub fn next_tag<'a>(text: &'a [u8], word: &[u8]) -> Option<&'a [u8]>
 {
     let mut start = 0;
     while start <= text.len() {
-        let line = lines::next_line(text, start);
+        let (line, _) = lines::next_line(text, start);
         let bare = lines::skip_ws(line);
         if let Some(after) = bare.strip_prefix(word) {
             return Some(&text[start + line.len() - after.len()..]);

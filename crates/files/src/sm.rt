@@ -42,7 +42,7 @@ impl<'a> Iterator for SmBlocks<'a> {
     fn next(&mut self) -> Option<Block<'a>> {
         let tagged = crate::next_tag(self.rest, b"#NOTES:")?;
         let (text, below) = crate::split_after(tagged, b';');
-        let (_, rest) = lines::split_line(below);
+        let (_, rest) = lines::next_line(below, 0);
         self.rest = rest;
         Some(Block { text, below })
     }

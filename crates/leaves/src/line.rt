@@ -53,5 +53,5 @@ pub extern "C" fn leaves_count_byte(slice: &[u8], needle: u8) -> usize
 pub extern "C" fn leaves_next_line(data: &[u8], start: usize) -> usize
     ensures { result ≡ length (first_line (drop start «data».now)) }
 {
-    lines::next_line(data, start).len()
+    lines::next_line(data, start).0.len()
 }

@@ -3,16 +3,11 @@
 use Rattle.std.proofs.Common.{◌≡◌, ℕ, suc, ◌+◌, ◌<◌, ◌≤◌, Bool, true, false, cond, eqb, List, [], ◌∷◌, length, drop, refl, ap, ◌∙◌, add-one, arith, length-drop, drop_of_length-le, drop-cons, drop-drop, le-leb}
 use native.Mathlib.Decide.{dec_lt}
 use borrow.Author.Tests.{lt-leb}
-use Rattle.definitions.specs.Lists.{up_to, after}
+use Rattle.definitions.specs.Lists.{up_to}
 use Rattle.std.specs.List.{onto_first}
 use Rattle.definitions.specs.Lines.{cut}
 use Rattle.definitions.proofs.Lists.{up_to-short}
 use Rattle.lines.specs.Lines.{first_line, lines_from}
-
--- what is below a text's first line
-pub below_line : (s line rest : List ℕ) → line ≡ first_line s → rest ≡ drop (length line + 1) s → rest ≡ after 10 s
-unfolding after first_line
-below_line s line rest e er = er ∙ rw (e, add-one) refl
 
 -- the line at `off` ends within the text
 pub line-within : (text : List ℕ) (off : ℕ) → off ≤ length text → length (first_line (drop off text)) + off ≤ length text

@@ -1,9 +1,11 @@
 -- Laws of the search for a byte and of `count_of`: one turn of the loop over a slice's last bytes, lists put together, and what the search's answer shows of
 -- the list before the byte.
 use Rattle.std.proofs.Common.{◌≡◌, ℕ, suc, ◌+◌, ◌-◌, ◌<◌, ◌≤◌, Bool, true, false, cond, eqb, List, [], ◌∷◌, ◌++◌, length, get_or, take, drop, refl, sym, ap, ◌∙◌, add-one, arith, drop_of_length-le, drop-cons, eq-eqb, ne_eqb}
-use Rattle.definitions.specs.Lists.{number_of_bool, up_to}
+use Rattle.definitions.specs.Lists.{number_of_bool, up_to, after}
 use Rattle.definitions.proofs.Lists.{count-cons as one_more}
+use Rattle.lines.proofs.Trims.{part-all}
 use native.Mathlib.Nat.{sub-zero}
+use lib.ListN.{length-take}
 use Rattle.std.proofs.lemmas.Iterator.Adapters.{position_from-zero}
 use Rattle.std.specs.Prelude.{Option, Some, None, position, ◌==◌}
 use Rattle.std.specs.List.{position_from}
@@ -98,3 +100,17 @@ front_at b l r e =
 
 pub front_all : (b : ℕ) (l : List ℕ) → position (λ x. x == b) l ≡ None → up_to b l ≡ l
 front_all b l e = front-none b l 0 (sym (found-position b l) ∙ e)
+
+-- and what follows the byte, as `&l[r + 1..]` has it
+pub after_at : (b : ℕ) (l : List ℕ) (r : ℕ) → position (λ x. x == b) l ≡ Some r → take (length l - (r + 1)) (drop (r + 1) l) ≡ after b l
+unfolding after
+after_at b l r e =
+    let f = front_at b l r e in
+    let long : length (up_to b l) ≡ r = rw (← f.1, length-take) (omega (arith, f.0)) in
+    rw (part-all l (r + 1), long, add-one) refl
+
+pub after_all : (b : ℕ) (l : List ℕ) → position (λ x. x == b) l ≡ None → [] ≡ after b l
+unfolding after
+after_all b l e = let all : length l ≤ suc (length l) = omega arith in rw (front_all b l e) (sym (drop_of_length-le l all))
+
+pub ruleset found = (front_at, front_all, after_at, after_all)

@@ -101,32 +101,17 @@ pub fn near_newline(data: &[u8], start: usize) -> usize
     (u64::trailing_zeros(words::byte_hits(words::halves_at(data, start), 10)) / 8) as usize
 }
 
-/// The line that starts at `start`, without its newline; past the text's end an empty one. The next line starts one byte past its end.
-pub fn next_line(data: &[u8], start: usize) -> &[u8]
-    ensures { result.now ≡ first_line (drop start «data».now) }
+/// The line that starts at `start`, without its newline, and what follows that newline: nothing where there is none, nor past the text's end.
+pub fn next_line(data: &[u8], start: usize) -> (&[u8], &[u8])
+    ensures line { result.0.now ≡ first_line (drop start «data».now) }
+    ensures below { result.1.now ≡ after 10 (drop start «data».now) }
 {
     if start <= data.len() {
         match find_byte(&data[start..], 10) {
-            Some(rel) => &data[start..start + rel],
-            None => &data[start..],
+            Some(rel) => (&data[start..start + rel], &data[start + rel + 1..]),
+            None => (&data[start..], &data[..0]),
         }
     } else {
-        &data[..0]
+        (&data[..0], &data[..0])
     }
-}
-
-/// What of a text stands from `start` on: nothing past its end.
-pub fn text_from(data: &[u8], start: usize) -> &[u8]
-    ensures { result.now ≡ drop start «data».now }
-{
-    &data[start.min(data.len())..]
-}
-
-/// A text's first line, without its newline, and what follows that newline: nothing where there is none.
-pub fn split_line(text: &[u8]) -> (&[u8], &[u8])
-    ensures line { result.0.now ≡ first_line text.now }
-    ensures rest { result.1.now ≡ after 10 text.now }
-{
-    let line = next_line(text, 0);
-    (line, text_from(text, line.len() + 1))
 }

@@ -74,7 +74,7 @@ fn look_ahead(text: &[u8], lanes: usize, trim: bool) -> RowAhead<'_>
 {
     let mut rest = text;
     while !rest.is_empty() {
-        let (line, below) = lines::split_line(rest);
+        let (line, below) = lines::next_line(rest, 0);
         let bare = bare_line(line, trim);
         if is_back_row(bare, lanes) {
             return RowAhead {

@@ -49,7 +49,7 @@ fn look_ahead(text: &[u8], lanes: usize) -> Ahead<'_>
 {
     let mut rest = text;
     while !rest.is_empty() {
-        let (line, below) = lines::split_line(rest);
+        let (line, below) = lines::next_line(rest, 0);
         let bare = lines::skip_ws(line);
         match crate::line_kind(bare, lanes) {
             LineKind::Passed => {}

@@ -67,7 +67,7 @@ fn is_near_row(part: &[u8], width: usize) -> bool
 fn line_width(text: &[u8], lanes: Lanes) -> usize
     ensures { LineWidth lanes.count result }
 {
-    match lines::next_line(text, 0) {
+    match lines::next_line(text, 0).0 {
         [.., 13] => lanes.count + 1,
         _ => lanes.count,
     }

@@ -22,10 +22,10 @@ unfolding after_tag
 loop-start-init c = ap (below c.args.word.now c.args.text.now 0) (sym (lines_start c.args.text.now))
 
 -- the line ends in the text, and the word stands on it
-ends : (c : In-Some) → length c.next_line-line.result.now + c.loop-start.start ≤ length c.args.text.now
-ends c = rw c.next_line-line.ensures (line-within c.args.text.now c.loop-start.start (omega (arith, c.loop-start-test.true)))
+ends : (c : In-Some) → length c.next_line.result.0.now + c.loop-start.start ≤ length c.args.text.now
+ends c = rw c.next_line.ensures.line (line-within c.args.text.now c.loop-start.start (omega (arith, c.loop-start-test.true)))
 
-short : (c : In-Some) → length c.skip_ws-bare.result.now ≤ length c.next_line-line.result.now
+short : (c : In-Some) → length c.skip_ws-bare.result.now ≤ length c.next_line.result.0.now
 short c = rw c.skip_ws-bare.ensures (trim-short _)
 
 pub overflow_sub-result : goal.overflow_sub-result
@@ -48,7 +48,7 @@ past at a b w l e h = omega arith
 pub returns-in-Some : goal.returns-in-Some
 returns-in-Some c =
     let here =
-    tag-here c.args.word.now c.args.text.now c.loop-start.start _ _ (omega (arith, c.loop-start-test.true)) c.next_line-line.ensures c.skip_ws-bare.ensures
+    tag-here c.args.word.now c.args.text.now c.loop-start.start _ _ (omega (arith, c.loop-start-test.true)) c.next_line.ensures.line c.skip_ws-bare.ensures
     (begun c.skip_ws-bare.result.now c.args.word.now c.in-Some.ensures.cases.0) in
     rw part-all
     (sym (c.loop-start.invariant
@@ -57,10 +57,10 @@ returns-in-Some c =
 
 pub loop-start-preserved : goal.loop-start-preserved
 loop-start-preserved c =
-    let next : c.loop-start.start + length c.next_line-line.result.now + 1 ≡ c.loop-start.start + (length c.next_line-line.result.now + 1) = omega arith in
+    let next : c.loop-start.start + length c.next_line.result.0.now + 1 ≡ c.loop-start.start + (length c.next_line.result.0.now + 1) = omega arith in
     c.loop-start.invariant
     ∙ ap (option_map (λ (t : Tag). drop t.end c.args.text.now))
-    (tag-next c.args.word.now c.args.text.now c.loop-start.start _ _ (omega (arith, c.loop-start-test.true)) c.next_line-line.ensures c.skip_ws-bare.ensures
+    (tag-next c.args.word.now c.args.text.now c.loop-start.start _ _ (omega (arith, c.loop-start-test.true)) c.next_line.ensures.line c.skip_ws-bare.ensures
     (begun c.skip_ws-bare.result.now c.args.word.now c.in_default.ensures.cases))
     ∙ ap (λ n. below c.args.word.now c.args.text.now n (lines_from c.args.text.now n)) next
 

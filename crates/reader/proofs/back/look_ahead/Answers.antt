@@ -21,14 +21,14 @@ slice_bounds-result-end c = sym (length-take-le c.args.lanes _ (row-long c.args.
 
 pub returns-then-is_back_row : goal.returns-then-is_back_row
 returns-then-is_back_row c =
-    turn _ _ _ _ _ _ _ _ c.requires c.loop-rest.invariant c.split_line.ensures.line c.split_line.ensures.rest c.bare_line-bare.ensures (sym c.if-is_back_row.true ∙ c.is_back_row.ensures)
+    turn _ _ _ _ _ _ _ _ c.requires c.loop-rest.invariant c.next_line.ensures.line c.next_line.ensures.below c.bare_line-bare.ensures (sym c.if-is_back_row.true ∙ c.is_back_row.ensures)
 
 pub loop-rest-smaller : goal.loop-rest-smaller
-loop-rest-smaller c = after-less _ _ (search rules) c.split_line.ensures.rest
+loop-rest-smaller c = after-less _ _ (search rules) c.next_line.ensures.below
 
 pub loop-rest-preserved : goal.loop-rest-preserved
 loop-rest-preserved c =
-    turn _ _ _ _ _ _ _ _ c.requires c.loop-rest.invariant c.split_line.ensures.line c.split_line.ensures.rest c.bare_line-bare.ensures (sym c.if-is_back_row.false ∙ c.is_back_row.ensures)
+    turn _ _ _ _ _ _ _ _ c.requires c.loop-rest.invariant c.next_line.ensures.line c.next_line.ensures.below c.bare_line-bare.ensures (sym c.if-is_back_row.false ∙ c.is_back_row.ensures)
 
 pub returns : goal.returns
 returns c =

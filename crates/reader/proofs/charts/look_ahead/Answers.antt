@@ -20,11 +20,11 @@ turn L text rest line bare below k h el eb et ek = h ∙ marks-first L rest ∙ 
 
 pub returns-in-Comma : goal.returns-in-Comma
 returns-in-Comma c =
-    turn _ _ _ _ _ _ _ c.loop-line.invariant c.split_line.ensures.line c.split_line.ensures.rest c.skip_ws-bare.ensures (sym c.in-Comma.is ∙ c.line_kind.ensures)
+    turn _ _ _ _ _ _ _ c.loop-line.invariant c.next_line.ensures.line c.next_line.ensures.below c.skip_ws-bare.ensures (sym c.in-Comma.is ∙ c.line_kind.ensures)
 
 pub returns-in-Semi : goal.returns-in-Semi
 returns-in-Semi c = (
-  turn _ _ _ _ _ _ _ c.loop-line.invariant c.split_line.ensures.line c.split_line.ensures.rest c.skip_ws-bare.ensures (sym c.in-Semi.is ∙ c.line_kind.ensures),
+  turn _ _ _ _ _ _ _ c.loop-line.invariant c.next_line.ensures.line c.next_line.ensures.below c.skip_ws-bare.ensures (sym c.in-Semi.is ∙ c.line_kind.ensures),
   marks-none _,
 )
 
@@ -33,14 +33,14 @@ slice_bounds-result-end-in-Row c = sym (length-take-le c.args.lanes _ (row-lengt
 
 pub returns-in-Row : goal.returns-in-Row
 returns-in-Row c =
-    turn _ _ _ _ _ _ _ c.loop-line.invariant c.split_line.ensures.line c.split_line.ensures.rest c.skip_ws-bare.ensures (sym c.in-Row.is ∙ c.line_kind.ensures)
+    turn _ _ _ _ _ _ _ c.loop-line.invariant c.next_line.ensures.line c.next_line.ensures.below c.skip_ws-bare.ensures (sym c.in-Row.is ∙ c.line_kind.ensures)
 
 pub loop-line-smaller : goal.loop-line-smaller
-loop-line-smaller c = after-less _ _ (search rules) c.split_line.ensures.rest
+loop-line-smaller c = after-less _ _ (search rules) c.next_line.ensures.below
 
 pub loop-line-preserved : goal.loop-line-preserved
 loop-line-preserved c =
-    turn _ _ _ _ _ _ _ c.loop-line.invariant c.split_line.ensures.line c.split_line.ensures.rest c.skip_ws-bare.ensures (sym c.in-Passed.is ∙ c.line_kind.ensures)
+    turn _ _ _ _ _ _ _ c.loop-line.invariant c.next_line.ensures.line c.next_line.ensures.below c.skip_ws-bare.ensures (sym c.in-Passed.is ∙ c.line_kind.ensures)
 
 pub returns : goal.returns
 returns c =

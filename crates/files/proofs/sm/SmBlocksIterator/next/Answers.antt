@@ -12,11 +12,11 @@ returns-in_err-tagged-clause-steps c =
     let none = sym c.self.view_is ∙ blocks-none _ (sym c.next_tag.ensures ∙ ap option_copied c.in_err-tagged.was) in
     rw c.from_residual.ensures (none, none)
 
-first : (c : goal.After-rest-2-1) → c.args.self.now ≡ record { text = c.split_after.result.0.now; below = c.split_after.result.1.now } ∷ block_parts c.split_line.result.1.now
+first : (c : goal.After-rest-2-1) → c.args.self.now ≡ record { text = c.split_after.result.0.now; below = c.split_after.result.1.now } ∷ block_parts c.next_line.result.1.now
 unfolding notes_tag
 first c =
     sym c.self.view_is
-    ∙ blocks-next _ _ _ _ _ (sym c.next_tag.ensures ∙ ap option_copied c.in_ok-tagged.was) c.split_after.ensures.front c.split_after.ensures.rest c.split_line.ensures.rest
+    ∙ blocks-next _ _ _ _ _ (sym c.next_tag.ensures ∙ ap option_copied c.in_ok-tagged.was) c.split_after.ensures.front c.split_after.ensures.rest c.next_line.ensures.below
 
 pub returns-clause-steps : goal.returns-clause-steps
 returns-clause-steps c = first c
