@@ -123,5 +123,8 @@ pub fn judge_clean(data: &[u8], lanes: Lanes) -> Option<ArrowStats>
     for row in reader::back::back_rows(data, lanes, true) {
         rows.add_row(row, &table)?;
     }
-    (rows.active == 0).then_some(rows.stats)
+    if rows.active != 0 {
+        return None;
+    }
+    Some(rows.stats)
 }

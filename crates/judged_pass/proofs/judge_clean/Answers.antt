@@ -1,14 +1,8 @@
 -- `judged_pass::judge_clean` meets its contract. The loop's invariant: what the pass has is that of the rows that have come, and they were clean.
-use mathlib.Core.Path.{◌≡◌, refl, sym, subst, ◌∙◌}
-use mathlib.Core.Bool.{Bool, true, false}
-use Prim.Native.Nat.{ℕ}
+use mathlib.Core.Path.{◌≡◌, sym, subst, ◌∙◌}
 use native.Mathlib.Omega.{arith}
-use borrow.Author.Tests.{not-true, not-false, eqb-true, eqb-false}
-use lib.Dec.{eqb}
+use borrow.Author.Tests.{not-true, not-false}
 use lib.ListN.{length}
-use Rattle.std.specs.Prelude.{Option, Some, None}
-use Rattle.std.specs.Bool.{then_some}
-use Rattle.definitions.specs.declared.ArrowStats.{ArrowStats}
 use Rattle.definitions.specs.Lines.{Row}
 use Rattle.definitions.proofs.Lists.{All}
 use Rattle.reader.proofs.BackReading.{back-trimmed}
@@ -43,16 +37,12 @@ loop-row-preserved c =
     (subst (λ rs. All (λ (r : Row). length r ≡ c.args.lanes.count) rs) (back-trimmed _ _) (rows-wide _ _ _))
     (not-true _ (sym c.in_ok-add_row.ensures.clean)) _ c.in_ok-add_row.ensures.passed)
 
--- the tally where no head is open, and none where one is
-ended : (active : ℕ) (s : ArrowStats) (o : Option ArrowStats) → (active ≡ 0 → Some s ≡ o) → ((active ≡ 0 → ⊥) → None ≡ o) → then_some (eqb active 0) s ≡ o
-ended active s o none some = go (eqb active 0) refl
-  where
-    go : (t : Bool) → eqb active 0 ≡ t → then_some t s ≡ o
-    go true e = none (eqb-true active 0 e)
-    go false e = some (eqb-false active 0 e)
+pub returns-then-rows-ne0 : goal.returns-then-rows-ne0
+returns-then-rows-ne0 c =
+    let x = c.loop-row.invariant.come in
+    passes-open _ _ _ _ c.loop-row.invariant.held (sym (back-trimmed _ _) ∙ all-came x c.in-None.ensures.steps.0) c.if-rows-ne0.true
 
 pub returns : goal.returns
 returns c =
     let x = c.loop-row.invariant.come in
-    let all = sym (back-trimmed _ _) ∙ all-came x c.in-None.ensures.steps.0 in
-    c.then_some.ensures ∙ ended _ _ _ (passes-end _ _ _ _ c.loop-row.invariant.held all) (passes-open _ _ _ _ c.loop-row.invariant.held all)
+    passes-end _ _ _ _ c.loop-row.invariant.held (sym (back-trimmed _ _) ∙ all-came x c.in-None.ensures.steps.0) c.if-rows-ne0.false
