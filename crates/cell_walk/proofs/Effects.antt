@@ -1,4 +1,4 @@
--- A cell by its byte, and what it adds to its row's sum by the kind of its note.
+-- A cell by its byte, and what it adds to its row's sum by what it is counted as.
 use mathlib.Core.Path.{◌≡◌, refl}
 use mathlib.Core.Bool.{◌&&◌}
 use mathlib.Core.List.{List}
@@ -15,12 +15,12 @@ use Rattle.definitions.specs.declared.Cell.{Cell}
 use Rattle.definitions.specs.declared.Cell.TheVariants.{Empty, Tap, Hold, Tail, Roll, Mine, Lift, Fake, KeySound, LowerMine, LowerLift, LowerFake}
 use Rattle.definitions.specs.declared.RowSum.{RowSum}
 use Rattle.row_tally.specs.Sums.{add_arrow, add_counted, sum_with_cell}
-use Rattle.cell_walk.specs.Cells.{effect_kind, CellWalked, ByteWalked}
+use Rattle.cell_walk.specs.Cells.{cell_number, CellWalked, ByteWalked}
 use Rattle.cell_walk.specs.declared.CellAt.{CellAt}
 use Rattle.cell_walk.specs.declared.WalkCell.{WalkCell}
 
 -- a byte's effects are those of its cell
-pub walked_at : (b : ℕ) (x : Cell) → cell_of b ≡ x → (at : CellAt) (l l' : List ℕ) (r : WalkCell) → CellWalked (hold_effect x) (object_effect x) (effect_of x) at l l' r
+pub walked_at : (b : ℕ) (x : Cell) → cell_of b ≡ x → (at : CellAt) (l l' : List ℕ) (r : WalkCell) → CellWalked (hold_effect x) (object_effect x) (effect_of x) (cell_number x) at l l' r
     → ByteWalked b at l l' r
 unfolding hold_at object_at effect_at
 walked_at b x e at l l' r w = rw e w
@@ -42,7 +42,7 @@ add_kind s c k tails =
       fakes = s.fakes + number_of_bool (eqb k 5);
     }
 
-kind-added : (s : RowSum) (c : ℕ) (x : Cell) → add_kind s c (effect_kind (effect_of x)) (number_of_bool (is_closing (hold_effect x))) ≡ sum_with_cell s c x (is_arrow x)
+kind-added : (s : RowSum) (c : ℕ) (x : Cell) → add_kind s c (cell_number x) (number_of_bool (is_closing (hold_effect x))) ≡ sum_with_cell s c x (is_arrow x)
 unfolding add_arrow add_counted
 kind-added s c Empty = refl
 kind-added s c Tap = refl
@@ -57,6 +57,6 @@ kind-added s c LowerMine = refl
 kind-added s c LowerLift = refl
 kind-added s c LowerFake = refl
 
-pub kind-counted : (s : RowSum) (c k t b : ℕ) → k ≡ effect_kind (effect_at b) → t ≡ number_of_bool (is_closing (hold_at b)) → add_kind s c k t ≡ sum_with_cell s c (cell_of b) (is_arrow (cell_of b))
-unfolding effect_at hold_at
+pub kind-counted : (s : RowSum) (c k t b : ℕ) → k ≡ cell_number (cell_of b) → t ≡ number_of_bool (is_closing (hold_at b)) → add_kind s c k t ≡ sum_with_cell s c (cell_of b) (is_arrow (cell_of b))
+unfolding hold_at
 kind-counted s c k t b ek et = rw (ek, et) (kind-added s c (cell_of b))

@@ -7,10 +7,9 @@ ghost use Rattle.definitions.specs.Lists.{number_of_bool};
 ghost use Rattle.definitions.specs.Cells.{cell_of, is_arrow};
 ghost use Rattle.definitions.specs.Tracker.{hold_at};
 ghost use Rattle.definitions.specs.Correction.{is_closing};
-ghost use Rattle.definitions.specs.Notes.{effect_at};
 ghost use Rattle.row_tally.specs.Bounds.{Under};
 ghost use Rattle.row_tally.specs.Sums.{sum_with_cell};
-ghost use Rattle.cell_walk.specs.Cells.{effect_kind, CellFits, Blocking, Lower, Opening, Closing, Unnoted, ByteWalked};
+ghost use Rattle.cell_walk.specs.Cells.{cell_number, CellFits, Blocking, Lower, Opening, Closing, Unnoted, ByteWalked};
 
 use definitions::{Cell, Kind, RowSum};
 use objects::ObjectCell;
@@ -28,7 +27,7 @@ pub struct CellAt {
 }
 
 /// What a cell leaves: its phantom and its object depth, the open head of its column, the number of records, whether it dropped one, and the
-/// kind of its note.
+/// number of the kind that it is counted as.
 #[derive(Clone, Copy)]
 pub struct WalkCell {
     pub phantom: PhantomCell,
@@ -39,7 +38,7 @@ pub struct WalkCell {
     pub kind: u8,
 }
 
-// A kind's number where a cell makes no note.
+// A kind's number where a cell is counted as none.
 const NO_KIND: u8 = 6;
 
 // A 1, M, L or F.
@@ -197,7 +196,7 @@ pub fn walk_cell(b: u8, at: CellAt, slots: &mut [u8]) -> WalkCell
 /// A row's sum with a cell of this kind more, or so many tails.
 pub fn count_kind(s: RowSum, column: usize, kind: u8, tails: u32) -> RowSum
     requires { Under 10 s × (tails ≤ 1) }
-    ensures { (b : ℕ) → kind ≡ effect_kind (effect_at b) → tails ≡ number_of_bool (is_closing (hold_at b)) → result ≡ sum_with_cell s column (cell_of b) (is_arrow (cell_of b)) }
+    ensures { (b : ℕ) → kind ≡ cell_number (cell_of b) → tails ≡ number_of_bool (is_closing (hold_at b)) → result ≡ sum_with_cell s column (cell_of b) (is_arrow (cell_of b)) }
 {
     let arrow = kind < 3;
     let direction = column % 4;

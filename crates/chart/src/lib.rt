@@ -23,9 +23,12 @@ pub fn chart_figures(
     work: &mut [u16],
     slots: &mut [u8],
 ) -> ChartFigures
-    requires accepted { length «data».now ≤ most_bytes }
-    requires data_in_bounds { (length «data».now + 1 ≤ length text.old) × ((length «data».now + 1) / 2 + 1 ≤ length densities.old) × (most_rows_in lanes.count (length «data».now) ≤ length beats.old) × (10 * lanes.count * most_rows_in lanes.count (length «data».now) ≤ length slots.old) }
-    requires room_for_work { most_rows_in lanes.count (length «data».now) ≤ length work.old }
+    requires text_length { length «data».now ≤ most_bytes }
+    requires text_room { length «data».now + 1 ≤ length text.old }
+    requires densities_room { (length «data».now + 1) / 2 + 1 ≤ length densities.old }
+    requires beats_room { most_rows_in lanes.count (length «data».now) ≤ length beats.old }
+    requires slots_room { 10 * lanes.count * most_rows_in lanes.count (length «data».now) ≤ length slots.old }
+    requires work_room { most_rows_in lanes.count (length «data».now) ≤ length work.old }
     ensures value { result ≡ figures_of_chart lanes.count «data».now }
     ensures text_after { text.new ≡ padded 0 (length text.old) (minimised_text lanes.count «data».now) }
     ensures densities_after { densities.new ≡ padded 0 (length densities.old) (densities_of lanes.count «data».now) }

@@ -27,7 +27,8 @@ use Rattle.measure_walk.specs.declared.Walk.{Walk}
 use Rattle.measure_walk.specs.Views.{counting, noting}
 use Rattle.reader.proofs.ChartLoops.{Few}
 use Rattle.chart_pass.specs.declared.ChartPass.{ChartPass}
-use Rattle.chart_pass.specs.ChartPass.{kept_of, Charted, SomeCharted, ChartEnded, ChartAll}
+use Rattle.reduction.specs.States.{Holding}
+use Rattle.chart_pass.specs.ChartPass.{kept_of, Charted, ChartEnded, ChartAll}
 
 module _ (L : ℕ) (p : ChartPass) (text densities : List ℕ) (beats : List Float) (slots : List ℕ) (done : List (List Row)) (cur : List Row)
     (x : Charted L p text densities beats slots done cur) where
@@ -54,11 +55,11 @@ module _ (L : ℕ) (p : ChartPass) (text densities : List ℕ) (beats : List Flo
       }
 
 -- there is room for the walk over the minimised rows
-pub walk-room : (L : ℕ) (p : ChartPass) (text densities : List ℕ) (beats : List Float) (slots : List ℕ) → SomeCharted L p text densities beats slots → (kept start : ℕ) (after : List ℕ) → kept ≤ p.draft.rows
+pub walk-room : (L : ℕ) (p : ChartPass) (text densities : List ℕ) (beats : List Float) (slots : List ℕ) → Holding (Charted L p text densities beats slots) → (kept start : ℕ) (after : List ℕ) → kept ≤ p.draft.rows
     → p.walk.run.row + p.draft.rows < row_count_bound → (p.walk.run.row + p.draft.rows) * L * 10 ≤ length slots → p.draft.midx ≤ measures_bound
     → Walking L (counting p.walk) (noting p.walk) slots (rows_at (L + 1) L kept (drop start after)) 0
 walk-room L p text densities beats slots s kept start after less few room least =
-    let x = s.charted in
+    let x = s.held in
     let before : p.walk.run.row ≡ length (joined s.done) = x.kept.counted.rows ∙ ap length (append-nil (joined s.done)) in
     let many : length (rows_at (L + 1) L kept (drop start after)) ≡ kept = rw rows-length in
     let most : length (joined s.done) + length (rows_at (L + 1) L kept (drop start after)) ≤ p.walk.run.row + p.draft.rows = omega (arith, before, many, less) in

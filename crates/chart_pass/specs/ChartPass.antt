@@ -1,9 +1,10 @@
 -- What the main pass holds and has written: `done` are the minimised measures, `cur` the rows of the open one, `slots` the note slice.
-use Rattle.std.specs.Prelude.{◌≡◌, List, [], ◌∷◌, ◌++◌, ℕ, Float, take}
+use Rattle.std.specs.Prelude.{◌≡◌, List, [], ◌∷◌, ◌++◌, ℕ, Float, length, take}
 use Rattle.definitions.specs.Lists.{joined}
 use Rattle.definitions.specs.Lines.{Row}
-use Rattle.definitions.specs.Reduction.{minimised}
+use Rattle.definitions.specs.Reduction.{reduce, minimised}
 use Rattle.definitions.specs.Beats.{beats_from, beats as beats_of}
+use Rattle.reduction.specs.States.{AddsRow}
 use Rattle.kept_pass.specs.KeptPass.{Kept, MeasureEnded, KeptAll}
 use Rattle.row_walk.specs.Rows.{Ten}
 use Rattle.measure_run.specs.Noted.{Noted}
@@ -22,17 +23,24 @@ pub record Charted (L : ℕ) (p : ChartPass) (text densities : List ℕ) (beats 
   pub ten : Ten p.walk.columns
   pub beats_are : take p.walk.run.row beats ≡ joined (beats_from 0 done)
 
-pub record SomeCharted (L : ℕ) (p : ChartPass) (text densities : List ℕ) (beats : List Float) (slots : List ℕ) : Type 0 where
-  pub done : List (List Row)
-  pub cur : List Row
-  pub charted : Charted L p text densities beats slots done cur
-
 -- the open measure has ended with these minimised rows
 pub record ChartEnded (L : ℕ) (p : ChartPass) (text densities : List ℕ) (beats : List Float) (slots : List ℕ) (done : List (List Row)) (cur : List Row) : Type 0 where
   pub ended : MeasureEnded L (kept_of p) text densities done cur
   pub noted : Noted L (noting p.walk) slots (done ++ (cur ∷ []))
   pub ten : Ten p.walk.columns
   pub beats_are : take p.walk.run.row beats ≡ joined (beats_from 0 (done ++ (cur ∷ [])))
+
+-- One row more of the open measure, whatever else is charted.
+abbrev pub AddsChartRow : Row → ChartPass → List ℕ → ChartPass → List ℕ → Type 0
+AddsChartRow row p text p' text' =
+    (densities : List ℕ) (beats : List Float) (slots : List ℕ)
+    → AddsRow row (Charted (length row) p text densities beats slots) (Charted (length row) p' text' densities beats slots)
+
+-- From what is charted the open measure ends, with its rows minimised.
+abbrev pub EndsCharted : ℕ → ChartPass → List ℕ → List ℕ → List Float → List ℕ → ChartPass → List ℕ → List ℕ → List Float → List ℕ → Type 0
+EndsCharted L p text densities beats slots p' text' densities' beats' slots' =
+    (done : List (List Row)) (cur : List Row)
+    → Charted L p text densities beats slots done cur → ChartEnded L p' text' densities' beats' slots' done (reduce cur)
 
 -- A whole text was read: what stands in the slices and was counted and noted is that of its minimised measures.
 pub record ChartAll (L : ℕ) (chart-text : List ℕ) (p : ChartPass) (text densities : List ℕ) (beats : List Float) (slots : List ℕ) : Type 0 where

@@ -2,12 +2,11 @@
 // measure are written when it ends, and its last object row is kept.
 #![tactic(auto)]
 
-ghost use Rattle.std.specs.Prelude.{◌≡◌, List, [], ◌∷◌, ◌++◌, ℕ, ◌+◌, ◌*◌, ◌/◌, ◌≤◌, ◌<◌, Float, length};
+ghost use Rattle.std.specs.Prelude.{◌≡◌, List, [], ℕ, ◌+◌, ◌*◌, ◌/◌, ◌≤◌, ◌<◌, Float, length};
 ghost use Rattle.definitions.specs.Sizes.{measures_bound, most_bytes, row_count_bound};
 ghost use Rattle.definitions.specs.Lanes.{most_rows_in};
-ghost use Rattle.definitions.specs.Lines.{Row};
-ghost use Rattle.definitions.specs.Reduction.{reduce};
-ghost use Rattle.chart_pass.specs.ChartPass.{Charted, SomeCharted, ChartEnded, ChartAll};
+ghost use Rattle.reduction.specs.States.{Holding, EndsMinimised};
+ghost use Rattle.chart_pass.specs.ChartPass.{Charted, AddsChartRow, EndsCharted, ChartAll};
 
 use definitions::Lanes;
 use kept_pass::Draft;
@@ -37,7 +36,7 @@ impl ChartPass {
     // One row more of the open measure.
     fn add_row(&mut self, text: &mut [u8], row: &[u8])
         requires { (self.old.draft.out + length row.now + 1 ≤ length text.old) × (self.old.draft.rows < row_count_bound) }
-        ensures charted { (densities : List ℕ) (beats : List Float) (slots : List ℕ) (done : List (List Row)) (cur : List Row) → Charted (length row.now) self.old text.old densities beats slots done cur → Charted (length row.now) self.new text.new densities beats slots done (cur ++ (row.now ∷ [])) }
+        ensures charted { AddsChartRow row.now self.old text.old self.new text.new }
         ensures out_after { self.new.draft.out ≡ self.old.draft.out + length row.now + 1 }
     {
         self.draft.add_row(text, row);
@@ -52,10 +51,14 @@ impl ChartPass {
         slots: &mut [u8],
         table: &TapTable,
     )
-        requires room { (self.old.draft.out ≤ length text.old) × (self.old.walk.run.row + self.old.draft.rows < row_count_bound) × (self.old.draft.midx < length densities.old) × (self.old.draft.midx ≤ measures_bound) }
-        requires rows_in_bounds { (self.old.walk.run.row + self.old.draft.rows ≤ length beats.old) × ((self.old.walk.run.row + self.old.draft.rows) * table.now.lanes.count * 10 ≤ length slots.old) }
-        requires charted { SomeCharted table.now.lanes.count self.old text.old densities.old beats.old slots.old }
-        ensures chart_ended { (done : List (List Row)) (cur : List Row) → Charted table.now.lanes.count self.old text.old densities.old beats.old slots.old done cur → ChartEnded table.now.lanes.count self.new text.new densities.new beats.new slots.new done (reduce cur) }
+        requires text_room { self.old.draft.out ≤ length text.old }
+        requires density_room { self.old.draft.midx < length densities.old }
+        requires beats_room { self.old.walk.run.row + self.old.draft.rows ≤ length beats.old }
+        requires slots_room { (self.old.walk.run.row + self.old.draft.rows) * table.now.lanes.count * 10 ≤ length slots.old }
+        requires rows_few { self.old.walk.run.row + self.old.draft.rows < row_count_bound }
+        requires measures_few { self.old.draft.midx ≤ measures_bound }
+        requires charted { Holding (Charted table.now.lanes.count self.old text.old densities.old beats.old slots.old) }
+        ensures chart_ended { EndsCharted table.now.lanes.count self.old text.old densities.old beats.old slots.old self.new text.new densities.new beats.new slots.new }
         ensures no_more { (self.new.draft.out ≤ self.old.draft.out) × (self.new.draft.midx ≡ self.old.draft.midx) }
     {
         self.draft.minimise(text, table.lanes);
@@ -80,10 +83,16 @@ impl ChartPass {
         slots: &mut [u8],
         table: &TapTable,
     )
-        requires room { (self.old.draft.out + 2 ≤ length text.old) × (self.old.walk.run.row + self.old.draft.rows < row_count_bound) × (self.old.draft.midx < length densities.old) × (self.old.draft.midx ≤ measures_bound) }
-        requires rows_in_bounds { (self.old.walk.run.row + self.old.draft.rows ≤ length beats.old) × ((self.old.walk.run.row + self.old.draft.rows) * table.now.lanes.count * 10 ≤ length slots.old) }
-        requires charted { SomeCharted table.now.lanes.count self.old text.old densities.old beats.old slots.old }
-        ensures charted_after { (done : List (List Row)) (cur : List Row) → Charted table.now.lanes.count self.old text.old densities.old beats.old slots.old done cur → Charted table.now.lanes.count self.new text.new densities.new beats.new slots.new (done ++ (reduce cur ∷ [])) [] }
+        requires text_room { self.old.draft.out + 2 ≤ length text.old }
+        requires density_room { self.old.draft.midx < length densities.old }
+        requires beats_room { self.old.walk.run.row + self.old.draft.rows ≤ length beats.old }
+        requires slots_room { (self.old.walk.run.row + self.old.draft.rows) * table.now.lanes.count * 10 ≤ length slots.old }
+        requires rows_few { self.old.walk.run.row + self.old.draft.rows < row_count_bound }
+        requires measures_few { self.old.draft.midx ≤ measures_bound }
+        requires charted { Holding (Charted table.now.lanes.count self.old text.old densities.old beats.old slots.old) }
+        ensures charted_after { EndsMinimised
+            (Charted table.now.lanes.count self.old text.old densities.old beats.old slots.old)
+            (Charted table.now.lanes.count self.new text.new densities.new beats.new slots.new) }
         ensures out_bound { self.new.draft.out ≤ self.old.draft.out + 2 }
     {
         self.end_measure(text, densities, beats, slots, table);
@@ -101,8 +110,11 @@ fn read_lines(
     slots: &mut [u8],
     table: &TapTable,
 ) -> ChartPass
-    requires accepted { length «data».now ≤ most_bytes }
-    requires data_in_bounds { (length «data».now + 1 ≤ length text.old) × ((length «data».now + 1) / 2 + 1 ≤ length densities.old) × (most_rows_in table.now.lanes.count (length «data».now) ≤ length beats.old) × (10 * table.now.lanes.count * most_rows_in table.now.lanes.count (length «data».now) ≤ length slots.old) }
+    requires text_length { length «data».now ≤ most_bytes }
+    requires text_room { length «data».now + 1 ≤ length text.old }
+    requires densities_room { (length «data».now + 1) / 2 + 1 ≤ length densities.old }
+    requires beats_room { most_rows_in table.now.lanes.count (length «data».now) ≤ length beats.old }
+    requires slots_room { 10 * table.now.lanes.count * most_rows_in table.now.lanes.count (length «data».now) ≤ length slots.old }
     ensures { ChartAll table.now.lanes.count «data».now result text.new densities.new beats.new slots.new }
 {
     let mut pass = ChartPass::new();
@@ -125,8 +137,11 @@ pub fn read_chart(
     beats: &mut [f32],
     slots: &mut [u8],
 ) -> ChartPass
-    requires accepted { length «data».now ≤ most_bytes }
-    requires data_in_bounds { (length «data».now + 1 ≤ length text.old) × ((length «data».now + 1) / 2 + 1 ≤ length densities.old) × (most_rows_in lanes.count (length «data».now) ≤ length beats.old) × (10 * lanes.count * most_rows_in lanes.count (length «data».now) ≤ length slots.old) }
+    requires text_length { length «data».now ≤ most_bytes }
+    requires text_room { length «data».now + 1 ≤ length text.old }
+    requires densities_room { (length «data».now + 1) / 2 + 1 ≤ length densities.old }
+    requires beats_room { most_rows_in lanes.count (length «data».now) ≤ length beats.old }
+    requires slots_room { 10 * lanes.count * most_rows_in lanes.count (length «data».now) ≤ length slots.old }
     ensures { ChartAll lanes.count «data».now result text.new densities.new beats.new slots.new }
 {
     let table = TapTable::for_lanes(lanes);

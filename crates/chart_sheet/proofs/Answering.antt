@@ -8,7 +8,6 @@ use lib.Dec.{eqb}
 use lib.ListN.{length}
 use Rattle.std.proofs.lemmas.List.Elements.{All-set}
 use Rattle.definitions.specs.Sizes.{most_bytes}
-use Rattle.definitions.specs.Lanes.{lanes_of}
 use Rattle.definitions.specs.Figures.{densities, spacings}
 use Rattle.definitions.specs.Notes.{notes}
 use Rattle.definitions.specs.Records.{records}
@@ -23,11 +22,11 @@ use Rattle.chart_sheet.proofs.PrintRoom.{print-room}
 use Rattle.chart_sheet.proofs.JsonRoom.{json-room}
 
 -- a form of all answers of a text is the text's sheet
-pub form-sheet : (form lanes : ℕ) (text : List ℕ) → length text ≤ most_bytes
-    → form_of form (sheet_figures (lanes_of lanes) text) (densities (lanes_of lanes) text) (spacings (lanes_of lanes) text) (records (notes (lanes_of lanes) text))
-    ≡ sheet_in_form form (lanes_of lanes) text
+pub form-sheet : (form L : ℕ) (some : 1 ≤ L) (ten : L ≤ 10) (text : List ℕ) → length text ≤ most_bytes
+    → form_of form (sheet_figures L text) (densities L text) (spacings L text) (records (notes L text))
+    ≡ sheet_in_form form L text
 unfolding form_of sheet_in_form printed json_object sheet_figures
-form-sheet form lanes text short = rw (card-lines lanes text short)
+form-sheet form L some ten text short = rw (card-lines L some ten text short)
 
 -- one of three lists has room where each has
 pick-room : (n : ℕ) (t u : Bool) (a b c : List ℕ) → length a ≤ n → length b ≤ n → length c ≤ n → length (cond t a (cond u b c)) ≤ n
@@ -36,15 +35,15 @@ pick-room n false true a b c p q r = q
 pick-room n false false a b c p q r = r
 
 -- every form of the text's sheet has room
-pub sheet-room : (lanes form : ℕ) (text : List ℕ) → length text ≤ most_bytes → length (sheet_in_form form (lanes_of lanes) text) ≤ 42 * (length text + 1) + 3000
+pub sheet-room : (L : ℕ) → 4 ≤ L → L ≤ 10 → (form : ℕ) (text : List ℕ) → length text ≤ most_bytes → length (sheet_in_form form L text) ≤ 42 * (length text + 1) + 3000
 unfolding sheet_in_form
-sheet-room lanes form text short =
+sheet-room L four ten form text short =
     pick-room (42 * (length text + 1) + 3000) (eqb form 0) (eqb form 1) _ _ _
-    (card-room lanes text short)
-    (print-room lanes text short)
-    (json-room lanes text short)
+    (card-room L four ten text short)
+    (print-room L four ten text short)
+    (json-room L four ten text short)
 
 -- and its bytes, as every figure that the call answers, are below 2 ^ 64
-pub sheet-fits : (lanes form : ℕ) (text : List ℕ) → length text ≤ most_bytes → AllFit (places_of_sheet form (lanes_of lanes) text)
-sheet-fits lanes form text short =
-    All-set Fits (places_of_chart (figures_of_chart (lanes_of lanes) text)) 7 (length (sheet_in_form form (lanes_of lanes) text)) (omega (arith, sheet-room lanes form text short)) (chart-fits lanes text short)
+pub sheet-fits : (L : ℕ) → 4 ≤ L → L ≤ 10 → (form : ℕ) (text : List ℕ) → length text ≤ most_bytes → AllFit (places_of_sheet form L text)
+sheet-fits L four ten form text short =
+    All-set Fits (places_of_chart (figures_of_chart L text)) 7 (length (sheet_in_form form L text)) (omega (arith, sheet-room L four ten form text short)) (chart-fits L four ten text short)

@@ -6,7 +6,6 @@ use native.Mathlib.Omega.{arith}
 use lib.ListN.{length, get_or, length-append}
 use Rattle.std.specs.Prelude.{codes}
 use Rattle.definitions.specs.Sizes.{most_bytes}
-use Rattle.definitions.specs.Lanes.{lanes_of}
 use Rattle.definitions.specs.Figures.{densities, spacings}
 use Rattle.definitions.specs.Notes.{notes}
 use Rattle.definitions.specs.Records.{number_of_kind, records, note_of_record}
@@ -74,16 +73,15 @@ sheet-parts : (f : ChartFigures) (densities spacings records : List ℕ)
 unfolding sheet_of
 sheet-parts f densities spacings records = simp length-append (omega arith)
 
-module _ (lanes : ℕ) (text : List ℕ) (short : length text ≤ most_bytes) where
-  record-line : (k : ℕ) → k < length (notes (lanes_of lanes) text) → length (line_of_record (note_of_record (records (notes (lanes_of lanes) text)) k)) ≤ 24
+module _ (L : ℕ) (four : 4 ≤ L) (ten : L ≤ 10) (text : List ℕ) (short : length text ≤ most_bytes) where
+  record-line : (k : ℕ) → k < length (notes L text) → length (line_of_record (note_of_record (records (notes L text)) k)) ≤ 24
   record-line k h =
-      let back = reads lanes text short k h in
+      let back = reads L (omega arith) ten text short k h in
       rw back.read (note-line back.note back.limits)
 
-  pub card-room : length (sheet (lanes_of lanes) text) ≤ 42 * (length text + 1) + 3000
+  pub card-room : length (sheet L text) ≤ 42 * (length text + 1) + 3000
   unfolding figures_of_chart sheet_figures
   card-room =
-      let L = lanes_of lanes in
       let f = figures_of_chart L text in
       let ds = densities L text in
       let ss = spacings L text in
@@ -91,13 +89,13 @@ module _ (lanes : ℕ) (text : List ℕ) (short : length text ≤ most_bytes) wh
       let n = length (notes L text) in
       let measures : length (lines_of_measures ds ss (measure_count L text)) ≤ 22 * measure_count L text =
       listed-most (λ (k : ℕ). line_of_measure k (get_or ds k 0) (get_or ss k 0)) (measure_count L text) 22
-      (λ k h. measure-line k (get_or ds k 0) (get_or ss k 0) (measure-below lanes text short k h) (density-below lanes text short k) (spacing-below L text k))
+      (λ k h. measure-line k (get_or ds k 0) (get_or ss k 0) (measure-below L (omega arith) ten text short k h) (density-below L (omega arith) ten text short k) (spacing-below L text k))
       in
       let lines : length (lines_of_records rs n) ≤ 24 * n = listed-most (λ (k : ℕ). line_of_record (note_of_record rs k)) n 24 record-line in
-      rw (← card-lines lanes text short)
+      rw (← card-lines L (omega arith) ten text short)
       (omega (
         arith,
         sheet-parts f ds ss rs,
-        room-enough lanes text (length (lines_of_head f)) (length (lines_of_measures ds ss (measure_count L text))) (length (lines_of_records rs n))
-            (omega (arith, head-lines f (printed-fit lanes text short).heads)) measures (omega (arith, lines)),
+        room-enough L (omega arith) ten text (length (lines_of_head f)) (length (lines_of_measures ds ss (measure_count L text))) (length (lines_of_records rs n))
+            (omega (arith, head-lines f (printed-fit L four ten text short).heads)) measures (omega (arith, lines)),
       ))

@@ -8,22 +8,21 @@ use native.Mathlib.Omega.{arith}
 use lib.ListN.{length, get_or, length-map}
 use Rattle.definitions.specs.Sizes.{most_bytes}
 use Rattle.definitions.specs.Lists.{number_of_bool}
-use Rattle.definitions.specs.Lanes.{lanes_of, most_rows_in}
+use Rattle.definitions.specs.Lanes.{most_rows_in}
 use Rattle.definitions.specs.Lines.{Row}
 use Rattle.definitions.specs.Reduction.{minimised}
 use Rattle.definitions.specs.Figures.{density, spacing, densities, spacings}
 use Rattle.definitions.specs.Notes.{notes}
 use Rattle.definitions.specs.Records.{records}
 use Rattle.definitions.specs.Entries.{measure_count, row_count}
-use Rattle.definitions.specs.WriterMakes.{TailMade, ReadsBack, WriterMakes}
+use Rattle.definitions.specs.WriterMakes.{TailMade, ReadsBack}
 use Rattle.definitions.specs.declared.Kind.{Kind}
 use Rattle.definitions.specs.declared.Kind.TheVariants.{Tap, Hold, Roll, Mine, Lift, Fake}
 use Rattle.definitions.specs.declared.Tail.TheVariants as tail
 use Rattle.definitions.specs.declared.Note.{Note}
-use Rattle.definitions.proofs.LaneBounds.{lanes-at-least, lanes-at-most}
 use Rattle.definitions.proofs.Counts.{measures-few, rows_few, density-few, spacing-few, notes-few}
 use Rattle.definitions.proofs.ReadBack.{records-length}
-use Rattle.definitions.proofs.WriterMakes.{writer-makes}
+use Rattle.definitions.proofs.WriterMakes.{records-read}
 
 -- there is a density and a spacing for each measure
 pub densities-count : (L : ℕ) (text : List ℕ) → length (densities L text) ≡ measure_count L text
@@ -50,38 +49,35 @@ cells-few L R h = mul-le-mul_right R h
 shares : (len LR R M N : ℕ) → LR ≤ 10 * R → LR + R ≤ len + 1 → M ≤ (len + 1) / 2 + 1 → N ≤ LR → 22 * M + 32 * N ≤ 41 * (len + 1) + 22
 shares len LR R M N a b c d = omega arith
 
-module _ (lanes : ℕ) (text : List ℕ) where
+module _ (L : ℕ) (some : 1 ≤ L) (ten : L ≤ 10) (text : List ℕ) where
   -- 22 bytes a measure, 32 a note and 2,600 beside them
-  pub room-enough : (heads entries lines : ℕ) → heads ≤ 2600 → entries ≤ 22 * measure_count (lanes_of lanes) text
-      → lines ≤ 32 * length (notes (lanes_of lanes) text) → heads + entries + lines + 300 ≤ 42 * (length text + 1) + 3000
+  pub room-enough : (heads entries lines : ℕ) → heads ≤ 2600 → entries ≤ 22 * measure_count L text
+      → lines ≤ 32 * length (notes L text) → heads + entries + lines + 300 ≤ 42 * (length text + 1) + 3000
   unfolding most_rows_in
   room-enough heads entries lines a b c =
-      let L = lanes_of lanes in
       let R = row_count L text in
       omega (
         arith,
         shares (length text) (L * R) R (measure_count L text) (length (notes L text))
-            (cells-few L R (lanes-at-most lanes))
-            (parts-room (length text) L R (rows_few L text (omega (arith, lanes-at-least lanes))))
+            (cells-few L R ten)
+            (parts-room (length text) L R (rows_few L text some))
             (measures-few L text)
             (notes-few L text),
       )
 
-module _ (lanes : ℕ) (text : List ℕ) (short : length text ≤ most_bytes) where
+module _ (L : ℕ) (some : 1 ≤ L) (ten : L ≤ 10) (text : List ℕ) (short : length text ≤ most_bytes) where
   -- numbers of at most eight digits
-  pub measure-below : (k : ℕ) → k < measure_count (lanes_of lanes) text → k < 100000000
-  measure-below k h = omega (arith, measures-few (lanes_of lanes) text)
+  pub measure-below : (k : ℕ) → k < measure_count L text → k < 100000000
+  measure-below k h = omega (arith, measures-few L text)
 
-  pub density-below : (k : ℕ) → get_or (densities (lanes_of lanes) text) k 0 < 100000000
+  pub density-below : (k : ℕ) → get_or (densities L text) k 0 < 100000000
   unfolding most_rows_in
   density-below k =
-      let L = lanes_of lanes in
-      omega (arith, density-few L text k, rows_few L text (omega (arith, lanes-at-least lanes)), div-le_self (length text + 1) (L + 1))
+      omega (arith, density-few L text k, rows_few L text some, div-le_self (length text + 1) (L + 1))
 
   -- what record k is read as
-  pub reads : (k : ℕ) → k < length (notes (lanes_of lanes) text) → ReadsBack (notes (lanes_of lanes) text) k
-  unfolding WriterMakes
-  reads k h = writer-makes lanes text short k h
+  pub reads : (k : ℕ) → k < length (notes L text) → ReadsBack (notes L text) k
+  reads k h = records-read L some ten text short k h
 
 -- a digit
 pub spacing-below : (L : ℕ) (text : List ℕ) (k : ℕ) → get_or (spacings L text) k 0 < 10

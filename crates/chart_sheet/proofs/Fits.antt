@@ -2,7 +2,6 @@
 use Rattle.std.proofs.Common.{ℕ, zero, suc, ◌^◌, ◌<◌, ◌≤◌, List, [], ◌∷◌, length, get_or, arith}
 use Rattle.std.proofs.lemmas.List.Elements.{recursion_from_All}
 use Rattle.definitions.specs.Sizes.{most_bytes}
-use Rattle.definitions.specs.Lanes.{lanes_of}
 use Rattle.definitions.specs.Figures.{minimised_text}
 use Rattle.definitions.specs.Judged.{judged_tally}
 use Rattle.definitions.specs.Entries.{figures_of_chart, places_of_chart, figures_of_kept, places_of_kept, places_of_judged}
@@ -45,13 +44,12 @@ pub record FiguresFit (f : SheetFigures) : Type 0 where
   pub judged : TallyFits f.judged
 
 -- those of an accepted text are
-pub printed-fit : (lanes : ℕ) (text : List ℕ) → length text ≤ most_bytes → FiguresFit (sheet_figures (lanes_of lanes) text)
+pub printed-fit : (L : ℕ) → 4 ≤ L → L ≤ 10 → (text : List ℕ) → length text ≤ most_bytes → FiguresFit (sheet_figures L text)
 unfolding sheet_figures named_fields
-printed-fit lanes text short =
-    let L = lanes_of lanes in
-    let chart = recursion_from_All Fits (places_of_chart (figures_of_chart L text)) (chart-fits lanes text short) in
-    let kept = recursion_from_All Fits (places_of_kept (figures_of_kept L text)) (kept-fits lanes text short) in
-    let judged = recursion_from_All Fits (places_of_judged (judged_tally L (minimised_text L text))) (sheet_judged-fits lanes text short) in
+printed-fit L four ten text short =
+    let chart = recursion_from_All Fits (places_of_chart (figures_of_chart L text)) (chart-fits L four ten text short) in
+    let kept = recursion_from_All Fits (places_of_kept (figures_of_kept L text)) (kept-fits L four ten text short) in
+    let judged = recursion_from_All Fits (places_of_judged (judged_tally L (minimised_text L text))) (sheet_judged-fits L four ten text short) in
     record {
       heads = omega arith;
       main = record { fields = omega arith };

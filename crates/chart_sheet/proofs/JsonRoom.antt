@@ -8,7 +8,6 @@ use lib.Dec.{eqb}
 use lib.ListN.{length, get_or, length-append}
 use Rattle.std.specs.Prelude.{codes}
 use Rattle.definitions.specs.Sizes.{most_bytes}
-use Rattle.definitions.specs.Lanes.{lanes_of}
 use Rattle.definitions.specs.Figures.{densities, spacings}
 use Rattle.definitions.specs.Notes.{notes}
 use Rattle.definitions.specs.Records.{number_of_kind, records, note_of_record}
@@ -129,21 +128,20 @@ unfolding json_of json_lists
 json-parts f densities spacings records fit =
     simp length-append (omega (arith, json-heads f.chart fit.heads, json-tallies f fit))
 
-module _ (lanes : ℕ) (text : List ℕ) (short : length text ≤ most_bytes) where
-  record-entry : (k : ℕ) → k < length (notes (lanes_of lanes) text) → length (entry_of_record k (note_of_record (records (notes (lanes_of lanes) text)) k)) ≤ 24
+module _ (L : ℕ) (four : 4 ≤ L) (ten : L ≤ 10) (text : List ℕ) (short : length text ≤ most_bytes) where
+  record-entry : (k : ℕ) → k < length (notes L text) → length (entry_of_record k (note_of_record (records (notes L text)) k)) ≤ 24
   record-entry k h =
-      let back = reads lanes text short k h in
+      let back = reads L (omega arith) ten text short k h in
       rw back.read (found-entry k back.note back.limits)
 
-  pub json-room : length (json_object (lanes_of lanes) text) ≤ 42 * (length text + 1) + 3000
+  pub json-room : length (json_object L text) ≤ 42 * (length text + 1) + 3000
   unfolding json_object
   json-room =
-      let L = lanes_of lanes in
       let ds = densities L text in
       let ss = spacings L text in
       let rs = records (notes L text) in
       let dense : length (entries_of_densities ds (length ds)) ≤ 9 * length ds =
-      listed-most (λ (k : ℕ). entry_of_density k (get_or ds k 0)) (length ds) 9 (λ k h. density-entry k (get_or ds k 0) (density-below lanes text short k))
+      listed-most (λ (k : ℕ). entry_of_density k (get_or ds k 0)) (length ds) 9 (λ k h. density-entry k (get_or ds k 0) (density-below L (omega arith) ten text short k))
       in
       let spaced : length (entries_of_spacings ss (length ss)) ≤ 6 * length ss =
       listed-most (λ (k : ℕ). entry_of_spacing k (get_or ss k 0)) (length ss) 6 (λ k h. spacing-entry k (get_or ss k 0))
@@ -153,7 +151,7 @@ module _ (lanes : ℕ) (text : List ℕ) (short : length text ≤ most_bytes) wh
       in
       omega (
         arith,
-        json-parts (sheet_figures L text) ds ss rs (printed-fit lanes text short),
-        room-enough lanes text 1800 (length (entries_of_densities ds (length ds)) + length (entries_of_spacings ss (length ss))) (length (entries_of_records rs (length rs / 10)))
+        json-parts (sheet_figures L text) ds ss rs (printed-fit L four ten text short),
+        room-enough L (omega arith) ten text 1800 (length (entries_of_densities ds (length ds)) + length (entries_of_spacings ss (length ss))) (length (entries_of_records rs (length rs / 10)))
             (omega arith) (omega (arith, densities-count L text, spacings-count L text)) (omega (arith, records-count (notes L text))),
       )

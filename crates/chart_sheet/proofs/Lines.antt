@@ -9,14 +9,13 @@ use Rattle.std.specs.Prelude.{slice_get}
 use lib.Seq.{take-length}
 use Rattle.definitions.specs.Sizes.{most_bytes}
 use Rattle.definitions.specs.Lists.{joined}
-use Rattle.definitions.specs.Lanes.{lanes_of}
 use Rattle.definitions.specs.Figures.{densities, spacings}
 use Rattle.definitions.specs.Notes.{notes}
 use Rattle.definitions.specs.Records.{records}
-use Rattle.definitions.specs.WriterMakes.{ReadsBack, WriterMakes}
+use Rattle.definitions.specs.WriterMakes.{ReadsBack}
 use Rattle.definitions.specs.declared.Note.{Note}
 use Rattle.reduction.proofs.Blocks.{joined-append}
-use Rattle.definitions.proofs.WriterMakes.{writer-makes}
+use Rattle.definitions.proofs.WriterMakes.{records-read}
 use Rattle.sheet.specs.Sheet.{line_of_note, lines_of_records, sheet_of}
 use Rattle.sheet.specs.Card.{note_lines, sheet}
 use Rattle.definitions.specs.Entries.{figures_of_chart}
@@ -38,14 +37,14 @@ record-lines ns (suc k) h back =
     let b : ReadsBack ns k = back k (omega arith) in
     rw (record-lines ns k (omega arith) back, b.read, take_more ns k b.note b.stands, map_snoc, joined-append, append-nil)
 
-module _ (lanes : ℕ) (text : List ℕ) (short : length text ≤ most_bytes) where
-  note-lines-read : lines_of_records (records (notes (lanes_of lanes) text)) (length (notes (lanes_of lanes) text)) ≡ note_lines (notes (lanes_of lanes) text)
-  unfolding note_lines WriterMakes
+module _ (L : ℕ) (some : 1 ≤ L) (ten : L ≤ 10) (text : List ℕ) (short : length text ≤ most_bytes) where
+  note-lines-read : lines_of_records (records (notes L text)) (length (notes L text)) ≡ note_lines (notes L text)
+  unfolding note_lines
   note-lines-read =
-      record-lines (notes (lanes_of lanes) text) (length (notes (lanes_of lanes) text)) (omega arith) (writer-makes lanes text short)
-      ∙ ap (λ (l : List Note). joined (map line_of_note l)) (take-length (notes (lanes_of lanes) text))
+      record-lines (notes L text) (length (notes L text)) (omega arith) (records-read L some ten text short)
+      ∙ ap (λ (l : List Note). joined (map line_of_note l)) (take-length (notes L text))
 
-  pub card-lines : sheet_of (figures_of_chart (lanes_of lanes) text) (densities (lanes_of lanes) text) (spacings (lanes_of lanes) text) (records (notes (lanes_of lanes) text))
-      ≡ sheet (lanes_of lanes) text
+  pub card-lines : sheet_of (figures_of_chart L text) (densities L text) (spacings L text) (records (notes L text))
+      ≡ sheet L text
   unfolding sheet_of sheet figures_of_chart
   card-lines = rw note-lines-read

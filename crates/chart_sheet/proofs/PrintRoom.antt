@@ -7,7 +7,6 @@ use lib.Dec.{eqb}
 use lib.ListN.{length, get_or, length-append, length-replicate}
 use Rattle.std.specs.Prelude.{codes}
 use Rattle.definitions.specs.Sizes.{most_bytes}
-use Rattle.definitions.specs.Lanes.{lanes_of}
 use Rattle.definitions.specs.Figures.{densities, spacings}
 use Rattle.definitions.specs.Notes.{notes}
 use Rattle.definitions.specs.Records.{number_of_kind, records, note_of_record}
@@ -127,29 +126,28 @@ unfolding print_of head_of_densities head_of_held
 print-parts f densities spacings records fit =
     simp length-append (omega (arith, print-heads f.chart fit.heads, print-tallies f fit))
 
-module _ (lanes : ℕ) (text : List ℕ) (short : length text ≤ most_bytes) where
-  held-record : (k : ℕ) → k < length (notes (lanes_of lanes) text) → length (held_line_of_record (note_of_record (records (notes (lanes_of lanes) text)) k)) ≤ 32
+module _ (L : ℕ) (four : 4 ≤ L) (ten : L ≤ 10) (text : List ℕ) (short : length text ≤ most_bytes) where
+  held-record : (k : ℕ) → k < length (notes L text) → length (held_line_of_record (note_of_record (records (notes L text)) k)) ≤ 32
   held-record k h =
-      let back = reads lanes text short k h in
+      let back = reads L (omega arith) ten text short k h in
       rw back.read (held-line back.note back.note.tail back.limits back.limits.tail)
 
-  pub print-room : length (printed (lanes_of lanes) text) ≤ 42 * (length text + 1) + 3000
+  pub print-room : length (printed L text) ≤ 42 * (length text + 1) + 3000
   unfolding printed
   print-room =
-      let L = lanes_of lanes in
       let ds = densities L text in
       let ss = spacings L text in
       let rs = records (notes L text) in
       let measures : length (lines_of_densities ds ss (length ds)) ≤ 19 * length ds =
       listed-most (λ (k : ℕ). entry_of_density k (get_or ds k 0) (get_or ss k 0)) (length ds) 19
-      (λ k h. density-entry k (get_or ds k 0) (get_or ss k 0) (measure-below lanes text short k (omega (arith, densities-count L text))) (density-below lanes text short k))
+      (λ k h. density-entry k (get_or ds k 0) (get_or ss k 0) (measure-below L (omega arith) ten text short k (omega (arith, densities-count L text))) (density-below L (omega arith) ten text short k))
       in
       let lines : length (lines_of_held rs (length rs / 10)) ≤ 32 * (length rs / 10) =
       listed-most (λ (k : ℕ). held_line_of_record (note_of_record rs k)) (length rs / 10) 32 (λ k h. held-record k (omega (arith, records-count (notes L text))))
       in
       omega (
         arith,
-        print-parts (sheet_figures L text) ds ss rs (printed-fit lanes text short),
-        room-enough lanes text 1785 (length (lines_of_densities ds ss (length ds))) (length (lines_of_held rs (length rs / 10)))
+        print-parts (sheet_figures L text) ds ss rs (printed-fit L four ten text short),
+        room-enough L (omega arith) ten text 1785 (length (lines_of_densities ds ss (length ds))) (length (lines_of_held rs (length rs / 10)))
             (omega arith) (omega (arith, densities-count L text)) (omega (arith, records-count (notes L text))),
       )

@@ -4,7 +4,7 @@
 ghost use Rattle.std.specs.Prelude.{◌≡◌, [], ◌+◌, ◌*◌, ◌/◌, ◌≤◌, length, take, OnOk};
 ghost use Rattle.definitions.specs.Sizes.{most_bytes};
 ghost use Rattle.definitions.specs.Lists.{padded};
-ghost use Rattle.definitions.specs.Lanes.{lanes_of, most_rows_in};
+ghost use Rattle.definitions.specs.Lanes.{most_rows_in};
 ghost use Rattle.definitions.specs.Figures.{minimised_text, densities as densities_of, spacings as spacings_of};
 ghost use Rattle.definitions.specs.Beats.{f32, beats as beats_of};
 ghost use Rattle.definitions.specs.Notes.{notes as notes_of};
@@ -14,7 +14,7 @@ ghost use Rattle.chart_sheet.specs.Forms.{form_of, sheet_in_form};
 ghost use Rattle.chart_sheet.specs.Entry.{short_sheet, other_form, places_of_sheet, sheet_answer, sheet_text, sheet_densities, sheet_spacings, sheet_beats, sheet_work, sheet_notes, sheet_left};
 
 use definitions::{Lanes, Refusal};
-use figures::chart_places;
+use figures::Figures;
 use page::{Full, Page};
 use sheet::{SheetFigures, print_card};
 use sheet_answers::sheet_answers;
@@ -68,7 +68,7 @@ fn put_form(
 // The sheet of an accepted text; the figures have its bytes in place 7.
 fn write_sheet(
     data: &[u8],
-    lanes: usize,
+    lanes: Lanes,
     form: usize,
     text: &mut [u8],
     densities: &mut [u32],
@@ -82,22 +82,21 @@ fn write_sheet(
     requires text_room { length «data».now + 1 ≤ length text.old }
     requires densities_room { (length «data».now + 1) / 2 + 1 ≤ length densities.old }
     requires spacing_room { (length «data».now + 1) / 2 + 1 ≤ length spacing.old }
-    requires beats_room { most_rows_in (lanes_of lanes) (length «data».now) ≤ length beats.old }
-    requires work_room { most_rows_in (lanes_of lanes) (length «data».now) ≤ length work.old }
-    requires notes_room { 10 * lanes_of lanes * most_rows_in (lanes_of lanes) (length «data».now) ≤ length notes.old }
+    requires beats_room { most_rows_in lanes.count (length «data».now) ≤ length beats.old }
+    requires work_room { most_rows_in lanes.count (length «data».now) ≤ length work.old }
+    requires notes_room { 10 * lanes.count * most_rows_in lanes.count (length «data».now) ≤ length notes.old }
     requires sheet_room { 42 * (length «data».now + 1) + 3000 ≤ length sheet.old }
     requires form_known { form ≤ 2 }
-    ensures value { result ≡ places_of_sheet form (lanes_of lanes) «data».now }
-    ensures text_after { text.new ≡ padded 0 (length text.old) (minimised_text (lanes_of lanes) «data».now) }
-    ensures densities_after { densities.new ≡ padded 0 (length densities.old) (densities_of (lanes_of lanes) «data».now) }
-    ensures spacing_after { spacing.new ≡ padded 0 (length spacing.old) (spacings_of (lanes_of lanes) «data».now) }
-    ensures beats_after { beats.new ≡ padded (f32 0) (length beats.old) (beats_of (lanes_of lanes) «data».now) }
+    ensures value { result ≡ places_of_sheet form lanes.count «data».now }
+    ensures text_after { text.new ≡ padded 0 (length text.old) (minimised_text lanes.count «data».now) }
+    ensures densities_after { densities.new ≡ padded 0 (length densities.old) (densities_of lanes.count «data».now) }
+    ensures spacing_after { spacing.new ≡ padded 0 (length spacing.old) (spacings_of lanes.count «data».now) }
+    ensures beats_after { beats.new ≡ padded (f32 0) (length beats.old) (beats_of lanes.count «data».now) }
     ensures work_after { work.new ≡ padded 0 (length work.old) [] }
-    ensures notes_after { notes.new ≡ padded 0 (length notes.old) (records_of (notes_of (lanes_of lanes) «data».now)) }
-    ensures sheet_after { sheet.new ≡ padded 0 (length sheet.old) (sheet_in_form form (lanes_of lanes) «data».now) }
+    ensures notes_after { notes.new ≡ padded 0 (length notes.old) (records_of (notes_of lanes.count «data».now)) }
+    ensures sheet_after { sheet.new ≡ padded 0 (length sheet.old) (sheet_in_form form lanes.count «data».now) }
 {
-    let columns = Lanes::in_force(lanes);
-    let figures = sheet_answers(data, columns, text, densities, spacing, beats, work, notes);
+    let figures = sheet_answers(data, lanes, text, densities, spacing, beats, work, notes);
     let measures = figures.chart.measures;
     let end = figures.chart.notes * 10;
     let bytes = put_form(
@@ -109,7 +108,7 @@ fn write_sheet(
         &notes[..end],
     );
     slices::zero_past(sheet, bytes, 0);
-    let mut places = chart_places(figures.chart);
+    let mut places = figures.chart.places();
     places[7] = bytes as u64;
     places
 }
@@ -175,6 +174,6 @@ pub fn chart_sheet(
     room_for_sheet(len, sheet.len())?;
     form_known(form)?;
     Ok(write_sheet(
-        data, lanes, form, text, densities, spacing, beats, work, notes, sheet,
+        data, columns, form, text, densities, spacing, beats, work, notes, sheet,
     ))
 }

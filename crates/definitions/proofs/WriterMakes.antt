@@ -117,8 +117,12 @@ reads-back ns all k h =
       read = search (read_back ns no_note k all h);
     }
 
+-- at every lane count from 1 to 10
+pub records-read : (L : ℕ) → 1 ≤ L → L ≤ 10 → (text : List ℕ) → length text ≤ most_bytes → (k : ℕ) → k < length (notes L text) → ReadsBack (notes L text) k
+records-read L some few text short k h = reads-back (notes L text) (made L some few text short) k h
+
 pub writer-makes : WriterMakes
 unfolding WriterMakes
 writer-makes lanes text short k h =
     let some_lane : 1 ≤ lanes_of lanes = omega (arith, lanes-at-least lanes) in
-    reads-back (notes (lanes_of lanes) text) (made (lanes_of lanes) some_lane (lanes-at-most lanes) text short) k h
+    records-read (lanes_of lanes) some_lane (lanes-at-most lanes) text short k h

@@ -4,6 +4,9 @@ use Rattle.std.specs.Prelude.{Bool, true, false, if◌then◌else◌, ℕ, ◌==
 use Rattle.definitions.specs.Lines.{Row}
 use Rattle.definitions.specs.declared.Cell.{Cell}
 use Rattle.definitions.specs.declared.Cell.TheVariants.{Empty, Tap, Hold, Tail, Roll, Mine, Lift, Fake, KeySound, LowerMine, LowerLift, LowerFake}
+use Rattle.definitions.specs.declared.Kind.TheVariants as kind
+use Rattle.definitions.specs.declared.NoteEffect.{NoteEffect}
+use Rattle.definitions.specs.declared.NoteEffect.TheVariants as note
 use Rattle.definitions.specs.declared.DepthEffect.{DepthEffect}
 use Rattle.definitions.specs.declared.DepthEffect.TheVariants.{Nothing, Blocks, Opens, Closes}
 
@@ -28,47 +31,46 @@ cell_of b =
 abbrev pub byte_at : ℕ → Row → ℕ
 byte_at c r = slice_index_or r c 48
 
--- "The arrows are the cells 1, 2 and 4."
+-- What a cell is counted as, beside an arrow.
+pub data CountKind : Type 0 where
+  nothing hold roll tail mine lift fake : CountKind
+
+-- What a cell does, all in one place.
+pub record Effects : Type 0 where
+  pub arrow : Bool
+  pub judged_arrow : Bool
+  pub unjudged_fake : Bool
+  pub counted : CountKind
+  pub hold : DepthEffect
+  pub object : DepthEffect
+  pub note : NoteEffect
+
+abbrev row : Bool → Bool → Bool → CountKind → DepthEffect → DepthEffect → NoteEffect → Effects
+row a j u k h o n = record { arrow = a; judged_arrow = j; unjudged_fake = u; counted = k; hold = h; object = o; note = n }
+
+-- "The arrows are the cells 1, 2 and 4." "On a judged row the arrows are 1, L, l and tracker-paired heads" "On an unjudged row each 1, L, l, M, m,
+-- F, f and paired head is one fake." For the tracker 2 and 4 open, 3 closes, and 1, M, L, F block; for the last beat K blocks too. "Any of 1 2 4 M
+-- L F m l f drops an open head's note; 3 closes it. [..] K touches no note."
+--                      arrow judged unjudged  counted  tracker  last beat  notes
+abbrev pub effects_of : Cell → Effects
+effects_of Empty = row false false false nothing Nothing Nothing note.Nothing
+effects_of Tap = row true true true nothing Blocks Blocks (note.Single kind.Tap)
+effects_of Hold = row true true true hold Opens Opens (note.Head kind.Hold)
+effects_of Tail = row false false false tail Closes Closes note.Closes
+effects_of Roll = row true true true roll Opens Opens (note.Head kind.Roll)
+effects_of Mine = row false false true mine Blocks Blocks (note.Single kind.Mine)
+effects_of Lift = row false true true lift Blocks Blocks (note.Single kind.Lift)
+effects_of Fake = row false false true fake Blocks Blocks (note.Single kind.Fake)
+effects_of KeySound = row false false false nothing Nothing Blocks note.Nothing
+effects_of LowerMine = row false false true mine Nothing Nothing (note.Single kind.Mine)
+effects_of LowerLift = row false true true lift Nothing Nothing (note.Single kind.Lift)
+effects_of LowerFake = row false false true fake Nothing Nothing (note.Single kind.Fake)
+
 abbrev pub is_arrow : Cell → Bool
-is_arrow Empty = false
-is_arrow Tap = true
-is_arrow Hold = true
-is_arrow Tail = false
-is_arrow Roll = true
-is_arrow Mine = false
-is_arrow Lift = false
-is_arrow Fake = false
-is_arrow KeySound = false
-is_arrow LowerMine = false
-is_arrow LowerLift = false
-is_arrow LowerFake = false
+is_arrow x = (effects_of x).arrow
 
--- What a cell does to the tracker's stack and to the phantom depth of its column: 2 and 4 open, 3 closes, and 1, M, L, F block.
 abbrev pub hold_effect : Cell → DepthEffect
-hold_effect Empty = Nothing
-hold_effect Tap = Blocks
-hold_effect Hold = Opens
-hold_effect Tail = Closes
-hold_effect Roll = Opens
-hold_effect Mine = Blocks
-hold_effect Lift = Blocks
-hold_effect Fake = Blocks
-hold_effect KeySound = Nothing
-hold_effect LowerMine = Nothing
-hold_effect LowerLift = Nothing
-hold_effect LowerFake = Nothing
+hold_effect x = (effects_of x).hold
 
--- What a cell does to the depth that the last beat goes by: the same, and K blocks too.
 abbrev pub object_effect : Cell → DepthEffect
-object_effect Empty = Nothing
-object_effect Tap = Blocks
-object_effect Hold = Opens
-object_effect Tail = Closes
-object_effect Roll = Opens
-object_effect Mine = Blocks
-object_effect Lift = Blocks
-object_effect Fake = Blocks
-object_effect KeySound = Blocks
-object_effect LowerMine = Nothing
-object_effect LowerLift = Nothing
-object_effect LowerFake = Nothing
+object_effect x = (effects_of x).object

@@ -86,23 +86,7 @@ paired_only rows = keep_from (pairs rows) 0 rows
 
 -- t "keeping `total_steps`", which is n
 abbrev pub tally_with_steps : ℕ → ArrowStats → ArrowStats
-tally_with_steps n t =
-    record {
-      total_arrows = t.total_arrows;
-      left = t.left;
-      down = t.down;
-      up = t.up;
-      right = t.right;
-      total_steps = n;
-      jumps = t.jumps;
-      hands = t.hands;
-      mines = t.mines;
-      holds = t.holds;
-      rolls = t.rolls;
-      lifts = t.lifts;
-      fakes = t.fakes;
-      holding = t.holding;
-    }
+tally_with_steps n t = record t { total_steps = n }
 
 -- the tally of rows, corrected over `back`, the rows as that pass reads them again
 unfoldable pub corrected : ℕ → List Row → List Row → ArrowStats

@@ -2,9 +2,9 @@
 use Rattle.std.specs.Prelude.{Bool, true, false, ◌&&◌, not, List, [], ◌∷◌, ℕ, suc, ◌+◌, ◌==◌, nat_lt, nat_le, slice_index_or, count_by}
 use Rattle.definitions.specs.Lists.{sum_columns}
 use Rattle.definitions.specs.Lines.{Row}
-use Rattle.definitions.specs.Cells.{cell_of}
+use Rattle.definitions.specs.Cells.{cell_of, effects_of}
 use Rattle.definitions.specs.Tracker.{Pair, pairs}
-use Rattle.definitions.specs.Tally.{row_sum_by, empty_stats, tally_with_sum}
+use Rattle.definitions.specs.Tally.{empty_sum, row_sum_by, empty_stats, tally_with_sum}
 use Rattle.definitions.specs.Correction.{keep_row}
 use Rattle.definitions.specs.ReadBack.{rows_read_back}
 use Rattle.definitions.specs.declared.Cell.{Cell}
@@ -16,52 +16,15 @@ use Rattle.definitions.specs.declared.ArrowStats.{ArrowStats}
 unfoldable pub judged_at : List ℕ → ℕ → Bool
 judged_at flags i = not (slice_index_or flags i 1 == 0)
 
--- "On a judged row the arrows are 1, L, l and tracker-paired heads": of a row that has only such heads left
 abbrev pub is_judged_arrow : Cell → Bool
-is_judged_arrow Empty = false
-is_judged_arrow Tap = true
-is_judged_arrow Hold = true
-is_judged_arrow Tail = false
-is_judged_arrow Roll = true
-is_judged_arrow Mine = false
-is_judged_arrow Lift = true
-is_judged_arrow Fake = false
-is_judged_arrow KeySound = false
-is_judged_arrow LowerMine = false
-is_judged_arrow LowerLift = true
-is_judged_arrow LowerFake = false
+is_judged_arrow x = (effects_of x).judged_arrow
 
--- "On an unjudged row each 1, L, l, M, m, F, f and paired head is one fake."
 abbrev pub is_unjudged_fake : Cell → Bool
-is_unjudged_fake Empty = false
-is_unjudged_fake Tap = true
-is_unjudged_fake Hold = true
-is_unjudged_fake Tail = false
-is_unjudged_fake Roll = true
-is_unjudged_fake Mine = true
-is_unjudged_fake Lift = true
-is_unjudged_fake Fake = true
-is_unjudged_fake KeySound = false
-is_unjudged_fake LowerMine = true
-is_unjudged_fake LowerLift = true
-is_unjudged_fake LowerFake = true
+is_unjudged_fake x = (effects_of x).unjudged_fake
 
 -- a sum of n fakes and nothing else
 abbrev pub sum_of_fakes : ℕ → RowSum
-sum_of_fakes n =
-    record {
-      arrows = 0;
-      left = 0;
-      down = 0;
-      up = 0;
-      right = 0;
-      holds = 0;
-      rolls = 0;
-      tails = 0;
-      mines = 0;
-      lifts = 0;
-      fakes = n;
-    }
+sum_of_fakes n = record empty_sum { fakes = n }
 
 -- what a row adds up to, judged or not
 unfoldable pub judged_sum : Bool → Row → RowSum

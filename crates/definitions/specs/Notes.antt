@@ -3,7 +3,7 @@ use Rattle.std.specs.Prelude.{List, [], ◌∷◌, ◌++◌, ℕ, zero, suc}
 use Rattle.std.specs.Prelude.{Option, None, Some}
 use Rattle.definitions.specs.Lists.{joined}
 use Rattle.definitions.specs.Lines.{Row}
-use Rattle.definitions.specs.Cells.{cell_of, byte_at}
+use Rattle.definitions.specs.Cells.{cell_of, byte_at, effects_of}
 use Rattle.definitions.specs.Reduction.{minimised}
 use Rattle.definitions.specs.declared.Cell.{Cell}
 use Rattle.definitions.specs.declared.Cell.TheVariants as cell
@@ -16,18 +16,7 @@ use Rattle.definitions.specs.declared.NoteEffect.TheVariants.{Nothing, Closes, S
 
 -- What a cell does to the notes. "Any of 1 2 4 M L F m l f drops an open head's note; 3 closes it. [..] K touches no note."
 abbrev pub effect_of : Cell → NoteEffect
-effect_of cell.Empty = Nothing
-effect_of cell.Tap = Single Tap
-effect_of cell.Hold = Head Hold
-effect_of cell.Tail = Closes
-effect_of cell.Roll = Head Roll
-effect_of cell.Mine = Single Mine
-effect_of cell.Lift = Single Lift
-effect_of cell.Fake = Single Fake
-effect_of cell.KeySound = Nothing
-effect_of cell.LowerMine = Single Mine
-effect_of cell.LowerLift = Single Lift
-effect_of cell.LowerFake = Single Fake
+effect_of x = (effects_of x).note
 
 -- the effect of a byte
 unfoldable pub effect_at : ℕ → NoteEffect

@@ -2,30 +2,14 @@
 use Rattle.std.specs.Prelude.{Bool, ◌&&◌, List, [], ◌∷◌, ℕ, suc, ◌+◌, ◌-◌, ◌%◌, ◌==◌, nat_le, count_by}
 use Rattle.definitions.specs.Lists.{number_of_bool}
 use Rattle.definitions.specs.Lines.{Row}
-use Rattle.definitions.specs.Cells.{cell_of, is_arrow}
+use Rattle.definitions.specs.Cells.{cell_of, is_arrow, effects_of, CountKind, nothing, hold, roll, tail, mine, lift, fake}
 use Rattle.definitions.specs.declared.Cell.{Cell}
 use Rattle.definitions.specs.declared.Cell.TheVariants.{Empty, Tap, Hold, Tail, Roll, Mine, Lift, Fake, KeySound, LowerMine, LowerLift, LowerFake}
 use Rattle.definitions.specs.declared.RowSum.{RowSum}
 use Rattle.definitions.specs.declared.ArrowStats.{ArrowStats}
 
--- What a cell is counted as, beside an arrow.
-pub data CountKind : Type 0 where
-  nothing hold roll tail mine lift fake : CountKind
-
--- "The Rust also reads m, l, f as mine, lift, fake"
 abbrev pub counted_as : Cell → CountKind
-counted_as Empty = nothing
-counted_as Tap = nothing
-counted_as Hold = hold
-counted_as Tail = tail
-counted_as Roll = roll
-counted_as Mine = mine
-counted_as Lift = lift
-counted_as Fake = fake
-counted_as KeySound = nothing
-counted_as LowerMine = mine
-counted_as LowerLift = lift
-counted_as LowerFake = fake
+counted_as x = (effects_of x).counted
 
 -- a number for each, so that two can be compared
 abbrev pub place : CountKind → ℕ
@@ -49,6 +33,23 @@ count_from p c (b ∷ r) = number_of_bool (p c (cell_of b)) + count_from p (suc 
 -- "Column mod 4 gives left, down, up, right": 0, 1, 2, 3
 abbrev pub direction : ℕ → ℕ
 direction c = c % 4
+
+-- the sum of no cells
+abbrev pub empty_sum : RowSum
+empty_sum =
+    record {
+      arrows = 0;
+      left = 0;
+      down = 0;
+      up = 0;
+      right = 0;
+      holds = 0;
+      rolls = 0;
+      tails = 0;
+      mines = 0;
+      lifts = 0;
+      fakes = 0;
+    }
 
 -- What a row adds up to, where `arrow` says which cells are arrows.
 unfoldable pub row_sum_by : (Cell → Bool) → Row → RowSum

@@ -4,7 +4,7 @@ use Rattle.std.proofs.lemmas.List.Elements.{All-from_recursion}
 use native.Mathlib.Numerals.{add-one}
 use Rattle.definitions.specs.Sizes.{most_bytes}
 use Rattle.definitions.specs.Lists.{joined}
-use Rattle.definitions.specs.Lanes.{lanes_of, most_rows_in}
+use Rattle.definitions.specs.Lanes.{most_rows_in}
 use Rattle.definitions.specs.Lines.{Row}
 use Rattle.definitions.specs.Reduction.{minimised}
 use Rattle.definitions.specs.Figures.{minimised_text}
@@ -15,7 +15,6 @@ use Rattle.definitions.specs.Judged.{judged_at, judged_rows, judged_tally, flagg
 use Rattle.definitions.specs.TimingRows.{timing_rows, timing_heads}
 use Rattle.definitions.specs.Entries.{measure_count, row_count, figures_of_chart, places_of_chart, figures_of_kept, places_of_kept, figures_of_timing, places_of_timing, places_of_measures, figures_of_last, places_of_last, places_of_judged}
 use Rattle.definitions.proofs.Lists.{All as Each, none, one, all_map, all-joined, one-le}
-use Rattle.definitions.proofs.LaneBounds.{lanes-at-least, lanes-at-most}
 use Rattle.definitions.proofs.ChartRows.{minimised-narrow, minimised-short}
 use Rattle.definitions.proofs.Counts.{measures-few, rows_few, notes-few}
 use Rattle.definitions.proofs.RowBounds.{read-narrow, read-few}
@@ -34,16 +33,13 @@ narrow : {L : ℕ} {rows : List Row} → L ≤ 10 → Each (λ (r : Row). length
 narrow h a = all_map (λ r w. omega arith) a
 
 -- a judged tally, with any rows judged, of a text that may be a byte longer than an accepted one
-tally-judged-fits : (lanes : ℕ) (J : ℕ → Bool) (text : List ℕ) → length text ≤ most_bytes + 1 → AllFit (places_of_judged (judged_rows (lanes_of lanes) J (rows_read_back (lanes_of lanes) text)))
-tally-judged-fits lanes J text h =
-    let L = lanes_of lanes in
-    let tally : Below 167772170 (judged_rows L J (rows_read_back L text)) = judged-below L 16777217 J (narrow (lanes-at-most lanes) (read-narrow L text)) (omega (arith, read-few L text)) in
+tally-judged-fits : (L : ℕ) → L ≤ 10 → (J : ℕ → Bool) (text : List ℕ) → length text ≤ most_bytes + 1
+    → AllFit (places_of_judged (judged_rows L J (rows_read_back L text)))
+tally-judged-fits L ten J text h =
+    let tally : Below 167772170 (judged_rows L J (rows_read_back L text)) = judged-below L 16777217 J (narrow ten (read-narrow L text)) (omega (arith, read-few L text)) in
     All-from_recursion Fits (places_of_judged (judged_rows L J (rows_read_back L text))) (omega arith)
 
-module _ (lanes : ℕ) (text : List ℕ) (short : length text ≤ most_bytes) where
-  abbrev L : ℕ
-  L = lanes_of lanes
-
+module _ (L : ℕ) (four : 4 ≤ L) (ten : L ≤ 10) (text : List ℕ) (short : length text ≤ most_bytes) where
   -- ---- The figures
   bytes-few : length (minimised_text L text) ≤ most_bytes + 1
   bytes-few = omega (arith, minimised-short L text)
@@ -53,7 +49,7 @@ module _ (lanes : ℕ) (text : List ℕ) (short : length text ≤ most_bytes) wh
 
   rows-most : row_count L text < 4194304
   unfolding most_rows_in
-  rows-most = few (row_count L text) (length text + 1) L (rows_few L text (omega (arith, lanes-at-least lanes))) (omega arith) (lanes-at-least lanes)
+  rows-most = few (row_count L text) (length text + 1) L (rows_few L text (omega arith)) (omega arith) four
     where
       few : (r n L : ℕ) → r ≤ n / (L + 1) → n ≤ 16777216 → 4 ≤ L → r < 4194304
       few r n L a b c =
@@ -61,13 +57,13 @@ module _ (lanes : ℕ) (text : List ℕ) (short : length text ≤ most_bytes) wh
           omega (arith, rw (add-one L, mul-suc, mul_comm r L) at ((le-div_iff_mul-le some).0 a), mul-le-mul_right r c)
 
   notes-most : length (notes L text) < 2 ^ 64
-  notes-most = omega (arith, notes-few L text, rows-most, mul-le-mul_right (row_count L text) (lanes-at-most lanes))
+  notes-most = omega (arith, notes-few L text, rows-most, mul-le-mul_right (row_count L text) ten)
 
   last-most : last48 L text < 2 ^ 64
   last-most = omega (arith, last48-most L text rows-most measures-most)
 
   own-rows : Narrow (joined (minimised L text))
-  own-rows = narrow (lanes-at-most lanes) (all-joined (minimised-narrow L text))
+  own-rows = narrow ten (all-joined (minimised-narrow L text))
 
   written-few : length (timing_rows L text) < 2 ^ 64
   unfolding timing_rows
@@ -81,7 +77,7 @@ module _ (lanes : ℕ) (text : List ℕ) (short : length text ≤ most_bytes) wh
   unfolding main_tally
   main-below =
       let back = minimised_text L text in
-      corrected-below L 16777217 own-rows (narrow (lanes-at-most lanes) (read-narrow L back)) (omega (arith, rows-most)) (omega (arith, read-few L back, bytes-few))
+      corrected-below L 16777217 own-rows (narrow ten (read-narrow L back)) (omega (arith, rows-most)) (omega (arith, read-few L back, bytes-few))
 
   kept-below : Below 167772170 (kept_tally L text)
   unfolding kept_tally
@@ -113,13 +109,13 @@ module _ (lanes : ℕ) (text : List ℕ) (short : length text ≤ most_bytes) wh
 
   pub judged-fits : AllFit (places_of_judged (judged_tally L text))
   unfolding judged_tally
-  judged-fits = tally-judged-fits lanes (λ i. true) text (omega arith)
+  judged-fits = tally-judged-fits L ten (λ i. true) text (omega arith)
 
   pub flagged-fits : (flags : List ℕ) → AllFit (places_of_judged (flagged_tally L flags text))
   unfolding flagged_tally
-  flagged-fits flags = tally-judged-fits lanes (judged_at flags) text (omega arith)
+  flagged-fits flags = tally-judged-fits L ten (judged_at flags) text (omega arith)
 
   -- the judged tally on a sheet, which is that of the minimised text
   pub sheet_judged-fits : AllFit (places_of_judged (judged_tally L (minimised_text L text)))
   unfolding judged_tally
-  sheet_judged-fits = tally-judged-fits lanes (λ i. true) (minimised_text L text) bytes-few
+  sheet_judged-fits = tally-judged-fits L ten (λ i. true) (minimised_text L text) bytes-few

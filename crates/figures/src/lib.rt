@@ -3,16 +3,19 @@
 #![tactic(auto)]
 
 ghost use Rattle.std.specs.Prelude.{◌≡◌, [], ◌∷◌};
-ghost use Rattle.definitions.specs.Entries.{figures as stored_figures, no_tally, tally_figures, figures_of_note, places_of_chart, places_of_kept, places_of_timing, places_of_measures, places_of_last, places_of_judged};
+ghost use Rattle.definitions.specs.Entries.{figures as stored_figures, tally_figures, figures_of_note, places_of_chart, places_of_kept, places_of_timing, places_of_measures, places_of_last, places_of_judged};
 ghost use Rattle.definitions.specs.Lists.{number_of_bool};
 ghost use Rattle.definitions.specs.Records.{number_of_tail};
+ghost use Rattle.definitions.specs.Refusals.{number_told, replaces};
 
-use definitions::{ArrowStats, ChartFigures, KeptFigures, LastBeat, Note, Tail, TimingFigures};
+use definitions::{
+    ArrowStats, ChartFigures, KeptFigures, LastBeat, Note, Refusal, Tail, TimingFigures,
+};
 use note_records::{NO_TAIL_ROW, kind_number};
 
-// The 32 figures of a call on a text: bytes, measures, rows, notes, the last beat by its bits, whether a row has a 2 or 4, the last beat in 48ths,
-// and from place 8 on the tally in the order of its fields.
-fn figures_of(
+// The figures of a call on a text; what it does not answer is 0.
+#[derive(Clone, Copy, Default)]
+struct Places {
     bytes: usize,
     measures: usize,
     rows: usize,
@@ -20,119 +23,50 @@ fn figures_of(
     last_bits: u64,
     heads: bool,
     last_row: u64,
-    t: ArrowStats,
-) -> [u64; 32]
-    ensures { result ≡ stored_figures bytes measures rows notes last_bits (number_of_bool heads) last_row (tally_figures t) }
-{
-    [
-        bytes as u64,
-        measures as u64,
-        rows as u64,
-        notes as u64,
-        last_bits,
-        u64::from(heads),
-        last_row,
-        0,
-        u64::from(t.total_arrows),
-        u64::from(t.left),
-        u64::from(t.down),
-        u64::from(t.up),
-        u64::from(t.right),
-        u64::from(t.total_steps),
-        u64::from(t.jumps),
-        u64::from(t.hands),
-        u64::from(t.mines),
-        u64::from(t.holds),
-        u64::from(t.rolls),
-        u64::from(t.lifts),
-        u64::from(t.fakes),
-        u64::from(t.holding),
-        0,
-        0,
-        0,
-        0,
-        0,
-        0,
-        0,
-        0,
-        0,
-        0,
-    ]
+    stats: ArrowStats,
 }
 
-// Those of a call that answers neither notes nor a tally.
-fn without_tally(
-    bytes: usize,
-    measures: usize,
-    rows: usize,
-    last_bits: u64,
-    heads: bool,
-    last_row: u64,
-) -> [u64; 32]
-    ensures { result ≡ stored_figures bytes measures rows 0 last_bits (number_of_bool heads) last_row no_tally }
-{
-    let none = row_tally::no_stats();
-    figures_of(bytes, measures, rows, 0, last_bits, heads, last_row, none)
-}
-
-/// What the main call answers.
-pub fn chart_places(f: ChartFigures) -> [u64; 32]
-    ensures { result ≡ places_of_chart f }
-{
-    figures_of(
-        f.bytes,
-        f.measures,
-        f.rows as usize,
-        f.notes,
-        f.last_bits,
-        false,
-        f.last_row,
-        f.stats,
-    )
-}
-
-/// What the kept-row call answers.
-pub fn kept_places(f: KeptFigures) -> [u64; 32]
-    ensures { result ≡ places_of_kept f }
-{
-    figures_of(
-        f.bytes,
-        f.measures,
-        f.rows as usize,
-        0,
-        0,
-        false,
-        0,
-        f.stats,
-    )
-}
-
-/// What the call for timing rows answers.
-pub fn timing_places(f: TimingFigures) -> [u64; 32]
-    ensures { result ≡ places_of_timing f }
-{
-    without_tally(f.bytes, 0, f.rows, 0, f.heads, 0)
-}
-
-/// How many measures there are.
-pub fn measures_places(n: usize) -> [u64; 32]
-    ensures { result ≡ places_of_measures n }
-{
-    without_tally(0, n, 0, 0, false, 0)
-}
-
-/// A last beat.
-pub fn last_places(f: LastBeat) -> [u64; 32]
-    ensures { result ≡ places_of_last f }
-{
-    without_tally(0, 0, 0, f.bits, false, f.row)
-}
-
-/// A judged tally.
-pub fn judged_places(t: ArrowStats) -> [u64; 32]
-    ensures { result ≡ places_of_judged t }
-{
-    figures_of(0, 0, 0, 0, 0, false, 0, t)
+impl Places {
+    // The 32 numbers: the figures, the last beat by its bits and in 48ths, and from place 8 on the tally in the order of its fields.
+    fn numbers(self) -> [u64; 32]
+        ensures { result ≡ stored_figures self.bytes self.measures self.rows self.notes self.last_bits (number_of_bool self.heads) self.last_row (tally_figures self.stats) }
+    {
+        let t = self.stats;
+        [
+            self.bytes as u64,
+            self.measures as u64,
+            self.rows as u64,
+            self.notes as u64,
+            self.last_bits,
+            u64::from(self.heads),
+            self.last_row,
+            0,
+            u64::from(t.total_arrows),
+            u64::from(t.left),
+            u64::from(t.down),
+            u64::from(t.up),
+            u64::from(t.right),
+            u64::from(t.total_steps),
+            u64::from(t.jumps),
+            u64::from(t.hands),
+            u64::from(t.mines),
+            u64::from(t.holds),
+            u64::from(t.rolls),
+            u64::from(t.lifts),
+            u64::from(t.fakes),
+            u64::from(t.holding),
+            0,
+            0,
+            0,
+            0,
+            0,
+            0,
+            0,
+            0,
+            0,
+            0,
+        ]
+    }
 }
 
 // A tail as the number of its row.
@@ -145,16 +79,140 @@ fn tail_number(tail: Tail) -> u32
     }
 }
 
+/// What a call answers, as an entry leaves it: in N places.
+pub trait Figures<const N: usize> {
+    ghost use Rattle.std.specs.Prelude.{List, ℕ};
+
+    ghost places: { Self → List ℕ };
+
+    fn places(self) -> [u64; N]
+        ensures { result ≡ places self };
+}
+
+impl Figures<32> for ChartFigures {
+    ghost places = { places_of_chart };
+
+    fn places(self) -> [u64; 32] {
+        let places = Places {
+            bytes: self.bytes,
+            measures: self.measures,
+            rows: self.rows as usize,
+            notes: self.notes,
+            last_bits: self.last_bits,
+            last_row: self.last_row,
+            stats: self.stats,
+            ..Places::default()
+        };
+        places.numbers()
+    }
+}
+
+impl Figures<32> for KeptFigures {
+    ghost places = { places_of_kept };
+
+    fn places(self) -> [u64; 32] {
+        let places = Places {
+            bytes: self.bytes,
+            measures: self.measures,
+            rows: self.rows as usize,
+            stats: self.stats,
+            ..Places::default()
+        };
+        places.numbers()
+    }
+}
+
+impl Figures<32> for TimingFigures {
+    ghost places = { places_of_timing };
+
+    fn places(self) -> [u64; 32] {
+        let places = Places {
+            bytes: self.bytes,
+            rows: self.rows,
+            heads: self.heads,
+            ..Places::default()
+        };
+        places.numbers()
+    }
+}
+
+/// How many measures there are.
+impl Figures<32> for usize {
+    ghost places = { places_of_measures };
+
+    fn places(self) -> [u64; 32] {
+        let places = Places {
+            measures: self,
+            ..Places::default()
+        };
+        places.numbers()
+    }
+}
+
+impl Figures<32> for LastBeat {
+    ghost places = { places_of_last };
+
+    fn places(self) -> [u64; 32] {
+        let places = Places {
+            last_bits: self.bits,
+            last_row: self.row,
+            ..Places::default()
+        };
+        places.numbers()
+    }
+}
+
+/// A judged tally.
+impl Figures<32> for ArrowStats {
+    ghost places = { places_of_judged };
+
+    fn places(self) -> [u64; 32] {
+        let places = Places {
+            stats: self,
+            ..Places::default()
+        };
+        places.numbers()
+    }
+}
+
+/// Figures that stand in their places already.
+impl Figures<32> for [u64; 32] {
+    ghost places = { λ f. f };
+
+    fn places(self) -> [u64; 32] {
+        self
+    }
+}
+
 /// The four places of a note.
-pub fn note_figures(n: Note) -> [u64; 4]
-    ensures { result ≡ figures_of_note n }
+impl Figures<4> for Note {
+    ghost places = { figures_of_note };
+
+    fn places(self) -> [u64; 4] {
+        [
+            u64::from(self.row),
+            u64::from(tail_number(self.tail)),
+            u64::from(self.column),
+            u64::from(kind_number(self.kind)),
+        ]
+    }
+}
+
+/// What an entry returns of a call's answer, and leaves in its figures: a refusal leaves them as they were.
+pub fn tell<const N: usize, F: Figures<N>>(
+    answer: Result<F, Refusal>,
+    figures: &mut [u64; N],
+) -> u32
+    ensures value { result ≡ number_told answer }
+    ensures figures_after { figures.new ≡ replaces answer F.places figures.old }
 {
-    [
-        u64::from(n.row),
-        u64::from(tail_number(n.tail)),
-        u64::from(n.column),
-        u64::from(kind_number(n.kind)),
-    ]
+    match answer {
+        Err(refusal) => refusal.number(),
+        Ok(answer) => {
+            *figures = answer.places();
+            0
+        }
+    }
 }
 
 /// The three places of a chart of a file: its lane count, where its data begins, and the data's length.

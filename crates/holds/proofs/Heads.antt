@@ -10,9 +10,9 @@ use lib.Dec.{eqb, ltb}
 use lib.ListN.{length, get_or}
 use Rattle.definitions.specs.Lists.{number_of_bool, sum_columns}
 use Rattle.definitions.specs.Lines.{Row}
-use Rattle.definitions.specs.Cells.{cell_of, byte_at, hold_effect}
+use Rattle.definitions.specs.Cells.{cell_of, byte_at, hold_effect, hold, roll}
 use Rattle.definitions.specs.Tracker.{Pair, next_stack, paired, hold_at, pairs_from, pairs, is_head_of}
-use Rattle.definitions.specs.Tally.{counted_as, place, counted, hold, roll}
+use Rattle.definitions.specs.Tally.{counted_as, place, counted}
 use Rattle.definitions.specs.Correction.{is_opening, head_if_paired, keep_row}
 use Rattle.definitions.specs.declared.Cell.{Cell}
 use Rattle.definitions.specs.declared.Cell.TheVariants as cell

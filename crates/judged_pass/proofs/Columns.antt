@@ -25,7 +25,8 @@ use Rattle.definitions.specs.declared.DepthEffect.TheVariants.{Nothing, Blocks, 
 use Rattle.definitions.proofs.Columns.{past_end}
 use Rattle.phantoms.proofs.Columns.{column-past}
 use Rattle.phantoms.proofs.Loop.{empty-hold}
-use Rattle.row_tally.specs.Sums.{empty_sum, sum_with_cell}
+use Rattle.definitions.specs.Tally.{empty_sum}
+use Rattle.row_tally.specs.Sums.{sum_with_cell}
 use Rattle.row_tally.proofs.Loops.{Summed, summed-start, summed-next, summed-empty, summed-end, drop-next}
 use Rattle.judged_pass.specs.Clean.{unpairs}
 use Rattle.judged_pass.specs.JudgedPass.{clean_depth, row_unpairs, DepthsPassed}

@@ -18,8 +18,10 @@ pub fn keep_figures(
     densities: &mut [u32],
     work: &mut [u16],
 ) -> KeptFigures
-    requires accepted { length «data».now ≤ most_bytes }
-    requires data_in_bounds { (length «data».now + 1 ≤ length text.old) × ((length «data».now + 1) / 2 + 1 ≤ length densities.old) × (most_rows_in lanes.count (length «data».now) ≤ length work.old) }
+    requires text_length { length «data».now ≤ most_bytes }
+    requires text_room { length «data».now + 1 ≤ length text.old }
+    requires densities_room { (length «data».now + 1) / 2 + 1 ≤ length densities.old }
+    requires work_room { most_rows_in lanes.count (length «data».now) ≤ length work.old }
     ensures value { result ≡ figures_of_kept lanes.count «data».now }
     ensures text_after { text.new ≡ padded 0 (length text.old) (minimised_text lanes.count «data».now) }
     ensures densities_after { densities.new ≡ padded 0 (length densities.old) (densities_of lanes.count «data».now) }

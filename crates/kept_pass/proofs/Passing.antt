@@ -19,7 +19,8 @@ use Rattle.output.proofs.Writing.{wrote-start, wrote-row, wrote-holds, wrote-red
 use Rattle.definitions.proofs.Shorter.{reduce-short}
 use Rattle.kept_pass.specs.declared.Draft.{Draft}
 use Rattle.kept_pass.specs.declared.KeptPass.{KeptPass}
-use Rattle.kept_pass.specs.KeptPass.{Drafted, SomeDrafted, Kept, MeasureEnded}
+use Rattle.reduction.specs.States.{Holding}
+use Rattle.kept_pass.specs.KeptPass.{Drafted, Kept, MeasureEnded}
 
 abbrev sep : List ℕ
 sep = 44 ∷ 10 ∷ []
@@ -71,10 +72,10 @@ module _ (L : ℕ) (d : Draft) (text after : List ℕ) (kept : ℕ) (fits : d.ou
     kept-few = omega (arith, reduced.count, reduce-short cur, x.rows)
 
   -- no more rows and bytes than before
-  pub reduced-few : SomeDrafted L d text → (kept ≤ d.rows) × (d.start + kept * (L + 1) ≤ d.out)
+  pub reduced-few : Holding (Drafted L d text) → (kept ≤ d.rows) × (d.start + kept * (L + 1) ≤ d.out)
   reduced-few s =
-      let k = kept-few s.done s.cur s.drafted in
-      (k, omega (arith, mul-le-mul_right (L + 1) k, open-size L d text s.done s.cur s.drafted))
+      let k = kept-few s.done s.cur s.held in
+      (k, omega (arith, mul-le-mul_right (L + 1) k, open-size L d text s.done s.cur s.held))
 
 -- the `,` line is written
 pub draft-next : (L : ℕ) (d : Draft) (text : List ℕ) (done : List (List Row)) (cur : List Row) → Drafted L d text done cur → d.out + 2 ≤ length text

@@ -3,7 +3,7 @@ use Rattle.std.specs.Prelude.{◌≡◌, List, [], ◌∷◌, ◌++◌, map, ℕ
 use Rattle.definitions.specs.Lists.{joined}
 use Rattle.definitions.specs.Lanes.{most_rows_in}
 use Rattle.definitions.specs.Lines.{Row}
-use Rattle.definitions.specs.Reduction.{minimised}
+use Rattle.definitions.specs.Reduction.{reduce, minimised}
 use Rattle.definitions.specs.Figures.{row_text, density, minimised_text, densities as densities_of}
 use Rattle.definitions.specs.Tally.{tally}
 use Rattle.definitions.specs.Entries.{measure_count}
@@ -19,27 +19,22 @@ pub record Drafted (L : ℕ) (d : Draft) (text : List ℕ) (done : List (List Ro
   pub rows : d.rows ≡ length cur
   pub midx : d.midx ≡ length done
 
-pub record SomeDrafted (L : ℕ) (d : Draft) (text : List ℕ) : Type 0 where
-  pub done : List (List Row)
-  pub cur : List Row
-  pub drafted : Drafted L d text done cur
-
 -- the open measure has these rows, as they were read, and the densities are those of the measures that have ended
 pub record Kept (L : ℕ) (p : KeptPass) (text densities : List ℕ) (done : List (List Row)) (cur : List Row) : Type 0 where
   pub drafted : Drafted L p.draft text done cur
   pub counted : Counted L p.counting done []
   pub stored : take p.draft.midx densities ≡ map density done
 
-pub record SomeKept (L : ℕ) (p : KeptPass) (text densities : List ℕ) : Type 0 where
-  pub done : List (List Row)
-  pub cur : List Row
-  pub kept : Kept L p text densities done cur
-
 -- the open measure has ended with these rows, minimised and counted, and its density is stored
 pub record MeasureEnded (L : ℕ) (p : KeptPass) (text densities : List ℕ) (done : List (List Row)) (cur : List Row) : Type 0 where
   pub drafted : Drafted L p.draft text done cur
   pub counted : Counted L p.counting done cur
   pub stored : take (p.draft.midx + 1) densities ≡ map density (done ++ (cur ∷ []))
+
+-- From what is kept the open measure ends, with its rows minimised.
+abbrev pub EndsKept : ℕ → KeptPass → List ℕ → List ℕ → KeptPass → List ℕ → List ℕ → Type 0
+EndsKept L p text densities p' text' densities' =
+    (done : List (List Row)) (cur : List Row) → Kept L p text densities done cur → MeasureEnded L p' text' densities' done (reduce cur)
 
 -- A whole text was read: the text, the densities and what is counted are those of its minimised measures.
 pub record KeptAll (L : ℕ) (chart-text : List ℕ) (p : KeptPass) (text densities : List ℕ) : Type 0 where

@@ -2,11 +2,10 @@
 // it ends.
 #![tactic(auto)]
 
-ghost use Rattle.std.specs.Prelude.{◌≡◌, List, [], ◌∷◌, ◌++◌, ℕ, ◌+◌, ◌/◌, ◌≤◌, ◌<◌, length};
+ghost use Rattle.std.specs.Prelude.{◌≡◌, List, [], ℕ, ◌+◌, ◌/◌, ◌≤◌, ◌<◌, length};
 ghost use Rattle.definitions.specs.Sizes.{measures_bound, most_bytes, row_count_bound};
-ghost use Rattle.definitions.specs.Lines.{Row};
-ghost use Rattle.definitions.specs.Reduction.{reduce};
-ghost use Rattle.kept_pass.specs.KeptPass.{Drafted, SomeDrafted, Kept, SomeKept, MeasureEnded, KeptAll};
+ghost use Rattle.reduction.specs.States.{Holding, AddsRow, EndsMeasure, Minimises, EndsMinimised};
+ghost use Rattle.kept_pass.specs.KeptPass.{Drafted, Kept, EndsKept, KeptAll};
 
 use definitions::Lanes;
 use measure_tally::Counting;
@@ -39,7 +38,7 @@ impl Draft {
     /// One row more of the open measure.
     pub fn add_row(&mut self, text: &mut [u8], row: &[u8])
         requires { (self.old.out + length row.now + 1 ≤ length text.old) × (self.old.rows < row_count_bound) }
-        ensures drafted { (done : List (List Row)) (cur : List Row) → Drafted (length row.now) self.old text.old done cur → Drafted (length row.now) self.new text.new done (cur ++ (row.now ∷ [])) }
+        ensures drafted { AddsRow row.now (Drafted (length row.now) self.old text.old) (Drafted (length row.now) self.new text.new) }
         ensures out_after { self.new.out ≡ self.old.out + length row.now + 1 }
         ensures one_more { (self.new.rows ≡ self.old.rows + 1) × (self.new.midx ≡ self.old.midx) }
     {
@@ -50,8 +49,8 @@ impl Draft {
 
     /// The open measure's rows are minimised in place.
     pub fn minimise(&mut self, text: &mut [u8], lanes: Lanes)
-        requires { (self.old.out ≤ length text.old) × SomeDrafted lanes.count self.old text.old }
-        ensures drafted { (done : List (List Row)) (cur : List Row) → Drafted lanes.count self.old text.old done cur → Drafted lanes.count self.new text.new done (reduce cur) }
+        requires { (self.old.out ≤ length text.old) × Holding (Drafted lanes.count self.old text.old) }
+        ensures drafted { Minimises (Drafted lanes.count self.old text.old) (Drafted lanes.count self.new text.new) }
         ensures no_more { (self.new.out ≤ self.old.out) × (self.new.rows ≤ self.old.rows) × (self.new.midx ≡ self.old.midx) }
     {
         let kept = reduction::reduce_output_measure(text, self.start, self.rows, lanes.count);
@@ -62,7 +61,7 @@ impl Draft {
     /// The `,` line after a measure that has ended is written, and the next measure begins.
     pub fn begin_measure(&mut self, text: &mut [u8])
         requires { (self.old.out + 2 ≤ length text.old) × (self.old.midx ≤ measures_bound) }
-        ensures drafted { (L : ℕ) (done : List (List Row)) (cur : List Row) → Drafted L self.old text.old done cur → Drafted L self.new text.new (done ++ (cur ∷ [])) [] }
+        ensures drafted { (L : ℕ) → EndsMeasure (Drafted L self.old text.old) (Drafted L self.new text.new) }
         ensures out_after { (self.new.out ≡ self.old.out + 2) × (self.new.midx ≡ self.old.midx + 1) }
     {
         output::put_comma(text, self.out);
@@ -95,7 +94,7 @@ impl KeptPass {
     // One row more of the open measure.
     fn add_row(&mut self, text: &mut [u8], row: &[u8])
         requires { (self.old.draft.out + length row.now + 1 ≤ length text.old) × (self.old.draft.rows < row_count_bound) }
-        ensures kept { (densities : List ℕ) (done : List (List Row)) (cur : List Row) → Kept (length row.now) self.old text.old densities done cur → Kept (length row.now) self.new text.new densities done (cur ++ (row.now ∷ [])) }
+        ensures kept { (densities : List ℕ) → AddsRow row.now (Kept (length row.now) self.old text.old densities) (Kept (length row.now) self.new text.new densities) }
         ensures out_after { self.new.draft.out ≡ self.old.draft.out + length row.now + 1 }
     {
         self.draft.add_row(text, row);
@@ -103,9 +102,11 @@ impl KeptPass {
 
     // The open measure ends: its rows are minimised in place and counted, and its density is stored.
     fn end_measure(&mut self, text: &mut [u8], densities: &mut [u32], table: &TapTable)
-        requires room { (self.old.draft.out ≤ length text.old) × (self.old.counting.rows + self.old.draft.rows < row_count_bound) × (self.old.draft.midx < length densities.old) }
-        requires kept { SomeKept table.now.lanes.count self.old text.old densities.old }
-        ensures measure_ended { (done : List (List Row)) (cur : List Row) → Kept table.now.lanes.count self.old text.old densities.old done cur → MeasureEnded table.now.lanes.count self.new text.new densities.new done (reduce cur) }
+        requires text_room { self.old.draft.out ≤ length text.old }
+        requires density_room { self.old.draft.midx < length densities.old }
+        requires rows_few { self.old.counting.rows + self.old.draft.rows < row_count_bound }
+        requires kept { Holding (Kept table.now.lanes.count self.old text.old densities.old) }
+        ensures measure_ended { EndsKept table.now.lanes.count self.old text.old densities.old self.new text.new densities.new }
         ensures no_more { (self.new.draft.out ≤ self.old.draft.out) × (self.new.draft.midx ≡ self.old.draft.midx) }
     {
         self.draft.minimise(text, table.lanes);
@@ -116,9 +117,12 @@ impl KeptPass {
 
     // The open measure ends with a `,` line.
     fn comma(&mut self, text: &mut [u8], densities: &mut [u32], table: &TapTable)
-        requires room { (self.old.draft.out + 2 ≤ length text.old) × (self.old.counting.rows + self.old.draft.rows < row_count_bound) × (self.old.draft.midx < length densities.old) × (self.old.draft.midx ≤ measures_bound) }
-        requires kept { SomeKept table.now.lanes.count self.old text.old densities.old }
-        ensures kept_after { (done : List (List Row)) (cur : List Row) → Kept table.now.lanes.count self.old text.old densities.old done cur → Kept table.now.lanes.count self.new text.new densities.new (done ++ (reduce cur ∷ [])) [] }
+        requires text_room { self.old.draft.out + 2 ≤ length text.old }
+        requires density_room { self.old.draft.midx < length densities.old }
+        requires rows_few { self.old.counting.rows + self.old.draft.rows < row_count_bound }
+        requires measures_few { self.old.draft.midx ≤ measures_bound }
+        requires kept { Holding (Kept table.now.lanes.count self.old text.old densities.old) }
+        ensures kept_after { EndsMinimised (Kept table.now.lanes.count self.old text.old densities.old) (Kept table.now.lanes.count self.new text.new densities.new) }
         ensures out_bound { self.new.draft.out ≤ self.old.draft.out + 2 }
     {
         self.end_measure(text, densities, table);
@@ -129,8 +133,9 @@ impl KeptPass {
 
 // The lines of a whole text, and the end of its last measure. The table of the tap masks is lent.
 fn keep_lines(data: &[u8], text: &mut [u8], densities: &mut [u32], table: &TapTable) -> KeptPass
-    requires accepted { length «data».now ≤ most_bytes }
-    requires data_in_bounds { (length «data».now + 1 ≤ length text.old) × ((length «data».now + 1) / 2 + 1 ≤ length densities.old) }
+    requires text_length { length «data».now ≤ most_bytes }
+    requires text_room { length «data».now + 1 ≤ length text.old }
+    requires densities_room { (length «data».now + 1) / 2 + 1 ≤ length densities.old }
     ensures { KeptAll table.now.lanes.count «data».now result text.new densities.new }
 {
     let mut pass = KeptPass::new();
@@ -146,8 +151,9 @@ fn keep_lines(data: &[u8], text: &mut [u8], densities: &mut [u32], table: &TapTa
 
 /// The whole text: what is counted in the end, and how much is written; the last measure's density is stored too.
 pub fn keep_chart(data: &[u8], lanes: Lanes, text: &mut [u8], densities: &mut [u32]) -> KeptPass
-    requires accepted { length «data».now ≤ most_bytes }
-    requires data_in_bounds { (length «data».now + 1 ≤ length text.old) × ((length «data».now + 1) / 2 + 1 ≤ length densities.old) }
+    requires text_length { length «data».now ≤ most_bytes }
+    requires text_room { length «data».now + 1 ≤ length text.old }
+    requires densities_room { (length «data».now + 1) / 2 + 1 ≤ length densities.old }
     ensures { KeptAll lanes.count «data».now result text.new densities.new }
 {
     let table = TapTable::for_lanes(lanes);

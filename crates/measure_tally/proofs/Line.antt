@@ -5,14 +5,14 @@ use Prim.Native.Nat.{ℕ, ◌+◌, ◌<◌}
 use lib.ListN.{length, get_or, set, drop}
 use Rattle.definitions.specs.Lines.{Row}
 use Rattle.definitions.specs.Cells.{cell_of, is_arrow}
-use Rattle.definitions.specs.Tally.{row_sum}
+use Rattle.definitions.specs.Tally.{row_sum, empty_sum}
 use Rattle.definitions.specs.declared.Cell.TheVariants.{Empty}
 use Rattle.definitions.specs.declared.RowSum.{RowSum}
 use Rattle.phantoms.specs.declared.Phantoms.{Phantoms}
 use Rattle.phantoms.specs.declared.PhantomCell.{PhantomCell}
 use Rattle.phantoms.specs.Phantoms.{phantom_at, CellCounted}
 use Rattle.phantoms.proofs.Loop.{Passed, passed_start, passed-next, passed-empty}
-use Rattle.row_tally.specs.Sums.{empty_sum, sum_with_cell}
+use Rattle.row_tally.specs.Sums.{sum_with_cell}
 use Rattle.row_tally.proofs.Loops.{Summed, summed-start, summed-next, summed-empty, drop-next}
 
 -- from the phantoms p₀ on

@@ -8,13 +8,9 @@ use native.Mathlib.Omega.{arith}
 use lib.ListN.{length, take, drop, get_or, length-drop}
 use lib.Seq.{take-suc, length-take-le}
 use Rattle.definitions.specs.Lines.{Row}
-use Rattle.reduction.specs.Rows.{rows_at}
+use Rattle.reduction.specs.Rows.{rows_of}
 use Rattle.reduction.proofs.RowsAt.{rows-length, row-part}
 use Rattle.reduction.proofs.Powers.{row-end}
-
--- the measure's rows
-abbrev pub rows_of : ℕ → ℕ → List ℕ → ℕ → List Row
-rows_of L rows text start = rows_at (L + 1) L rows (drop start text)
 
 -- the row at a place
 abbrev pub part : ℕ → List ℕ → ℕ → Row

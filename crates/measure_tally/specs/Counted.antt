@@ -1,5 +1,5 @@
 -- What is counted of minimised rows: `done` are the measures that have ended, `cur` the rows of the open one.
-use Rattle.std.specs.Prelude.{◌≡◌, List, ◌++◌, ℕ, ◌+◌, ◌*◌, length}
+use Rattle.std.specs.Prelude.{◌≡◌, List, [], ◌∷◌, ◌++◌, ℕ, ◌+◌, ◌*◌, ◌≤◌, length, take}
 use Rattle.definitions.specs.Lists.{joined}
 use Rattle.definitions.specs.Lines.{Row}
 use Rattle.definitions.specs.Figures.{density}
@@ -26,3 +26,16 @@ pub record Counted (L : ℕ) (c : Counting) (done : List (List Row)) (cur : List
 pub record SomeCounted (L : ℕ) (c : Counting) (cur : List Row) : Type 0 where
   pub done : List (List Row)
   pub counted : Counted L c done cur
+
+-- One row more of the open measure: whatever was counted before, at L columns that are enough for the row.
+abbrev pub CountsRow : Row → Counting → Counting → Type 0
+CountsRow row c c' =
+    (L : ℕ) (done : List (List Row)) (cur : List Row) → length row ≤ L → L ≤ 10 → Counted L c done cur → Counted L c' done (cur ++ (row ∷ []))
+
+-- Of a measure's rows ms the first i were counted, and then the first k.
+abbrev pub CountsOn : ℕ → List Row → ℕ → ℕ → Counting → Counting → Type 0
+CountsOn L ms i k c c' = (done : List (List Row)) → Counted L c done (take i ms) → Counted L c' done (take k ms)
+
+-- All of them were counted, where no row of the open measure was before.
+abbrev pub CountsAll : ℕ → List Row → Counting → Counting → Type 0
+CountsAll L ms c c' = (done : List (List Row)) → Counted L c done [] → Counted L c' done ms

@@ -1,13 +1,14 @@
 // What a whole-chart pass counts of the minimised rows, one row after the other: the tally, the phantom depths and the open measure's density.
 #![tactic(auto)]
 
-ghost use Rattle.std.specs.Prelude.{◌≡◌, List, [], ◌∷◌, ◌++◌, ℕ, ◌+◌, ◌-◌, ◌*◌, ◌≤◌, ◌<◌, length, take, drop};
+ghost use Rattle.std.specs.Prelude.{◌≡◌, List, [], ℕ, ◌+◌, ◌-◌, ◌*◌, ◌≤◌, ◌<◌, length, take};
 ghost use Rattle.definitions.specs.Sizes.{row_count_bound};
 ghost use Rattle.definitions.specs.Lines.{Row};
 ghost use Rattle.definitions.specs.Figures.{density as density_of};
 ghost use Rattle.taps.specs.Taps.{FreeTaps, masks};
-ghost use Rattle.reduction.specs.Rows.{rows_at};
-ghost use Rattle.measure_tally.specs.Counted.{Few, Counted, SomeCounted};
+ghost use Rattle.reduction.specs.Rows.{rows_of};
+ghost use Rattle.reduction.specs.States.{EndsMeasure};
+ghost use Rattle.measure_tally.specs.Counted.{Few, Counted, CountsRow, CountsOn, CountsAll, SomeCounted};
 
 use definitions::{ArrowStats, Cell};
 use phantoms::Phantoms;
@@ -41,7 +42,7 @@ impl Counting {
     // One row of taps more, all in columns of the phantom depth 0: it leaves the depths, and no turn of a loop branches on its cells.
     fn count_taps(&mut self, mask: u16, table: &TapTable)
         requires { (self.old.rows < row_count_bound) × Few self.old × (mask < masks table.now.wide) }
-        ensures { (row : Row) → FreeTaps self.old.busy mask row → (L : ℕ) (done : List (List Row)) (cur : List Row) → length row ≤ L → L ≤ 10 → Counted L self.old done cur → Counted L self.new done (cur ++ (row ∷ [])) }
+        ensures { (row : Row) → FreeTaps self.old.busy mask row → CountsRow row self.old self.new }
     {
         row_tally::count_taps(&mut self.stats, mask, table);
         self.rows += 1;
@@ -50,7 +51,7 @@ impl Counting {
     // One row more, cell by cell: its sum, the phantom depths, heads and tails. Most cells are empty, which change none of them.
     fn count_line(&mut self, row: &[u8])
         requires { (length row.now ≤ 10) × (self.old.rows < row_count_bound) × Few self.old }
-        ensures { (L : ℕ) (done : List (List Row)) (cur : List Row) → length row.now ≤ L → L ≤ 10 → Counted L self.old done cur → Counted L self.new done (cur ++ (row.now ∷ [])) }
+        ensures { CountsRow row.now self.old self.new }
     {
         let mut phantoms = self.phantoms;
         let mut sum = row_tally::no_sum();
@@ -79,7 +80,7 @@ impl Counting {
     // One row more that is not ordinary. A row that is all zero is counted as a row, and changes nothing else.
     fn count_cells(&mut self, row: &[u8])
         requires { (length row.now ≤ 10) × (self.old.rows < row_count_bound) × Few self.old }
-        ensures { (L : ℕ) (done : List (List Row)) (cur : List Row) → length row.now ≤ L → L ≤ 10 → Counted L self.old done cur → Counted L self.new done (cur ++ (row.now ∷ [])) }
+        ensures { CountsRow row.now self.old self.new }
     {
         if reduction::is_all_zero(row) {
             self.rows += 1;
@@ -90,7 +91,7 @@ impl Counting {
 
     /// The open measure ends.
     pub fn end_measure(&mut self)
-        ensures { (L : ℕ) (done : List (List Row)) (cur : List Row) → Counted L self.old done cur → Counted L self.new (done ++ (cur ∷ [])) [] }
+        ensures { (L : ℕ) → EndsMeasure (Counted L self.old) (Counted L self.new) }
     {
         self.before = self.stats.total_steps;
     }
@@ -114,9 +115,9 @@ impl Counting {
         table: &TapTable,
     ) -> usize
         requires in_text { (start + rows * (table.now.lanes.count + 1) ≤ length text.now) × (first ≤ rows) }
-        requires few { (self.old.rows + (rows - first) < row_count_bound) × SomeCounted table.now.lanes.count self.old (take first (rows_at (table.now.lanes.count + 1) table.now.lanes.count rows (drop start text.now))) }
+        requires few { (self.old.rows + (rows - first) < row_count_bound) × SomeCounted table.now.lanes.count self.old (take first (rows_of table.now.lanes.count rows text.now start)) }
         ensures onwards { (first ≤ result) × (result ≤ rows) }
-        ensures counted { (done : List (List Row)) → Counted table.now.lanes.count self.old done (take first (rows_at (table.now.lanes.count + 1) table.now.lanes.count rows (drop start text.now))) → Counted table.now.lanes.count self.new done (take result (rows_at (table.now.lanes.count + 1) table.now.lanes.count rows (drop start text.now))) }
+        ensures counted { CountsOn table.now.lanes.count (rows_of table.now.lanes.count rows text.now start) first result self.old self.new }
     {
         let lanes = table.lanes.count;
         let mut i = first;
@@ -139,7 +140,7 @@ impl Counting {
     pub fn count_rows(&mut self, text: &[u8], start: usize, rows: usize, table: &TapTable)
         requires in_text { start + rows * (table.now.lanes.count + 1) ≤ length text.now }
         requires few { (self.old.rows + rows < row_count_bound) × SomeCounted table.now.lanes.count self.old [] }
-        ensures { (done : List (List Row)) → Counted table.now.lanes.count self.old done [] → Counted table.now.lanes.count self.new done (rows_at (table.now.lanes.count + 1) table.now.lanes.count rows (drop start text.now)) }
+        ensures { CountsAll table.now.lanes.count (rows_of table.now.lanes.count rows text.now start) self.old self.new }
     {
         let lanes = table.lanes.count;
         let mut i = 0;

@@ -1,17 +1,18 @@
 // A chart's minimised rows gone over once, measure by measure: each row is counted and noted, an ordinary one by its mask, any other by its cells.
 #![tactic(auto)]
 
-ghost use Rattle.std.specs.Prelude.{◌≡◌, List, [], ◌∷◌, ◌++◌, ℕ, ◌+◌, ◌-◌, ◌*◌, ◌≤◌, ◌<◌, length, drop};
+ghost use Rattle.std.specs.Prelude.{◌≡◌, List, [], ℕ, ◌+◌, ◌-◌, ◌*◌, ◌≤◌, ◌<◌, length};
 ghost use Rattle.definitions.specs.Sizes.{measures_bound, row_count_bound};
 ghost use Rattle.definitions.specs.Lines.{Row};
 ghost use Rattle.definitions.specs.Figures.{density as density_of};
-ghost use Rattle.reduction.specs.Rows.{rows_at};
 ghost use Rattle.row_walk.specs.Rows.{Ten};
-ghost use Rattle.measure_tally.specs.Counted.{Counted};
+ghost use Rattle.reduction.specs.Rows.{rows_of};
+ghost use Rattle.reduction.specs.States.{EndsMeasure};
+ghost use Rattle.measure_tally.specs.Counted.{Counted, CountsAll};
 ghost use Rattle.measure_run.specs.Noted.{Noted, NotedRows};
 ghost use Rattle.measure_run.specs.Held.{noting_of};
 ghost use Rattle.tap_walk.specs.Walked.{Walking};
-ghost use Rattle.measure_walk.specs.Views.{rest, counting, noting};
+ghost use Rattle.measure_walk.specs.Views.{rest, counting, noting, NotesAll};
 
 use beats::RowPlace;
 use measure_run::Run;
@@ -66,7 +67,7 @@ impl Walk {
     // For the notes and the last object row the open measure ends, before which `first` rows stand.
     fn end_rows(&mut self, first: u32)
         requires { (first ≤ self.old.run.row) × (self.old.run.row - first < row_count_bound) × (self.old.midx ≤ measures_bound) }
-        ensures noted { (L : ℕ) (l : List ℕ) (done : List (List Row)) (cur : List Row) → NotedRows L (noting_of first (rest self.old) self.old.columns self.old.run) l done cur → Noted L (noting self.new) l (done ++ (cur ∷ [])) }
+        ensures noted { (L : ℕ) (l : List ℕ) → EndsMeasure (NotedRows L (noting_of first (rest self.old) self.old.columns self.old.run) l) (NotedRows L (noting self.new) l) }
         ensures counting_stays { counting self.new ≡ counting self.old }
         ensures columns_stay { self.new.columns ≡ self.old.columns }
     {
@@ -93,10 +94,10 @@ impl Walk {
     )
         requires in_text { start + rows * (table.now.lanes.count + 1) ≤ length text.now }
         requires ten { Ten self.old.columns }
-        requires walking { Walking table.now.lanes.count (counting self.old) (noting self.old) slots.old (rows_at (table.now.lanes.count + 1) table.now.lanes.count rows (drop start text.now)) 0 }
+        requires walking { Walking table.now.lanes.count (counting self.old) (noting self.old) slots.old (rows_of table.now.lanes.count rows text.now start) 0 }
         ensures ten { Ten self.new.columns }
-        ensures counted { (done : List (List Row)) → Counted table.now.lanes.count (counting self.old) done [] → Counted table.now.lanes.count (counting self.new) done (rows_at (table.now.lanes.count + 1) table.now.lanes.count rows (drop start text.now)) }
-        ensures noted { (done : List (List Row)) → Noted table.now.lanes.count (noting self.old) slots.old done → Noted table.now.lanes.count (noting self.new) slots.new (done ++ (rows_at (table.now.lanes.count + 1) table.now.lanes.count rows (drop start text.now) ∷ [])) }
+        ensures counted { CountsAll table.now.lanes.count (rows_of table.now.lanes.count rows text.now start) (counting self.old) (counting self.new) }
+        ensures noted { NotesAll table.now.lanes.count (rows_of table.now.lanes.count rows text.now start) (noting self.old) slots.old (noting self.new) slots.new }
     {
         let lanes = table.lanes.count;
         let first = self.run.row;
@@ -137,7 +138,7 @@ impl Walk {
 
     /// For what is counted the open measure ends.
     pub fn end_measure(&mut self)
-        ensures counted { (L : ℕ) (done : List (List Row)) (cur : List Row) → Counted L (counting self.old) done cur → Counted L (counting self.new) (done ++ (cur ∷ [])) [] }
+        ensures counted { (L : ℕ) → EndsMeasure (Counted L (counting self.old)) (Counted L (counting self.new)) }
         ensures noting_stays { noting self.new ≡ noting self.old }
         ensures columns_stay { self.new.columns ≡ self.old.columns }
     {

@@ -30,5 +30,4 @@ pub record LastKept (s : LastScan) (done : List (List Row)) (cur : List Row) : T
 
 -- one row more, an object row or not
 abbrev pub counted : LastScan → Bool → LastScan
-counted s object =
-    record { depths = s.depths; busy = s.busy; found = s.found; row = if object then Some s.rows else s.row; rows = s.rows + 1; midx = s.midx }
+counted s object = record s { row = if object then Some s.rows else s.row; rows = s.rows + 1 }

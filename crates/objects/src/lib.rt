@@ -1,10 +1,10 @@
 // The object rows of the last beat, and the last of them, one row after the other and measure by measure.
 #![tactic(auto)]
 
-ghost use Rattle.std.specs.Prelude.{◌≡◌, List, [], ◌∷◌, ◌++◌, ◌≤◌, ◌<◌, length};
+ghost use Rattle.std.specs.Prelude.{◌≡◌, [], ◌≤◌, ◌<◌, length};
 ghost use Rattle.definitions.specs.Sizes.{measures_bound, row_numbers_bound, row_count_bound};
-ghost use Rattle.definitions.specs.Lines.{Row};
 ghost use Rattle.objects.specs.Rows.{DepthsLow, NoDepths, CellDone, RowDone};
+ghost use Rattle.reduction.specs.States.{AddsRow, EndsMeasure};
 ghost use Rattle.objects.specs.LastKept.{counted, LastKept};
 
 use beats::RowPlace;
@@ -128,7 +128,7 @@ impl LastScan {
     // One row more, by its cells. One that is all zero is no object row and changes no depth.
     fn add_cells(&mut self, cells: &[u8])
         requires { (length cells.now ≤ 10) × (self.old.rows < row_numbers_bound) × DepthsLow 4294967294 self.old.depths }
-        ensures { (done : List (List Row)) (cur : List Row) → LastKept self.old done cur → LastKept self.new done (cur ++ (cells.now ∷ [])) }
+        ensures { AddsRow cells.now (LastKept self.old) (LastKept self.new) }
     {
         if reduction::is_all_zero(cells) {
             self.count_row(false);
@@ -143,7 +143,7 @@ impl LastScan {
     /// One row more. One of taps alone, all in columns of the depth 0, is an object row where it has one, and leaves the depths.
     pub fn add_row(&mut self, cells: &[u8])
         requires { (length cells.now ≤ 10) × (self.old.rows < row_numbers_bound) × DepthsLow 4294967294 self.old.depths }
-        ensures { (done : List (List Row)) (cur : List Row) → LastKept self.old done cur → LastKept self.new done (cur ++ (cells.now ∷ [])) }
+        ensures { AddsRow cells.now (LastKept self.old) (LastKept self.new) }
     {
         match taps::free_taps(cells, self.busy) {
             Taps::Mask(mask) => self.count_row(mask != 0),
@@ -154,7 +154,7 @@ impl LastScan {
     /// The open measure ends.
     pub fn end_measure(&mut self)
         requires { (self.old.rows < row_count_bound) × (self.old.midx ≤ measures_bound) }
-        ensures kept { (done : List (List Row)) (cur : List Row) → LastKept self.old done cur → LastKept self.new (done ++ (cur ∷ [])) [] }
+        ensures kept { EndsMeasure (LastKept self.old) (LastKept self.new) }
         ensures busy_stays { self.new.busy ≡ self.old.busy }
     {
         let LastScan {

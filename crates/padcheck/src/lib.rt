@@ -10,10 +10,7 @@ ghost use Rattle.definitions.specs.Records.{note_of_record};
 ghost use Rattle.definitions.specs.SmFile.{sm_number, places_of_sm};
 ghost use Rattle.chart_sheet.specs.Entry.{sheet_answer, sheet_text, sheet_densities, sheet_spacings, sheet_beats, sheet_work, sheet_notes, sheet_left};
 
-use figures::{
-    chart_figures, chart_places, judged_places, kept_places, last_places, measures_places,
-    note_figures, timing_places,
-};
+use figures::{chart_figures, tell};
 use note_records::read_note;
 
 /// The main call, the Rust's `minimize_chart_count_rows_notes`: minimised text in bytes, densities in steps a measure, row beats, note records of ten
@@ -37,13 +34,10 @@ pub extern "C" fn padcheck_minimize_chart_count_rows_notes(
     ensures notes_after { notes.new ≡ main_notes lanes «data».now text.old densities.old beats.old work.old notes.old }
     ensures figures_after { figures.new ≡ replaces (main_answer lanes «data».now text.old densities.old beats.old work.old notes.old) places_of_chart figures.old }
 {
-    match chart::minimize_chart_count_rows_notes(data, lanes, text, densities, beats, work, notes) {
-        Err(refusal) => refusal.number(),
-        Ok(chart) => {
-            *figures = chart_places(chart);
-            0
-        }
-    }
+    let answer = chart::minimize_chart_count_rows_notes(
+        data, lanes, text, densities, beats, work, notes,
+    );
+    tell(answer, figures)
 }
 
 /// The kept-row call, the Rust's `process_chart_in_impl` with its rows kept: minimised text, densities, and the tally corrected over the pass's own
@@ -63,13 +57,8 @@ pub extern "C" fn padcheck_process_chart_kept(
     ensures work_after { work.new ≡ kept_work lanes «data».now text.old densities.old work.old }
     ensures figures_after { figures.new ≡ replaces (kept_answer lanes «data».now text.old densities.old work.old) places_of_kept figures.old }
 {
-    match kept::process_chart_kept(data, lanes, text, densities, work) {
-        Err(refusal) => refusal.number(),
-        Ok(kept) => {
-            *figures = kept_places(kept);
-            0
-        }
-    }
+    let answer = kept::process_chart_kept(data, lanes, text, densities, work);
+    tell(answer, figures)
 }
 
 /// The Rust's `minimize_timing_rows`: minimised rows, L bytes each, back to back in `text`, their beats, and whether any has a 2 or 4. Refusals: 1, 2
@@ -87,13 +76,8 @@ pub extern "C" fn padcheck_minimize_timing_rows(
     ensures beats_after { beats.new ≡ timing_beats lanes «data».now text.old beats.old }
     ensures figures_after { figures.new ≡ replaces (timing_answer lanes «data».now text.old beats.old) places_of_timing figures.old }
 {
-    match timing::minimize_timing_rows(data, lanes, text, beats) {
-        Err(refusal) => refusal.number(),
-        Ok(rows) => {
-            *figures = timing_places(rows);
-            0
-        }
-    }
+    let answer = timing::minimize_timing_rows(data, lanes, text, beats);
+    tell(answer, figures)
 }
 
 /// The Rust's `measure_densities`: for each measure how many of its minimised rows are steps. Refusals: 1 and 3.
@@ -108,13 +92,8 @@ pub extern "C" fn padcheck_measure_densities(
     ensures densities_after { densities.new ≡ densities_left lanes «data».now densities.old }
     ensures figures_after { figures.new ≡ replaces (measures_answer lanes «data».now densities.old) places_of_measures figures.old }
 {
-    match scans::densities::measure_densities(data, lanes, densities) {
-        Err(refusal) => refusal.number(),
-        Ok(measures) => {
-            *figures = measures_places(measures);
-            0
-        }
-    }
+    let answer = scans::densities::measure_densities(data, lanes, densities);
+    tell(answer, figures)
 }
 
 /// The Rust's `equally_spaced_impl`: for each measure 1 where it has no rows or each of its minimised rows is a step, else 0. Refusals: 1 and 3.
@@ -129,13 +108,8 @@ pub extern "C" fn padcheck_equally_spaced(
     ensures spacing_after { spacing.new ≡ spacings_left lanes «data».now spacing.old }
     ensures figures_after { figures.new ≡ replaces (measures_answer lanes «data».now spacing.old) places_of_measures figures.old }
 {
-    match spacing::equally_spaced_impl(data, lanes, spacing) {
-        Err(refusal) => refusal.number(),
-        Ok(measures) => {
-            *figures = measures_places(measures);
-            0
-        }
-    }
+    let answer = spacing::equally_spaced_impl(data, lanes, spacing);
+    tell(answer, figures)
 }
 
 /// The Rust's `chart_last_beat_impl`: the beat of the last object row, as the bits of an f64 and in 48ths of a beat. Refusal: 1.
@@ -148,13 +122,8 @@ pub extern "C" fn padcheck_chart_last_beat(
     ensures value { result ≡ number_told (last_answer lanes «data».now) }
     ensures figures_after { figures.new ≡ replaces (last_answer lanes «data».now) places_of_last figures.old }
 {
-    match last_beat::chart_last_beat_impl(data, lanes) {
-        Err(refusal) => refusal.number(),
-        Ok(beat) => {
-            *figures = last_places(beat);
-            0
-        }
-    }
+    let answer = last_beat::chart_last_beat_impl(data, lanes);
+    tell(answer, figures)
 }
 
 /// The Rust's `process_rows_judgable`: the tally of minimised text with every row judged. Refusals: 1 and 5.
@@ -169,13 +138,8 @@ pub extern "C" fn padcheck_process_rows_judgable(
     ensures work_after { work.new ≡ judged_work lanes «data».now work.old }
     ensures figures_after { figures.new ≡ replaces (judged_answer lanes «data».now work.old) places_of_judged figures.old }
 {
-    match judged::process_rows_judgable(data, lanes, work) {
-        Err(refusal) => refusal.number(),
-        Ok(tally) => {
-            *figures = judged_places(tally);
-            0
-        }
-    }
+    let answer = judged::process_rows_judgable(data, lanes, work);
+    tell(answer, figures)
 }
 
 /// The Rust's `process_timing_rows` with a flag byte a row in place of its timing data: 0 unjudged, else judged, and judged where there is no flag.
@@ -192,13 +156,8 @@ pub extern "C" fn padcheck_process_timing_rows(
     ensures work_after { work.new ≡ judged_work lanes «data».now work.old }
     ensures figures_after { figures.new ≡ replaces (flagged_answer lanes «data».now work.old flags.now) places_of_judged figures.old }
 {
-    match judged::process_timing_rows(data, lanes, flags, work) {
-        Err(refusal) => refusal.number(),
-        Ok(tally) => {
-            *figures = judged_places(tally);
-            0
-        }
-    }
+    let answer = judged::process_timing_rows(data, lanes, flags, work);
+    tell(answer, figures)
 }
 
 /// Note record number `index`, counted from 0: row, tail row or 4,294,967,295, column and kind. Refusals: 7 and 8, mistakes of whoever stores note
@@ -208,13 +167,8 @@ pub extern "C" fn padcheck_read_note(records: &[u8], index: usize, note: &mut [u
     ensures value { result ≡ number_told (note_of_record records.now index) }
     ensures note_after { note.new ≡ replaces (note_of_record records.now index) figures_of_note note.old }
 {
-    match read_note(records, index) {
-        Err(refusal) => refusal.number(),
-        Ok(n) => {
-            *note = note_figures(n);
-            0
-        }
-    }
+    let answer = read_note(records, index);
+    tell(answer, note)
 }
 
 /// Chart number `k`, counted from 0, of an SM file: lane count, and the place and length of its note data in bytes. Refusals in this order: 1, 11, 9
@@ -259,13 +213,8 @@ pub extern "C" fn padcheck_chart_sheet(
     ensures sheet_after { sheet.new ≡ sheet_left lanes form «data».now text.old densities.old spacing.old beats.old work.old notes.old sheet.old }
     ensures figures_after { figures.new ≡ replaces (sheet_answer lanes form «data».now text.old densities.old spacing.old beats.old work.old notes.old sheet.old) (λ f. f) figures.old }
 {
-    match chart_sheet::chart_sheet(
+    let answer = chart_sheet::chart_sheet(
         data, lanes, form, text, densities, spacing, beats, work, notes, sheet,
-    ) {
-        Err(refusal) => refusal.number(),
-        Ok(places) => {
-            *figures = places;
-            0
-        }
-    }
+    );
+    tell(answer, figures)
 }

@@ -1,2 +1,3 @@
 -- What the contracts of this crate say of rows in a text.
 pub mod Rows
+pub mod States

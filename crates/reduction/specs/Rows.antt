@@ -11,6 +11,10 @@ abbrev pub rows_at : ℕ → ℕ → ℕ → List ℕ → List Row
 rows_at w L zero t = []
 rows_at w L (suc n) t = take L t ∷ rows_at w L n (drop w t)
 
+-- the rows of a measure that stands in a text from a place on, each with byte 10 after it
+abbrev pub rows_of : ℕ → ℕ → List ℕ → ℕ → List Row
+rows_of L rows text start = rows_at (L + 1) L rows (drop start text)
+
 -- a text with other bytes from a place on
 abbrev pub placed : ℕ → List ℕ → List ℕ → List ℕ
 placed start bytes text = splice text start (start + length bytes) bytes

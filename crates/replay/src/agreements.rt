@@ -2,9 +2,7 @@
 use chart::minimize_chart_count_rows_notes;
 use compare::{all_zero, same_bytes, same_figures, same_floats, same_numbers};
 use definitions::Refusal;
-use figures::{
-    chart_places, judged_places, kept_places, last_places, measures_places, timing_places,
-};
+use figures::Figures;
 use judged::{process_rows_judgable, process_timing_rows};
 use kept::process_chart_kept;
 use last_beat::chart_last_beat_impl;
@@ -29,7 +27,7 @@ pub fn main_agrees(record: &Record, stored: &Answer) -> bool {
         &mut work,
         &mut notes,
     );
-    has_figures(answered.map(chart_places), stored)
+    has_figures(answered, stored)
         && same_bytes(&text, stored.text)
         && same_numbers(&densities, stored.measures)
         && same_floats(&beats, stored.beats)
@@ -49,7 +47,7 @@ pub fn kept_agrees(record: &Record, stored: &Answer) -> bool {
         &mut densities,
         &mut work,
     );
-    has_figures(answered.map(kept_places), stored)
+    has_figures(answered, stored)
         && same_bytes(&text, stored.text)
         && same_numbers(&densities, stored.measures)
         && all_zero(&work)
@@ -60,7 +58,7 @@ pub fn timing_rows_agree(record: &Record, stored: &Answer) -> bool {
     let mut text = lent::text();
     let mut beats = lent::beats();
     let answered = minimize_timing_rows(record.text, record.lanes, &mut text, &mut beats);
-    has_figures(answered.map(timing_places), stored)
+    has_figures(answered, stored)
         && same_bytes(&text, stored.text)
         && same_floats(&beats, stored.beats)
 }
@@ -69,37 +67,37 @@ pub fn timing_rows_agree(record: &Record, stored: &Answer) -> bool {
 pub fn densities_agree(record: &Record, stored: &Answer) -> bool {
     let mut densities = lent::densities();
     let answered = measure_densities(record.text, record.lanes, &mut densities);
-    has_figures(answered.map(measures_places), stored) && same_numbers(&densities, stored.measures)
+    has_figures(answered, stored) && same_numbers(&densities, stored.measures)
 }
 
 /// The spacing.
 pub fn spacing_agrees(record: &Record, stored: &Answer) -> bool {
     let mut spacing = lent::spacing();
     let answered = equally_spaced_impl(record.text, record.lanes, &mut spacing);
-    has_figures(answered.map(measures_places), stored) && same_bytes(&spacing, stored.measures)
+    has_figures(answered, stored) && same_bytes(&spacing, stored.measures)
 }
 
 /// The last beat.
 pub fn last_beat_agrees(record: &Record, stored: &Answer) -> bool {
     let answered = chart_last_beat_impl(record.text, record.lanes);
-    has_figures(answered.map(last_places), stored)
+    has_figures(answered, stored)
 }
 
 /// The tally with every row judged.
 pub fn judged_agrees(record: &Record, stored: &Answer) -> bool {
     let mut work = lent::work();
     let answered = process_rows_judgable(record.text, record.lanes, &mut work);
-    has_figures(answered.map(judged_places), stored) && all_zero(&work)
+    has_figures(answered, stored) && all_zero(&work)
 }
 
 /// The tally with the record's flags.
 pub fn flagged_agrees(record: &Record, stored: &Answer) -> bool {
     let mut work = lent::work();
     let answered = process_timing_rows(record.text, record.lanes, record.flags, &mut work);
-    has_figures(answered.map(judged_places), stored) && all_zero(&work)
+    has_figures(answered, stored) && all_zero(&work)
 }
 
 // Whether a call was accepted, with the figures that are stored.
-fn has_figures(answered: Result<[u64; 32], Refusal>, stored: &Answer) -> bool {
-    answered.is_ok_and(|figures| same_figures(&figures, stored.figures))
+fn has_figures<F: Figures<32>>(answered: Result<F, Refusal>, stored: &Answer) -> bool {
+    answered.is_ok_and(|figures| same_figures(&figures.places(), stored.figures))
 }

@@ -124,7 +124,9 @@ fn low_bit(mask: u32) -> LowBit
 /// written whatever the mask is, and more only where it has more taps, so that few rows branch on theirs.
 pub fn push_mask(row: u32, number: usize, mask: u16, notes: &mut [u8]) -> usize
     requires { SomeMask row number mask notes.old }
-    ensures { (s : ChartNotesScratch) (cells : Row) → MaskFits row number mask notes.old s cells → (rows : List Row) → Written rows s notes.old → Written (rows ++ (cells ∷ [])) (after_taps s result) notes.new }
+    ensures { (s : ChartNotesScratch) (cells : Row) → MaskFits row number mask notes.old s cells
+        → (rows : List Row) → Written rows s notes.old
+        → Written (rows ++ (cells ∷ [])) (after_taps s result) notes.new }
 {
     let one = low_bit(u32::from(mask));
     let first = push_tap(row, number, one.column, one.tap, notes);

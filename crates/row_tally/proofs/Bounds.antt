@@ -9,15 +9,14 @@ use Rattle.definitions.proofs.Lists.{one-le}
 use Rattle.std.proofs.lemmas.List.Sums.{count_by-le-length}
 use Rattle.definitions.specs.Lists.{number_of_bool}
 use Rattle.definitions.specs.Lines.{Row}
-use Rattle.definitions.specs.Cells.{cell_of}
-use Rattle.definitions.specs.Tally.{CountKind, counted_as, place, row_sum, row_sum_by, empty_stats, tally_with_row}
-use Rattle.definitions.specs.Tally.{nothing, hold, roll, tail, mine, lift, fake}
+use Rattle.definitions.specs.Cells.{cell_of, CountKind, nothing, hold, roll, tail, mine, lift, fake}
+use Rattle.definitions.specs.Tally.{counted_as, place, row_sum, row_sum_by, empty_stats, tally_with_row, empty_sum}
 use Rattle.definitions.specs.Judged.{is_judged_arrow, is_unjudged_fake, judged_sum, judge_row}
 use Rattle.definitions.specs.declared.Cell.{Cell}
 use Rattle.definitions.specs.declared.RowSum.{RowSum}
 use Rattle.definitions.specs.declared.ArrowStats.{ArrowStats}
 use Rattle.row_tally.specs.Bounds.{Under, Below}
-use Rattle.row_tally.specs.Sums.{empty_sum, add_arrow, add_counted, sum_with_cell}
+use Rattle.row_tally.specs.Sums.{add_arrow, add_counted, sum_with_cell}
 use Rattle.row_tally.proofs.Sums.{sum_from, sum-start, sum-end, sum-next}
 
 pub under_more : (j k : ℕ) (s : RowSum) → j ≤ k → Under j s → Under k s

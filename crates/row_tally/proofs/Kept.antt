@@ -12,10 +12,9 @@ use Rattle.std.specs.List.{count_by}
 use Rattle.definitions.specs.Lists.{number_of_bool}
 use Rattle.definitions.proofs.Lists.{count-cons}
 use Rattle.definitions.specs.Lines.{Row}
-use Rattle.definitions.specs.Cells.{cell_of, byte_at}
+use Rattle.definitions.specs.Cells.{cell_of, byte_at, mine, fake}
 use Rattle.definitions.specs.Tracker.{Pair, is_head_of, hold_at}
 use Rattle.definitions.specs.Tally.{counted_as, place, count_from, counted, row_sum_by}
-use Rattle.definitions.specs.Tally.{mine, fake}
 use Rattle.definitions.specs.Correction.{head_if_paired, keep_row}
 use Rattle.definitions.specs.Judged.{is_judged_arrow, is_unjudged_fake, sum_of_fakes, judged_sum}
 use Rattle.definitions.specs.declared.DepthEffect.{DepthEffect}

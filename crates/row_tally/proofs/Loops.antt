@@ -9,12 +9,12 @@ use lib.ListN.{length, get_or, drop}
 use lib.Seq.{drop-cons}
 use Rattle.definitions.specs.Lines.{Row}
 use Rattle.definitions.specs.Cells.{cell_of}
-use Rattle.definitions.specs.Tally.{row_sum_by}
+use Rattle.definitions.specs.Tally.{row_sum_by, empty_sum}
 use Rattle.definitions.specs.declared.Cell.{Cell}
 use Rattle.definitions.specs.declared.Cell.TheVariants.{Empty}
 use Rattle.definitions.specs.declared.RowSum.{RowSum}
 use Rattle.row_tally.specs.Bounds.{Under}
-use Rattle.row_tally.specs.Sums.{empty_sum, sum_with_cell}
+use Rattle.row_tally.specs.Sums.{sum_with_cell}
 use Rattle.row_tally.proofs.Sums.{sum_from, sum-start, sum-end, sum-next, no_cell}
 use Rattle.row_tally.proofs.Bounds.{under-cell}
 

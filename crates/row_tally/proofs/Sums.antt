@@ -8,13 +8,12 @@ use lib.Dec.{eqb}
 use Rattle.definitions.specs.Lists.{number_of_bool}
 use Rattle.definitions.proofs.Lists.{count-cons}
 use Rattle.definitions.specs.Lines.{Row}
-use Rattle.definitions.specs.Cells.{cell_of}
-use Rattle.definitions.specs.Tally.{CountKind, counted_as, place, count_from, counted, direction, row_sum_by}
-use Rattle.definitions.specs.Tally.{hold, roll, tail, mine, lift, fake}
+use Rattle.definitions.specs.Cells.{cell_of, CountKind, hold, roll, tail, mine, lift, fake}
+use Rattle.definitions.specs.Tally.{counted_as, place, count_from, counted, direction, row_sum_by, empty_sum}
 use Rattle.definitions.specs.declared.Cell.{Cell}
 use Rattle.definitions.specs.declared.Cell.TheVariants.{Empty}
 use Rattle.definitions.specs.declared.RowSum.{RowSum}
-use Rattle.row_tally.specs.Sums.{empty_sum, add_arrow, add_counted, sum_with_cell}
+use Rattle.row_tally.specs.Sums.{add_arrow, add_counted, sum_with_cell}
 
 -- the sum s, with the cells of a row from column c on
 unfoldable pub sum_from : (Cell → Bool) → RowSum → ℕ → Row → RowSum

@@ -1,44 +1,21 @@
 -- What one cell adds to its row's sum: cited by private functions alone.
 use Rattle.std.specs.Prelude.{Bool, true, false, ◌&&◌, ℕ, ◌+◌, ◌==◌}
 use Rattle.definitions.specs.Lists.{number_of_bool}
-use Rattle.definitions.specs.Cells.{is_arrow}
-use Rattle.definitions.specs.Tally.{CountKind, counted_as, place, direction}
-use Rattle.definitions.specs.Tally.{hold, roll, tail, mine, lift, fake}
+use Rattle.definitions.specs.Cells.{is_arrow, CountKind, hold, roll, tail, mine, lift, fake}
+use Rattle.definitions.specs.Tally.{counted_as, place, direction}
 use Rattle.definitions.specs.Judged.{is_judged_arrow}
 use Rattle.definitions.specs.declared.Cell.{Cell}
 use Rattle.definitions.specs.declared.RowSum.{RowSum}
 
-abbrev pub empty_sum : RowSum
-empty_sum =
-    record {
-      arrows = 0;
-      left = 0;
-      down = 0;
-      up = 0;
-      right = 0;
-      holds = 0;
-      rolls = 0;
-      tails = 0;
-      mines = 0;
-      lifts = 0;
-      fakes = 0;
-    }
-
 -- with an arrow in column c, where there is one
 unfoldable pub add_arrow : RowSum → ℕ → Bool → RowSum
 add_arrow s c arrow =
-    record {
+    record s {
       arrows = s.arrows + number_of_bool arrow;
       left = s.left + number_of_bool (arrow && direction c == 0);
       down = s.down + number_of_bool (arrow && direction c == 1);
       up = s.up + number_of_bool (arrow && direction c == 2);
       right = s.right + number_of_bool (arrow && direction c == 3);
-      holds = s.holds;
-      rolls = s.rolls;
-      tails = s.tails;
-      mines = s.mines;
-      lifts = s.lifts;
-      fakes = s.fakes;
     }
 
 abbrev one_of : CountKind → Cell → ℕ
@@ -47,12 +24,7 @@ one_of k x = number_of_bool (place (counted_as x) == place k)
 -- with what a cell is counted as beside an arrow
 unfoldable pub add_counted : RowSum → Cell → RowSum
 add_counted s x =
-    record {
-      arrows = s.arrows;
-      left = s.left;
-      down = s.down;
-      up = s.up;
-      right = s.right;
+    record s {
       holds = s.holds + one_of hold x;
       rolls = s.rolls + one_of roll x;
       tails = s.tails + one_of tail x;

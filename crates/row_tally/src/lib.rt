@@ -5,7 +5,7 @@ ghost use Rattle.std.specs.Prelude.{◌≡◌, true, ◌+◌, ◌-◌, ◌≤◌
 ghost use Rattle.definitions.specs.Sizes.{count_bound};
 ghost use Rattle.definitions.specs.Cells.{cell_of, is_arrow};
 ghost use Rattle.definitions.specs.Tracker.{hold_at};
-ghost use Rattle.definitions.specs.Tally.{empty_stats, row_sum, row_sum_by, tally_with_sum, tally_with_row};
+ghost use Rattle.definitions.specs.Tally.{empty_stats, row_sum, row_sum_by, tally_with_sum, tally_with_row, empty_sum};
 ghost use Rattle.definitions.specs.Correction.{head_if_paired, tally_with_steps};
 ghost use Rattle.definitions.specs.Judged.{is_judged_arrow, sum_of_fakes, judged_sum, judge_row};
 ghost use Rattle.taps.specs.Taps.{mask_of_line, masks};
@@ -14,7 +14,7 @@ ghost use Rattle.definitions.specs.Lines.{Row};
 ghost use Rattle.definitions.specs.declared.Cell.TheVariants.{Lift};
 ghost use Rattle.row_tally.specs.Bounds.{Under, Below};
 ghost use Rattle.row_tally.specs.Kept.{bit_is_set, cell_by_mask, row_by_mask};
-ghost use Rattle.row_tally.specs.Sums.{empty_sum, add_arrow, add_counted, sum_with_cell, arrow_of};
+ghost use Rattle.row_tally.specs.Sums.{add_arrow, add_counted, sum_with_cell, arrow_of};
 
 use definitions::{ArrowStats, Cell, DepthEffect, RowSum};
 use taps::TapTable;

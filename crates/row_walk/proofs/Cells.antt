@@ -14,7 +14,7 @@ use Rattle.definitions.specs.Cells.{cell_of, is_arrow}
 use Rattle.definitions.specs.Tracker.{hold_at}
 use Rattle.definitions.specs.Objects.{object_at}
 use Rattle.definitions.specs.Notes.{effect_at}
-use Rattle.definitions.specs.Tally.{row_sum}
+use Rattle.definitions.specs.Tally.{row_sum, empty_sum}
 use Rattle.definitions.specs.declared.RowSum.{RowSum}
 use Rattle.taps.specs.Taps.{FreeAre}
 use Rattle.phantoms.specs.declared.Phantoms.{Phantoms}
@@ -22,7 +22,7 @@ use Rattle.phantoms.specs.Phantoms.{phantom_at, CellCounted}
 use Rattle.phantoms.proofs.Loop.{Passed, passed_start, passed-next, passed-end}
 use Rattle.objects.proofs.Scan.{Scanned, scan-start, scan-next, scan-end}
 use Rattle.row_tally.proofs.Bounds.{under_more}
-use Rattle.row_tally.specs.Sums.{empty_sum, add_arrow, add_counted, sum_with_cell}
+use Rattle.row_tally.specs.Sums.{add_arrow, add_counted, sum_with_cell}
 use Rattle.row_tally.proofs.Loops.{Summed, summed-start, summed-next, summed-end, drop-next}
 use Rattle.row_notes.specs.Writer.{no_head, after_cell}
 use Rattle.row_notes.proofs.Steps.{zero-nothing, step-nothing}

@@ -6,7 +6,6 @@ use Rattle.definitions.specs.Lines.{Row}
 use Rattle.definitions.specs.Cells.{cell_of, is_arrow}
 use Rattle.definitions.specs.Tracker.{hold_at}
 use Rattle.definitions.specs.Correction.{is_closing}
-use Rattle.definitions.specs.Notes.{effect_at}
 use Rattle.definitions.specs.Tally.{row_sum}
 use Rattle.taps.specs.Taps.{bit, FreeAre}
 use Rattle.phantoms.specs.declared.Phantoms.{Phantoms}
@@ -18,7 +17,7 @@ use Rattle.row_tally.specs.Sums.{sum_with_cell}
 use Rattle.row_notes.specs.declared.ChartNotesScratch.{ChartNotesScratch}
 use Rattle.row_notes.specs.Writer.{no_head}
 use Rattle.row_notes.specs.Written.{Written, RecordRoom}
-use Rattle.cell_walk.specs.Cells.{effect_kind}
+use Rattle.cell_walk.specs.Cells.{cell_number}
 use Rattle.cell_walk.specs.declared.CellAt.{CellAt}
 use Rattle.cell_walk.specs.declared.WalkCell.{WalkCell}
 use Rattle.row_walk.specs.declared.Columns.{Columns}
@@ -50,7 +49,7 @@ pub record CellSeen (s : Seen) (c : ℕ) (w : WalkCell) (r : Seen) : Type 0 wher
   pub tails : r.marks.tails ≡ s.marks.tails + w.phantom.tails
   pub met : r.marks.met ≡ (s.marks.met || w.phantom.met)
   pub invalid : r.marks.invalid ≡ (s.marks.invalid || w.invalid)
-  pub sum : (b : ℕ) → w.kind ≡ effect_kind (effect_at b) → w.phantom.tails ≡ number_of_bool (is_closing (hold_at b)) → r.sum ≡ sum_with_cell s.sum c (cell_of b) (is_arrow (cell_of b))
+  pub sum : (b : ℕ) → w.kind ≡ cell_number (cell_of b) → w.phantom.tails ≡ number_of_bool (is_closing (hold_at b)) → r.sum ≡ sum_with_cell s.sum c (cell_of b) (is_arrow (cell_of b))
   pub count : r.count ≡ w.count
   pub object : r.object ≡ (s.object || w.object.object)
 

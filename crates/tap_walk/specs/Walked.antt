@@ -11,7 +11,7 @@ use Rattle.row_notes.specs.declared.ChartNotesScratch.{ChartNotesScratch}
 use Rattle.row_notes.specs.Written.{Written, MaskFits, SomeMask, after_taps}
 use Rattle.row_walk.specs.declared.Columns.{Columns}
 use Rattle.measure_tally.specs.declared.Counting.{Counting}
-use Rattle.measure_tally.specs.Counted.{Counted}
+use Rattle.measure_tally.specs.Counted.{Counted, CountsOn}
 use Rattle.measure_run.specs.Noted.{Noting, NotedRows}
 use Rattle.measure_run.specs.declared.Run.{Run}
 use Rattle.measure_run.specs.Held.{Rest, counting_of, noting_of}
@@ -43,3 +43,12 @@ pub record Walking (L : ℕ) (c : Counting) (n : Noting) (l : List ℕ) (ms : Li
 pub record Running (L first : ℕ) (k : Columns) (r : Run) (l : List ℕ) (ms : List Row) : Type 0 where
   pub rest : Rest
   pub walking : Walking L (counting_of rest k r) (noting_of first rest k r) l ms (r.row - first)
+
+-- From one run to the next the rows of the measure ms are counted on, and noted on, whatever else the walk holds.
+abbrev pub RunCounts : ℕ → ℕ → Columns → List Row → Run → Run → Type 0
+RunCounts L first k ms r r' = (q : Rest) → CountsOn L ms (r.row - first) (r'.row - first) (counting_of q k r) (counting_of q k r')
+
+abbrev pub RunNotes : ℕ → ℕ → Columns → List Row → Run → List ℕ → Run → List ℕ → Type 0
+RunNotes L first k ms r l r' l' =
+    (q : Rest) (done : List (List Row)) → NotedRows L (noting_of first q k r) l done (take (r.row - first) ms)
+    → NotedRows L (noting_of first q k r') l' done (take (r'.row - first) ms)

@@ -1,13 +1,9 @@
 // Ordinary rows of a measure, which the main call counts and notes by their masks.
 #![tactic(auto)]
 
-ghost use Rattle.std.specs.Prelude.{List, ◌+◌, ◌-◌, ◌*◌, ◌≤◌, length, take, drop};
-ghost use Rattle.definitions.specs.Lines.{Row};
-ghost use Rattle.reduction.specs.Rows.{rows_at};
-ghost use Rattle.measure_tally.specs.Counted.{Counted};
-ghost use Rattle.measure_run.specs.Noted.{NotedRows};
-ghost use Rattle.measure_run.specs.Held.{Rest, counting_of, noting_of};
-ghost use Rattle.tap_walk.specs.Walked.{TapsReady, TapsAdded, Running};
+ghost use Rattle.std.specs.Prelude.{◌+◌, ◌*◌, ◌≤◌, length};
+ghost use Rattle.reduction.specs.Rows.{rows_of};
+ghost use Rattle.tap_walk.specs.Walked.{TapsReady, TapsAdded, Running, RunCounts, RunNotes};
 
 use measure_run::Run;
 use row_walk::Columns;
@@ -35,11 +31,12 @@ pub fn walk_taps(
     slots: &mut [u8],
     table: &TapTable,
 )
-    requires in_text { (start + rows * (table.now.lanes.count + 1) ≤ length text.now) × (first ≤ run.old.row) × (run.old.row ≤ first + rows) }
-    requires running { Running table.now.lanes.count first columns.now run.old slots.old (rows_at (table.now.lanes.count + 1) table.now.lanes.count rows (drop start text.now)) }
+    requires in_text { start + rows * (table.now.lanes.count + 1) ≤ length text.now }
+    requires in_measure { (first ≤ run.old.row) × (run.old.row ≤ first + rows) }
+    requires running { Running table.now.lanes.count first columns.now run.old slots.old (rows_of table.now.lanes.count rows text.now start) }
     ensures onwards { (run.old.row ≤ run.new.row) × (run.new.row ≤ first + rows) }
-    ensures counted { (q : Rest) (done : List (List Row)) → Counted table.now.lanes.count (counting_of q columns.now run.old) done (take (run.old.row - first) (rows_at (table.now.lanes.count + 1) table.now.lanes.count rows (drop start text.now))) → Counted table.now.lanes.count (counting_of q columns.now run.new) done (take (run.new.row - first) (rows_at (table.now.lanes.count + 1) table.now.lanes.count rows (drop start text.now))) }
-    ensures noted_rows { (q : Rest) (done : List (List Row)) → NotedRows table.now.lanes.count (noting_of first q columns.now run.old) slots.old done (take (run.old.row - first) (rows_at (table.now.lanes.count + 1) table.now.lanes.count rows (drop start text.now))) → NotedRows table.now.lanes.count (noting_of first q columns.now run.new) slots.new done (take (run.new.row - first) (rows_at (table.now.lanes.count + 1) table.now.lanes.count rows (drop start text.now))) }
+    ensures counted { RunCounts table.now.lanes.count first columns.now (rows_of table.now.lanes.count rows text.now start) run.old run.new }
+    ensures noted_rows { RunNotes table.now.lanes.count first columns.now (rows_of table.now.lanes.count rows text.now start) run.old slots.old run.new slots.new }
 {
     let lanes = table.lanes.count;
     let stop = first + rows as u32;

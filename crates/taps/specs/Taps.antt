@@ -3,6 +3,7 @@ use Rattle.std.specs.Prelude.{Bool, ◌||◌, not, ◌≡◌, List, [], ◌∷�
 use Rattle.std.specs.Int.Bits.{bit_and}
 use Rattle.definitions.specs.Lists.{sum_columns, number_of_bool}
 use Rattle.definitions.specs.Lines.{Row}
+use Rattle.definitions.specs.Tally.{empty_sum}
 use Rattle.definitions.specs.declared.RowSum.{RowSum}
 use Rattle.taps.specs.declared.Taps.{Taps}
 use Rattle.taps.specs.declared.Taps.TheVariants.{Mask, Other}
@@ -112,16 +113,10 @@ CountsMasks wide l = (m : ℕ) → m < masks wide → counts_in wide l m ≡ mas
 -- the row's sum that the counts stand for
 unfoldable pub unpack : ℕ → RowSum
 unpack n =
-    record {
+    record empty_sum {
       arrows = n % 16;
       left = n / 16 % 4;
       down = n / 64 % 4;
       up = n / 256 % 4;
       right = n / 1024 % 4;
-      holds = 0;
-      rolls = 0;
-      tails = 0;
-      mines = 0;
-      lifts = 0;
-      fakes = 0;
     }

@@ -37,7 +37,9 @@ const NO_MASK: u32 = 65536;
 // cells are handed over as words, and `zeros` is the second word where all its cells are `0`.
 fn tap_cells(first: u64, second: u64, zeros: u64) -> u32
     requires { (first < 4294967296) × (second < 4294967296) × (zeros < 4294967296) }
-    ensures { (a b : Row) → Bytes a → Bytes b → length a ≡ 4 → length b ≤ 4 → first ≡ word_of a → second ≡ word_of b → zeros ≡ word_of (zero_cells (length b)) → result ≡ number_of (tap_mask (a ++ b)) }
+    ensures { (a b : Row) → Bytes a → Bytes b → length a ≡ 4 → length b ≤ 4
+        → first ≡ word_of a → second ≡ word_of b → zeros ≡ word_of (zero_cells (length b))
+        → result ≡ number_of (tap_mask (a ++ b)) }
 {
     let word = first + second * 0x1_0000_0000;
     if word & 0xfefe_fefe_fefe_fefe == 0x3030_3030 + zeros * 0x1_0000_0000 {
@@ -67,7 +69,9 @@ fn number8(row: &[u8]) -> u32
 // the places of `bits`. A number past all masks stays past them.
 fn with_rest(number: u32, rest: u64, zeros: u64, factor: u64, bits: u64) -> u32
     requires { (number ≤ 65536) × (rest < 65536) × (factor < 65536) × (bits < 1024) }
-    ensures { (a b : Row) → Bytes b → length b ≤ 2 → number ≡ number_of (tap_mask a) → rest ≡ word_of b → zeros ≡ word_of (zero_cells (length b)) → BitsPlaced zeros factor bits (length a) (length b) → Tells result (tap_mask (a ++ b)) }
+    ensures { (a b : Row) → Bytes b → length b ≤ 2
+        → number ≡ number_of (tap_mask a) → rest ≡ word_of b → zeros ≡ word_of (zero_cells (length b))
+        → BitsPlaced zeros factor bits (length a) (length b) → Tells result (tap_mask (a ++ b)) }
 {
     if rest & 0xfefe == zeros {
         number + (rest * factor & bits) as u32

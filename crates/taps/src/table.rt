@@ -67,12 +67,7 @@ impl TapTable {
             down: (n >> 6) & 3,
             up: (n >> 8) & 3,
             right: (n >> 10) & 3,
-            holds: 0,
-            rolls: 0,
-            tails: 0,
-            mines: 0,
-            lifts: 0,
-            fakes: 0,
+            ..RowSum::default()
         }
     }
 }

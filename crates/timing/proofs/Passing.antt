@@ -21,7 +21,8 @@ use Rattle.output.specs.Wrote.{Wrote}
 use Rattle.output.proofs.Writing.{wrote-row, wrote-holds, wrote-reduced, wrote-sep}
 use Rattle.definitions.proofs.Shorter.{reduce-short}
 use Rattle.timing.specs.declared.TimingPass.{TimingPass}
-use Rattle.timing.specs.TimingPass.{Timed, SomeTimed}
+use Rattle.reduction.specs.States.{Holding}
+use Rattle.timing.specs.TimingPass.{Timed}
 
 head-append : (s t : List ℕ) → has_some_head (s ++ t) ≡ (has_some_head s || has_some_head t)
 head-append [] t = refl
@@ -48,8 +49,8 @@ timed-row p text row room after e beats done cur x =
     }
 
 -- where the open measure's rows end
-pub timed-size : (L : ℕ) (p : TimingPass) (text : List ℕ) (beats : List Float) → SomeTimed L p text beats → p.start + p.rows * L ≡ p.out
-timed-size L p text beats s = sym (s.timed.wrote.size ∙ ap (λ n. p.start + n * L) (sym s.timed.rows))
+pub timed-size : (L : ℕ) (p : TimingPass) (text : List ℕ) (beats : List Float) → Holding (Timed L p text beats) → p.start + p.rows * L ≡ p.out
+timed-size L p text beats s = sym (s.held.wrote.size ∙ ap (λ n. p.start + n * L) (sym s.held.rows))
 
 module _ (L : ℕ) (p : TimingPass) (text after : List ℕ) (beats : List Float) (kept : ℕ) (fits : p.out ≤ length text)
     (red : (rs : List Row) → RowsStand joined L p.rows p.start rs text → Reduced joined p.start rs text kept after) where
@@ -93,7 +94,7 @@ module _ (L : ℕ) (p : TimingPass) (text after : List ℕ) (beats : List Float)
         }
 
   -- no more rows and bytes than before
-  pub timed-few : SomeTimed L p text beats → (kept ≤ p.rows) × (p.start + kept * L ≤ p.out)
+  pub timed-few : Holding (Timed L p text beats) → (kept ≤ p.rows) × (p.start + kept * L ≤ p.out)
   timed-few s =
-      let k = kept-few s.done s.cur s.timed in
+      let k = kept-few s.done s.cur s.held in
       (k, omega (arith, mul-le-mul_right L k, timed-size L p text beats s))

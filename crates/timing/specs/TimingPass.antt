@@ -17,11 +17,6 @@ pub record Timed (L : ℕ) (p : TimingPass) (text : List ℕ) (beats : List Floa
   pub beats_are : take p.kept beats ≡ joined (beats_from 0 done)
   pub heads : p.heads ≡ has_some_head (joined (joined done))
 
-pub record SomeTimed (L : ℕ) (p : TimingPass) (text : List ℕ) (beats : List Float) : Type 0 where
-  pub done : List (List Row)
-  pub cur : List Row
-  pub timed : Timed L p text beats done cur
-
 -- A whole text was read: rows, beats and heads are those of its minimised measures.
 pub record TimedAll (L : ℕ) (chart-text : List ℕ) (p : TimingPass) (text : List ℕ) (beats : List Float) : Type 0 where
   pub text_is : take p.out text ≡ timing_rows L chart-text

@@ -2,18 +2,17 @@
 // beats of those rows are written with it.
 #![tactic(auto)]
 
-ghost use Rattle.std.specs.Prelude.{◌≡◌, List, [], ◌∷◌, ◌++◌, ℕ, ◌+◌, ◌≤◌, ◌<◌, Float, length};
+ghost use Rattle.std.specs.Prelude.{◌≡◌, List, [], ℕ, ◌+◌, ◌≤◌, ◌<◌, Float, length};
 ghost use Rattle.definitions.specs.Sizes.{measures_bound, most_bytes, row_count_bound};
 ghost use Rattle.definitions.specs.Lists.{padded};
 ghost use Rattle.definitions.specs.Lanes.{most_rows_in};
-ghost use Rattle.definitions.specs.Lines.{Row};
 ghost use Rattle.definitions.specs.Tracker.{hold_at};
 ghost use Rattle.definitions.specs.Correction.{is_opening};
-ghost use Rattle.definitions.specs.Reduction.{reduce};
 ghost use Rattle.definitions.specs.Beats.{f32, beats as beats_of};
 ghost use Rattle.definitions.specs.TimingRows.{has_some_head, timing_rows};
 ghost use Rattle.definitions.specs.Entries.{figures_of_timing, timing_answer, timing_text, timing_beats};
-ghost use Rattle.timing.specs.TimingPass.{Timed, SomeTimed, TimedAll};
+ghost use Rattle.reduction.specs.States.{Holding, AddsRow, EndsMinimised};
+ghost use Rattle.timing.specs.TimingPass.{Timed, TimedAll};
 
 use definitions::{Lanes, Refusal, TimingFigures};
 use reader::charts::ChartLine;
@@ -48,8 +47,9 @@ impl TimingPass {
 
     // One row more of the open measure.
     fn add_row(&mut self, text: &mut [u8], row: &[u8])
-        requires { (self.old.out + length row.now ≤ length text.old) × (self.old.rows < row_count_bound) }
-        ensures timed { (beats : List Float) (done : List (List Row)) (cur : List Row) → Timed (length row.now) self.old text.old beats done cur → Timed (length row.now) self.new text.new beats done (cur ++ (row.now ∷ [])) }
+        requires text_room { self.old.out + length row.now ≤ length text.old }
+        requires rows_few { self.old.rows < row_count_bound }
+        ensures timed { (beats : List Float) → AddsRow row.now (Timed (length row.now) self.old text.old beats) (Timed (length row.now) self.new text.new beats) }
         ensures out_after { self.new.out ≡ self.old.out + length row.now }
     {
         output::put_row(text, self.out, row);
@@ -59,10 +59,14 @@ impl TimingPass {
 
     // The open measure ends: its rows are minimised in place, and the beats of those that are kept are written.
     fn end_measure(&mut self, text: &mut [u8], beats: &mut [f32], lanes: Lanes)
-        requires room { (self.old.out ≤ length text.old) × (self.old.rows < row_count_bound) × (self.old.midx ≤ measures_bound) × SomeTimed lanes.count self.old text.old beats.old }
-        requires rows_in_bounds { self.old.kept + self.old.rows ≤ length beats.old }
-        ensures timed { (done : List (List Row)) (cur : List Row) → Timed lanes.count self.old text.old beats.old done cur → Timed lanes.count self.new text.new beats.new (done ++ (reduce cur ∷ [])) [] }
-        ensures no_more { (self.new.out ≤ self.old.out) × (self.new.kept ≤ self.old.kept + self.old.rows) }
+        requires text_room { self.old.out ≤ length text.old }
+        requires beats_room { self.old.kept + self.old.rows ≤ length beats.old }
+        requires rows_few { self.old.rows < row_count_bound }
+        requires measures_few { self.old.midx ≤ measures_bound }
+        requires held { Holding (Timed lanes.count self.old text.old beats.old) }
+        ensures timed { EndsMinimised (Timed lanes.count self.old text.old beats.old) (Timed lanes.count self.new text.new beats.new) }
+        ensures no_more_bytes { self.new.out ≤ self.old.out }
+        ensures no_more_rows { self.new.kept ≤ self.old.kept + self.old.rows }
     {
         let kept = reduction::reduce_rows(text, self.start, self.rows, lanes.count);
         let end = self.start + kept * lanes.count;
@@ -98,8 +102,9 @@ fn has_head(bytes: &[u8]) -> bool
 
 // The whole text, its last measure too.
 fn pass_chart(data: &[u8], lanes: Lanes, text: &mut [u8], beats: &mut [f32]) -> TimingPass
-    requires accepted { length «data».now ≤ most_bytes }
-    requires data_in_bounds { (length «data».now + 1 ≤ length text.old) × (most_rows_in lanes.count (length «data».now) ≤ length beats.old) }
+    requires text_length { length «data».now ≤ most_bytes }
+    requires text_room { length «data».now + 1 ≤ length text.old }
+    requires beats_room { most_rows_in lanes.count (length «data».now) ≤ length beats.old }
     ensures { TimedAll lanes.count «data».now result text.new beats.new }
 {
     let mut pass = TimingPass::new();
@@ -115,8 +120,9 @@ fn pass_chart(data: &[u8], lanes: Lanes, text: &mut [u8], beats: &mut [f32]) -> 
 
 // The call where it is accepted: the pass, and zeros past each answer.
 fn timing_figures(data: &[u8], lanes: Lanes, text: &mut [u8], beats: &mut [f32]) -> TimingFigures
-    requires accepted { length «data».now ≤ most_bytes }
-    requires data_in_bounds { (length «data».now + 1 ≤ length text.old) × (most_rows_in lanes.count (length «data».now) ≤ length beats.old) }
+    requires text_length { length «data».now ≤ most_bytes }
+    requires text_room { length «data».now + 1 ≤ length text.old }
+    requires beats_room { most_rows_in lanes.count (length «data».now) ≤ length beats.old }
     ensures value { result ≡ figures_of_timing lanes.count «data».now }
     ensures text_after { text.new ≡ padded 0 (length text.old) (timing_rows lanes.count «data».now) }
     ensures beats_after { beats.new ≡ padded (f32 0) (length beats.old) (beats_of lanes.count «data».now) }

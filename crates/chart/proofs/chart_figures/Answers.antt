@@ -14,7 +14,7 @@ use Rattle.chart.proofs.chart_figures.Goals as goal
 
 pub corrected_stats-stats-requires : goal.corrected_stats-stats-requires
 corrected_stats-stats-requires c =
-    all-recount _ _ _ _ _ c.read_chart-chart.ensures.kept _ c.args.work.now (omega (arith, c.args.lanes.within.0)) c.requires.accepted c.requires.room_for_work
+    all-recount _ _ _ _ _ c.read_chart-chart.ensures.kept _ c.args.work.now (omega (arith, c.args.lanes.within.0)) c.requires.text_length c.requires.work_room
 
 pub finish-count-requires : goal.finish-count-requires
 finish-count-requires c = rw c.scratch.ensures (record { rows = _; written = c.read_chart-chart.ensures.noted.written })
@@ -28,9 +28,9 @@ returns c =
       value =
           all-figures _ _ _ _ _ _ _ x _ _ _ _ _ (c.corrected_stats-stats.ensures.value _ counts x.kept.stats) (note-count _ _ _ _ _ _ _ x _ _ _ finished)
           (found-48 _ _ _ _ _ _ _ x) c.last_beat_bits.ensures c.last_note_row.ensures.0;
-      text_after = c.zero_past.ensures ∙ all-text _ _ _ _ _ x.kept (length c.args.text.now) c.read_chart-chart.auto.text c.requires.data_in_bounds.0;
+      text_after = c.zero_past.ensures ∙ all-text _ _ _ _ _ x.kept (length c.args.text.now) c.read_chart-chart.auto.text c.requires.text_room;
       densities_after = c.zero_past-2.ensures ∙ all-densities _ _ _ _ _ x.kept (length c.args.densities.now) c.read_chart-chart.auto.densities;
-      beats_after = c.zero_past-3.ensures ∙ all-beats _ _ _ _ _ _ _ x (length c.args.beats.now) c.read_chart-chart.auto.beats c.requires.data_in_bounds.2;
+      beats_after = c.zero_past-3.ensures ∙ all-beats _ _ _ _ _ _ _ x (length c.args.beats.now) c.read_chart-chart.auto.beats c.requires.beats_room;
       work_after = c.corrected_stats-stats.ensures.work_after ∙ none-off (length c.args.work.now);
       slots_after = all-notes _ _ _ _ _ _ _ x _ _ _ finished ∙ ap (λ n. padded 0 n (records (notes c.args.lanes.count c.args.«data».now))) c.read_chart-chart.auto.slots;
     }

@@ -24,9 +24,13 @@ pub comma-requires : goal.comma-requires
 comma-requires c =
     let w = kept-few c.loop-line.invariant.few c.loop-line.invariant.pass.held.kept in
     let room = comma-room c.loop-line.invariant c.in-Some.ensures.steps c.in-Comma.is in record {
-      room = (omega (arith, room), omega (arith, w.rows), omega (arith, w.midx), omega (arith, w.midx));
-      rows_in_bounds = (omega (arith, w.most), slots-room _ _ _ _ w.most (omega (arith, c.requires.data_in_bounds.3)));
-      charted = record { done = _; cur = _; charted = c.loop-line.invariant.pass.held };
+      text_room = omega (arith, room);
+      density_room = omega (arith, w.midx);
+      beats_room = omega (arith, w.most);
+      slots_room = slots-room _ _ _ _ w.most (omega (arith, c.requires.slots_room));
+      rows_few = omega (arith, w.rows);
+      measures_few = omega (arith, w.midx);
+      charted = record { done = _; cur = _; held = c.loop-line.invariant.pass.held };
     }
 
 pub loop-line-preserved-in-Row : goal.loop-line-preserved-in-Row
@@ -44,9 +48,13 @@ loop-line-preserved c =
 pub end_measure-requires : goal.end_measure-requires
 end_measure-requires c =
     let w = kept-few c.loop-line.invariant.few c.loop-line.invariant.pass.held.kept in record {
-      room = (omega arith, omega (arith, w.rows), omega (arith, w.midx), omega (arith, w.midx));
-      rows_in_bounds = (omega (arith, w.most), slots-room _ _ _ _ w.most (omega (arith, c.requires.data_in_bounds.3)));
-      charted = record { done = _; cur = _; charted = c.loop-line.invariant.pass.held };
+      text_room = omega arith;
+      density_room = omega (arith, w.midx);
+      beats_room = omega (arith, w.most);
+      slots_room = slots-room _ _ _ _ w.most (omega (arith, c.requires.slots_room));
+      rows_few = omega (arith, w.rows);
+      measures_few = omega (arith, w.midx);
+      charted = record { done = _; cur = _; held = c.loop-line.invariant.pass.held };
     }
 
 pub returns : goal.returns

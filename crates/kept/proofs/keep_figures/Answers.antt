@@ -8,7 +8,7 @@ use Rattle.kept.proofs.keep_figures.Goals as goal
 
 pub corrected_stats-stats-requires : goal.corrected_stats-stats-requires
 corrected_stats-stats-requires c =
-    all-recount _ _ _ _ _ c.keep_chart-pass.ensures _ c.args.work.now (omega (arith, c.args.lanes.within.0)) c.requires.accepted c.requires.data_in_bounds.2
+    all-recount _ _ _ _ _ c.keep_chart-pass.ensures _ c.args.work.now (omega (arith, c.args.lanes.within.0)) c.requires.text_length c.requires.work_room
 
 pub returns : goal.returns
 returns c =
@@ -17,7 +17,7 @@ returns c =
     let r = c.corrected_stats-stats.ensures in
     record {
       value = all-figures _ _ _ _ _ x _ (omega (arith, c.args.lanes.within.0)) (r.value _ x.phantoms x.stats);
-      text_after = c.zero_past.ensures ∙ all-text _ _ _ _ _ x (length c.args.text.now) k.auto.text c.requires.data_in_bounds.0;
+      text_after = c.zero_past.ensures ∙ all-text _ _ _ _ _ x (length c.args.text.now) k.auto.text c.requires.text_room;
       densities_after = c.zero_past-2.ensures ∙ all-densities _ _ _ _ _ x (length c.args.densities.now) k.auto.densities;
       work_after = r.work_after ∙ none-off (length c.args.work.now);
     }

@@ -25,8 +25,11 @@ comma-requires c =
     let w = kept-few c.loop-line.invariant.few c.loop-line.invariant.pass.held in
     let room = comma-room c.loop-line.invariant c.in-Some.ensures.steps c.in-Comma.is in
     record {
-      room = (omega (arith, room), omega (arith, w.rows), omega (arith, w.midx), omega (arith, w.midx));
-      kept = record { done = _; cur = _; kept = c.loop-line.invariant.pass.held };
+      text_room = omega (arith, room);
+      density_room = omega (arith, w.midx);
+      rows_few = omega (arith, w.rows);
+      measures_few = omega (arith, w.midx);
+      kept = record { done = _; cur = _; held = c.loop-line.invariant.pass.held };
     }
 
 pub loop-line-preserved-in-Row : goal.loop-line-preserved-in-Row

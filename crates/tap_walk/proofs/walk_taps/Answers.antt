@@ -12,12 +12,13 @@ use Rattle.taps.proofs.Free.{free-told}
 use Rattle.reduction.proofs.RowsAt.{rows-length}
 use Rattle.reduction.proofs.Powers.{next-at}
 use Rattle.row_walk.specs.declared.Columns.{Columns}
+use Rattle.reduction.specs.Rows.{rows_of}
 use Rattle.measure_tally.specs.Counted.{Counted}
 use Rattle.measure_run.specs.Noted.{NotedRows}
 use Rattle.measure_run.specs.declared.Run.{Run}
 use Rattle.measure_run.specs.Held.{counting_of, noting_of}
 use Rattle.tap_walk.specs.Walked.{Running, Walking}
-use Rattle.measure_tally.proofs.Places.{rows_of, part, row-wide, row_more}
+use Rattle.measure_tally.proofs.Places.{part, row-wide, row_more}
 use Rattle.tap_walk.proofs.Walks.{walked_on, count-few, note-ready}
 use Rattle.tap_walk.proofs.Runs.{counted-taps, noted-taps, stats-few, run-few}
 use Rattle.tap_walk.proofs.walk_taps.Goals as goal
@@ -29,10 +30,10 @@ few : {lanes first rows : ℕ} {k : Columns} {old : Run} {slots : List ℕ} {ms 
 few below above size W = omega (arith, run-few _ _ W.rest _ _ _ _ W.walking below (omega arith))
 
 pub overflow_cast-stop : goal.overflow_cast-stop
-overflow_cast-stop c = omega (arith, few c.requires.in_text.1 c.requires.in_text.2 (rows-length _ _ _ _) c.requires.running)
+overflow_cast-stop c = omega (arith, few c.requires.in_measure.0 c.requires.in_measure.1 (rows-length _ _ _ _) c.requires.running)
 
 pub overflow_add-stop : goal.overflow_add-stop
-overflow_add-stop c = omega (arith, few c.requires.in_text.1 c.requires.in_text.2 (rows-length _ _ _ _) c.requires.running)
+overflow_add-stop c = omega (arith, few c.requires.in_measure.0 c.requires.in_measure.1 (rows-length _ _ _ _) c.requires.running)
 
 -- the measure's rows
 abbrev all : In-Mask → List Row
@@ -43,11 +44,11 @@ abbrev number : In-Mask → ℕ
 number c = c.loop-run.run.row - c.args.first
 
 below : (c : In-Mask) → number c < c.args.rows
-below c = omega (arith, c.loop-run-test.true, c.requires.in_text.1, c.loop-run.invariant.0)
+below c = omega (arith, c.loop-run-test.true, c.requires.in_measure.0, c.loop-run.invariant.0)
 
 -- it has `lanes` bytes
 wide : (c : In-Mask) → length (part c.args.table.now.lanes.count c.args.text.now c.loop-run.at) ≡ c.args.table.now.lanes.count
-wide c = row-wide c.args.table.now.lanes.count c.args.rows c.args.text.now c.args.start c.requires.in_text.0 (number c) c.loop-run.at (below c) c.loop-run.invariant.2
+wide c = row-wide c.args.table.now.lanes.count c.args.rows c.args.text.now c.args.start c.requires.in_text (number c) c.loop-run.at (below c) c.loop-run.invariant.2
 
 -- what is walked so far
 walked : (c : In-Mask) →
@@ -87,7 +88,7 @@ add_taps-requires c =
 pub loop-run-preserved : goal.loop-run-preserved
 loop-run-preserved c =
     let k = (goal.at.loop-run-preserved c).In-Mask in
-    let pre = c.requires.in_text in
+    let pre = c.requires in
     let L = c.args.table.now.lanes.count in
     let narrow = c.args.table.now.lanes.within.1 in
     let v = c.loop-run in
@@ -96,9 +97,9 @@ loop-run-preserved c =
     let ms = all k in
     let t = c.add_taps.ensures in
     let free = free-told c.free_taps.ensures c.in-Mask.is in
-    let next : c.add_taps.new.run.row - a.first ≡ i + 1 = omega (arith, t.row, pre.1, v.invariant.0) in
-    let more = ap (λ n. take n ms) next ∙ row_more L a.rows a.text.now a.start pre.0 i v.at (below k) v.invariant.2 in
-    let above : a.first ≤ v.run.row = omega (arith, pre.1, v.invariant.0) in
+    let next : c.add_taps.new.run.row - a.first ≡ i + 1 = omega (arith, t.row, pre.in_measure.0, v.invariant.0) in
+    let more = ap (λ n. take n ms) next ∙ row_more L a.rows a.text.now a.start pre.in_text i v.at (below k) v.invariant.2 in
+    let above : a.first ≤ v.run.row = omega (arith, pre.in_measure.0, v.invariant.0) in
     let counted = count-few _ _ _ _ _ _ (walked k) (within k) in
     let width = wide k in
     let noted = note-ready _ _ _ _ _ _ (walked k) (within k) (part L a.text.now v.at) width narrow in (

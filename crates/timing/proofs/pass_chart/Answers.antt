@@ -17,7 +17,7 @@ add_row-requires c =
     let w = timed-small c.loop-line.invariant.few c.loop-line.invariant.pass.held in
     let wide = row-wide c.loop-line.invariant.pass.come c.in-Some.ensures.steps _ c.in-Row.is in
     let room = row_room c.loop-line.invariant c.in-Some.ensures.steps _ c.in-Row.is in
-    (omega (arith, wide, room), omega (arith, w.fifth))
+    record { text_room = omega (arith, wide, room); rows_few = omega (arith, w.fifth) }
 
 pub loop-line-preserved-in-Row : goal.loop-line-preserved-in-Row
 loop-line-preserved-in-Row c =
@@ -28,11 +28,11 @@ loop-line-preserved-in-Row c =
 pub loop-line-preserved : goal.loop-line-preserved
 loop-line-preserved c =
     minimising-comma c.loop-line.invariant c.in-Some.ensures.steps c.in-Comma.is
-    (omega (arith, c.end_measure.ensures.no_more.0))
+    (omega (arith, c.end_measure.ensures.no_more_bytes))
     c.end_measure.ensures.timed
 
 pub returns : goal.returns
 returns c =
     timed-all _ _ _ _ _ _ _ _ (holds-over c.loop-line.invariant.pass c.in-None.ensures.steps.0) c.end_measure-2.ensures.timed
-    (omega (arith, c.end_measure-2.ensures.no_more))
-    (omega (arith, c.end_measure-2.ensures.no_more))
+    (omega (arith, c.end_measure-2.ensures.no_more_bytes))
+    (omega (arith, c.end_measure-2.ensures.no_more_rows))

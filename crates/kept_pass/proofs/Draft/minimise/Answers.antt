@@ -5,7 +5,7 @@ use Rattle.kept_pass.proofs.Passing.{open-size, draft-reduced, reduced-few}
 use Rattle.kept_pass.proofs.Draft.minimise.Goals as goal
 
 pub reduce_output_measure-kept-requires : goal.reduce_output_measure-kept-requires
-reduce_output_measure-kept-requires c = omega (arith, open-size _ _ _ _ _ c.requires.1.drafted, c.requires.0)
+reduce_output_measure-kept-requires c = omega (arith, open-size _ _ _ _ _ c.requires.1.held, c.requires.0)
 
 pub overflow_mul-self : goal.overflow_mul-self
 overflow_mul-self c = omega (arith, (reduced-few _ _ _ _ _ c.requires.0 c.reduce_output_measure-kept.ensures c.requires.1).1, c.requires.0)

@@ -6,9 +6,10 @@ use Rattle.taps.proofs.Masks.{below-at, fits-table}
 use Rattle.taps.proofs.Free.{free-told}
 use Rattle.reduction.proofs.RowsAt.{rows-length}
 use Rattle.reduction.proofs.Powers.{next-at}
+use Rattle.reduction.specs.Rows.{rows_of}
 use Rattle.measure_tally.specs.Counted.{Counted}
 use Rattle.measure_tally.proofs.Rows.{counted-grown}
-use Rattle.measure_tally.proofs.Places.{rows_of, row-wide, row_more}
+use Rattle.measure_tally.proofs.Places.{row-wide, row_more}
 use Rattle.measure_tally.proofs.Counting.count_ordinary.Goals as goal
 
 pub count_taps-requires : goal.count_taps-requires

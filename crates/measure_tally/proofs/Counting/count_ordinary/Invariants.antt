@@ -4,8 +4,8 @@ use mathlib.Core.List.{List}
 use Prim.Native.Nat.{◌+◌, ◌-◌, ◌*◌, ◌≤◌}
 use lib.ListN.{take}
 use Rattle.definitions.specs.Lines.{Row}
+use Rattle.reduction.specs.Rows.{rows_of}
 use Rattle.measure_tally.specs.Counted.{Counted}
-use Rattle.measure_tally.proofs.Places.{rows_of}
 use Rattle.measure_tally.proofs.Counting.count_ordinary.Given as goal
 
 abbrev pub invariant-loop-i : goal.invariant-loop-i

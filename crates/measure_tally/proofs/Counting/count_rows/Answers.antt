@@ -5,9 +5,10 @@ use native.Mathlib.Omega.{arith}
 use lib.ListN.{length, take}
 use lib.Seq.{take_all}
 use Rattle.reduction.proofs.RowsAt.{rows-length}
+use Rattle.reduction.specs.Rows.{rows_of}
 use Rattle.measure_tally.specs.Counted.{Counted}
 use Rattle.measure_tally.proofs.Rows.{counted-grown}
-use Rattle.measure_tally.proofs.Places.{rows_of, row-wide, row_more}
+use Rattle.measure_tally.proofs.Places.{row-wide, row_more}
 use Rattle.measure_tally.proofs.Counting.count_rows.Goals as goal
 
 pub returns-then-rows-k : goal.returns-then-rows-k

@@ -8,12 +8,13 @@ use lib.ListN.{length, take}
 use lib.Seq.{take_all}
 use Rattle.definitions.specs.Lines.{Row}
 use Rattle.reduction.proofs.RowsAt.{rows-length}
+use Rattle.reduction.specs.Rows.{rows_of}
 use Rattle.measure_tally.specs.Counted.{Counted}
 use Rattle.measure_run.specs.Noted.{NotedRows}
 use Rattle.measure_run.specs.declared.Run.{Run}
 use Rattle.measure_run.specs.Held.{counting_of, noting_of}
 use Rattle.tap_walk.specs.Walked.{Walking}
-use Rattle.measure_tally.proofs.Places.{rows_of, part, row-wide, row_more}
+use Rattle.measure_tally.proofs.Places.{part, row-wide, row_more}
 use Rattle.tap_walk.proofs.Walks.{walked_on, count-few, note-ready, measure-ready}
 use Rattle.tap_walk.proofs.Runs.{stats-few}
 use Rattle.measure_walk.specs.Views.{rest}
@@ -41,7 +42,8 @@ pub walk_taps-requires : goal.walk_taps-requires
 walk_taps-requires c =
     let v = c.loop-run.invariant in
     record {
-      in_text = (c.requires.in_text, v.0, v.1);
+      in_text = c.requires.in_text;
+      in_measure = (v.0, v.1);
       running = record {
         rest = rest c.loop-run.self;
         walking = walked_on _ _ _ _ _ _ _ _ 0 _ c.requires.walking v.2 v.4 v.5;
