@@ -31,65 +31,90 @@ extern "C" {
 #endif
 
 /*
- * What a call returns. Refusals are checked in the order that stands above the call, which is the rising one but for
- * padcheck_sm_chart, each only where the call is lent that thing.
+ * What a call returns, by the library's names; padcheck_words says what each means. Refusals are checked in the order
+ * that stands above the call, which is the rising one but for padcheck_sm_chart, each only where the call is lent that
+ * thing.
  */
 enum padcheck_number {
     PADCHECK_ACCEPTED = 0,
-    /* Caused by whoever wires up the call; len is the length of the text or SM file, R and L are given below. */
-    PADCHECK_TEXT_TOO_LONG = 1,  /* len is over 16,777,215 */
-    PADCHECK_TEXT_SHORT = 2,     /* the text slice is shorter than len + 1 */
-    PADCHECK_MEASURES_SHORT = 3, /* the measure slice (densities or spacing) is shorter than (len + 1) div 2 + 1 */
-    PADCHECK_BEATS_SHORT = 4,    /* the beat slice is shorter than R */
-    PADCHECK_WORK_SHORT = 5,     /* the work slice is shorter than R */
-    PADCHECK_NOTES_SHORT = 6,    /* the note slice is shorter than 10 * L * R */
-    /* Caused by whoever stores note records. */
-    PADCHECK_NO_RECORD = 7, /* the records' length is no multiple of 10, or the record's number not below length div 10 */
-    PADCHECK_BAD_RECORD = 8, /* that record breaks a limit of what the writer makes */
-    /* Caused by whoever writes the SM file. */
-    PADCHECK_FEW_FIELDS = 9,  /* fewer than five `:` stand in the chart's block after its tag */
-    PADCHECK_OTHER_TYPE = 10, /* the chart's type is not dance-single, pump-single, dance-double or pump-double */
-    /* Caused by whoever asks. */
-    PADCHECK_NO_CHART = 11, /* the chart's number, counted from 0, is not below the number of blocks in the SM file */
-    /* Caused by whoever wires up the call. */
-    PADCHECK_SHEET_TOO_SHORT = 19, /* the sheet slice is shorter than 42 * (len + 1) + 3,000 */
-    PADCHECK_OTHER_FORM = 20       /* the sheet's form has a number over 2 */
+    PADCHECK_LONG_TEXT = 1,
+    PADCHECK_SHORT_TEXT = 2,
+    PADCHECK_SHORT_MEASURES = 3,
+    PADCHECK_SHORT_BEATS = 4,
+    PADCHECK_SHORT_WORK = 5,
+    PADCHECK_SHORT_NOTES = 6,
+    PADCHECK_NO_RECORD = 7,
+    PADCHECK_BAD_RECORD = 8,
+    PADCHECK_FEW_FIELDS = 9,
+    PADCHECK_OTHER_TYPE = 10,
+    PADCHECK_NO_CHART = 11,
+    PADCHECK_SHORT_SHEET = 19,
+    PADCHECK_OTHER_FORM = 20
 };
 
-/* A number that a call returned, in words. */
-static inline const char *padcheck_meaning(uint32_t number)
+/*
+ * What is wrong, in the library's words. len is the length of the text or SM file in bytes; L and R are given below.
+ * The measure slice is that of the densities or of the spacing.
+ */
+static inline const char *padcheck_words(uint32_t number)
 {
     switch (number) {
     case PADCHECK_ACCEPTED:
         return "accepted";
-    case PADCHECK_TEXT_TOO_LONG:
-        return "the text is longer than 16777215 bytes";
-    case PADCHECK_TEXT_SHORT:
-        return "the text slice is too short";
-    case PADCHECK_MEASURES_SHORT:
-        return "the measure slice is too short";
-    case PADCHECK_BEATS_SHORT:
-        return "the beat slice is too short";
-    case PADCHECK_WORK_SHORT:
-        return "the work slice is too short";
-    case PADCHECK_NOTES_SHORT:
-        return "the note slice is too short";
+    case PADCHECK_LONG_TEXT:
+        return "len is over 16,777,215";
+    case PADCHECK_SHORT_TEXT:
+        return "the text slice is shorter than len + 1";
+    case PADCHECK_SHORT_MEASURES:
+        return "the measure slice is shorter than (len + 1) div 2 + 1";
+    case PADCHECK_SHORT_BEATS:
+        return "the beat slice is shorter than R";
+    case PADCHECK_SHORT_WORK:
+        return "the work slice is shorter than R";
+    case PADCHECK_SHORT_NOTES:
+        return "the note slice is shorter than 10 * L * R";
     case PADCHECK_NO_RECORD:
         return "there is no such note record";
     case PADCHECK_BAD_RECORD:
-        return "the note record breaks a limit";
+        return "that record breaks a limit";
     case PADCHECK_FEW_FIELDS:
-        return "the SM file's author gave this chart fewer than five fields";
+        return "the block has fewer than five fields";
     case PADCHECK_OTHER_TYPE:
-        return "the SM file's author gave this chart a type that is not read";
+        return "the chart has another type name";
     case PADCHECK_NO_CHART:
-        return "the caller asked for a chart that the SM file does not have";
-    case PADCHECK_SHEET_TOO_SHORT:
-        return "the caller lent a sheet slice that is too short";
+        return "the file has no such block";
+    case PADCHECK_SHORT_SHEET:
+        return "the sheet slice is shorter than 42 * (len + 1) + 3000";
     case PADCHECK_OTHER_FORM:
-        return "the caller asked for a form of the sheet that is none of the three";
+        return "the form's number is over 2";
     default:
         return "no number of this library";
+    }
+}
+
+/* Whose mistake it is: `refused NUMBER: WORDS, by CAUSE` says all of a refusal. */
+static inline const char *padcheck_caused_by(uint32_t number)
+{
+    switch (number) {
+    case PADCHECK_LONG_TEXT:
+    case PADCHECK_SHORT_TEXT:
+    case PADCHECK_SHORT_MEASURES:
+    case PADCHECK_SHORT_BEATS:
+    case PADCHECK_SHORT_WORK:
+    case PADCHECK_SHORT_NOTES:
+    case PADCHECK_SHORT_SHEET:
+    case PADCHECK_OTHER_FORM:
+        return "whoever wires up the call";
+    case PADCHECK_NO_RECORD:
+    case PADCHECK_BAD_RECORD:
+        return "whoever stores note records";
+    case PADCHECK_FEW_FIELDS:
+    case PADCHECK_OTHER_TYPE:
+        return "whoever writes the SM file";
+    case PADCHECK_NO_CHART:
+        return "whoever asks for the chart";
+    default:
+        return "nobody";
     }
 }
 
@@ -150,7 +175,7 @@ enum padcheck_figure {
     PADCHECK_HAS_HEADS = 5,       /* 1 where a timing row has a 2 or 4, else 0 */
     PADCHECK_LAST_BEAT_48THS = 6, /* last beat in 48ths of a beat */
     PADCHECK_SHEET_BYTES = 7,     /* bytes of the sheet */
-    PADCHECK_TOTAL_ARROWS = 8,    /* from here on the tally */
+    PADCHECK_TOTAL_ARROWS = 8,    /* from here on the tally, in the order of its fields */
     PADCHECK_LEFT = 9,
     PADCHECK_DOWN = 10,
     PADCHECK_UP = 11,
@@ -282,7 +307,8 @@ uint32_t padcheck_chart_sheet(const uint8_t *data, size_t data_len, size_t lanes
 /*
  * Note record number `index`, counted from 0, out of records that stand back to back. A record is 10 bytes: row and
  * tail, 4 bytes each and low byte first, column, kind.
- * Refusals: 7 8. An accepted call sets the 4 numbers of `note`.
+ * Refusals: 7, where records_len is no multiple of 10 or `index` not below records_len div 10, and 8, where the record
+ * breaks a limit of what the main call writes. An accepted call sets the 4 numbers of `note`.
  */
 uint32_t padcheck_read_note(const uint8_t *records, size_t records_len, size_t index, uint64_t *note);
 
@@ -293,10 +319,11 @@ uint32_t padcheck_read_note(const uint8_t *records, size_t records_len, size_t i
  *
  * A chart is a block: it starts at a line that begins, after blanks, with `#NOTES:` and whose first byte lies in no
  * earlier block, and runs through the first `;` after that tag, or to the end of the file. Five fields follow the tag,
- * each ended by `:`; the first, without the blanks at its ends, is the type, and the data is what follows the fifth,
- * the `;` too. Lines end with byte 10, blanks are the bytes 9, 10, 12, 13 and 32. Comments are not known: a `;` or `:`
- * counts wherever it stands in a block.
- * Refusals, in this order: 1 11 9 10. An accepted call sets the 3 numbers of `chart`.
+ * each ended by `:`; the first, without the blanks at its ends, is the type: dance-single is 4 lanes, pump-single 5,
+ * dance-double 8, pump-double 10. The data is what follows the fifth, the `;` too. Lines end with byte 10, blanks are
+ * the bytes 9, 10, 12, 13 and 32. Comments are not known: a `;` or `:` counts wherever it stands in a block.
+ * Refusals, in this order: 1, 11 where the file has no more than k blocks, 9 where fewer than five `:` stand in the
+ * block after its tag, 10 for another type. An accepted call sets the 3 numbers of `chart`.
  */
 uint32_t padcheck_sm_chart(const uint8_t *file, size_t file_len, size_t k, uint64_t *chart);
 

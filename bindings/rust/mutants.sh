@@ -14,11 +14,12 @@ awk '
 /^#\[cfg\(test\)\]/ { exit }
 /^    [A-Z][A-Za-z]+ = [0-9]+,$/ { print NR "s/= [0-9]*/= " ($3 + 100) "/" }
 /^        Self::[A-Za-z]+,$/ { print NR "s/Self::.*,/Self::" (/BadRecord/ ? "NoRecord" : "BadRecord") ",/" }
-/^            Self::[A-Za-z]+ => "/ { print NR "s/=> \"/=> \"x/"; print NR "s/\",$/x\",/" }
-/"refused \{\}: \{\}"/ { print NR "s/: {}/; {}/"; print NR "s/refused/Refused/" }
+/^            .*Self::[A-Za-z]+ => "/ { print NR "s/=> \"/=> \"x/"; print NR "s/\",$/x\",/" }
+/"refused \{number\}: / { print NR "s/refused/Refused/"; print NR "s/: {words}/; {words}/"; print NR "s/, by/ by/" }
 ' "$source" >"$out/edits"
 
-# Whether the tests of the copy fail to build or to pass.
+# Whether the tests of the copy fail to build or to pass. They read the library's source from the package's folder.
+export CARGO_MANIFEST_DIR="$PWD"
 notices() {
     ! rustc --edition 2024 -A warnings --test -o "$out/check" "$out/refusal.rs" >"$out/log" 2>&1 ||
         ! "$out/check" >"$out/log" 2>&1

@@ -57,10 +57,10 @@ static const size_t element_size[LENT] = {
 };
 
 static const uint32_t refusal_of[LENT] = {
-    [TEXT] = PADCHECK_TEXT_SHORT,   [MEASURE_DENSITIES] = PADCHECK_MEASURES_SHORT,
-    [BEATS] = PADCHECK_BEATS_SHORT, [MEASURE_SPACING] = PADCHECK_MEASURES_SHORT,
-    [WORK] = PADCHECK_WORK_SHORT,   [NOTES] = PADCHECK_NOTES_SHORT,
-    [SHEET] = PADCHECK_SHEET_TOO_SHORT,
+    [TEXT] = PADCHECK_SHORT_TEXT,   [MEASURE_DENSITIES] = PADCHECK_SHORT_MEASURES,
+    [BEATS] = PADCHECK_SHORT_BEATS, [MEASURE_SPACING] = PADCHECK_SHORT_MEASURES,
+    [WORK] = PADCHECK_SHORT_WORK,   [NOTES] = PADCHECK_SHORT_NOTES,
+    [SHEET] = PADCHECK_SHORT_SHEET,
 };
 
 const char *call_name(enum call call)
@@ -178,7 +178,7 @@ static void check_untouched(const char *name, enum call call, const struct quest
 {
     uint32_t number = enter(call, q, loan);
     check(number == want, "%s, %s: returns %u (%s), should be %u", name, call_name(call), number,
-          padcheck_meaning(number), want);
+          padcheck_words(number), want);
     check(is_untouched(loan), "%s, %s: a refused call writes nothing", name, call_name(call));
 }
 
@@ -198,7 +198,7 @@ void check_call(const char *name, enum call call, const struct question *q, cons
     struct loan loan = lend(call, q->len, q->lanes, NO_SLICE);
     uint32_t number = enter(call, q, &loan);
     check(number == PADCHECK_ACCEPTED, "%s, %s: returns %u (%s), should be 0", name, call_name(call), number,
-          padcheck_meaning(number));
+          padcheck_words(number));
     for (int i = 0; i < PADCHECK_FIGURES; i++)
         check(loan.figures[i] == answer->figures[i], "%s, %s: figure %d is %llu, should be %llu", name, call_name(call),
               i, (unsigned long long)loan.figures[i], (unsigned long long)answer->figures[i]);

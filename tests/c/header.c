@@ -10,21 +10,13 @@
 #include <string.h>
 
 #ifndef CALLS_ALONE
-/* "What a call can be told", and document 02's numbers for SM files */
+/* What crates/definitions names, as definitions.sh prints it. */
+#define REFUSAL(name, number, words, cause) _Static_assert(PADCHECK_##name == (number), words);
+#define FIELD(name, place) _Static_assert(PADCHECK_##name == 8 + (place), #name);
+#include "definitions.h"
+#undef REFUSAL
+#undef FIELD
 _Static_assert(PADCHECK_ACCEPTED == 0, "accepted");
-_Static_assert(PADCHECK_TEXT_TOO_LONG == 1, "len is over 16,777,215");
-_Static_assert(PADCHECK_TEXT_SHORT == 2, "the text slice is short");
-_Static_assert(PADCHECK_MEASURES_SHORT == 3, "the measure slice is short");
-_Static_assert(PADCHECK_BEATS_SHORT == 4, "the beat slice is short");
-_Static_assert(PADCHECK_WORK_SHORT == 5, "the work slice is short");
-_Static_assert(PADCHECK_NOTES_SHORT == 6, "the note slice is short");
-_Static_assert(PADCHECK_NO_RECORD == 7, "no such record");
-_Static_assert(PADCHECK_BAD_RECORD == 8, "the record breaks a limit");
-_Static_assert(PADCHECK_FEW_FIELDS == 9, "fewer than five fields");
-_Static_assert(PADCHECK_OTHER_TYPE == 10, "another type name");
-_Static_assert(PADCHECK_NO_CHART == 11, "no such chart");
-_Static_assert(PADCHECK_SHEET_TOO_SHORT == 19, "the sheet slice is short");
-_Static_assert(PADCHECK_OTHER_FORM == 20, "another form");
 _Static_assert(PADCHECK_MAX_LEN == 16777215, "the longest text");
 
 /* The places of `figures` in Entries.antt. */
@@ -36,20 +28,6 @@ _Static_assert(PADCHECK_LAST_BEAT == 4, "lastBits");
 _Static_assert(PADCHECK_HAS_HEADS == 5, "heads");
 _Static_assert(PADCHECK_LAST_BEAT_48THS == 6, "last");
 _Static_assert(PADCHECK_SHEET_BYTES == 7, "bytes of the sheet");
-_Static_assert(PADCHECK_TOTAL_ARROWS == 8 + 0, "total_arrows");
-_Static_assert(PADCHECK_LEFT == 8 + 1, "left");
-_Static_assert(PADCHECK_DOWN == 8 + 2, "down");
-_Static_assert(PADCHECK_UP == 8 + 3, "up");
-_Static_assert(PADCHECK_RIGHT == 8 + 4, "right");
-_Static_assert(PADCHECK_TOTAL_STEPS == 8 + 5, "total_steps");
-_Static_assert(PADCHECK_JUMPS == 8 + 6, "jumps");
-_Static_assert(PADCHECK_HANDS == 8 + 7, "hands");
-_Static_assert(PADCHECK_MINES == 8 + 8, "mines");
-_Static_assert(PADCHECK_HOLDS == 8 + 9, "holds");
-_Static_assert(PADCHECK_ROLLS == 8 + 10, "rolls");
-_Static_assert(PADCHECK_LIFTS == 8 + 11, "lifts");
-_Static_assert(PADCHECK_FAKES == 8 + 12, "fakes");
-_Static_assert(PADCHECK_HOLDING == 8 + 13, "holding");
 _Static_assert(PADCHECK_FIGURES == 32, "the figures");
 
 /* "A note record is 10 bytes", its kinds, and `noteFigures` in Entries.antt. */
@@ -307,43 +285,43 @@ static void check_lengths(void)
     }
 }
 
-/* The numbers and their words. */
+/* What crates/definitions says of each refusal. */
+static const struct {
+    uint32_t number;
+    const char *words, *cause;
+} refusals[] = {
+#define REFUSAL(name, number, words, cause) {number, words, cause},
+#define FIELD(name, place)
+#include "definitions.h"
+};
+
+/* A number is said in the library's words, and one that is no refusal has none of them. */
+static void check_said(uint32_t number)
+{
+    const char *words = number == 0 ? "accepted" : "no number of this library", *cause = "nobody";
+    for (size_t i = 0; i < sizeof refusals / sizeof refusals[0]; i++)
+        if (refusals[i].number == number) {
+            words = refusals[i].words;
+            cause = refusals[i].cause;
+        }
+    check(strcmp(padcheck_words(number), words) == 0, "the words for %u are '%s', should be '%s'", number,
+          padcheck_words(number), words);
+    check(strcmp(padcheck_caused_by(number), cause) == 0, "%u is caused by '%s', should be '%s'", number,
+          padcheck_caused_by(number), cause);
+}
+
 static void check_words(void)
 {
-    static const struct {
-        uint32_t number;
-        const char *words;
-    } meanings[] = {
-        {0, "accepted"},
-        {1, "the text is longer than 16777215 bytes"},
-        {2, "the text slice is too short"},
-        {3, "the measure slice is too short"},
-        {4, "the beat slice is too short"},
-        {5, "the work slice is too short"},
-        {6, "the note slice is too short"},
-        {7, "there is no such note record"},
-        {8, "the note record breaks a limit"},
-        {9, "the SM file's author gave this chart fewer than five fields"},
-        {10, "the SM file's author gave this chart a type that is not read"},
-        {11, "the caller asked for a chart that the SM file does not have"},
-        {12, "no number of this library"},
-        {19, "the caller lent a sheet slice that is too short"},
-        {20, "the caller asked for a form of the sheet that is none of the three"},
-        {21, "no number of this library"},
-        {UINT32_MAX, "no number of this library"},
-    };
-    for (size_t i = 0; i < sizeof meanings / sizeof meanings[0]; i++) {
-        const char *words = padcheck_meaning(meanings[i].number);
-        check(strcmp(words, meanings[i].words) == 0, "the words for %u are '%s', should be '%s'", meanings[i].number,
-              words, meanings[i].words);
-    }
+    for (uint32_t number = 0; number < 100; number++)
+        check_said(number);
+    check_said(UINT32_MAX);
 }
 
 /* Each refusal by its name, with the words that say what was wrong. */
 static void check_refusal(const char *name, uint32_t number, uint32_t want, const char *words)
 {
     check(number == want, "%s: returns %u, the header has %u", name, number, want);
-    check(strstr(padcheck_meaning(number), words) != NULL, "%s: the words are '%s'", name, padcheck_meaning(number));
+    check(strstr(padcheck_words(number), words) != NULL, "%s: the words are '%s'", name, padcheck_words(number));
 }
 
 /* The first chart of an SM file. */
@@ -359,32 +337,32 @@ static void check_refusals(void)
     const size_t len = sizeof chart - 1;
     uint64_t note[8];
     check_refusal("accepted", ask_main(data, len, ROOM, ROOM, ROOM, ROOM, ROOM * 10), PADCHECK_ACCEPTED, "accepted");
-    check_refusal("a text too long", ask_main(longest, PADCHECK_MAX_LEN + 1, 0, 0, 0, 0, 0), PADCHECK_TEXT_TOO_LONG,
-                  "longer than 16777215 bytes");
+    check_refusal("a text too long", ask_main(longest, PADCHECK_MAX_LEN + 1, 0, 0, 0, 0, 0), PADCHECK_LONG_TEXT,
+                  "over 16,777,215");
     check_refusal("the longest text", padcheck_chart_last_beat(longest, PADCHECK_MAX_LEN, 4, room.figures),
                   PADCHECK_ACCEPTED, "accepted");
-    check_refusal("a text slice too short", ask_main(data, len, 0, 0, 0, 0, 0), PADCHECK_TEXT_SHORT, "text slice");
-    check_refusal("a measure slice too short", ask_main(data, len, ROOM, 0, 0, 0, 0), PADCHECK_MEASURES_SHORT,
+    check_refusal("a text slice too short", ask_main(data, len, 0, 0, 0, 0, 0), PADCHECK_SHORT_TEXT, "text slice");
+    check_refusal("a measure slice too short", ask_main(data, len, ROOM, 0, 0, 0, 0), PADCHECK_SHORT_MEASURES,
                   "measure slice");
-    check_refusal("a beat slice too short", ask_main(data, len, ROOM, ROOM, 0, 0, 0), PADCHECK_BEATS_SHORT,
+    check_refusal("a beat slice too short", ask_main(data, len, ROOM, ROOM, 0, 0, 0), PADCHECK_SHORT_BEATS,
                   "beat slice");
-    check_refusal("a work slice too short", ask_main(data, len, ROOM, ROOM, ROOM, 0, 0), PADCHECK_WORK_SHORT,
+    check_refusal("a work slice too short", ask_main(data, len, ROOM, ROOM, ROOM, 0, 0), PADCHECK_SHORT_WORK,
                   "work slice");
-    check_refusal("a note slice too short", ask_main(data, len, ROOM, ROOM, ROOM, ROOM, 0), PADCHECK_NOTES_SHORT,
+    check_refusal("a note slice too short", ask_main(data, len, ROOM, ROOM, ROOM, ROOM, 0), PADCHECK_SHORT_NOTES,
                   "note slice");
     check_refusal("no record", padcheck_read_note(data, 0, 0, note), PADCHECK_NO_RECORD, "no such note record");
     check_refusal("a bad record", padcheck_read_note(data, PADCHECK_NOTE_BYTES, 0, note), PADCHECK_BAD_RECORD,
-                  "note record breaks a limit");
-    check_refusal("a sheet slice too short", ask_sheet(PADCHECK_SHEET_CARD, 0), PADCHECK_SHEET_TOO_SHORT,
+                  "record breaks a limit");
+    check_refusal("a sheet slice too short", ask_sheet(PADCHECK_SHEET_CARD, 0), PADCHECK_SHORT_SHEET,
                   "sheet slice");
-    check_refusal("another form", ask_sheet(3, ROOM * 10), PADCHECK_OTHER_FORM, "none of the three");
+    check_refusal("another form", ask_sheet(3, ROOM * 10), PADCHECK_OTHER_FORM, "over 2");
     check_refusal("few fields", ask_file("#NOTES:dance-single::::", note), PADCHECK_FEW_FIELDS, "five fields");
-    check_refusal("another type", ask_file("#NOTES:lights-cabinet:::::", note), PADCHECK_OTHER_TYPE, "a type that");
-    check_refusal("no chart", ask_file("#TITLE:none;", note), PADCHECK_NO_CHART, "does not have");
+    check_refusal("another type", ask_file("#NOTES:lights-cabinet:::::", note), PADCHECK_OTHER_TYPE, "another type");
+    check_refusal("no chart", ask_file("#TITLE:none;", note), PADCHECK_NO_CHART, "no such block");
     check_refusal("an SM file too long", padcheck_sm_chart(longest, PADCHECK_MAX_LEN + 1, 0, note),
-                  PADCHECK_TEXT_TOO_LONG, "longer than 16777215 bytes");
+                  PADCHECK_LONG_TEXT, "over 16,777,215");
     check_refusal("the longest SM file", padcheck_sm_chart(longest, PADCHECK_MAX_LEN, 0, note), PADCHECK_NO_CHART,
-                  "does not have");
+                  "no such block");
 }
 
 /* The version's words are its numbers. */

@@ -177,7 +177,7 @@ static void check_longest(void)
     memset(data, '1', len);
     struct question question = {data, len, 4, (const uint8_t *)"", 0, 0};
     for (enum call call = 0; call < CALLS; call++)
-        check_refused("16777216 bytes", call, &question, 0, PADCHECK_TEXT_TOO_LONG);
+        check_refused("16777216 bytes", call, &question, 0, PADCHECK_LONG_TEXT);
     question.len = PADCHECK_MAX_LEN;
     struct answer answer = {0};
     check_call("16777215 bytes", LAST_BEAT, &question, &answer);

@@ -48,6 +48,7 @@ function edit(what, command) { print what "|" NR command }
 ' "$header" >"$out/edits"
 
 # Whether the test, built with these words, fails to build or to pass.
+sh tests/c/definitions.sh >"$out/include/definitions.h"
 cc -std=c11 -c -o "$out/checks.o" tests/c/checks.c
 cc -std=c11 -c -o "$out/header_main.o" tests/c/header_main.c
 notices() {

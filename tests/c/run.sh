@@ -1,5 +1,5 @@
 #!/bin/sh
-# Builds the C test into target/c with cc, runs it, and runs it again under valgrind, where every slice has its exact size.
+# Builds the C test into target/c with cc, with what definitions.sh prints, runs it, and runs it again under valgrind, where every slice has its exact size.
 # The library is built first, or taken from PADCHECK_LIB_DIR where that is set.
 # The last line is 'N passed, 0 failed', counted over both runs; the exit status is not 0 where a check fails or valgrind finds an error.
 set -eu
@@ -12,7 +12,8 @@ if [ -z "${PADCHECK_LIB_DIR:-}" ]; then
 fi
 out=target/c
 mkdir -p "$out"
-cc -std=c11 -O1 -g -Wall -Wextra -Werror -I include -o "$out/check" \
+sh tests/c/definitions.sh >"$out/definitions.h"
+cc -std=c11 -O1 -g -Wall -Wextra -Werror -I include -I "$out" -o "$out/check" \
     tests/c/main.c tests/c/header.c tests/c/calls.c tests/c/checks.c tests/c/sm.c tests/c/stored.c \
     "$PADCHECK_LIB_DIR/libpadcheck.a"
 

@@ -28,7 +28,7 @@ static void check_file(const char *name, const uint8_t *file, size_t len, size_t
     memcpy(found, unset, sizeof unset);
     memcpy(copy, file, len);
     uint32_t number = padcheck_sm_chart(copy, len, k, found);
-    check(number == want, "%s, chart %zu: returns %u (%s), should be %u", name, k, number, padcheck_meaning(number),
+    check(number == want, "%s, chart %zu: returns %u (%s), should be %u", name, k, number, padcheck_words(number),
           want);
     const uint64_t *left = want == PADCHECK_ACCEPTED ? chart : unset;
     for (int i = 0; i < PADCHECK_CHART_FIGURES; i++)
@@ -150,19 +150,19 @@ static void check_longest(void)
     uint64_t last[PADCHECK_CHART_FIGURES] = {4, longest - 1, 1};
     check_file("16777215 bytes, the chart last", file, longest, 0, PADCHECK_ACCEPTED, last);
     check_file("16777215 bytes, the chart last", file, longest, 1, PADCHECK_NO_CHART, NULL);
-    check_file("16777216 bytes, the chart last", file, longest + 1, 0, PADCHECK_TEXT_TOO_LONG, NULL);
+    check_file("16777216 bytes, the chart last", file, longest + 1, 0, PADCHECK_LONG_TEXT, NULL);
 
     memset(file, '0', longest + 1);
     memcpy(file, good, good_len - 1);
     uint64_t first[PADCHECK_CHART_FIGURES] = {4, good_len - 1, longest - (good_len - 1)};
     check_file("16777215 bytes, the chart first", file, longest, 0, PADCHECK_ACCEPTED, first);
-    check_file("1 before 11", file, longest + 1, SIZE_MAX, PADCHECK_TEXT_TOO_LONG, NULL);
+    check_file("1 before 11", file, longest + 1, SIZE_MAX, PADCHECK_LONG_TEXT, NULL);
     memcpy(file, few, sizeof few - 1);
     check_file("16777215 bytes, few fields", file, longest, 0, PADCHECK_FEW_FIELDS, NULL);
-    check_file("1 before 9", file, longest + 1, 0, PADCHECK_TEXT_TOO_LONG, NULL);
+    check_file("1 before 9", file, longest + 1, 0, PADCHECK_LONG_TEXT, NULL);
     memcpy(file, other, sizeof other - 1);
     check_file("16777215 bytes, another type", file, longest, 0, PADCHECK_OTHER_TYPE, NULL);
-    check_file("1 before 10", file, longest + 1, 0, PADCHECK_TEXT_TOO_LONG, NULL);
+    check_file("1 before 10", file, longest + 1, 0, PADCHECK_LONG_TEXT, NULL);
     free(file);
 }
 

@@ -7,18 +7,12 @@ use crate::lines::lines;
 use crate::memory::push;
 use crate::output::{Status, doubtful, fault};
 use crate::select::whole_file;
-use padcheck::{Refusal, SmChart, sm_charts};
-use std::borrow::Cow;
+use padcheck::{MAX_LEN, Refusal, SmBlock, SmChart, sm_blocks};
 use std::io::{self, Write};
-use std::iter;
 use std::path::Path;
 
 /// What is said of an SM file without a chart.
-const NO_CHART: &str =
-    "no chart: none of its lines begins with #NOTES:, and bare note data needs --lanes";
-
-/// The tag of a chart in an SM file.
-const TAG: &[u8] = b"#NOTES:";
+const NO_CHART: &str = "none of its lines begins with #NOTES:, and bare note data needs --lanes";
 
 /// A chart of an SM file.
 #[derive(Clone, Copy, Debug, PartialEq)]
@@ -27,28 +21,25 @@ pub struct Listed<'a> {
     pub number: usize,
     /// Its type as it is written there, empty where it has none.
     pub name: &'a [u8],
-    /// Where its note data begins; where it has fewer than five fields, where its tag ends.
+    /// Where its note data begins; of a refused one, where its tag ends.
     pub place: usize,
-    /// How many bytes these are.
-    pub length: usize,
     /// What the library says of it.
     pub answer: Result<SmChart<'a>, Refusal>,
 }
 
 /// The charts of an SM file, or why it has none that can be listed: it is too long, is an SSC file, or has none at all.
 pub fn listed(file: &[u8]) -> Result<Vec<Listed<'_>>, Left> {
-    if sm_charts(file).next() == Some(Err(Refusal::TextTooLong)) {
-        return Err(Refusal::TextTooLong.into());
+    if file.len() > MAX_LEN {
+        return Err(Refusal::LongText.into());
     }
     let mut charts = Vec::new();
-    for (answer, block) in sm_charts(file).zip(blocks(file)) {
-        let data = answer.map_or_else(|_| written_data(block), |chart| chart.data);
+    for SmBlock { after_tag, chart } in sm_blocks(file) {
+        let start = chart.map_or(after_tag, |chart| chart.data);
         let chart = Listed {
             number: charts.len(),
-            name: written_type(block),
-            place: data.as_ptr().addr() - file.as_ptr().addr(),
-            length: data.len(),
-            answer,
+            name: written_type(after_tag),
+            place: start.as_ptr().addr() - file.as_ptr().addr(),
+            answer: chart,
         };
         push(&mut charts, chart)?;
     }
@@ -56,9 +47,16 @@ pub fn listed(file: &[u8]) -> Result<Vec<Listed<'_>>, Left> {
         return Err(left);
     }
     if charts.is_empty() {
-        return Err(no_chart(file, NO_CHART));
+        return Err(no_chart(file, Some(NO_CHART)));
     }
     Ok(charts)
+}
+
+/// The type of a chart as it is written, the first field behind its tag. It is for the eye alone: which types are read, the
+/// library says.
+fn written_type(after_tag: &[u8]) -> &[u8] {
+    let mut fields = after_tag.split(|byte| b":;".contains(byte));
+    fields.next().unwrap_or_default().trim_ascii()
 }
 
 /// Refuses a file that has the tag of a chart in an SSC file and no chart that the library reads. The refusal is that of its first chart.
@@ -69,67 +67,49 @@ fn ssc_file(file: &[u8], charts: &[Listed]) -> Option<Left> {
     let place = lines(file).position(|line| line.trim_ascii_start().starts_with(b"#NOTEDATA:"))?;
     let refusal = charts.first().and_then(|chart| chart.answer.err());
     let line = place + 1;
-    Some(Left::Refused(
+    Some(Left::refused(
         refusal.unwrap_or(Refusal::NoChart),
-        format!("an SSC file, which is not read: line {line} begins with #NOTEDATA:").into(),
+        &format!("it is an SSC file, which is not read: line {line} begins with #NOTEDATA:"),
     ))
 }
 
-/// The refusal of a file that has no chart, or not the one that is asked for, in these words and with the first line that has
-/// a chart's tag in other letters.
-pub fn no_chart(file: &[u8], words: &'static str) -> Left {
-    let words = other_letters(file).map_or(Cow::Borrowed(words), |(line, tag)| {
+/// The refusal of a file that has no chart, or not the one that is asked for, with what can be told besides and the first line
+/// that has a chart's tag in other letters.
+pub fn no_chart(file: &[u8], besides: Option<&str>) -> Left {
+    let letters = other_letters(file).map(|(line, tag)| {
         let tag = tag.escape_ascii();
-        format!("{words}; line {line} begins with {tag}, and tags are in capitals").into()
+        format!("line {line} begins with {tag}, and tags are in capitals")
     });
-    Left::Refused(Refusal::NoChart, words)
+    let told: Vec<_> = besides.into_iter().chain(letters.as_deref()).collect();
+    if told.is_empty() {
+        return Refusal::NoChart.into();
+    }
+    Left::refused(Refusal::NoChart, &told.join("; "))
 }
 
-/// The first line that begins with a chart's tag in other letters, counted from 1, and the tag.
+/// Doubts a file of which not every chart may be listed, unless it is taken all the same: a line that begins with a chart's
+/// tag in other letters starts none.
+pub fn letters_doubt(file: &[u8], force: bool) -> Result<(), Left> {
+    match other_letters(file) {
+        Some((line, tag)) if !force => {
+            let tag = tag.escape_ascii();
+            Err(Left::Doubtful(format!(
+                "line {line} begins with {tag}, which starts no chart, since tags are in capitals"
+            )))
+        }
+        _ => Ok(()),
+    }
+}
+
+/// The first line that begins with a chart's tag in other letters, counted from 1, and the tag. The library knows the tag in
+/// capitals alone, so that of these it says nothing.
 fn other_letters(file: &[u8]) -> Option<(usize, &[u8])> {
+    const TAG: &[u8] = b"#NOTES:";
     lines(file).enumerate().find_map(|(place, line)| {
         let tag = line.trim_ascii_start().get(..TAG.len())?;
         let other = tag != TAG && tag.eq_ignore_ascii_case(TAG);
         other.then_some((place + 1, tag))
     })
-}
-
-/// What follows the tag of each chart of an SM file, through its `;`. It is for the eye: where a refused chart stands, which
-/// the library does not say, and how its type is written.
-fn blocks(file: &[u8]) -> impl Iterator<Item = &[u8]> {
-    let mut rest = file;
-    iter::from_fn(move || {
-        while !rest.is_empty() {
-            let line = rest.trim_ascii_start();
-            if let Some(block) = line.strip_prefix(TAG) {
-                let (block, after) = cut_after(block, b';');
-                rest = cut_after(after, b'\n').1;
-                return Some(block);
-            }
-            rest = cut_after(line, b'\n').1;
-        }
-        None
-    })
-}
-
-/// The parts of a text through the first such byte and after it; the second is empty where there is none.
-fn cut_after(text: &[u8], byte: u8) -> (&[u8], &[u8]) {
-    let place = text.iter().position(|&other| other == byte);
-    text.split_at(place.map_or(text.len(), |place| place + 1))
-}
-
-/// The type in a block.
-fn written_type(block: &[u8]) -> &[u8] {
-    let mut fields = block.split(|byte| b":;".contains(byte));
-    fields.next().unwrap_or_default().trim_ascii()
-}
-
-/// What follows the fifth field of a block, or all of it where it has fewer.
-fn written_data(block: &[u8]) -> &[u8] {
-    let mut colons = block.iter().enumerate().filter(|(_, byte)| **byte == b':');
-    colons
-        .nth(4)
-        .map_or(block, |(place, _)| &block[place + 1..])
 }
 
 /// A type from a file, in one short line whatever its bytes are.
@@ -162,7 +142,12 @@ pub fn run(asked: &Charts, out: &mut dyn Write) -> io::Result<Status> {
 /// The list of one file.
 fn list(path: &Path, file: &[u8], force: bool, out: &mut dyn Write) -> io::Result<Status> {
     let path = shown(path);
-    let charts = match whole_file(file, force).and_then(listed) {
+    let charts = whole_file(file, force).and_then(|file| {
+        let charts = listed(file)?;
+        letters_doubt(file, force)?;
+        Ok(charts)
+    });
+    let charts = match charts {
         Ok(charts) => charts,
         Err(Left::Refused(refusal, words)) => {
             writeln!(out, "{path}: refused {}: {words}", refusal.number())?;
@@ -182,17 +167,15 @@ fn list(path: &Path, file: &[u8], force: bool, out: &mut dyn Write) -> io::Resul
 
 /// The line of one chart, and another where it is refused.
 fn line(chart: &Listed, out: &mut dyn Write) -> io::Result<()> {
-    let Listed {
-        number,
-        place,
-        length,
-        ..
-    } = chart;
-    let lanes = chart
-        .answer
-        .map_or_else(|_| String::from("-"), |chart| chart.lanes.to_string());
+    let Listed { number, place, .. } = chart;
+    // What the library does not say of a refused chart.
+    let none = || String::from("-");
+    let (lanes, length) = chart.answer.map_or_else(
+        |_| (none(), none()),
+        |chart| (chart.lanes.to_string(), chart.data.len().to_string()),
+    );
     let name = shortened(chart.name);
-    let line = format!("{number:5}  {lanes:>5} {place:9} {length:9}  {name}");
+    let line = format!("{number:5}  {lanes:>5} {place:9} {length:>9}  {name}");
     writeln!(out, "{}", line.trim_end())?;
     if let Err(refusal) = chart.answer {
         writeln!(out, "       {refusal}")?;
@@ -203,7 +186,7 @@ fn line(chart: &Listed, out: &mut dyn Write) -> io::Result<()> {
 #[cfg(test)]
 mod tests {
     use super::*;
-    use padcheck::{MAX_LEN, lent};
+    use padcheck::{lent, sm_charts};
 
     const SM_FILE: &[u8] = include_bytes!("../../../examples/first-steps.sm");
 
@@ -216,10 +199,7 @@ mod tests {
             let told = lent::sm_chart(SM_FILE, chart.number, &mut places);
             assert_eq!(chart.answer.map(drop), told);
             if told.is_ok() {
-                assert_eq!(
-                    [chart.place, chart.length],
-                    [places[1], places[2]].map(|n| n as usize)
-                );
+                assert_eq!(chart.place as u64, places[1]);
             }
         }
     }
@@ -232,37 +212,40 @@ mod tests {
             (lights.name, lights.answer),
             (&b"lights-cabinet"[..], Err(Refusal::OtherType))
         );
-        let data = &SM_FILE[lights.place..][..lights.length];
-        assert!(data.starts_with(b"\n  // measure 0\n100010\n") && data.ends_with(b"000101\n;"));
+        let (before, after) = SM_FILE.split_at(lights.place);
+        assert!(before.ends_with(b"\n#NOTES:") && after.starts_with(b"\n     lights-cabinet:\n"));
         let few = listed(b" #NOTES: a : b ;").unwrap()[0];
-        assert_eq!((few.place, few.length, few.name), (8, 8, &b"a"[..]));
+        assert_eq!((few.place, few.name), (8, &b"a"[..]));
         assert_eq!(few.answer, Err(Refusal::FewFields));
     }
 
     #[test]
-    fn blocks_are_the_librarys_charts() {
+    fn types_are_told_as_they_are_written() {
         let file = b"x #NOTES:no:\n\n \t#NOTES:a:#NOTES:\n#NOTES:c;#NOTES:d:\n#NOTES:\n  e\n:f\n;\n#NOTES:g";
-        let names: Vec<_> = blocks(file).map(written_type).collect();
+        let charts = listed(file).unwrap();
+        let names: Vec<_> = charts.iter().map(|chart| chart.name).collect();
         assert_eq!(names, [&b"a"[..], b"e", b"g"]);
-        assert_eq!(sm_charts(file).count(), names.len());
     }
 
-    /// Every file of six of these words: the blocks found here are the library's charts, each with its type and data.
+    /// Every file of six of these words: the charts listed are the library's, each at its place and with the type that is
+    /// read or refused.
     #[test]
-    fn blocks_of_short_files_are_the_librarys_charts() {
+    fn charts_of_short_files_are_the_librarys() {
         const WORDS: [&str; 7] = ["#NOTES:", "dance-single", ":::::", ";", "\n", " ", "x"];
         for number in 0..7usize.pow(6) {
             let words = (0..6).map(|place| WORDS[number / 7usize.pow(place) % 7]);
             let file: String = words.collect();
-            let found: Vec<_> = blocks(file.as_bytes()).collect();
+            let charts = listed(file.as_bytes()).unwrap_or_default();
             let answers: Vec<_> = sm_charts(file.as_bytes()).collect();
-            assert_eq!(found.len(), answers.len(), "{file:?}");
-            for (block, answer) in found.into_iter().zip(answers) {
-                if let Ok(chart) = answer {
-                    assert_eq!(written_data(block), chart.data, "{file:?}");
+            assert_eq!(charts.len(), answers.len(), "{file:?}");
+            for (chart, answer) in charts.iter().zip(answers) {
+                assert_eq!(chart.answer, answer, "{file:?}");
+                let is_single = chart.name == b"dance-single";
+                match answer {
+                    Ok(_) => assert!(is_single, "{file:?}"),
+                    Err(Refusal::OtherType) => assert!(!is_single, "{file:?}"),
+                    Err(_) => assert!(file[..chart.place].ends_with("#NOTES:"), "{file:?}"),
                 }
-                let read = answer.is_ok() || answer == Err(Refusal::FewFields);
-                assert!(read || written_type(block) != b"dance-single", "{file:?}");
             }
         }
     }
@@ -270,15 +253,15 @@ mod tests {
     #[test]
     fn a_file_too_long_or_without_charts() {
         let long = vec![b'0'; MAX_LEN + 1];
-        assert_eq!(listed(&long), Err(Refusal::TextTooLong.into()));
+        assert_eq!(listed(&long), Err(Refusal::LongText.into()));
         let none = listed(b"1000\n0100\n");
-        assert_eq!(none, Err(Left::Refused(Refusal::NoChart, NO_CHART.into())));
+        assert_eq!(none, Err(Left::refused(Refusal::NoChart, NO_CHART)));
     }
 
     /// The words in which a file is refused.
     fn refused(file: &[u8]) -> (Refusal, String) {
         match listed(file) {
-            Err(Left::Refused(refusal, words)) => (refusal, words.into_owned()),
+            Err(Left::Refused(refusal, words)) => (refusal, words),
             other => panic!("{other:?}"),
         }
     }
@@ -289,17 +272,34 @@ mod tests {
         assert_eq!(refusal, Refusal::NoChart);
         assert!(words.ends_with("; line 2 begins with #Notes:, and tags are in capitals"));
         for file in [&b"#NOTE:;\n"[..], b"x #Notes:;\n", b"#Notes"] {
-            assert_eq!(refused(file).1, NO_CHART);
+            assert!(refused(file).1.ends_with(NO_CHART));
         }
     }
 
     #[test]
+    fn charts_beside_a_tag_in_other_letters_are_doubtful() {
+        let file = b"#NOTES:dance-single:::::\n1000\n;\n \t#Notes:\ndance-single:::::\n1000\n;\n";
+        let why = "line 4 begins with #Notes:, which starts no chart, since tags are in capitals";
+        let doubt = letters_doubt(file, false);
+        assert_eq!(doubt, Err(Left::Doubtful(why.to_owned())));
+        assert_eq!(letters_doubt(file, true), Ok(()));
+        assert_eq!(letters_doubt(SM_FILE, false), Ok(()));
+        let mut out = Vec::new();
+        let list = |force, out: &mut Vec<u8>| list(Path::new("x"), file, force, out).unwrap();
+        assert_eq!(list(false, &mut out), Status::Doubtful);
+        assert_eq!(
+            (list(true, &mut out), out.is_empty()),
+            (Status::Done, false)
+        );
+    }
+
+    #[test]
     fn an_ssc_file_is_told() {
-        let words = "an SSC file, which is not read: line 2 begins with #NOTEDATA:";
+        let words = "it is an SSC file, which is not read: line 2 begins with #NOTEDATA:";
         let ssc = b"#VERSION:0.83;\n\t#NOTEDATA:;\n#STEPSTYPE:dance-single;\n#NOTES:\n1000\n;\n";
-        assert_eq!(refused(ssc), (Refusal::FewFields, words.to_owned()));
+        assert_eq!(listed(ssc), Err(Left::refused(Refusal::FewFields, words)));
         let none = b"\n#NOTEDATA:;\n#STEPSTYPE:dance-single;\n";
-        assert_eq!(refused(none), (Refusal::NoChart, words.to_owned()));
+        assert_eq!(listed(none), Err(Left::refused(Refusal::NoChart, words)));
         let read = b"#NOTEDATA:;\n#NOTES:dance-single:::::\n1000\n;\n";
         assert_eq!(listed(read).unwrap().len(), 1);
     }

@@ -335,7 +335,7 @@ mod tests {
         );
         let bare = |of: &Subject| {
             written(SheetForm::Json, |sheets| {
-                sheets.refused(of, Refusal::TextTooLong, "long")
+                sheets.refused(of, Refusal::LongText, "long")
             })
         };
         let mut of = subject("a", None);

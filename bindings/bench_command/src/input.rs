@@ -42,10 +42,7 @@ pub fn shown(path: &Path) -> String {
 
 /// Whether a text is an SM file with a chart, read or refused. Taken for note data it would give a sheet, but of wrong beats.
 pub fn has_chart(data: &[u8]) -> bool {
-    !matches!(
-        sm_chart(data, 0),
-        Err(Refusal::NoChart | Refusal::TextTooLong)
-    )
+    !matches!(sm_chart(data, 0), Err(Refusal::NoChart | Refusal::LongText))
 }
 
 #[cfg(test)]

@@ -1,6 +1,6 @@
 //! Which charts of a file are asked for, and which of them are taken.
 
-use crate::charts::{listed, no_chart};
+use crate::charts::{letters_doubt, listed, no_chart};
 use crate::doubt::{data_doubt, file_doubt};
 use crate::left::Left;
 use crate::memory::push;
@@ -33,7 +33,7 @@ impl Selected<'_> {
     pub fn taken(&self, force: bool) -> Result<SmChart<'_>, Left> {
         let SmChart { lanes, data } = self.answer?;
         if data.len() > MAX_LEN {
-            return Err(Refusal::TextTooLong.into());
+            return Err(Refusal::LongText.into());
         }
         match data_doubt(self.before, data, lanes) {
             Some(why) if !force => Err(Left::Doubtful(why)),
@@ -79,8 +79,9 @@ pub fn selected(file: &[u8], selection: Selection, force: bool) -> Result<Vec<Se
         push(&mut charts, chart)?;
     }
     if charts.is_empty() {
-        return Err(no_chart(file, Refusal::NoChart.meaning()));
+        return Err(no_chart(file, None));
     }
+    letters_doubt(file, force)?;
     Ok(charts)
 }
 
@@ -122,11 +123,15 @@ mod tests {
     #[test]
     fn a_chart_that_is_not_there_is_looked_for_in_other_letters() {
         let file = b"#NOTES:dance-single:::::\n1000\n;\n#notes:dance-single:::::\n;\n";
-        let Err(Left::Refused(_, words)) = selected(file, Selection::Chart(1), false) else {
-            panic!("it is taken");
-        };
-        let end = "; line 4 begins with #notes:, and tags are in capitals";
-        assert_eq!(words, format!("{}{end}", Refusal::NoChart.meaning()));
+        let letters = "line 4 begins with #notes:, and tags are in capitals";
+        let left = selected(file, Selection::Chart(1), false);
+        assert_eq!(left, Err(Left::refused(Refusal::NoChart, letters)));
+        // One that is there may be another than the one that is meant.
+        for selection in [Selection::All, Selection::Chart(0)] {
+            let left = selected(file, selection, false);
+            assert!(matches!(left, Err(Left::Doubtful(_))));
+            assert_eq!(selected(file, selection, true).unwrap().len(), 1);
+        }
     }
 
     #[test]
@@ -149,7 +154,7 @@ mod tests {
         assert_eq!(selected(file, Selection::All, true).unwrap().len(), 1);
         let long = [&file[..], &vec![0; MAX_LEN]].concat();
         let left = selected(&long, Selection::All, false);
-        assert_eq!(left, Err(Left::from(Refusal::TextTooLong)));
+        assert_eq!(left, Err(Left::from(Refusal::LongText)));
     }
 
     #[test]
@@ -162,7 +167,7 @@ mod tests {
         assert_eq!(taken(b"100\n", true), Ok(4));
         let long = vec![0; MAX_LEN + 1];
         for force in [false, true] {
-            assert_eq!(taken(&long, force), Err(Left::from(Refusal::TextTooLong)));
+            assert_eq!(taken(&long, force), Err(Left::from(Refusal::LongText)));
         }
     }
 }

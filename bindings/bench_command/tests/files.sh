@@ -8,8 +8,8 @@ head -n 7 "$out/stdout" | diff "$out/wanted" - || failed "the longest text"
 awk 'NR > 7 && $0 != "n " NR - 8 " 0 0 -" { exit 1 } END { if (NR != 3355450) exit 1 }' "$out/stdout" ||
     failed "the notes of the longest text"
 printf '\n' >>"$out/longest"
-printed 1 "refused 1: the text is longer than 16777215 bytes" sheet "$out/longest" --lanes 4
-printed 1 "refused 1: the text is longer than 16777215 bytes" diff "$out/longest" "$out/longest" --lanes 4
+printed 1 "refused 1: len is over 16,777,215, by whoever wires up the call" sheet "$out/longest" --lanes 4
+printed 1 "refused 1: len is over 16,777,215, by whoever wires up the call" diff "$out/longest" "$out/longest" --lanes 4
 {
     printf '#NOTES:dance-single:::::\n'
     yes 0001 | head -c 16777185

@@ -1,17 +1,17 @@
 # To be sourced by test.sh: every exit status, several files at once, and outputs that are full or closed.
 
 # 1: what the library refuses stands in the output.
-printed 1 "refused 10: the SM file's author gave this chart a type that is not read" sheet "$sm" --chart 1
-printed 1 "refused 11: the caller asked for a chart that the SM file does not have" sheet "$sm" --chart 3
-printed 1 "refused 11: no chart: none of its lines begins with #NOTES:" sheet "$chart"
-printed 1 "no chart: none of its lines begins with #NOTES:" charts "$chart"
-printed 1 "refused 1: the text is longer than 16777215 bytes" sheet /dev/zero --lanes 4
-printed 1 "refused 1: the text is longer than 16777215 bytes" sheet /dev/zero
-printed 1 "refused 1: the text is longer than 16777215 bytes" charts /dev/zero
-printed 1 '"chart":1,"type":"lights-cabinet","refused":10,"words":"the SM' sheet "$sm" --chart 1 --form json
+printed 1 "refused 10: the chart has another type name, by whoever writes the SM file" sheet "$sm" --chart 1
+printed 1 "refused 11: the file has no such block, by whoever asks for the chart" sheet "$sm" --chart 3
+printed 1 "refused 11: the file has no such block, by whoever asks for the chart; none of its lines begins with #NOTES:" sheet "$chart"
+printed 1 "no such block, by whoever asks for the chart; none of its lines begins with #NOTES:" charts "$chart"
+printed 1 "refused 1: len is over 16,777,215, by whoever wires up the call" sheet /dev/zero --lanes 4
+printed 1 "refused 1: len is over 16,777,215, by whoever wires up the call" sheet /dev/zero
+printed 1 "refused 1: len is over 16,777,215, by whoever wires up the call" charts /dev/zero
+printed 1 '"chart":1,"type":"lights-cabinet","refused":10,"words":"the chart has another type name, by whoever writes the SM file"' sheet "$sm" --chart 1 --form json
 printed 1 "new refused 11" diff "$sm" "$chart" --chart 0
 printf '#NOTES:dance-single:x;\n#NOTES::::::;\n#NOTES:dance-single:::::\n1000\n;\n' >"$out/few.sm"
-printed 0 "chart 0 dance-single refused 9: the SM file's author gave this chart fewer than five fields" \
+printed 0 "chart 0 dance-single refused 9: the block has fewer than five fields, by whoever writes the SM file" \
     sheet "$out/few.sm" --form card
 printed 0 "chart 1 refused 10: " sheet "$out/few.sm" --form card
 printed 0 "rows 1" sheet "$out/few.sm" --form card

@@ -33,6 +33,15 @@ answered 3 wrong.marked sheet "$given/marked.sm"
 answered 0 wrong.marked.force charts "$given/marked.sm" --force
 answered 0 wrong.marked.neighbour charts "$given/chart.sm"
 
+# A line with a chart's tag in other letters starts no chart: beside charts it is doubted by every word, since one may be missed.
+answered 3 wrong.some-letters charts "$given/some-letters.sm"
+told 3 "$(cat "$out/stderr")" sheet "$given/some-letters.sm"
+told 3 "$(cat "$out/stderr")" rig "$given/some-letters.sm" --chart 0 --notes "$out/n" --beats "$out/b"
+run 3 diff "$given/some-letters.sm" "$given/chart.sm"
+one_line "$(cat "$out/stderr")" "diff of some-letters"
+answered 0 wrong.some-letters.force charts "$given/some-letters.sm" --force
+answered 1 wrong.some-letters.number sheet "$given/some-letters.sm" --chart 1 --form card
+
 # A chart that is refused among others, and where none is left.
 answered 0 wrong.lights.charts charts "$given/chart-lights.sm"
 answered 0 wrong.lights.sheet sheet "$given/chart-lights.sm"
@@ -54,7 +63,7 @@ for word in charts sheet; do
     answered 1 "wrong.bare.$word" "$word" "$chart"
 done
 answered 1 wrong.ssc.number sheet "$given/song.ssc" --chart 0 --form json
-told 1 "song.ssc refused 9: an SSC file, which is not read: line 7 begins with #NOTEDATA:" \
+told 1 "song.ssc refused 9: the block has fewer than five fields, by whoever writes the SM file; it is an SSC file, which is not read: line 7 begins with #NOTEDATA:" \
     rig "$given/song.ssc" --chart 0 --notes "$out/n" --beats "$out/b"
 
 # A file that is too long has no length and no checksum.

@@ -194,7 +194,7 @@ impl Buffers {
     ///
     /// # Errors
     ///
-    /// [`Refusal::TextTooLong`].
+    /// [`Refusal::LongText`].
     pub fn minimize_chart_count_rows_notes(
         &mut self,
         data: &[u8],
@@ -225,7 +225,7 @@ impl Buffers {
     ///
     /// # Errors
     ///
-    /// [`Refusal::TextTooLong`].
+    /// [`Refusal::LongText`].
     pub fn process_chart_kept(
         &mut self,
         data: &[u8],
@@ -252,7 +252,7 @@ impl Buffers {
     ///
     /// # Errors
     ///
-    /// [`Refusal::TextTooLong`].
+    /// [`Refusal::LongText`].
     pub fn minimize_timing_rows(
         &mut self,
         data: &[u8],
@@ -277,7 +277,7 @@ impl Buffers {
     ///
     /// # Errors
     ///
-    /// [`Refusal::TextTooLong`].
+    /// [`Refusal::LongText`].
     pub fn measure_densities(&mut self, data: &[u8], lanes: usize) -> Result<&[u32], Refusal> {
         let len = Lengths::of(data.len(), lanes).measures;
         lent::measure_densities(
@@ -293,7 +293,7 @@ impl Buffers {
     ///
     /// # Errors
     ///
-    /// [`Refusal::TextTooLong`].
+    /// [`Refusal::LongText`].
     pub fn equally_spaced(&mut self, data: &[u8], lanes: usize) -> Result<&[u8], Refusal> {
         let len = Lengths::of(data.len(), lanes).measures;
         lent::equally_spaced(data, lanes, part(&mut self.spacing, len), &mut self.figures)?;
@@ -304,7 +304,7 @@ impl Buffers {
     ///
     /// # Errors
     ///
-    /// [`Refusal::TextTooLong`].
+    /// [`Refusal::LongText`].
     pub fn process_rows_judgable(
         &mut self,
         data: &[u8],
@@ -319,7 +319,7 @@ impl Buffers {
     ///
     /// # Errors
     ///
-    /// [`Refusal::TextTooLong`].
+    /// [`Refusal::LongText`].
     pub fn process_timing_rows(
         &mut self,
         data: &[u8],
@@ -351,7 +351,7 @@ impl Buffers {
     ///
     /// # Errors
     ///
-    /// [`Refusal::TextTooLong`].
+    /// [`Refusal::LongText`].
     pub fn chart_sheet(
         &mut self,
         data: &[u8],

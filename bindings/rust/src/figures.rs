@@ -78,7 +78,6 @@ pub(crate) fn count(figures: &Figures, place: usize) -> usize {
 #[cfg(test)]
 mod tests {
     use super::place::*;
-    use super::*;
 
     #[test]
     fn places_are_those_of_the_header() {
@@ -87,31 +86,5 @@ mod tests {
         let beats = [LAST_BEAT, HAS_HEADS, LAST_BEAT_48THS];
         assert_eq!(beats, [4, 5, 6]);
         assert_eq!((SHEET_BYTES, TALLY), (7, 8));
-    }
-
-    #[test]
-    fn each_field_is_read_from_its_place() {
-        let mut figures = [0; 32];
-        for (i, figure) in figures.iter_mut().enumerate() {
-            *figure = i as u64;
-        }
-        let stats = ArrowStats::from_figures(&figures);
-        let fields = [
-            stats.total_arrows,
-            stats.left,
-            stats.down,
-            stats.up,
-            stats.right,
-            stats.total_steps,
-            stats.jumps,
-            stats.hands,
-            stats.mines,
-            stats.holds,
-            stats.rolls,
-            stats.lifts,
-            stats.fakes,
-            stats.holding as u32,
-        ];
-        assert_eq!(fields, std::array::from_fn(|i| 8 + i as u32));
     }
 }

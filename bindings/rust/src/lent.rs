@@ -14,7 +14,7 @@
 //! assert_eq!(densities[..figures[place::MEASURES] as usize], [2, 1]);
 //!
 //! let short = lent::measure_densities(data, 4, &mut densities[1..], &mut figures);
-//! assert_eq!(short, Err(Refusal::MeasuresShort));
+//! assert_eq!(short, Err(Refusal::ShortMeasures));
 //! # Ok::<(), Refusal>(())
 //! ```
 

@@ -14,7 +14,7 @@
 //! [`chart_sheet`] writes a chart's figures out, in the lines of the program card, in columns for the eye, or as JSON.
 //!
 //! [`sm_chart`] and [`sm_charts`] find what any of these is given: the note data of each chart inside an SM file, and its
-//! lane count. They copy nothing, and what they refuse is a [`Refusal`] too.
+//! lane count. They copy nothing, and what they refuse is a [`Refusal`] too; [`sm_blocks`] says besides where each starts.
 //!
 //! `lanes` is the lane number as the caller has it: 5, 8 and 10 are taken as such, every other number as 4.
 //!
@@ -47,4 +47,4 @@ pub use owned::{
 };
 pub use refusal::Refusal;
 pub use sheet::SheetForm;
-pub use sm::{SmChart, SmCharts, sm_chart, sm_charts};
+pub use sm::{SmBlock, SmBlocks, SmChart, SmCharts, sm_blocks, sm_chart, sm_charts};

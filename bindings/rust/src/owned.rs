@@ -35,7 +35,7 @@ pub struct OwnedChart {
 ///
 /// # Errors
 ///
-/// [`Refusal::TextTooLong`].
+/// [`Refusal::LongText`].
 pub fn minimize_chart_count_rows_notes(data: &[u8], lanes: usize) -> Result<OwnedChart, Refusal> {
     with_kept(|buffers| {
         let chart = buffers.minimize_chart_count_rows_notes(data, lanes)?;
@@ -64,7 +64,7 @@ pub fn minimize_chart_count_rows_notes(data: &[u8], lanes: usize) -> Result<Owne
 ///
 /// # Errors
 ///
-/// [`Refusal::TextTooLong`].
+/// [`Refusal::LongText`].
 pub fn process_chart_kept(
     data: &[u8],
     lanes: usize,
@@ -92,7 +92,7 @@ pub fn process_chart_kept(
 ///
 /// # Errors
 ///
-/// [`Refusal::TextTooLong`].
+/// [`Refusal::LongText`].
 pub fn minimize_timing_rows<const L: usize>(
     data: &[u8],
 ) -> Result<(Vec<[u8; L]>, Vec<f32>, bool), Refusal> {
@@ -121,7 +121,7 @@ pub fn minimize_timing_rows<const L: usize>(
 ///
 /// # Errors
 ///
-/// [`Refusal::TextTooLong`].
+/// [`Refusal::LongText`].
 pub fn measure_densities(data: &[u8], lanes: usize) -> Result<Vec<usize>, Refusal> {
     with_kept(|buffers| buffers.measure_densities(data, lanes).map(widened))
 }
@@ -135,7 +135,7 @@ pub fn measure_densities(data: &[u8], lanes: usize) -> Result<Vec<usize>, Refusa
 ///
 /// # Errors
 ///
-/// [`Refusal::TextTooLong`].
+/// [`Refusal::LongText`].
 pub fn equally_spaced(data: &[u8], lanes: usize) -> Result<Vec<bool>, Refusal> {
     with_kept(|buffers| {
         let spacing = buffers.equally_spaced(data, lanes)?;
@@ -153,7 +153,7 @@ pub fn equally_spaced(data: &[u8], lanes: usize) -> Result<Vec<bool>, Refusal> {
 ///
 /// # Errors
 ///
-/// [`Refusal::TextTooLong`].
+/// [`Refusal::LongText`].
 pub fn chart_last_beat(data: &[u8], lanes: usize) -> Result<LastBeat, Refusal> {
     let mut figures = [0; 32];
     lent::chart_last_beat(data, lanes, &mut figures)?;
@@ -170,7 +170,7 @@ pub fn chart_last_beat(data: &[u8], lanes: usize) -> Result<LastBeat, Refusal> {
 ///
 /// # Errors
 ///
-/// [`Refusal::TextTooLong`].
+/// [`Refusal::LongText`].
 pub fn process_rows_judgable(data: &[u8], lanes: usize) -> Result<ArrowStats, Refusal> {
     with_kept(|buffers| buffers.process_rows_judgable(data, lanes))
 }
@@ -185,7 +185,7 @@ pub fn process_rows_judgable(data: &[u8], lanes: usize) -> Result<ArrowStats, Re
 ///
 /// # Errors
 ///
-/// [`Refusal::TextTooLong`].
+/// [`Refusal::LongText`].
 pub fn process_timing_rows(data: &[u8], lanes: usize, flags: &[u8]) -> Result<ArrowStats, Refusal> {
     with_kept(|buffers| buffers.process_timing_rows(data, lanes, flags))
 }
@@ -210,7 +210,7 @@ pub fn process_timing_rows(data: &[u8], lanes: usize, flags: &[u8]) -> Result<Ar
 ///
 /// # Errors
 ///
-/// [`Refusal::TextTooLong`].
+/// [`Refusal::LongText`].
 pub fn chart_sheet(data: &[u8], lanes: usize, form: SheetForm) -> Result<Vec<u8>, Refusal> {
     with_kept(|buffers| {
         buffers.chart_sheet(data, lanes, form)?;

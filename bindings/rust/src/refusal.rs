@@ -3,34 +3,38 @@
 use std::error::Error;
 use std::fmt;
 
-/// A refusal of documents 01 and 02. A refused call has written nothing.
+/// A refusal, by the library's names, numbers and words. A refused call has written nothing.
 ///
-/// With slices that the binding allocates a chart can only be refused by [`Refusal::TextTooLong`]. 2 to 6, 19 and 20 are met
+/// With slices that the binding allocates a chart can only be refused by [`Refusal::LongText`]. 2 to 6, 19 and 20 are met
 /// by whoever lends slices of his own ([`crate::lent`]), 7 and 8 by whoever stores note records. A chart inside an SM file
 /// ([`crate::sm_chart`]) is refused by 9 and 10 for what the file's author wrote, by 11 for what the caller asked.
 ///
 /// ```
 /// use padcheck::Refusal;
 ///
-/// assert_eq!(Refusal::BeatsShort.number(), 4);
-/// assert_eq!(Refusal::BeatsShort.to_string(), "refused 4: the beat slice is too short");
+/// let refusal = Refusal::ShortBeats;
+/// assert_eq!(refusal.number(), 4);
+/// assert_eq!(refusal.words(), "the beat slice is shorter than R");
+/// assert_eq!(refusal.caused_by(), "whoever wires up the call");
+/// let said = "refused 4: the beat slice is shorter than R, by whoever wires up the call";
+/// assert_eq!(refusal.to_string(), said);
 /// ```
 #[derive(Clone, Copy, Debug, PartialEq, Eq, Hash, PartialOrd, Ord)]
 #[non_exhaustive]
 #[repr(u32)]
 pub enum Refusal {
     /// The text or the SM file is longer than [`MAX_LEN`](crate::MAX_LEN).
-    TextTooLong = 1,
+    LongText = 1,
     /// The text slice is shorter than len + 1.
-    TextShort = 2,
+    ShortText = 2,
     /// The measure slice, densities or spacing, is shorter than (len + 1) div 2 + 1.
-    MeasuresShort = 3,
+    ShortMeasures = 3,
     /// The beat slice is shorter than R, the most rows a text can hold.
-    BeatsShort = 4,
+    ShortBeats = 4,
     /// The work slice is shorter than R.
-    WorkShort = 5,
+    ShortWork = 5,
     /// The note slice is shorter than 10 × L × R.
-    NotesShort = 6,
+    ShortNotes = 6,
     /// The records' length is not a multiple of 10, or the asked record's number is not below length div 10.
     NoRecord = 7,
     /// That record breaks one of the limits of what the writer makes.
@@ -42,7 +46,7 @@ pub enum Refusal {
     /// The asked chart's number is not below the number of blocks in the SM file.
     NoChart = 11,
     /// The sheet slice is shorter than 42 × (len + 1) + 3,000 bytes.
-    SheetTooShort = 19,
+    ShortSheet = 19,
     /// The sheet's form has a number over 2.
     OtherForm = 20,
 }
@@ -50,44 +54,63 @@ pub enum Refusal {
 impl Refusal {
     /// Every refusal, in rising order.
     pub const ALL: [Self; 13] = [
-        Self::TextTooLong,
-        Self::TextShort,
-        Self::MeasuresShort,
-        Self::BeatsShort,
-        Self::WorkShort,
-        Self::NotesShort,
+        Self::LongText,
+        Self::ShortText,
+        Self::ShortMeasures,
+        Self::ShortBeats,
+        Self::ShortWork,
+        Self::ShortNotes,
         Self::NoRecord,
         Self::BadRecord,
         Self::FewFields,
         Self::OtherType,
         Self::NoChart,
-        Self::SheetTooShort,
+        Self::ShortSheet,
         Self::OtherForm,
     ];
 
-    /// The documents' number.
+    /// The number that the entry returned.
     #[must_use]
     pub const fn number(self) -> u32 {
         self as u32
     }
 
-    /// The refusal in words, without its number.
+    /// Whose mistake it is.
     #[must_use]
-    pub const fn meaning(self) -> &'static str {
+    pub const fn caused_by(self) -> &'static str {
         match self {
-            Self::TextTooLong => "the text is longer than 16777215 bytes",
-            Self::TextShort => "the text slice is too short",
-            Self::MeasuresShort => "the measure slice is too short",
-            Self::BeatsShort => "the beat slice is too short",
-            Self::WorkShort => "the work slice is too short",
-            Self::NotesShort => "the note slice is too short",
+            Self::LongText
+            | Self::ShortText
+            | Self::ShortMeasures
+            | Self::ShortBeats
+            | Self::ShortWork
+            | Self::ShortNotes
+            | Self::ShortSheet
+            | Self::OtherForm => "whoever wires up the call",
+            Self::NoRecord | Self::BadRecord => "whoever stores note records",
+            Self::FewFields | Self::OtherType => "whoever writes the SM file",
+            Self::NoChart => "whoever asks for the chart",
+        }
+    }
+
+    /// What is wrong. len is the length of the text or SM file in bytes, L the lane count, R the most rows that such a text
+    /// can hold.
+    #[must_use]
+    pub const fn words(self) -> &'static str {
+        match self {
+            Self::LongText => "len is over 16,777,215",
+            Self::ShortText => "the text slice is shorter than len + 1",
+            Self::ShortMeasures => "the measure slice is shorter than (len + 1) div 2 + 1",
+            Self::ShortBeats => "the beat slice is shorter than R",
+            Self::ShortWork => "the work slice is shorter than R",
+            Self::ShortNotes => "the note slice is shorter than 10 * L * R",
             Self::NoRecord => "there is no such note record",
-            Self::BadRecord => "the note record breaks a limit",
-            Self::FewFields => "the SM file's author gave this chart fewer than five fields",
-            Self::OtherType => "the SM file's author gave this chart a type that is not read",
-            Self::NoChart => "the caller asked for a chart that the SM file does not have",
-            Self::SheetTooShort => "the caller lent a sheet slice that is too short",
-            Self::OtherForm => "the caller asked for a form of the sheet that is none of the three",
+            Self::BadRecord => "that record breaks a limit",
+            Self::FewFields => "the block has fewer than five fields",
+            Self::OtherType => "the chart has another type name",
+            Self::NoChart => "the file has no such block",
+            Self::ShortSheet => "the sheet slice is shorter than 42 * (len + 1) + 3000",
+            Self::OtherForm => "the form's number is over 2",
         }
     }
 
@@ -111,7 +134,8 @@ impl Refusal {
 
 impl fmt::Display for Refusal {
     fn fmt(&self, f: &mut fmt::Formatter<'_>) -> fmt::Result {
-        write!(f, "refused {}: {}", self.number(), self.meaning())
+        let (number, words, cause) = (self.number(), self.words(), self.caused_by());
+        write!(f, "refused {number}: {words}, by {cause}")
     }
 }
 
@@ -121,64 +145,63 @@ impl Error for Refusal {}
 mod tests {
     use super::*;
 
+    /// The library's source with its own `Refusal`, whose words are proved.
+    const SOURCE: &str = include_str!(concat!(
+        env!("CARGO_MANIFEST_DIR"),
+        "/../../crates/definitions/src/lib.rt"
+    ));
+
+    /// What stands in the source behind one text and before the next other one.
+    fn between(before: &str, after: &str) -> &'static str {
+        let (_, rest) = SOURCE.split_once(before).expect(before);
+        rest.split_once(after).expect(after).0
+    }
+
+    /// The names of the library's refusals, each with its number.
+    fn numbers() -> Vec<(&'static str, u32)> {
+        let lines = between("pub enum Refusal {", "\n}").lines();
+        let variants = lines.filter_map(|line| line.trim().trim_end_matches(',').split_once(" = "));
+        variants
+            .map(|(name, number)| (name, number.parse().unwrap()))
+            .collect()
+    }
+
+    /// What a method of the library's answers for the refusal of this name.
+    fn told(method: &str, name: &str) -> &'static str {
+        let body = between(&format!("pub fn {method}(self)"), "\n    }\n");
+        // The names of an arm and its text in turn.
+        let parts: Vec<_> = body.split('"').collect();
+        let mut arms = parts.chunks_exact(2).filter(|arm| {
+            let mut words = arm[0].split(|letter: char| !letter.is_alphanumeric());
+            words.any(|word| word == name)
+        });
+        match (arms.next(), arms.next()) {
+            (Some(arm), None) => arm[1],
+            _ => panic!("{method} has not one arm for {name}"),
+        }
+    }
+
     #[test]
-    fn numbers_are_those_of_the_documents() {
-        let numbers = Refusal::ALL.map(Refusal::number);
-        assert_eq!(numbers, [1, 2, 3, 4, 5, 6, 7, 8, 9, 10, 11, 19, 20]);
+    fn names_and_numbers_are_the_librarys() {
+        let names = Refusal::ALL.map(|refusal| format!("{refusal:?}"));
+        let ours = names.iter().zip(Refusal::ALL);
+        let ours = ours.map(|(name, refusal)| (&**name, refusal.number()));
+        assert_eq!(ours.collect::<Vec<_>>(), numbers());
         for refusal in Refusal::ALL {
             assert_eq!(Refusal::of(refusal.number()), Err(refusal));
         }
         assert_eq!(Refusal::of(0), Ok(()));
     }
 
-    /// Each name with its number and its words.
-    const SAID: [(Refusal, u32, &str); 13] = [
-        (
-            Refusal::TextTooLong,
-            1,
-            "the text is longer than 16777215 bytes",
-        ),
-        (Refusal::TextShort, 2, "the text slice is too short"),
-        (Refusal::MeasuresShort, 3, "the measure slice is too short"),
-        (Refusal::BeatsShort, 4, "the beat slice is too short"),
-        (Refusal::WorkShort, 5, "the work slice is too short"),
-        (Refusal::NotesShort, 6, "the note slice is too short"),
-        (Refusal::NoRecord, 7, "there is no such note record"),
-        (Refusal::BadRecord, 8, "the note record breaks a limit"),
-        (
-            Refusal::FewFields,
-            9,
-            "the SM file's author gave this chart fewer than five fields",
-        ),
-        (
-            Refusal::OtherType,
-            10,
-            "the SM file's author gave this chart a type that is not read",
-        ),
-        (
-            Refusal::NoChart,
-            11,
-            "the caller asked for a chart that the SM file does not have",
-        ),
-        (
-            Refusal::SheetTooShort,
-            19,
-            "the caller lent a sheet slice that is too short",
-        ),
-        (
-            Refusal::OtherForm,
-            20,
-            "the caller asked for a form of the sheet that is none of the three",
-        ),
-    ];
-
     #[test]
-    fn every_refusal_is_said_in_its_words() {
-        assert_eq!(Refusal::ALL, SAID.map(|(refusal, _, _)| refusal));
-        for (refusal, number, words) in SAID {
-            assert_eq!(refusal.number(), number);
-            assert_eq!(refusal.meaning(), words);
-            assert_eq!(refusal.to_string(), format!("refused {number}: {words}"));
+    fn words_are_the_librarys() {
+        // As the library's `Refusal` is printed.
+        assert!(SOURCE.contains(r#"write!(f, "{}, by {}", self.words(), self.caused_by())"#));
+        for (refusal, (name, number)) in Refusal::ALL.into_iter().zip(numbers()) {
+            let (words, cause) = (told("words", name), told("caused_by", name));
+            assert_eq!((refusal.words(), refusal.caused_by()), (words, cause));
+            let said = format!("refused {number}: {words}, by {cause}");
+            assert_eq!(refusal.to_string(), said);
         }
     }
 

@@ -37,7 +37,7 @@ pub struct SmChart<'a> {
 ///
 /// The first of these that holds, in this order:
 ///
-/// - [`Refusal::TextTooLong`] for a file longer than [`MAX_LEN`](crate::MAX_LEN),
+/// - [`Refusal::LongText`] for a file longer than [`MAX_LEN`](crate::MAX_LEN),
 /// - [`Refusal::NoChart`] where `k` is not below the number of blocks,
 /// - [`Refusal::FewFields`] where the block has fewer than five `:` after its tag,
 /// - [`Refusal::OtherType`] where its type is another than the four that [`SmChart::lanes`] names, in these letters.
@@ -58,7 +58,7 @@ fn placed(file: &[u8], k: usize) -> Result<(SmChart<'_>, usize), Refusal> {
 /// All charts of an SM file in their order, each with its own answer: that of [`sm_chart`] for 0, 1, 2 and so on, up to
 /// the number that is answered [`Refusal::NoChart`], which is not shown.
 ///
-/// A refused chart does not hinder those after it. A file that is too long gives [`Refusal::TextTooLong`] once.
+/// A refused chart does not hinder those after it. A file that is too long gives [`Refusal::LongText`] once.
 ///
 /// ```
 /// use padcheck::{Refusal, sm_charts};
@@ -79,7 +79,9 @@ fn placed(file: &[u8], k: usize) -> Result<(SmChart<'_>, usize), Refusal> {
 ///
 /// The file is walked a few times in all, however many charts it has: each is asked for as the first one of what follows
 /// the line on which the one before it ends. That what follows has the other charts, each with the same answer, is proved
-/// of every file (`rest-answered`, `crates/files`); that this side goes on at that line is tested.
+/// of every file (`rest-answered`, `crates/files`). Where a refused chart ends the library does not say: behind it the
+/// walk goes on at the line on which the next one starts, the last line of the shortest front of the file that has one
+/// more chart. That this side goes on at these lines is tested.
 #[must_use]
 pub fn sm_charts(file: &[u8]) -> SmCharts<'_> {
     SmCharts { rest: Some(file) }
@@ -99,9 +101,9 @@ impl<'a> Iterator for SmCharts<'a> {
         let file = self.rest.take()?;
         match placed(file, 0) {
             Err(Refusal::NoChart) => None,
-            Err(Refusal::TextTooLong) => Some(Err(Refusal::TextTooLong)),
+            Err(Refusal::LongText) => Some(Err(Refusal::LongText)),
             Err(refusal) => {
-                self.rest = after_line(&file[refused_end(file)..]);
+                self.rest = tag_end(file, 1).map(|end| &file[line_start(&file[..end])..]);
                 Some(Err(refusal))
             }
             Ok((chart, end)) => {
@@ -120,18 +122,86 @@ fn after_line(text: &[u8]) -> Option<&[u8]> {
     Some(&text[end + 1..])
 }
 
-/// The place where the first block of a file ends that has one, also where its chart is refused and no place was answered.
-///
-/// The first line that has a chart when it stands alone is the one at which the block starts. Neither the blanks before
-/// the tag nor the tag have a `;`, so that the first one from there on is the block's.
-fn refused_end(file: &[u8]) -> usize {
-    let mut start = 0;
-    for line in file.split_inclusive(|&byte| byte == b'\n') {
-        if lent::sm_chart(line, 0, &mut [0; 3]) != Err(Refusal::NoChart) {
-            break;
-        }
-        start += line.len();
-    }
-    let end = file[start..].iter().position(|&byte| byte == b';');
-    end.map_or(file.len(), |place| start + place + 1)
+/// Where the last line of a text starts.
+fn line_start(text: &[u8]) -> usize {
+    let end = text.iter().rposition(|&byte| byte == b'\n');
+    end.map_or(0, |place| place + 1)
 }
+
+/// How long the shortest front of a file is that has a chart of this number, read or refused, if the file has one. It ends
+/// with the tag at which that chart's block starts.
+///
+/// A front has the charts of every shorter one, so longer and longer ones are asked for, and then those between two.
+fn tag_end(file: &[u8], k: usize) -> Option<usize> {
+    const FIRST: usize = 32;
+    let has_chart =
+        |len: usize| lent::sm_chart(&file[..len], k, &mut [0; 3]) != Err(Refusal::NoChart);
+    let (mut without, mut with) = (0, file.len().min(FIRST));
+    while !has_chart(with) {
+        if with == file.len() {
+            return None;
+        }
+        (without, with) = (with, file.len().min(2 * with));
+    }
+    while without + 1 < with {
+        let between = without.midpoint(with);
+        if has_chart(between) {
+            with = between;
+        } else {
+            without = between;
+        }
+    }
+    Some(with)
+}
+
+/// A chart inside an SM file that may be refused, and where it starts.
+#[derive(Clone, Copy, Debug, PartialEq, Eq)]
+pub struct SmBlock<'a> {
+    /// What stands in the file behind the tag of its block: its fields first, of which the library says no more where the
+    /// chart is refused.
+    pub after_tag: &'a [u8],
+    /// What [`sm_charts`] shows of it.
+    pub chart: Result<SmChart<'a>, Refusal>,
+}
+
+/// All charts of an SM file, those that are refused too, each with the place at which it starts. A file that is too long
+/// shows none.
+///
+/// ```
+/// use padcheck::{Refusal, sm_blocks};
+///
+/// let file = b"#NOTES:lights-cabinet:::::\n;\n#NOTES:dance-single:::::\n1000\n;\n";
+/// let blocks: Vec<_> = sm_blocks(file).collect();
+/// assert_eq!(blocks.len(), 2);
+/// assert_eq!(blocks[0].chart, Err(Refusal::OtherType));
+/// assert!(blocks[0].after_tag.starts_with(b"lights-cabinet:"));
+/// assert_eq!(blocks[1].chart.map(|chart| chart.data), Ok(&b"\n1000\n;"[..]));
+/// ```
+#[must_use]
+pub fn sm_blocks(file: &[u8]) -> SmBlocks<'_> {
+    SmBlocks {
+        charts: sm_charts(file),
+    }
+}
+
+/// The charts of an SM file, as [`sm_blocks`] shows them.
+#[derive(Clone, Debug)]
+pub struct SmBlocks<'a> {
+    charts: SmCharts<'a>,
+}
+
+impl<'a> Iterator for SmBlocks<'a> {
+    type Item = SmBlock<'a>;
+
+    fn next(&mut self) -> Option<Self::Item> {
+        let file = self.charts.rest?;
+        let chart = self.charts.next()?;
+        if chart == Err(Refusal::LongText) {
+            return None;
+        }
+        let after_tag = &file[tag_end(file, 0)?..];
+        Some(SmBlock { after_tag, chart })
+    }
+}
+
+impl FusedIterator for SmBlocks<'_> {}

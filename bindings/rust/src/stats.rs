@@ -330,7 +330,7 @@ mod tests {
     }
 
     #[test]
-    #[should_panic(expected = "refused 1: the text is longer than 16777215 bytes")]
+    #[should_panic(expected = "refused 1: len is over 16,777,215")]
     fn a_longer_text_panics_in_words() {
         let _ = measure_densities(&vec![b'\n'; MAX_LEN + 1], 4);
     }

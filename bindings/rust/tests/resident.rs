@@ -3,9 +3,11 @@
 
 #[path = "../../../bench/chart.rs"]
 mod chart;
+mod loan;
 
 use chart::Kind;
-use padcheck::{Buffers, Figures, Lengths, MAX_LEN, NOTE_BYTES, SheetForm, lent, place};
+use loan::Loan;
+use padcheck::{Buffers, Lengths, MAX_LEN, NOTE_BYTES, SheetForm, place};
 use std::ffi::c_int;
 use std::process::Command;
 use std::{env, fs};
@@ -71,75 +73,28 @@ fn text(kind: Kind) -> Vec<u8> {
     chart::text(LANES, MAX_LEN, b"\n", 1, kind)
 }
 
-/// Slices of the lengths that suffice, each element of them one of these.
-struct Slices {
-    text: Vec<u8>,
-    densities: Vec<u32>,
-    spacing: Vec<u8>,
-    beats: Vec<f32>,
-    work: Vec<u16>,
-    notes: Vec<u8>,
-    sheet: Vec<u8>,
-    figures: Figures,
+/// Slices for a text, each entry of them this number; no sheet.
+fn slices(data: &[u8], entry: u8) -> Loan {
+    let lengths = Lengths::of(data.len(), LANES);
+    Loan::of(
+        Lengths {
+            sheet: 0,
+            ..lengths
+        },
+        entry,
+    )
 }
 
-impl Slices {
-    fn of(data: &[u8], byte: u8) -> Self {
-        let lengths = Lengths::of(data.len(), LANES);
-        Self {
-            text: vec![byte; lengths.text],
-            densities: vec![byte.into(); lengths.measures],
-            spacing: vec![byte; lengths.measures],
-            beats: vec![byte.into(); lengths.beats],
-            work: vec![byte.into(); lengths.work],
-            notes: vec![byte; lengths.notes],
-            sheet: vec![0; lengths.sheet],
-            figures: [0; 32],
-        }
-    }
+fn figure(loan: &Loan, place: usize) -> usize {
+    loan.figures[place].try_into().unwrap()
+}
 
-    fn main_call(&mut self, data: &[u8]) {
-        lent::minimize_chart_count_rows_notes(
-            data,
-            LANES,
-            &mut self.text,
-            &mut self.densities,
-            &mut self.beats,
-            &mut self.work,
-            &mut self.notes,
-            &mut self.figures,
-        )
-        .unwrap();
-    }
-
-    fn chart_sheet(&mut self, data: &[u8], form: SheetForm) {
-        lent::chart_sheet(
-            data,
-            LANES,
-            form.number(),
-            &mut self.text,
-            &mut self.densities,
-            &mut self.spacing,
-            &mut self.beats,
-            &mut self.work,
-            &mut self.notes,
-            &mut self.sheet,
-            &mut self.figures,
-        )
-        .unwrap();
-    }
-
-    fn figure(&self, place: usize) -> usize {
-        self.figures[place].try_into().unwrap()
-    }
-
-    /// Bytes of all that the main call answers.
-    fn answers(&self) -> usize {
-        self.figure(place::TEXT_BYTES)
-            + size_of::<u32>() * self.figure(place::MEASURES)
-            + size_of::<f32>() * self.figure(place::ROWS)
-            + NOTE_BYTES * self.figure(place::NOTES)
-    }
+/// Bytes of all that the main call answers.
+fn answers(loan: &Loan) -> usize {
+    figure(loan, place::TEXT_BYTES)
+        + size_of::<u32>() * figure(loan, place::MEASURES)
+        + size_of::<f32>() * figure(loan, place::ROWS)
+        + NOTE_BYTES * figure(loan, place::NOTES)
 }
 
 #[test]
@@ -147,9 +102,9 @@ fn the_main_call() {
     alone("the_main_call", || {
         small_pages();
         let data = text(Kind::Closed);
-        let mut slices = Slices::of(&data, 0);
-        slices.main_call(&data);
-        within(&data, slices.answers(), BESIDES);
+        let mut loan = slices(&data, 0);
+        loan.main_call(&data, LANES).unwrap();
+        within(&data, answers(&loan), BESIDES);
     });
 }
 
@@ -158,9 +113,9 @@ fn the_main_call_on_a_text_that_minimises() {
     alone("the_main_call_on_a_text_that_minimises", || {
         small_pages();
         let data = text(Kind::Sparse);
-        let mut slices = Slices::of(&data, 0);
-        slices.main_call(&data);
-        within(&data, slices.answers(), BESIDES);
+        let mut loan = slices(&data, 0);
+        loan.main_call(&data, LANES).unwrap();
+        within(&data, answers(&loan), BESIDES);
     });
 }
 
@@ -170,10 +125,10 @@ fn the_main_call_on_an_unclosed_text() {
     alone("the_main_call_on_an_unclosed_text", || {
         small_pages();
         let data = text(Kind::Unclosed);
-        let mut slices = Slices::of(&data, 0);
-        slices.main_call(&data);
-        let marks = size_of::<u16>() * slices.figure(place::ROWS);
-        within(&data, slices.answers() + marks, BESIDES);
+        let mut loan = slices(&data, 0);
+        loan.main_call(&data, LANES).unwrap();
+        let marks = size_of::<u16>() * figure(&loan, place::ROWS);
+        within(&data, answers(&loan) + marks, BESIDES);
     });
 }
 
@@ -182,11 +137,12 @@ fn the_sheet() {
     alone("the_sheet", || {
         small_pages();
         let data = text(Kind::Sparse);
-        let mut slices = Slices::of(&data, 0);
-        slices.chart_sheet(&data, SheetForm::Json);
-        let spacing = slices.figure(place::MEASURES);
-        let sheet = slices.figure(place::SHEET_BYTES);
-        within(&data, slices.answers() + spacing + sheet, BESIDES);
+        let mut loan = Loan::of(Lengths::of(data.len(), LANES), 0);
+        loan.chart_sheet(&data, LANES, SheetForm::Json.number())
+            .unwrap();
+        let spacing = figure(&loan, place::MEASURES);
+        let sheet = figure(&loan, place::SHEET_BYTES);
+        within(&data, answers(&loan) + spacing + sheet, BESIDES);
     });
 }
 
@@ -211,14 +167,14 @@ fn buffers_of_large_pages() {
 fn slices_that_hold_something() {
     alone("slices_that_hold_something", || {
         let data = text(Kind::Sparse);
-        let mut slices = Slices::of(&data, 1);
-        slices.main_call(&data);
-        let lent = size_of_val(&slices.text[..])
-            + size_of_val(&slices.densities[..])
-            + size_of_val(&slices.beats[..])
-            + size_of_val(&slices.work[..])
-            + size_of_val(&slices.notes[..]);
+        let mut loan = slices(&data, 1);
+        loan.main_call(&data, LANES).unwrap();
+        let lent = size_of_val(&loan.text[..])
+            + size_of_val(&loan.densities[..])
+            + size_of_val(&loan.beats[..])
+            + size_of_val(&loan.work[..])
+            + size_of_val(&loan.notes[..]);
         assert!(peak() > data.len() + lent);
-        assert!(lent > slices.answers() + BESIDES + 5 * LARGE_PAGE);
+        assert!(lent > answers(&loan) + BESIDES + 5 * LARGE_PAGE);
     });
 }

@@ -1,6 +1,9 @@
 //! The sheet of a chart: its three forms, what else the call leaves in the slices it is lent, and its refusals.
 
-use padcheck::{Buffers, Figures, Lengths, MAX_LEN, Refusal, SheetForm, chart_sheet, lent, place};
+mod loan;
+
+use loan::{Lent, Loan};
+use padcheck::{Buffers, MAX_LEN, Refusal, SheetForm, chart_sheet, lent, place};
 
 /// Document 01's example.
 const DATA: &[u8] = b"1000\n0000\n0100\n0000\n;\n";
@@ -146,79 +149,16 @@ fn the_last_beat_is_said_in_beats_and_48ths() {
     assert!(json.contains(r#""last_beat":{"beats":1,"over_48":16,"in_48ths":64}"#));
 }
 
-/// Slices of the exact lengths for a text, each entry marked.
-struct Loan {
-    text: Vec<u8>,
-    densities: Vec<u32>,
-    spacing: Vec<u8>,
-    beats: Vec<f32>,
-    work: Vec<u16>,
-    notes: Vec<u8>,
-    sheet: Vec<u8>,
-    figures: Figures,
-}
-
-impl Loan {
-    fn marked(len: usize, lanes: usize) -> Self {
-        let lengths = Lengths::of(len, lanes);
-        Self {
-            text: vec![7; lengths.text],
-            densities: vec![7; lengths.measures],
-            spacing: vec![7; lengths.measures],
-            beats: vec![7.0; lengths.beats],
-            work: vec![7; lengths.work],
-            notes: vec![7; lengths.notes],
-            sheet: vec![7; lengths.sheet],
-            figures: [7; 32],
-        }
-    }
-
-    fn is_marked(&self) -> bool {
-        let bytes = [&self.text, &self.spacing, &self.notes, &self.sheet];
-        bytes.into_iter().flatten().all(|&byte| byte == 7)
-            && self.densities.iter().all(|&density| density == 7)
-            && self.beats.iter().all(|&beat| beat == 7.0)
-            && self.work.iter().all(|&work| work == 7)
-            && self.figures == [7; 32]
-    }
-
-    fn enter(&mut self, data: &[u8], lanes: usize, form: usize) -> Result<(), Refusal> {
-        lent::chart_sheet(
-            data,
-            lanes,
-            form,
-            &mut self.text,
-            &mut self.densities,
-            &mut self.spacing,
-            &mut self.beats,
-            &mut self.work,
-            &mut self.notes,
-            &mut self.sheet,
-            &mut self.figures,
-        )
-    }
-}
-
 /// The sheet has zeros past it, and all else is as the main call and `equally_spaced` leave it.
 #[test]
 fn what_else_is_lent_is_left_as_by_the_other_calls() {
     for (data, lanes) in [(DATA, 4), (FIRST_STEPS, 4), (FIRST_STEPS, 8), (b"", 10)] {
         let mut main = Loan::marked(data.len(), lanes);
-        lent::minimize_chart_count_rows_notes(
-            data,
-            lanes,
-            &mut main.text,
-            &mut main.densities,
-            &mut main.beats,
-            &mut main.work,
-            &mut main.notes,
-            &mut main.figures,
-        )
-        .unwrap();
+        main.main_call(data, lanes).unwrap();
         lent::equally_spaced(data, lanes, &mut main.spacing, &mut [0; 32]).unwrap();
         for form in FORMS {
             let mut loan = Loan::marked(data.len(), lanes);
-            assert_eq!(loan.enter(data, lanes, form.number()), Ok(()));
+            assert_eq!(loan.chart_sheet(data, lanes, form.number()), Ok(()));
             let bytes = loan.figures[place::SHEET_BYTES] as usize;
             let (written, rest) = loan.sheet.split_at(bytes);
             assert_eq!(written, chart_sheet(data, lanes, form).unwrap());
@@ -235,77 +175,77 @@ fn what_else_is_lent_is_left_as_by_the_other_calls() {
     }
 }
 
-/// Takes the last entry away.
-fn one_less<T>(slice: &mut Vec<T>) {
-    slice.pop();
-}
-
-type Shorten = fn(&mut Loan);
-
-/// What shortens each slice, in the order of the checks, with the refusal that follows.
-const SHORTER: [(Refusal, Shorten); 8] = [
-    (Refusal::TextShort, |loan| one_less(&mut loan.text)),
-    (Refusal::MeasuresShort, |loan| one_less(&mut loan.densities)),
-    (Refusal::MeasuresShort, |loan| one_less(&mut loan.spacing)),
-    (Refusal::BeatsShort, |loan| one_less(&mut loan.beats)),
-    (Refusal::WorkShort, |loan| one_less(&mut loan.work)),
-    (Refusal::NotesShort, |loan| one_less(&mut loan.notes)),
-    (Refusal::SheetTooShort, |loan| one_less(&mut loan.sheet)),
-    (Refusal::OtherForm, |_| {}),
+/// What is lent, in the order of the checks.
+const LENT: [Lent; 7] = [
+    Lent::Text,
+    Lent::Densities,
+    Lent::Spacing,
+    Lent::Beats,
+    Lent::Work,
+    Lent::Notes,
+    Lent::Sheet,
 ];
 
 /// Each shortage alone, and with all that are checked after it: the first is said, and nothing is written.
 #[test]
 fn refusals_are_said_in_their_order() {
-    for (first, (refusal, shorten)) in SHORTER.into_iter().enumerate() {
-        let form = if refusal == Refusal::OtherForm { 3 } else { 2 };
+    for (first, &lent) in LENT.iter().enumerate() {
         let mut alone = Loan::marked(DATA.len(), 4);
-        shorten(&mut alone);
-        assert_eq!(alone.enter(DATA, 4, form), Err(refusal));
+        alone.shorten(lent);
+        assert_eq!(alone.chart_sheet(DATA, 4, 2), Err(lent.refusal()));
         assert!(alone.is_marked());
 
         let mut with_later = Loan::marked(DATA.len(), 4);
-        for (_, shorten) in &SHORTER[first..] {
-            shorten(&mut with_later);
+        for &lent in &LENT[first..] {
+            with_later.shorten(lent);
         }
-        for form in [3, 1 << 32, usize::MAX] {
-            assert_eq!(with_later.enter(DATA, 4, form), Err(refusal));
-        }
-        assert!(with_later.is_marked());
+        assert_eq!(another_form(with_later), lent.refusal());
     }
     let mut whole = Loan::marked(DATA.len(), 4);
-    assert_eq!(whole.enter(DATA, 4, 2), Ok(()));
+    assert_eq!(
+        another_form(Loan::marked(DATA.len(), 4)),
+        Refusal::OtherForm
+    );
+    assert_eq!(whole.chart_sheet(DATA, 4, 2), Ok(()));
     assert!(!whole.is_marked());
+}
+
+/// How a form that is none is refused over these slices, which are left as they were.
+fn another_form(mut loan: Loan) -> Refusal {
+    let refused = [3, 1 << 32, usize::MAX].map(|form| loan.chart_sheet(DATA, 4, form).unwrap_err());
+    assert!(loan.is_marked());
+    assert_eq!(refused, [refused[0]; 3]);
+    refused[0]
 }
 
 #[test]
 fn the_two_refusals_say_whose_mistake_it_is() {
     let mut loan = Loan::marked(DATA.len(), 4);
-    let form = loan.enter(DATA, 4, 3).unwrap_err();
-    assert_eq!(
-        form.to_string(),
-        "refused 20: the caller asked for a form of the sheet that is none of the three"
-    );
-    loan.sheet.pop();
-    let short = loan.enter(DATA, 4, 0).unwrap_err();
-    assert_eq!(
-        short.to_string(),
-        "refused 19: the caller lent a sheet slice that is too short"
-    );
+    let form = loan.chart_sheet(DATA, 4, 3).unwrap_err();
+    loan.shorten(Lent::Sheet);
+    let short = loan.chart_sheet(DATA, 4, 0).unwrap_err();
+    assert_eq!([form, short], [Refusal::OtherForm, Refusal::ShortSheet]);
+    for refusal in [form, short] {
+        assert!(
+            refusal
+                .to_string()
+                .ends_with(", by whoever wires up the call")
+        );
+    }
 }
 
 #[test]
 fn a_text_that_is_too_long_is_refused_first() {
     let data = vec![b'1'; MAX_LEN + 1];
     let mut loan = Loan::marked(data.len(), 4);
-    assert_eq!(loan.enter(&data, 4, 3), Err(Refusal::TextTooLong));
+    assert_eq!(loan.chart_sheet(&data, 4, 3), Err(Refusal::LongText));
     assert!(loan.is_marked());
     let mut buffers = Buffers::new();
     for form in FORMS {
         let refused = chart_sheet(&data, 4, form);
-        assert_eq!(refused, Err(Refusal::TextTooLong));
+        assert_eq!(refused, Err(Refusal::LongText));
         let refused = buffers.chart_sheet(&data, 4, form);
-        assert_eq!(refused, Err(Refusal::TextTooLong));
+        assert_eq!(refused, Err(Refusal::LongText));
     }
 }
 

@@ -9,7 +9,7 @@ mod entry {
     pub const MAX_LEN: usize = 16_777_215;
 }
 
-use padcheck::{MAX_LEN, Refusal, SmChart, lent, sm_chart, sm_charts};
+use padcheck::{MAX_LEN, Refusal, SmChart, lent, sm_blocks, sm_chart, sm_charts};
 
 /// The chart that the reference found, as a part of the file.
 fn part(file: &[u8], found: reference::SmChart) -> SmChart<'_> {
@@ -32,6 +32,12 @@ fn compare(file: &[u8]) -> Vec<Result<SmChart<'_>, Refusal>> {
     let wanted: Vec<_> = reference::charts(file).collect();
     let parts = wanted.iter().map(|&found| Ok(part(file, found?)));
     assert!(numbers.eq(parts), "all charts of {said}: {all:?}");
+
+    let blocks = sm_blocks(file).map(|block| (place(file, block.after_tag), block.chart));
+    let tags = reference::blocks(file)
+        .into_iter()
+        .map(|block| block.tag_end);
+    assert!(blocks.eq(tags.zip(all.clone())), "the blocks of {said}");
 
     for k in (0..wanted.len() + 2).chain([usize::MAX]) {
         let found = reference::sm_chart(file, k);
@@ -199,16 +205,17 @@ fn a_file_that_is_too_long_is_refused_first_and_once() {
     let mut file = EXAMPLE.to_vec();
     file.resize(MAX_LEN + 1, b' ');
     for k in [0, 1, 3, usize::MAX] {
-        assert_eq!(sm_chart(&file, k), Err(Refusal::TextTooLong));
+        assert_eq!(sm_chart(&file, k), Err(Refusal::LongText));
         assert_eq!(reference::sm_chart(&file, k), Err(1));
         let mut chart = [77, 78, 79];
         let refused = lent::sm_chart(&file, k, &mut chart);
-        assert_eq!((refused, chart), (Err(Refusal::TextTooLong), [77, 78, 79]));
+        assert_eq!((refused, chart), (Err(Refusal::LongText), [77, 78, 79]));
     }
     let mut charts = sm_charts(&file);
-    assert_eq!(charts.next(), Some(Err(Refusal::TextTooLong)));
+    assert_eq!(charts.next(), Some(Err(Refusal::LongText)));
     assert_eq!(charts.next(), None);
     assert_eq!(charts.next(), None);
+    assert_eq!(sm_blocks(&file).next(), None);
 
     file.pop();
     let longest: Vec<_> = sm_charts(&file).collect();
