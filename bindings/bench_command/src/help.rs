@@ -28,7 +28,8 @@ The exit status is the worst of all files and charts:
   1  the library refused a file, all its charts, or one that was asked for by number
   2  the arguments, an input, the output, memory or the processor are at fault;
      standard error says which
-  3  note data looks like something else and was not read; --force reads it all the same
+  3  a file or its note data looks like something else and was not read;
+     --force reads it all the same
 
 Charts, measures, rows and columns count from 0.
 ";
@@ -39,10 +40,11 @@ padcheck charts FILE... [--force]
 
 Lists the charts of each SM file: number, lane count, place and length in bytes of its
 note data, and type. A chart that is refused is listed too, with the refusal's number
-and words; where it has fewer than five fields, place and length are those of what
-follows its #NOTES: instead.
+and words; its place is where its #NOTES: ends, and it has no length.
 
-  --force   lists a file that begins with a byte-order mark all the same
+  --force   lists a doubtful file all the same: one that begins with a byte-order mark,
+            or that has a line such as #Notes: beside charts, which starts no chart,
+            since tags are in capitals
 ";
 
 /// The word `sheet`.
@@ -67,7 +69,8 @@ first byte after blanks is #, where it has a line that begins with #NOTES:, a NU
 byte, a : outside comments, a row with a byte among its cells that is none of
 0 1 2 3 4 M K L F m l f, a line between rows of one measure that is too short for a
 row, no rows or only lines shorter than the lanes, or where most of its rows have
-more than a comment after their cells.
+more than a comment after their cells. What makes a whole SM file doubtful,
+padcheck charts --help says.
 ";
 
 /// The word `rig`.

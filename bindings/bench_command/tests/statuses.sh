@@ -3,7 +3,7 @@
 # 1: what the library refuses stands in the output.
 printed 1 "refused 10: the chart has another type name, by whoever writes the SM file" sheet "$sm" --chart 1
 printed 1 "refused 11: the file has no such block, by whoever asks for the chart" sheet "$sm" --chart 3
-printed 1 "refused 11: the file has no such block, by whoever asks for the chart; none of its lines begins with #NOTES:" sheet "$chart"
+printed 1 "refused 11: the file has no such block, by whoever asks for the chart; none of" sheet "$chart"
 printed 1 "no such block, by whoever asks for the chart; none of its lines begins with #NOTES:" charts "$chart"
 printed 1 "refused 1: len is over 16,777,215, by whoever wires up the call" sheet /dev/zero --lanes 4
 printed 1 "refused 1: len is over 16,777,215, by whoever wires up the call" sheet /dev/zero
