@@ -2,6 +2,7 @@
 
 use crate::chart::{self, Kind};
 use crate::options::Options;
+use crate::symbols::padcheck_sm_chart;
 use oracle::entry::MAX_LEN;
 use oracle::sm::{SmChart, blocks, sm_chart};
 use std::hint::black_box;
@@ -84,15 +85,11 @@ fn put_chart(file: &mut Vec<u8>, len: usize, newline: &[u8], seed: u64) {
 /// What a call answers.
 type Answer = Result<SmChart, u32>;
 
-unsafe extern "C" {
-    fn padcheck_sm_chart(file: *const u8, file_len: usize, k: usize, chart: *mut u64) -> u32;
-}
-
 /// What the entry answers, in the reference's form.
 pub fn enter(file: &[u8], k: usize) -> Answer {
     let mut chart = [0; 3];
     // The pointer goes with the length of its slice, and the chart is three numbers.
-    let number = unsafe { padcheck_sm_chart(file.as_ptr(), file.len(), k, chart.as_mut_ptr()) };
+    let number = unsafe { padcheck_sm_chart(file.as_ptr(), file.len(), k, &mut chart) };
     let [lanes, start, len] = chart.map(|number| number as usize);
     if number == 0 {
         Ok(SmChart { lanes, start, len })

@@ -10,11 +10,14 @@ mod loans;
 mod once;
 mod options;
 mod report;
+#[path = "../bindings/rust/src/symbols.rs"]
+#[allow(dead_code)] // Not every entry is timed.
+mod symbols;
 mod ways;
 
 use loads::{Lines, Load, Text};
 use options::{HELP, Options};
-use oracle::calls::Call;
+use oracle::calls::{Call, Figures};
 use report::Cell;
 use std::process::ExitCode;
 use ways::{Pair, Way};

@@ -1,7 +1,7 @@
 //! The leaves of libleaves.a, and the entries that read a note record, write a sheet and read an SM file, as safe functions.
 //! What a leaf does not take comes back as `None`.
 
-mod symbols {
+mod leaves {
     unsafe extern "C" {
         pub fn leaves_skip_ws(line: *const u8, len: usize) -> usize;
         pub fn leaves_trim_cr(line: *const u8, len: usize) -> usize;
@@ -42,48 +42,16 @@ mod symbols {
             rows: u32,
         ) -> u32;
         pub fn leaves_calc_last_beat(m: u32, r: u32, n: u32, last: *mut u64) -> u32;
-        pub fn padcheck_read_note(
-            records: *const u8,
-            len: usize,
-            index: usize,
-            note: *mut u64,
-        ) -> u32;
-        pub fn padcheck_chart_sheet(
-            data: *const u8,
-            len: usize,
-            lanes: usize,
-            form: usize,
-            text: *mut u8,
-            text_len: usize,
-            densities: *mut u32,
-            densities_len: usize,
-            spacing: *mut u8,
-            spacing_len: usize,
-            beats: *mut f32,
-            beats_len: usize,
-            work: *mut u16,
-            work_len: usize,
-            notes: *mut u8,
-            notes_len: usize,
-            sheet: *mut u8,
-            sheet_len: usize,
-            figures: *mut u64,
-        ) -> u32;
-        pub fn padcheck_sm_chart(
-            file: *const u8,
-            file_len: usize,
-            k: usize,
-            chart: *mut u64,
-        ) -> u32;
     }
 }
 
-use oracle::entry::Loan;
-use symbols::*;
-pub use symbols::{
+use crate::symbols::{padcheck_chart_sheet, padcheck_read_note, padcheck_sm_chart};
+use leaves::*;
+pub use leaves::{
     leaves_cell_of as cell_of, leaves_hold_effect as hold_effect, leaves_lanes_of as lanes_of,
     leaves_object_effect as object_effect,
 };
+use oracle::entry::Loan;
 
 // Below, each pointer goes with the length of its slice or points to an array of the size that the leaf names.
 
@@ -163,7 +131,7 @@ pub fn calc_last_beat(m: u32, r: u32, n: u32, last: &mut [u64; 2]) -> Option<()>
 
 /// The entry that reads a note record: its number, and the note where that is 0.
 pub fn read_note(records: &[u8], index: usize, note: &mut [u64; 4]) -> u32 {
-    unsafe { padcheck_read_note(records.as_ptr(), records.len(), index, note.as_mut_ptr()) }
+    unsafe { padcheck_read_note(records.as_ptr(), records.len(), index, note) }
 }
 
 /// The entry that writes the sheet of a chart: its number.
@@ -194,14 +162,14 @@ pub fn chart_sheet(
             loan.notes.len(),
             sheet.as_mut_ptr(),
             sheet.len(),
-            loan.figures.as_mut_ptr(),
+            &mut loan.figures,
         )
     }
 }
 
 /// The entry that finds a chart in an SM file: its number, and lane count, start and length where that is 0.
 pub fn sm_chart(file: &[u8], k: usize, chart: &mut [u64; 3]) -> u32 {
-    unsafe { padcheck_sm_chart(file.as_ptr(), file.len(), k, chart.as_mut_ptr()) }
+    unsafe { padcheck_sm_chart(file.as_ptr(), file.len(), k, chart) }
 }
 
 fn place(number: usize) -> Option<usize> {
