@@ -4,6 +4,16 @@
  * `sh tools/build.sh lib` writes target/staticlib/libpadcheck.a; link it after the object files that use it:
  *     cc -I include program.c target/staticlib/libpadcheck.a
  *
+ * The densities of the len bytes at data, read with 4 lanes:
+ *     size_t room = padcheck_measures_len(len);
+ *     uint32_t *densities = calloc(room, sizeof *densities);
+ *     uint64_t figures[PADCHECK_FIGURES];
+ *     uint32_t number = padcheck_measure_densities(data, len, 4, densities, room, figures);
+ *     if (number == PADCHECK_ACCEPTED)
+ *         printf("%u in the first of %u measures\n", densities[0], (unsigned)figures[PADCHECK_MEASURES]);
+ *     else
+ *         printf("refused %u: %s, by %s\n", number, padcheck_words(number), padcheck_caused_by(number));
+ *
  * What a caller owes. A slice is a pointer and how many elements stand behind it. A pointer is not NULL, also
  * where its length is 0, and is aligned for its type. What is lent for writing overlaps nothing else that is lent,
  * and nobody else touches it until the call returns. `figures` has 32 numbers, `note` has 4, `chart` has 3. The library
@@ -92,7 +102,7 @@ static inline const char *padcheck_words(uint32_t number)
     }
 }
 
-/* Whose mistake it is: `refused NUMBER: WORDS, by CAUSE` says all of a refusal. */
+/* Whose mistake it is. */
 static inline const char *padcheck_caused_by(uint32_t number)
 {
     switch (number) {

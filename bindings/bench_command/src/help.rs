@@ -81,7 +81,8 @@ padcheck rig FILE --lanes N --notes OUT --beats OUT [--force]
 Writes what the rig reads of chart K of an SM file, or with --lanes of bare note data.
 
   --notes OUT   the note records, 10 bytes each: row and tail of 4 bytes, low byte
-                first, column, kind; the tail is 4294967295 where there is none
+                first, column, kind (0 tap, 1 hold, 2 roll, 3 mine, 4 lift, 5 fake);
+                the tail is 4294967295 where there is none
   --beats OUT   the beat of each row, a float of 4 bytes, low byte first
   --force       takes doubtful note data all the same (see padcheck sheet --help)
 
