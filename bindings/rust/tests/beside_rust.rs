@@ -148,20 +148,30 @@ fn same(ours: impl Debug, rust: impl Debug, data: &[u8], lanes: usize) {
     );
 }
 
+/// Compares what two functions of the same name answer.
+fn beside<A: Debug, B: Debug>(
+    ours: fn(&[u8], usize) -> A,
+    rust: fn(&[u8], usize) -> B,
+    data: &[u8],
+    lanes: usize,
+) {
+    same(ours(data, lanes), rust(data, lanes), data, lanes);
+}
+
 #[test]
 fn charts_by_lane_number() {
     let mut ours = stats::ChartNotesScratch::default();
     let mut rust = rssp::ChartNotesScratch::default();
     each_text(|data, lanes| {
-        same(
-            stats::minimize_chart_and_count_with_lanes(data, lanes),
-            rssp::minimize_chart_and_count_with_lanes(data, lanes),
+        beside(
+            stats::minimize_chart_and_count_with_lanes,
+            rssp::minimize_chart_and_count_with_lanes,
             data,
             lanes,
         );
-        same(
-            stats::minimize_chart_count_rows(data, lanes),
-            rssp::minimize_chart_count_rows(data, lanes),
+        beside(
+            stats::minimize_chart_count_rows,
+            rssp::minimize_chart_count_rows,
             data,
             lanes,
         );
@@ -177,9 +187,9 @@ fn charts_by_lane_number() {
             data,
             lanes,
         );
-        same(
-            stats::minimize_chart_for_hash(data, lanes),
-            rssp::minimize_chart_for_hash(data, lanes),
+        beside(
+            stats::minimize_chart_for_hash,
+            rssp::minimize_chart_for_hash,
             data,
             lanes,
         );
@@ -189,23 +199,18 @@ fn charts_by_lane_number() {
 #[test]
 fn scans() {
     each_text(|data, lanes| {
-        same(
-            stats::measure_equally_spaced(data, lanes),
-            rssp::measure_equally_spaced(data, lanes),
+        beside(
+            stats::measure_equally_spaced,
+            rssp::measure_equally_spaced,
             data,
             lanes,
         );
-        same(
-            stats::chart_last_beat(data, lanes),
-            rssp::chart_last_beat(data, lanes),
-            data,
-            lanes,
-        );
+        beside(stats::chart_last_beat, rssp::chart_last_beat, data, lanes);
         // The Rust's capacity expression overflows at greater lane numbers.
         if lanes < usize::MAX / 4 {
-            same(
-                stats::measure_densities(data, lanes),
-                rssp::measure_densities(data, lanes),
+            beside(
+                stats::measure_densities,
+                rssp::measure_densities,
                 data,
                 lanes,
             );
