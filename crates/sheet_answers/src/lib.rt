@@ -78,7 +78,7 @@ pub fn sheet_answers(
         work,
     );
     let judged = judge_minimised(&text[0..bytes], lanes, work);
-    spacing::fill_spacing(data, lanes, spacing);
+    scans::spacing::fill_spacing(data, lanes, spacing);
     let last = pass.walk.found;
     let count = row_notes::finish(pass.walk.scratch(), notes);
     slices::zero_past(text, bytes, 0);
