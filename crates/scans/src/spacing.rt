@@ -45,7 +45,7 @@ impl MeasureSpacing {
             return;
         }
         self.steps += u32::from(cells::row_has_note(row));
-        if !reduction::is_all_zero(row) {
+        if !cells::is_all_zero(row) {
             self.shift = self.shift.min(number.trailing_zeros());
         }
     }

@@ -1,12 +1,12 @@
--- `reduction::are_all_zero` meets its contract.
+-- `cells::are_all_zero` meets its contract.
 use mathlib.Core.Path.{◌∙◌}
 use Rattle.std.proofs.Common.{rules}
 use borrow.Author.Tests.{tests}
 use lib.Dec.{eqb}
 use Rattle.std.proofs.lemmas.Iterator.{YieldsList-from_slice}
 use Rattle.std.proofs.lemmas.Iterator.Search.{all_from_yields_List}
-use Rattle.reduction.proofs.ZeroRows.{zero-all}
-use Rattle.reduction.proofs.are_all_zero.Goals as goal
+use Rattle.cells.proofs.ZeroRows.{zero-all}
+use Rattle.cells.proofs.are_all_zero.Goals as goal
 
 pub returns : goal.returns
 returns c =

@@ -2,10 +2,10 @@
 use mathlib.Core.Path.{◌≡◌, refl, ap, sym, ◌∙◌}
 use mathlib.Core.Bool.{Bool, true, false, ◌&&◌, ◌||◌}
 use mathlib.Core.List.{List, [], ◌∷◌, ◌++◌}
-use Prim.Native.Nat.{ℕ, zero, suc, ◌+◌, ◌*◌, ◌<◌, ◌≤◌}
+use Prim.Native.Nat.{ℕ, zero, suc, ◌+◌, ◌*◌, ◌<◌}
 use native.Mathlib.Omega.{arith}
-use borrow.Author.Tests.{eqb-true, eqb-false, eq-eqb, ne_eqb, ltb-false}
-use lib.Dec.{eqb, ltb}
+use borrow.Author.Tests.{eqb-true, eqb-false, eq-eqb, ne_eqb}
+use lib.Dec.{eqb}
 use lib.ListN.{length, get_or}
 use Rattle.std.specs.List.{list_all}
 use Rattle.definitions.proofs.Columns.{zero-byte}
@@ -101,10 +101,3 @@ zero-append (b ∷ r) s = go (eqb b 48) (zero-append r s)
     go : (t : Bool) → (all_zero r && all_zero s) ≡ all_zero (r ++ s) → ((t && all_zero r) && all_zero s) ≡ (t && all_zero (r ++ s))
     go true e = e
     go false e = refl
-
-pub between : (n : ℕ) → (ltb n 4 || ltb 12 n) ≡ false → (4 ≤ n) × (n ≤ 12)
-between n e = go (ltb n 4) (ltb 12 n) (λ q. ltb-false n 4 q) (λ q. ltb-false 12 n q) e
-  where
-    go : (p q : Bool) → (p ≡ false → 4 ≤ n) → (q ≡ false → n ≤ 12) → (p || q) ≡ false → (4 ≤ n) × (n ≤ 12)
-    go true q x y h = let z : ◌≡◌ {A = ℕ} 0 1 = cc in absurd (omega arith)
-    go false q x y h = (x refl, y h)

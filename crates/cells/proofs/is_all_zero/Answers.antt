@@ -1,4 +1,4 @@
--- `reduction::is_all_zero` meets its contract: one word alone is that of a row of zeros, and the bytes of three halves are all of a row's.
+-- `cells::is_all_zero` meets its contract: one word alone is that of a row of zeros, and the bytes of three halves are all of a row's.
 use mathlib.Core.Path.{◌≡◌, ap, ap₂, sym, ◌∙◌}
 use mathlib.Core.Bool.{Bool, ◌&&◌}
 use mathlib.Core.List.{[], ◌++◌}
@@ -7,8 +7,9 @@ use lib.Dec.{eqb}
 use lib.ListN.{length, get_or}
 use Rattle.definitions.specs.Reduction.{all_zero}
 use Rattle.lines.proofs.RowWords.{eight, bytes_of, places, picks, thirds, thirds-below, thirds-all}
-use Rattle.reduction.proofs.ZeroRows.{zero_word, zero-picks, zero-half, zero-append, between}
-use Rattle.reduction.proofs.is_all_zero.Goals as goal
+use Rattle.cells.proofs.Ends.{between}
+use Rattle.cells.proofs.ZeroRows.{zero_word, zero-picks, zero-half, zero-append}
+use Rattle.cells.proofs.is_all_zero.Goals as goal
 
 -- past the first tests the row has four to twelve bytes
 few : (c : goal.After-half_at-4) →
