@@ -3,3 +3,4 @@ pub mod Arms
 pub mod Arrows
 pub mod Ends
 pub mod RowWords
+pub mod ZeroRows

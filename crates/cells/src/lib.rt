@@ -4,6 +4,7 @@
 ghost use Rattle.std.specs.Prelude.{◌≡◌, List, ℕ, length};
 ghost use Rattle.definitions.specs.Cells.{cell_of, is_arrow};
 ghost use Rattle.definitions.specs.Figures.{is_step};
+ghost use Rattle.definitions.specs.Reduction.{all_zero};
 ghost use Rattle.definitions.specs.Tracker.{hold_at};
 ghost use Rattle.definitions.specs.Objects.{object_at};
 ghost use Rattle.lines.specs.Words.{word_of, Bytes};
@@ -68,6 +69,34 @@ pub fn row_has_note(row: &[u8]) -> bool
         return has;
     }
     has | word_has_note(words::half_at(row, n - 4))
+}
+
+// Whether every byte of a row is `0`, byte by byte.
+fn are_all_zero(row: &[u8]) -> bool
+    ensures { result ≡ all_zero row.now }
+{
+    row.iter().all(|&b| b == b'0')
+}
+
+/// Whether every byte of a row is `0`: by one word where it has four or eight, and by its first four bytes, its last four and four between where
+/// it has up to twelve.
+pub fn is_all_zero(row: &[u8]) -> bool
+    ensures { result ≡ all_zero row.now }
+{
+    if row.len() == 4 {
+        return words::half_at(row, 0) == 0x3030_3030;
+    }
+    if row.len() == 8 {
+        return words::halves_at(row, 0) == 0x3030_3030_3030_3030;
+    }
+    let n = row.len();
+    if (n < 4) | (12 < n) {
+        return are_all_zero(row);
+    }
+    let mid = words::second_half(n);
+    (words::half_at(row, 0) == 0x3030_3030)
+        & (words::half_at(row, mid) == 0x3030_3030)
+        & (words::half_at(row, n - 4) == 0x3030_3030)
 }
 
 /// What the byte does to the tracker's stack and to the phantom depth of its column.

@@ -1,8 +1,8 @@
 -- From the pass over a whole text to what the main call answers.
-use mathlib.Core.Path.{◌≡◌, refl, ap, sym, ◌∙◌, subst}
-use mathlib.Core.Bool.{Bool, true}
-use mathlib.Core.List.{List, [], append-nil}
-use Prim.Native.Nat.{ℕ, suc, ◌+◌, ◌-◌, ◌*◌, ◌/◌, ◌≤◌}
+use mathlib.Core.Path.{◌≡◌, refl, ap, ◌∙◌, subst}
+use mathlib.Core.Bool.{true}
+use mathlib.Core.List.{List, append-nil}
+use Prim.Native.Nat.{ℕ, ◌+◌, ◌-◌, ◌≤◌}
 use native.Mathlib.Omega.{arith}
 use lib.Ieee.{Float, binary64, to_bits}
 use lib.ListN.{length, take}
@@ -10,7 +10,6 @@ use Rattle.definitions.specs.Lists.{joined, padded}
 use Rattle.definitions.specs.Lanes.{most_rows_in}
 use Rattle.definitions.specs.Lines.{Row}
 use Rattle.definitions.specs.Reduction.{minimised}
-use Rattle.definitions.specs.Figures.{minimised_text}
 use Rattle.definitions.specs.Beats.{f32, row_to_beat, beats as beats_of}
 use Rattle.definitions.specs.Objects.{place48, last_object, last48, last_beat_of}
 use Rattle.definitions.specs.Notes.{notes}
@@ -56,15 +55,20 @@ module _ (L : ℕ) (data-text : List ℕ) (p : ChartPass) (text densities : List
     unfolding notes
     note-count = finished.count
 
-  pub all-figures : (stats : ArrowStats) (count bits row last : ℕ) → stats ≡ corrected L (joined (minimised L data-text)) (rows_back true L (take (p.draft.out - 0) text))
+  -- the tally corrected over the text read back is that of the definition
+  pub tally-told : (stats : ArrowStats) → stats ≡ corrected L (joined (minimised L data-text)) (rows_back true L (take (p.draft.out - 0) text)) → stats ≡ main_tally L data-text
+  unfolding main_tally
+  tally-told stats e =
+      e ∙ ap (corrected L (joined (minimised L data-text))) (ap (rows_back true L) (own-part L data-text (kept_of p) text densities x.kept) ∙ back-trimmed L _)
+
+  pub all-figures : (stats : ArrowStats) (measures count bits row last : ℕ) → stats ≡ main_tally L data-text → measures ≡ p.draft.midx + 1
       → count ≡ length (notes L data-text) → last ≡ last48 L data-text → bits ≡ to_bits binary64 (row_to_beat last) → row ≡ last
-      → record { bytes = p.draft.out; measures = p.draft.midx + 1; rows = p.walk.run.row; notes = count; last_bits = bits; last_row = row; stats = stats } ≡ figures_of_chart L data-text
-  unfolding figures_of_chart main_tally last_beat_of
-  all-figures stats count bits row last es ec el eb er =
-      made x.kept.out x.kept.midx x.kept.rows ec
+      → record { bytes = p.draft.out; measures = measures; rows = p.walk.run.row; notes = count; last_bits = bits; last_row = row; stats = stats } ≡ figures_of_chart L data-text
+  unfolding figures_of_chart last_beat_of
+  all-figures stats measures count bits row last es em ec el eb er =
+      made x.kept.out (em ∙ x.kept.midx) x.kept.rows ec
       (eb ∙ ap (λ n. to_bits binary64 (row_to_beat n)) el)
-      (er ∙ el)
-      (es ∙ ap (corrected L (joined (minimised L data-text))) (ap (rows_back true L) (own-part L data-text (kept_of p) text densities x.kept) ∙ back-trimmed L _))
+      (er ∙ el) es
     where
       made : {a₁ a₂ b₁ b₂ c₁ c₂ d₁ d₂ e₁ e₂ f₁ f₂ : ℕ} {s t : ArrowStats} → a₁ ≡ a₂ → b₁ ≡ b₂ → c₁ ≡ c₂ → d₁ ≡ d₂ → e₁ ≡ e₂ → f₁ ≡ f₂ → s ≡ t
           → ◌≡◌ {A = ChartFigures} (record { bytes = a₁; measures = b₁; rows = c₁; notes = d₁; last_bits = e₁; last_row = f₁; stats = s })

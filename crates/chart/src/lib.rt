@@ -10,8 +10,39 @@ ghost use Rattle.definitions.specs.Beats.{f32, beats as beats_of};
 ghost use Rattle.definitions.specs.Notes.{notes as notes_of};
 ghost use Rattle.definitions.specs.Records.{records};
 ghost use Rattle.definitions.specs.Entries.{figures_of_chart, main_answer, main_text, main_densities, main_beats, main_work, main_notes};
+ghost use Rattle.chart.specs.Ends.{SomeChart, ChartEnds};
 
-use definitions::{ChartFigures, Lanes, Refusal};
+use chart_pass::ChartPass;
+use definitions::{ArrowStats, ChartFigures, Lanes, Refusal};
+
+/// The end of the main call, once its tally is corrected: heads that are open are dropped, and zeros stand past each answer.
+pub fn end_chart(
+    pass: &ChartPass,
+    stats: ArrowStats,
+    text: &mut [u8],
+    densities: &mut [u32],
+    beats: &mut [f32],
+    slots: &mut [u8],
+) -> ChartFigures
+    requires { SomeChart pass.now text.old densities.old beats.old slots.old }
+    ensures { ChartEnds pass.now stats
+        text.old densities.old beats.old slots.old
+        result text.new densities.new beats.new slots.new }
+{
+    let notes = row_notes::finish(pass.walk.scratch(), slots);
+    let rows = pass.walk.run.row;
+    slices::zero_past(beats, rows as usize, 0.0);
+    let last = pass.walk.found;
+    ChartFigures {
+        bytes: pass.draft.out,
+        measures: pass.draft.finish(text, densities),
+        rows,
+        notes,
+        last_bits: beats::last_beat_bits(last),
+        last_row: beats::last_note_row(last),
+        stats,
+    }
+}
 
 /// The main call where it is accepted: the pass, the tally corrected over the minimised text read back, and zeros past each answer.
 pub fn chart_figures(
@@ -36,31 +67,16 @@ pub fn chart_figures(
     ensures work_after { work.new ≡ padded 0 (length work.old) [] }
     ensures slots_after { slots.new ≡ padded 0 (length slots.old) (records (notes_of lanes.count «data».now)) }
 {
-    let chart = chart_pass::read_chart(data, lanes, text, densities, beats, slots);
-    let measures = chart.draft.midx + 1;
-    let rows = chart.walk.run.row;
+    let pass = chart_pass::read_chart(data, lanes, text, densities, beats, slots);
     let stats = corrected_tally::corrected_stats(
-        chart.walk.run.stats,
-        chart.walk.phantoms(),
-        &text[0..chart.draft.out],
+        pass.walk.run.stats,
+        pass.walk.phantoms(),
+        &text[0..pass.draft.out],
         lanes,
         true,
         work,
     );
-    let last = chart.walk.found;
-    let count = row_notes::finish(chart.walk.scratch(), slots);
-    slices::zero_past(text, chart.draft.out, 0);
-    slices::zero_past(densities, measures, 0);
-    slices::zero_past(beats, rows as usize, 0.0);
-    ChartFigures {
-        bytes: chart.draft.out,
-        measures,
-        rows,
-        notes: count,
-        last_bits: beats::last_beat_bits(last),
-        last_row: beats::last_note_row(last),
-        stats,
-    }
+    end_chart(&pass, stats, text, densities, beats, slots)
 }
 
 /// The main call, the Rust's function of that name: minimised text in bytes, densities in steps a measure, row beats, note records of ten bytes each,

@@ -22,7 +22,7 @@ use Rattle.tap_walk.specs.Walked.{Walking}
 use Rattle.reduction.proofs.RowsAt.{rows-length}
 use Rattle.row_walk.specs.Rows.{Ten}
 use Rattle.measure_tally.specs.Counted.{Counted}
-use Rattle.measure_run.specs.Noted.{Noting, Noted}
+use Rattle.tap_walk.specs.Noted.{Noting, Noted}
 use Rattle.measure_walk.specs.declared.Walk.{Walk}
 use Rattle.measure_walk.specs.Views.{counting, noting}
 use Rattle.reader.proofs.ChartLoops.{Few}

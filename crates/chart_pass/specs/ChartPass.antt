@@ -7,7 +7,7 @@ use Rattle.definitions.specs.Beats.{beats_from, beats as beats_of}
 use Rattle.reduction.specs.States.{AddsRow}
 use Rattle.kept_pass.specs.KeptPass.{Kept, MeasureEnded, KeptAll}
 use Rattle.row_walk.specs.Rows.{Ten}
-use Rattle.measure_run.specs.Noted.{Noted}
+use Rattle.tap_walk.specs.Noted.{Noted}
 use Rattle.measure_walk.specs.Views.{counting, noting}
 use Rattle.kept_pass.specs.declared.KeptPass.{KeptPass}
 use Rattle.chart_pass.specs.declared.ChartPass.{ChartPass}

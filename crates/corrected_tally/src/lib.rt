@@ -38,7 +38,7 @@ fn count_row(stats: &mut ArrowStats, row: &[u8], heads: u16, table: &TapTable)
     match taps::tap_line_mask(row) {
         Taps::Mask(mask) => row_tally::count_taps(stats, mask, table),
         Taps::Other => {
-            if !reduction::is_all_zero(row) {
+            if !cells::is_all_zero(row) {
                 row_tally::count_line_masked(stats, row, heads);
             }
         }

@@ -1,6 +1,8 @@
 // Judged tallies, over rows read by `parse_minimized_rows`. One definition serves both calls: which rows are judged is a test.
 #![tactic(auto)]
 
+pub mod judged_pass;
+
 ghost use Rattle.std.specs.Prelude.{◌≡◌, Bool, [], ℕ, ◌+◌, ◌≤◌, ◌<◌, length};
 ghost use Rattle.definitions.specs.Sizes.{count_bound, most_bytes};
 ghost use Rattle.definitions.specs.Lists.{padded};
@@ -124,7 +126,7 @@ fn judge_rows(data: &[u8], lanes: Lanes, flags: Option<&[u8]>, work: &mut [u16])
 
 /// The judged tally of an accepted text: in one pass where every row is judged and the rows are clean, else by the two loops, as the Rust's
 /// `recalc_judgable_stats` does.
-#[tactic(auto, using(judged_pass::proofs::JudgedPass::answer_told))]
+#[tactic(auto, using(crate::proofs::JudgedPass::answer_told))]
 pub fn judge_accepted(
     data: &[u8],
     lanes: Lanes,

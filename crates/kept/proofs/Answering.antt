@@ -17,11 +17,18 @@ use Rattle.reader.specs.BackReading.{rows_back}
 use Rattle.corrected_tally.proofs.OwnRows.{own-rows}
 use Rattle.definitions.specs.declared.KeptFigures.{KeptFigures}
 
-pub all-figures : (L : ℕ) (data-text : List ℕ) (p : KeptPass) (text densities : List ℕ) → KeptAll L data-text p text densities → (stats : ArrowStats) → 1 ≤ L → stats ≡ corrected L (joined (minimised L data-text)) (rows_back false L (take (p.draft.out - 0) text))
-    → record { bytes = p.draft.out; measures = p.draft.midx + 1; rows = p.counting.rows; stats = stats } ≡ figures_of_kept L data-text
-unfolding figures_of_kept kept_tally
-all-figures L data-text p text densities x stats w e = made x.out x.midx x.rows (e ∙ ap (corrected L (joined (minimised L data-text))) (ap (rows_back false L) (own-part L data-text p text densities x) ∙ own-rows L data-text w))
-  where
-    made : {a b c d f g : ℕ} {s t : ArrowStats} → a ≡ b → c ≡ d → f ≡ g → s ≡ t
-        → ◌≡◌ {A = KeptFigures} (record { bytes = a; measures = c; rows = f; stats = s }) (record { bytes = b; measures = d; rows = g; stats = t })
-    made p q r s = cc
+module _ (L : ℕ) (data-text : List ℕ) (p : KeptPass) (text densities : List ℕ) (x : KeptAll L data-text p text densities) where
+  -- the tally corrected over the pass's own rows is that of the definition
+  pub tally-told : (stats : ArrowStats) → 1 ≤ L → stats ≡ corrected L (joined (minimised L data-text)) (rows_back false L (take (p.draft.out - 0) text)) → stats ≡ kept_tally L data-text
+  unfolding kept_tally
+  tally-told stats w e =
+      e ∙ ap (corrected L (joined (minimised L data-text))) (ap (rows_back false L) (own-part L data-text p text densities x) ∙ own-rows L data-text w)
+
+  pub all-figures : (stats : ArrowStats) (measures : ℕ) → stats ≡ kept_tally L data-text → measures ≡ p.draft.midx + 1
+      → record { bytes = p.draft.out; measures = measures; rows = p.counting.rows; stats = stats } ≡ figures_of_kept L data-text
+  unfolding figures_of_kept
+  all-figures stats measures e m = made x.out (m ∙ x.midx) x.rows e
+    where
+      made : {a b c d f g : ℕ} {s t : ArrowStats} → a ≡ b → c ≡ d → f ≡ g → s ≡ t
+          → ◌≡◌ {A = KeptFigures} (record { bytes = a; measures = c; rows = f; stats = s }) (record { bytes = b; measures = d; rows = g; stats = t })
+      made p q r s = cc

@@ -28,7 +28,6 @@ pub fn keep_figures(
     ensures work_after { work.new ≡ padded 0 (length work.old) [] }
 {
     let pass = kept_pass::keep_chart(data, lanes, text, densities);
-    let measures = pass.draft.midx + 1;
     let stats = corrected_tally::corrected_stats(
         pass.counting.stats,
         pass.counting.phantoms,
@@ -37,11 +36,9 @@ pub fn keep_figures(
         false,
         work,
     );
-    slices::zero_past(text, pass.draft.out, 0);
-    slices::zero_past(densities, measures, 0);
     KeptFigures {
         bytes: pass.draft.out,
-        measures,
+        measures: pass.draft.finish(text, densities),
         rows: pass.counting.rows,
         stats,
     }

@@ -5,6 +5,7 @@
 ghost use Rattle.std.specs.Prelude.{◌≡◌, List, [], ℕ, ◌+◌, ◌/◌, ◌≤◌, ◌<◌, length};
 ghost use Rattle.definitions.specs.Sizes.{measures_bound, most_bytes, row_count_bound};
 ghost use Rattle.reduction.specs.States.{Holding, AddsRow, EndsMeasure, Minimises, EndsMinimised};
+ghost use Rattle.slices.specs.Zeroed.{zeroed};
 ghost use Rattle.kept_pass.specs.KeptPass.{Drafted, Kept, EndsKept, KeptAll};
 
 use definitions::Lanes;
@@ -69,6 +70,20 @@ impl Draft {
         self.start = self.out;
         self.rows = 0;
         self.midx += 1;
+    }
+
+    /// The end of a text: zeros stand past what is written and past the measures' densities. The answer counts the measures.
+    pub fn finish(&self, text: &mut [u8], densities: &mut [u32]) -> usize
+        requires text_room { self.now.out ≤ length text.old }
+        requires density_room { self.now.midx < length densities.old }
+        ensures value { result ≡ self.now.midx + 1 }
+        ensures text_after { text.new ≡ zeroed 0 self.now.out text.old }
+        ensures densities_after { densities.new ≡ zeroed 0 (self.now.midx + 1) densities.old }
+    {
+        let measures = self.midx + 1;
+        slices::zero_past(text, self.out, 0);
+        slices::zero_past(densities, measures, 0);
+        measures
     }
 }
 

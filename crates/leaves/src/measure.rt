@@ -11,7 +11,7 @@ use definitions::Lanes;
 pub extern "C" fn leaves_is_all_zero(row: &[u8]) -> bool
     ensures { result ≡ all_zero row.now }
 {
-    reduction::is_all_zero(row)
+    cells::is_all_zero(row)
 }
 
 /// The lane count that a caller's number means.

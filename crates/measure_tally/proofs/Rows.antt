@@ -23,7 +23,7 @@ use Rattle.phantoms.specs.Phantoms.{Counts, RowCounted, Low}
 use Rattle.phantoms.proofs.Columns.{column-same}
 use Rattle.phantoms.proofs.Rows.{after-snoc, met-snoc, heads-snoc, tails-snoc}
 use Rattle.phantoms.proofs.Loop.{low-more}
-use Rattle.reduction.proofs.ZeroRows.{zero-hold}
+use Rattle.cells.proofs.ZeroRows.{zero-hold}
 use Rattle.row_tally.proofs.Zeros.{zero-count, step-arrows}
 use Rattle.row_tally.specs.Bounds.{Below}
 use Rattle.taps.specs.Taps.{FreeAre}

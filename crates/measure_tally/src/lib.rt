@@ -82,7 +82,7 @@ impl Counting {
         requires { (length row.now ≤ 10) × (self.old.rows < row_count_bound) × Few self.old }
         ensures { CountsRow row.now self.old self.new }
     {
-        if reduction::is_all_zero(row) {
+        if cells::is_all_zero(row) {
             self.rows += 1;
             return;
         }

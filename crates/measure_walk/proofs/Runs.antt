@@ -13,10 +13,10 @@ use Rattle.row_walk.specs.declared.Seen.{Seen}
 use Rattle.row_walk.specs.Rows.{Ten, CellsReady, RowWalked}
 use Rattle.measure_tally.specs.Counted.{Counted, Few}
 use Rattle.measure_tally.proofs.Rows.{counted-row}
-use Rattle.measure_run.specs.Noted.{NotedRows, RowReady}
-use Rattle.measure_run.proofs.Rows.{noted-row}
-use Rattle.measure_run.specs.declared.Run.{Run}
-use Rattle.measure_run.specs.Held.{Rest, counting_of, noting_of, after_cells}
+use Rattle.tap_walk.specs.Noted.{NotedRows, RowReady}
+use Rattle.tap_walk.proofs.Rows.{noted-row}
+use Rattle.tap_walk.specs.declared.measure_run.Run.{Run}
+use Rattle.tap_walk.specs.Held.{Rest, counting_of, noting_of, after_cells}
 use Rattle.tap_walk.proofs.Runs.{kept_run}
 
 module _ (L : ℕ) (q : Rest) (k : Columns) (r : Run) (l l' : List ℕ) (done : List (List Row)) (cur : List Row) (row : Row) where

@@ -22,10 +22,10 @@ use Rattle.row_notes.proofs.Rows.{none-stored}
 use Rattle.row_walk.specs.declared.Columns.{Columns}
 use Rattle.measure_tally.specs.Counted.{Counted}
 use Rattle.measure_tally.proofs.Rows.{counted_start}
-use Rattle.measure_run.specs.Noted.{Noted, NotedRows}
-use Rattle.measure_run.specs.declared.Run.{Run}
-use Rattle.measure_run.specs.Held.{Rest, row_at, noting_of}
-use Rattle.measure_run.proofs.Rows.{noted-start, noted-measure}
+use Rattle.tap_walk.specs.Noted.{Noted, NotedRows}
+use Rattle.tap_walk.specs.declared.measure_run.Run.{Run}
+use Rattle.tap_walk.specs.Held.{Rest, row_at, noting_of}
+use Rattle.tap_walk.proofs.Rows.{noted-start, noted-measure}
 
 none : (c : ℕ) → c < 10 → ◌≡◌ {A = ℕ} (get_or (replicate 10 0) c 0) 0
 none c h = get_or-replicate 10 c 0 0 h

@@ -2,8 +2,8 @@
 use Rattle.std.specs.Prelude.{List, [], ◌∷◌, ◌++◌, ℕ}
 use Rattle.definitions.specs.Lines.{Row}
 use Rattle.measure_tally.specs.declared.Counting.{Counting}
-use Rattle.measure_run.specs.Noted.{Noting, Noted}
-use Rattle.measure_run.specs.Held.{Rest, counting_of, noting_of}
+use Rattle.tap_walk.specs.Noted.{Noting, Noted}
+use Rattle.tap_walk.specs.Held.{Rest, counting_of, noting_of}
 use Rattle.measure_walk.specs.declared.Walk.{Walk}
 
 abbrev pub rest : Walk → Rest

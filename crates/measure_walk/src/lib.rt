@@ -9,16 +9,16 @@ ghost use Rattle.row_walk.specs.Rows.{Ten};
 ghost use Rattle.reduction.specs.Rows.{rows_of};
 ghost use Rattle.reduction.specs.States.{EndsMeasure};
 ghost use Rattle.measure_tally.specs.Counted.{Counted, CountsAll};
-ghost use Rattle.measure_run.specs.Noted.{Noted, NotedRows};
-ghost use Rattle.measure_run.specs.Held.{noting_of};
+ghost use Rattle.tap_walk.specs.Noted.{Noted, NotedRows};
+ghost use Rattle.tap_walk.specs.Held.{noting_of};
 ghost use Rattle.tap_walk.specs.Walked.{Walking};
 ghost use Rattle.measure_walk.specs.Views.{rest, counting, noting, NotesAll};
 
 use beats::RowPlace;
-use measure_run::Run;
 use phantoms::Phantoms;
 use row_notes::ChartNotesScratch;
 use row_walk::{Columns, Marks};
+use tap_walk::measure_run::Run;
 use taps::TapTable;
 
 /// The columns and what each row changes; the steps before the open measure, the last object row of the measures that are walked, and their number.

@@ -130,7 +130,7 @@ impl LastScan {
         requires { (length cells.now ≤ 10) × (self.old.rows < row_numbers_bound) × DepthsLow 4294967294 self.old.depths }
         ensures { AddsRow cells.now (LastKept self.old) (LastKept self.new) }
     {
-        if reduction::is_all_zero(cells) {
+        if cells::is_all_zero(cells) {
             self.count_row(false);
             return;
         }

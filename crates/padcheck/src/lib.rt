@@ -108,7 +108,7 @@ pub extern "C" fn padcheck_equally_spaced(
     ensures spacing_after { spacing.new ≡ spacings_left lanes «data».now spacing.old }
     ensures figures_after { figures.new ≡ replaces (measures_answer lanes «data».now spacing.old) places_of_measures figures.old }
 {
-    let answer = spacing::equally_spaced_impl(data, lanes, spacing);
+    let answer = scans::spacing::equally_spaced_impl(data, lanes, spacing);
     tell(answer, figures)
 }
 
@@ -122,7 +122,7 @@ pub extern "C" fn padcheck_chart_last_beat(
     ensures value { result ≡ number_told (last_answer lanes «data».now) }
     ensures figures_after { figures.new ≡ replaces (last_answer lanes «data».now) places_of_last figures.old }
 {
-    let answer = last_beat::chart_last_beat_impl(data, lanes);
+    let answer = scans::last_beat::chart_last_beat_impl(data, lanes);
     tell(answer, figures)
 }
 

@@ -1,5 +1,4 @@
 -- Laws of this crate's contracts, by topic.
-pub mod ZeroRows
 pub mod RowsAt
 pub mod Powers
 pub mod Strides

@@ -6,38 +6,8 @@ ghost use Rattle.std.specs.List.{copy_within};
 ghost use Rattle.definitions.specs.Lines.{Row};
 ghost use Rattle.definitions.specs.Lists.{joined};
 ghost use Rattle.definitions.specs.Figures.{row_text};
-ghost use Rattle.definitions.specs.Reduction.{all_zero, stride, reduce};
+ghost use Rattle.definitions.specs.Reduction.{stride, reduce};
 ghost use Rattle.reduction.specs.Rows.{rows_at, compacted, RowsStand, Reduced};
-
-use lines::words;
-
-// Whether every byte of a row is `0`, byte by byte.
-fn are_all_zero(row: &[u8]) -> bool
-    ensures { result ≡ all_zero row.now }
-{
-    row.iter().all(|&b| b == b'0')
-}
-
-/// Whether every byte of a row is `0`: by one word where it has four or eight, and by its first four bytes, its last four and four between where
-/// it has up to twelve.
-pub fn is_all_zero(row: &[u8]) -> bool
-    ensures { result ≡ all_zero row.now }
-{
-    if row.len() == 4 {
-        return words::half_at(row, 0) == 0x3030_3030;
-    }
-    if row.len() == 8 {
-        return words::halves_at(row, 0) == 0x3030_3030_3030_3030;
-    }
-    let n = row.len();
-    if (n < 4) | (12 < n) {
-        return are_all_zero(row);
-    }
-    let mid = words::second_half(n);
-    (words::half_at(row, 0) == 0x3030_3030)
-        & (words::half_at(row, mid) == 0x3030_3030)
-        & (words::half_at(row, n - 4) == 0x3030_3030)
-}
 
 /// The exponent of the stride. `step` is the stride found so far, 2 to the power `shift`, and `left` the number of its multiples. Looked at
 /// are the rows that the next stride would drop: the search leaves both its loops at the first of them that is not all zero.
@@ -65,7 +35,7 @@ pub fn measure_reduce_shift(
         while row < rows {
             let at = start + row * width;
             let end = at + lanes;
-            if !is_all_zero(&text[at..end]) {
+            if !cells::is_all_zero(&text[at..end]) {
                 break 'search;
             }
             row += next;

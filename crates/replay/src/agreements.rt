@@ -5,9 +5,9 @@ use definitions::Refusal;
 use figures::Figures;
 use judged::{process_rows_judgable, process_timing_rows};
 use kept::process_chart_kept;
-use last_beat::chart_last_beat_impl;
 use scans::densities::measure_densities;
-use spacing::equally_spaced_impl;
+use scans::last_beat::chart_last_beat_impl;
+use scans::spacing::equally_spaced_impl;
 use stored::{Answer, Record, lent};
 use timing::minimize_timing_rows;
 

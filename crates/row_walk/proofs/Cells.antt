@@ -27,13 +27,13 @@ use Rattle.row_tally.proofs.Loops.{Summed, summed-start, summed-next, summed-end
 use Rattle.row_notes.specs.Writer.{no_head, after_cell}
 use Rattle.row_notes.proofs.Steps.{zero-nothing, step-nothing}
 use Rattle.row_notes.proofs.Rows.{Midrow, mid_start, mid_step, row_written}
-use Rattle.cell_walk.specs.Cells.{ByteWalked}
+use Rattle.row_walk.specs.Cells.{ByteWalked}
 use Rattle.row_walk.specs.Rows.{is_used, cell_at, ColumnPut, CellSeen, phantoms_of, notes_of, CellsReady, RowWalked}
 use Rattle.row_walk.specs.declared.Columns.{Columns}
 use Rattle.row_walk.specs.declared.Marks.{Marks}
 use Rattle.row_walk.specs.declared.Seen.{Seen}
-use Rattle.cell_walk.specs.declared.CellAt.{CellAt}
-use Rattle.cell_walk.specs.declared.WalkCell.{WalkCell}
+use Rattle.row_walk.specs.declared.cell_walk.CellAt.{CellAt}
+use Rattle.row_walk.specs.declared.cell_walk.WalkCell.{WalkCell}
 use Rattle.row_walk.proofs.Bits.{free-marked}
 
 -- From the columns k₀, n records in l₀ and the marks m₀ on, in row number a.

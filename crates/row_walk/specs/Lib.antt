@@ -1,2 +1,3 @@
--- What the contracts of a row's walk cite, beside the definitions.
+-- What the contracts of a cell and of a row's walk cite, beside the definitions.
+pub mod Cells
 pub mod Rows

@@ -17,9 +17,9 @@ use Rattle.row_tally.specs.Sums.{sum_with_cell}
 use Rattle.row_notes.specs.declared.ChartNotesScratch.{ChartNotesScratch}
 use Rattle.row_notes.specs.Writer.{no_head}
 use Rattle.row_notes.specs.Written.{Written, RecordRoom}
-use Rattle.cell_walk.specs.Cells.{cell_number}
-use Rattle.cell_walk.specs.declared.CellAt.{CellAt}
-use Rattle.cell_walk.specs.declared.WalkCell.{WalkCell}
+use Rattle.row_walk.specs.Cells.{cell_number}
+use Rattle.row_walk.specs.declared.cell_walk.CellAt.{CellAt}
+use Rattle.row_walk.specs.declared.cell_walk.WalkCell.{WalkCell}
 use Rattle.row_walk.specs.declared.Columns.{Columns}
 use Rattle.row_walk.specs.declared.Marks.{Marks}
 use Rattle.row_walk.specs.declared.Seen.{Seen}

@@ -1,11 +1,13 @@
 // One row of the main call's walk that is not ordinary: its cells, one after the other.
 #![tactic(auto)]
 
+pub mod cell_walk;
+
 ghost use Rattle.std.specs.Prelude.{◌≡◌, ◌+◌, ◌≤◌, ◌<◌};
 ghost use Rattle.row_tally.specs.Bounds.{Under};
 ghost use Rattle.row_walk.specs.Rows.{Marked, cell_at, ColumnPut, CellSeen, CellsReady, RowWalked};
 
-use cell_walk::{CellAt, WalkCell};
+use crate::cell_walk::{CellAt, WalkCell};
 use definitions::RowSum;
 
 /// What the walk keeps of each column, of up to ten: its phantom depth, its object depth and its open head. A column without its bit in `busy`

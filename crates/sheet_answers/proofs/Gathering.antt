@@ -9,6 +9,7 @@ use lib.ListN.{length, take}
 use Rattle.definitions.specs.Lanes.{most_rows_in}
 use Rattle.definitions.specs.Figures.{minimised_text}
 use Rattle.definitions.specs.Judged.{judged_tally}
+use Rattle.definitions.specs.ReadBack.{kept_tally}
 use Rattle.definitions.specs.Entries.{figures_of_chart, figures_of_kept}
 use Rattle.definitions.proofs.ChartRows.{minimised-short}
 use Rattle.definitions.proofs.LastByte.{judged-last}
@@ -33,6 +34,16 @@ module _ (L : ℕ) (text : List ℕ) where
   pub judged-part : 1 ≤ L → {m : List ℕ} {t : ArrowStats} → m ≡ minimised_text L text → t ≡ judged_tally L (take (length m - 1) m)
       → t ≡ judged_tally L (minimised_text L text)
   judged-part h e f = f ∙ ap (λ (m : List ℕ). judged_tally L (take (length m - 1) m)) e ∙ judged-last L text h
+
+  -- the kept-row call's figures are the main call's but for the tally
+  pub kept-are : {a : ChartFigures} {t : ArrowStats} → a ≡ figures_of_chart L text → t ≡ kept_tally L text
+      → ◌≡◌ {A = KeptFigures} (record { bytes = a.bytes; measures = a.measures; rows = a.rows; stats = t }) (figures_of_kept L text)
+  unfolding figures_of_chart figures_of_kept
+  kept-are e t = made (ap (λ f. f.bytes) e) (ap (λ f. f.measures) e) (ap (λ f. f.rows) e) t
+    where
+      made : {a b c d f g : ℕ} {s t : ArrowStats} → a ≡ b → c ≡ d → f ≡ g → s ≡ t
+          → ◌≡◌ {A = KeptFigures} (record { bytes = a; measures = c; rows = f; stats = s }) (record { bytes = b; measures = d; rows = g; stats = t })
+      made p q r s = cc
 
   pub figures-are : {a : ChartFigures} {b : KeptFigures} {c : ArrowStats} → a ≡ figures_of_chart L text → b ≡ figures_of_kept L text
       → c ≡ judged_tally L (minimised_text L text) → ◌≡◌ {A = SheetFigures} (record { chart = a; kept = b; judged = c }) (sheet_figures L text)

@@ -13,7 +13,7 @@ ghost use Rattle.definitions.specs.Records.{records};
 ghost use Rattle.sheet_answers.specs.Answers.{sheet_figures};
 ghost use Rattle.definitions.specs.Judged.{judged_tally};
 
-use definitions::{ArrowStats, ChartFigures, KeptFigures, Lanes};
+use definitions::{ArrowStats, KeptFigures, Lanes};
 use sheet::SheetFigures;
 
 // The judged tally of a minimised text. Its last byte is a newline, and the rows before it are read without it: so the text is no longer than the
@@ -58,8 +58,6 @@ pub fn sheet_answers(
 {
     let pass = chart_pass::read_chart(data, lanes, text, densities, beats, notes);
     let bytes = pass.draft.out;
-    let measures = pass.draft.midx + 1;
-    let rows = pass.walk.run.row;
     let phantoms = pass.walk.phantoms();
     let main = corrected_tally::corrected_stats(
         pass.walk.run.stats,
@@ -78,26 +76,14 @@ pub fn sheet_answers(
         work,
     );
     let judged = judge_minimised(&text[0..bytes], lanes, work);
-    spacing::fill_spacing(data, lanes, spacing);
-    let last = pass.walk.found;
-    let count = row_notes::finish(pass.walk.scratch(), notes);
-    slices::zero_past(text, bytes, 0);
-    slices::zero_past(densities, measures, 0);
-    slices::zero_past(beats, rows as usize, 0.0);
+    scans::spacing::fill_spacing(data, lanes, spacing);
+    let chart = chart::end_chart(&pass, main, text, densities, beats, notes);
     SheetFigures {
-        chart: ChartFigures {
-            bytes,
-            measures,
-            rows,
-            notes: count,
-            last_bits: beats::last_beat_bits(last),
-            last_row: beats::last_note_row(last),
-            stats: main,
-        },
+        chart,
         kept: KeptFigures {
-            bytes,
-            measures,
-            rows,
+            bytes: chart.bytes,
+            measures: chart.measures,
+            rows: chart.rows,
             stats: kept,
         },
         judged,

@@ -1,3 +1,4 @@
--- Laws of ordinary rows.
+-- Laws of what is noted, and of ordinary rows.
+pub mod Rows
 pub mod Walks
 pub mod Runs

@@ -24,10 +24,10 @@ use Rattle.row_notes.specs.Written.{RecordRoom}
 use Rattle.row_walk.specs.declared.Columns.{Columns}
 use Rattle.measure_tally.specs.Counted.{Counted, Few}
 use Rattle.measure_tally.proofs.Rows.{counted-row}
-use Rattle.measure_run.specs.Noted.{NotedRows}
-use Rattle.measure_run.proofs.Rows.{noted-row}
-use Rattle.measure_run.specs.declared.Run.{Run}
-use Rattle.measure_run.specs.Held.{Rest, counting_of, row_at, noting_of}
+use Rattle.tap_walk.specs.Noted.{NotedRows}
+use Rattle.tap_walk.proofs.Rows.{noted-row}
+use Rattle.tap_walk.specs.declared.measure_run.Run.{Run}
+use Rattle.tap_walk.specs.Held.{Rest, counting_of, row_at, noting_of}
 use Rattle.tap_walk.specs.Walked.{TapsAdded, Walking}
 
 -- ---- one row more

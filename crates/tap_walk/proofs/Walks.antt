@@ -10,8 +10,8 @@ use Rattle.definitions.specs.Lists.{joined}
 use Rattle.definitions.specs.Lines.{Row}
 use Rattle.measure_tally.specs.declared.Counting.{Counting}
 use Rattle.measure_tally.specs.Counted.{Few, Counted}
-use Rattle.measure_run.specs.Noted.{Noting, NotedRows, RowReady}
-use Rattle.measure_run.proofs.Rows.{row_number, row-ready, one-room}
+use Rattle.tap_walk.specs.Noted.{Noting, NotedRows, RowReady}
+use Rattle.tap_walk.proofs.Rows.{row_number, row-ready, one-room}
 use Rattle.tap_walk.specs.Walked.{Walking}
 
 -- the walk goes on

@@ -1,2 +1,4 @@
--- What the contracts of ordinary rows cite, beside the definitions.
+-- What the contracts of ordinary rows, and of what each row changes, cite beside the definitions.
+pub mod Noted
+pub mod Held
 pub mod Walked

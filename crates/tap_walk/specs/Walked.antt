@@ -12,9 +12,9 @@ use Rattle.row_notes.specs.Written.{Written, MaskFits, SomeMask, after_taps}
 use Rattle.row_walk.specs.declared.Columns.{Columns}
 use Rattle.measure_tally.specs.declared.Counting.{Counting}
 use Rattle.measure_tally.specs.Counted.{Counted, CountsOn}
-use Rattle.measure_run.specs.Noted.{Noting, NotedRows}
-use Rattle.measure_run.specs.declared.Run.{Run}
-use Rattle.measure_run.specs.Held.{Rest, counting_of, noting_of}
+use Rattle.tap_walk.specs.Noted.{Noting, NotedRows}
+use Rattle.tap_walk.specs.declared.measure_run.Run.{Run}
+use Rattle.tap_walk.specs.Held.{Rest, counting_of, noting_of}
 
 -- what a row of taps asks, and what is then so
 pub record TapsReady (r : Run) (mask : ℕ) (wide : Bool) (l : List ℕ) : Type 0 where

@@ -1,11 +1,13 @@
 // Ordinary rows of a measure, which the main call counts and notes by their masks.
 #![tactic(auto)]
 
+pub mod measure_run;
+
 ghost use Rattle.std.specs.Prelude.{◌+◌, ◌*◌, ◌≤◌, length};
 ghost use Rattle.reduction.specs.Rows.{rows_of};
 ghost use Rattle.tap_walk.specs.Walked.{TapsReady, TapsAdded, Running, RunCounts, RunNotes};
 
-use measure_run::Run;
+use crate::measure_run::Run;
 use row_walk::Columns;
 use taps::{TapTable, Taps};
 

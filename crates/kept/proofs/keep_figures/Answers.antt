@@ -3,7 +3,7 @@ use mathlib.Core.Path.{◌∙◌}
 use native.Mathlib.Omega.{arith}
 use lib.ListN.{length}
 use Rattle.kept_pass.proofs.Answering.{all-text, all-densities, all-recount, none-off}
-use Rattle.kept.proofs.Answering.{all-figures}
+use Rattle.kept.proofs.Answering.{tally-told, all-figures}
 use Rattle.kept.proofs.keep_figures.Goals as goal
 
 pub corrected_stats-stats-requires : goal.corrected_stats-stats-requires
@@ -16,8 +16,8 @@ returns c =
     let x = k.ensures in
     let r = c.corrected_stats-stats.ensures in
     record {
-      value = all-figures _ _ _ _ _ x _ (omega (arith, c.args.lanes.within.0)) (r.value _ x.phantoms x.stats);
-      text_after = c.zero_past.ensures ∙ all-text _ _ _ _ _ x (length c.args.text.now) k.auto.text c.requires.text_room;
-      densities_after = c.zero_past-2.ensures ∙ all-densities _ _ _ _ _ x (length c.args.densities.now) k.auto.densities;
+      value = all-figures _ _ _ _ _ x _ _ (tally-told _ _ _ _ _ x _ (omega (arith, c.args.lanes.within.0)) (r.value _ x.phantoms x.stats)) c.finish.ensures.value;
+      text_after = c.finish.ensures.text_after ∙ all-text _ _ _ _ _ x (length c.args.text.now) k.auto.text c.requires.text_room;
+      densities_after = c.finish.ensures.densities_after ∙ all-densities _ _ _ _ _ x (length c.args.densities.now) k.auto.densities;
       work_after = r.work_after ∙ none-off (length c.args.work.now);
     }

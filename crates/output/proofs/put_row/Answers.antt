@@ -6,7 +6,7 @@ use native.Mathlib.Omega.{arith}
 use lib.ListN.{length, drop}
 use lib.Seq.{paste}
 use Rattle.reduction.proofs.Moves.{Front, front_of, front-four, front-eight, front-last}
-use Rattle.reduction.proofs.ZeroRows.{between}
+use Rattle.cells.proofs.Ends.{between}
 use Rattle.output.proofs.Writing.{paste-spliced, paste-placed}
 use Rattle.output.proofs.put_row.Goals as goal
 use Rattle.output.proofs.put_row.Goals.{then-n-gt8, else-n-gt8}

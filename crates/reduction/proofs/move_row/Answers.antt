@@ -6,7 +6,7 @@ use native.Mathlib.Omega.{arith}
 use lib.ListN.{length, drop, length-drop}
 use lib.Seq.{paste}
 use Rattle.reduction.proofs.Moves.{moved-within, Front, front_of, front-four, front-eight, front-last, source_stays}
-use Rattle.reduction.proofs.ZeroRows.{between}
+use Rattle.cells.proofs.Ends.{between}
 use Rattle.reduction.proofs.move_row.Goals as goal
 use Rattle.reduction.proofs.move_row.Goals.{then-width-gt8, else-width-gt8}
 

@@ -2,20 +2,22 @@
 -- judged tally of that text.
 use mathlib.Core.Path.{ap, sym, ◌∙◌, subst}
 use mathlib.Core.List.{[]}
-use Prim.Native.Nat.{ℕ}
+use Prim.Native.Nat.{ℕ, ◌≤◌}
 use native.Mathlib.Omega.{arith}
-use lib.Ieee.{of_bits, of_int}
-use lib.ListN.{length}
 use Rattle.definitions.specs.Lists.{joined, padded}
 use Rattle.definitions.specs.Reduction.{minimised}
+use Rattle.definitions.specs.Figures.{minimised_text, densities}
+use Rattle.definitions.specs.Beats.{f32, beats}
 use Rattle.definitions.specs.Notes.{notes}
 use Rattle.definitions.specs.Records.{records}
 use Rattle.phantoms.specs.Phantoms.{Counts}
-use Rattle.kept_pass.proofs.Answering.{own-part, all-text, all-densities, all-recount}
+use Rattle.kept_pass.proofs.Answering.{own-part, all-recount}
+use Rattle.chart.specs.Ends.{SomeChart}
 use Rattle.chart.proofs.Answering as main
 use Rattle.kept.proofs.Answering as kept
-use Rattle.sheet_answers.proofs.Gathering.{rows-fewer, minimised-less, judged-part, figures-are}
+use Rattle.sheet_answers.proofs.Gathering.{rows-fewer, minimised-less, judged-part, kept-are, figures-are}
 use Rattle.sheet_answers.proofs.sheet_answers.Goals as goal
+use Rattle.sheet_answers.proofs.sheet_answers.Goals.{After-fill_spacing}
 
 pub corrected_stats-main-requires : goal.corrected_stats-main-requires
 corrected_stats-main-requires c =
@@ -35,30 +37,38 @@ judge_minimised-judged-requires c =
       work_room = omega (arith, rows-fewer c.args.lanes.count _ _ less);
     }
 
-pub finish-count-requires : goal.finish-count-requires
-finish-count-requires c = rw c.scratch.ensures (record { rows = _; written = c.read_chart-pass.ensures.noted.written })
+-- what the pass has read
+abbrev some : (c : After-fill_spacing) → SomeChart c.read_chart-pass.result c.read_chart-pass.new.text c.read_chart-pass.new.densities c.read_chart-pass.new.beats c.read_chart-pass.new.slots
+some c = record {
+  lanes = c.args.lanes.count;
+  chart-text = c.args.data.now;
+  read = c.read_chart-pass.ensures;
+  text_room = omega (arith, c.requires.text_room, c.read_chart-pass.auto.text);
+  beats_room = omega (arith, c.requires.beats_room, c.read_chart-pass.auto.beats);
+}
+
+pub end_chart-chart-requires : goal.end_chart-chart-requires
+end_chart-chart-requires c = some (goal.at.end_chart-chart-requires c).After-fill_spacing
 
 pub returns : goal.returns
-unfolding of_bits of_int
 returns c =
-    let x = c.read_chart-pass.ensures in
+    let pass = c.read_chart-pass in
+    let x = pass.ensures in
     let k = x.kept in
     let L = c.args.lanes.count in
     let text = c.args.data.now in
-    let part = own-part _ _ _ _ _ k in
     let counts = subst (Counts L (joined (minimised L text))) (sym c.phantoms-phantoms.ensures) k.phantoms in
-    let finished = rw c.scratch.ensures at c.finish-count.ensures in
+    let a = c.end_chart-chart.ensures (some (goal.at.returns c).After-fill_spacing) (main.tally-told _ _ _ _ _ _ _ x _ (c.corrected_stats-main.ensures.value _ counts k.stats)) in
+    let wide : 1 ≤ L = omega (arith, c.args.lanes.within.0) in
     record {
       value =
-          figures-are L text
-          (main.all-figures _ _ _ _ _ _ _ x _ _ _ _ _ (c.corrected_stats-main.ensures.value _ counts k.stats) (main.note-count _ _ _ _ _ _ _ x _ _ _ finished)
-          (main.found-48 _ _ _ _ _ _ _ x) c.last_beat_bits.ensures c.last_note_row.ensures.0)
-          (kept.all-figures _ _ _ _ _ k _ (omega (arith, c.args.lanes.within.0)) (c.corrected_stats-kept.ensures.value _ counts k.stats))
-          (judged-part L text (omega (arith, c.args.lanes.within.0)) part c.judge_minimised-judged.ensures.value);
-      text_after = c.zero_past.ensures ∙ all-text _ _ _ _ _ k (length c.args.text.now) c.read_chart-pass.auto.text (omega arith);
-      densities_after = c.zero_past-2.ensures ∙ all-densities _ _ _ _ _ k (length c.args.densities.now) c.read_chart-pass.auto.densities;
+          figures-are L text a.value
+          (kept-are L text a.value (kept.tally-told _ _ _ _ _ k _ wide (c.corrected_stats-kept.ensures.value _ counts k.stats)))
+          (judged-part L text wide (own-part _ _ _ _ _ k) c.judge_minimised-judged.ensures.value);
+      text_after = a.text_is ∙ ap (λ n. padded 0 n (minimised_text L text)) pass.auto.text;
+      densities_after = a.densities_are ∙ ap (λ n. padded 0 n (densities L text)) pass.auto.densities;
       spacing_after = c.fill_spacing.ensures.spacing_after;
-      beats_after = c.zero_past-3.ensures ∙ main.all-beats _ _ _ _ _ _ _ x (length c.args.beats.now) c.read_chart-pass.auto.beats (omega arith);
+      beats_after = a.beats_are ∙ ap (λ n. padded (f32 0) n (beats L text)) pass.auto.beats;
       work_after = c.judge_minimised-judged.ensures.work_after ∙ ap (λ (n : ℕ). padded 0 n []) (c.corrected_stats-kept.auto.work ∙ c.corrected_stats-main.auto.work);
-      notes_after = main.all-notes _ _ _ _ _ _ _ x _ _ _ finished ∙ ap (λ n. padded 0 n (records (notes L text))) c.read_chart-pass.auto.slots;
+      notes_after = a.slots_are ∙ ap (λ n. padded 0 n (records (notes L text))) pass.auto.slots;
     }

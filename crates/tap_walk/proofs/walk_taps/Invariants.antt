@@ -6,8 +6,8 @@ use lib.ListN.{length, take}
 use Rattle.definitions.specs.Lines.{Row}
 use Rattle.reduction.specs.Rows.{rows_of}
 use Rattle.measure_tally.specs.Counted.{Counted}
-use Rattle.measure_run.specs.Noted.{NotedRows}
-use Rattle.measure_run.specs.Held.{Rest, counting_of, noting_of}
+use Rattle.tap_walk.specs.Noted.{NotedRows}
+use Rattle.tap_walk.specs.Held.{Rest, counting_of, noting_of}
 use Rattle.tap_walk.proofs.walk_taps.Given as goal
 
 abbrev pub invariant-loop-run : goal.invariant-loop-run

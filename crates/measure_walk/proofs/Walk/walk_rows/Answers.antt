@@ -10,9 +10,9 @@ use Rattle.definitions.specs.Lines.{Row}
 use Rattle.reduction.proofs.RowsAt.{rows-length}
 use Rattle.reduction.specs.Rows.{rows_of}
 use Rattle.measure_tally.specs.Counted.{Counted}
-use Rattle.measure_run.specs.Noted.{NotedRows}
-use Rattle.measure_run.specs.declared.Run.{Run}
-use Rattle.measure_run.specs.Held.{counting_of, noting_of}
+use Rattle.tap_walk.specs.Noted.{NotedRows}
+use Rattle.tap_walk.specs.declared.measure_run.Run.{Run}
+use Rattle.tap_walk.specs.Held.{counting_of, noting_of}
 use Rattle.tap_walk.specs.Walked.{Walking}
 use Rattle.measure_tally.proofs.Places.{part, row-wide, row_more}
 use Rattle.tap_walk.proofs.Walks.{walked_on, count-few, note-ready, measure-ready}

@@ -7,8 +7,8 @@ use Rattle.definitions.specs.Lines.{Row}
 use Rattle.row_walk.specs.Rows.{Ten}
 use Rattle.reduction.specs.Rows.{rows_of}
 use Rattle.measure_tally.specs.Counted.{Counted}
-use Rattle.measure_run.specs.Noted.{NotedRows}
-use Rattle.measure_run.specs.Held.{counting_of, noting_of}
+use Rattle.tap_walk.specs.Noted.{NotedRows}
+use Rattle.tap_walk.specs.Held.{counting_of, noting_of}
 use Rattle.measure_walk.specs.Views.{rest, counting, noting}
 use Rattle.measure_walk.proofs.Walk.walk_rows.Given as goal
 

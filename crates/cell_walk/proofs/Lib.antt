@@ -1,2 +1,0 @@
--- Laws of a cell.
-pub mod Effects

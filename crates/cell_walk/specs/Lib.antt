@@ -1,2 +1,0 @@
--- What the contracts of a cell cite, beside the definitions.
-pub mod Cells

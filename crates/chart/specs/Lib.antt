@@ -1,0 +1,2 @@
+-- What the contracts of the main call cite, beside the definitions.
+pub mod Ends

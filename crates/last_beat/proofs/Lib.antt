@@ -1,3 +1,0 @@
--- Laws of the last-beat scan.
-pub mod LastRaw
-pub mod Looking

@@ -1,2 +1,0 @@
--- Laws of what is noted: one row more, and the end of a measure.
-pub mod Rows

@@ -1,3 +1,0 @@
--- What the contracts of a run cite, beside the definitions.
-pub mod Noted
-pub mod Held

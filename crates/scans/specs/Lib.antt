@@ -1,0 +1,2 @@
+-- What the contracts of the scans cite, beside the definitions.
+pub mod Spaces

@@ -1,2 +1,0 @@
--- Laws of the spacing scan.
-pub mod Spaces

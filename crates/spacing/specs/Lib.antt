@@ -1,2 +1,0 @@
--- What the contracts of the spacing scan cite, beside the definitions.
-pub mod Spaces
