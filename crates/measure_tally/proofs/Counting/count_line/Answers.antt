@@ -27,12 +27,12 @@ loop-i-init c = lined-start _ c.args.self.now.phantoms _ (search rules) c.no_sum
 
 pub overflow_add-phantoms : goal.overflow_add-phantoms
 overflow_add-phantoms c =
-    let few = low c.args.self.now.rows _ _ _ _ c.requires.1 c.requires.2.phantoms c.loop-i.invariant.passed in
+    let few = low c.args.self.now.rows _ _ _ _ c.requires.rows_few c.requires.few.phantoms c.loop-i.invariant.passed in
     omega (arith, few.heads, one-head _ _ _ c.phantom_cell-p.ensures)
 
 pub overflow_add-phantoms-in_default : goal.overflow_add-phantoms-in_default
 overflow_add-phantoms-in_default c =
-    let few = low c.args.self.now.rows _ _ _ _ c.requires.1 c.requires.2.phantoms c.loop-i.invariant.passed in
+    let few = low c.args.self.now.rows _ _ _ _ c.requires.rows_few c.requires.few.phantoms c.loop-i.invariant.passed in
     omega (arith, few.tails, one-tail _ _ _ c.phantom_cell-p.ensures)
 
 pub loop-i-preserved : goal.loop-i-preserved
