@@ -27,7 +27,7 @@ returns c =
     let finished = rw c.scratch.ensures at c.finish-count.ensures in record {
       value =
           all-figures _ _ _ _ _ _ _ x _ _ _ _ _ (c.corrected_stats-stats.ensures.value _ counts x.kept.stats) (note-count _ _ _ _ _ _ _ x _ _ _ finished)
-          (found-48 _ _ _ _ _ _ _ x) c.last_beat_bits.ensures c.last_note_row.ensures.0;
+          (found-48 _ _ _ _ _ _ _ x) c.last_beat_bits.ensures c.last_note_row.ensures.value;
       text_after = c.zero_past.ensures ∙ all-text _ _ _ _ _ x.kept (length c.args.text.now) c.read_chart-chart.auto.text c.requires.text_room;
       densities_after = c.zero_past-2.ensures ∙ all-densities _ _ _ _ _ x.kept (length c.args.densities.now) c.read_chart-chart.auto.densities;
       beats_after = c.zero_past-3.ensures ∙ all-beats _ _ _ _ _ _ _ x (length c.args.beats.now) c.read_chart-chart.auto.beats c.requires.beats_room;

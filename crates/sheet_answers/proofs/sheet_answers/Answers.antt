@@ -52,7 +52,7 @@ returns c =
       value =
           figures-are L text
           (main.all-figures _ _ _ _ _ _ _ x _ _ _ _ _ (c.corrected_stats-main.ensures.value _ counts k.stats) (main.note-count _ _ _ _ _ _ _ x _ _ _ finished)
-          (main.found-48 _ _ _ _ _ _ _ x) c.last_beat_bits.ensures c.last_note_row.ensures.0)
+          (main.found-48 _ _ _ _ _ _ _ x) c.last_beat_bits.ensures c.last_note_row.ensures.value)
           (kept.all-figures _ _ _ _ _ k _ (omega (arith, c.args.lanes.within.0)) (c.corrected_stats-kept.ensures.value _ counts k.stats))
           (judged-part L text (omega (arith, c.args.lanes.within.0)) part c.judge_minimised-judged.ensures.value);
       text_after = c.zero_past.ensures ∙ all-text _ _ _ _ _ k (length c.args.text.now) c.read_chart-pass.auto.text (omega arith);

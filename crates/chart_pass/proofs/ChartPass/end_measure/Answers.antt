@@ -13,7 +13,7 @@ minimise-requires c =
 pub append_row_beats-requires : goal.append_row_beats-requires
 append_row_beats-requires c =
     let m = c.minimise.ensures.no_more in
-    (omega (arith, m.1, c.requires.beats_room), omega (arith, m.1, c.requires.rows_few), omega (arith, m.2, c.requires.measures_few))
+    record { beats_room = omega (arith, m.rows_after, c.requires.beats_room); rows_few = omega (arith, m.rows_after, c.requires.rows_few); measures_few = omega (arith, m.same_measure, c.requires.measures_few) }
 
 pub walk_rows-requires : goal.walk_rows-requires
 walk_rows-requires c =

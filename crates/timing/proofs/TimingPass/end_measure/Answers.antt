@@ -24,7 +24,7 @@ pub append_row_beats-requires : goal.append_row_beats-requires
 append_row_beats-requires c =
     let s = c.requires in
     let few = (timed-few _ _ _ _ _ _ s.text_room c.reduce_rows-kept.ensures s.held).0 in
-    (omega (arith, few, s.beats_room), omega (arith, few, s.rows_few), s.measures_few)
+    record { beats_room = omega (arith, few, s.beats_room); rows_few = omega (arith, few, s.rows_few); measures_few = s.measures_few }
 
 pub slice_bounds-has_head-end : goal.slice_bounds-has_head-end
 slice_bounds-has_head-end c =
