@@ -122,7 +122,7 @@ fn read_lines(
     requires densities_room { (length «data».now + 1) / 2 + 1 ≤ length densities.old }
     requires beats_room { most_rows_in table.now.lanes.count (length «data».now)
         ≤ length beats.old }
-    requires slots_room { 10 * table.now.lanes.count
+    requires notes_room { 10 * table.now.lanes.count
         * most_rows_in table.now.lanes.count (length «data».now) ≤ length slots.old }
     ensures { ChartAll table.now.lanes.count «data».now
         result text.new densities.new beats.new slots.new }
@@ -151,7 +151,7 @@ pub fn read_chart(
     requires text_room { length «data».now + 1 ≤ length text.old }
     requires densities_room { (length «data».now + 1) / 2 + 1 ≤ length densities.old }
     requires beats_room { most_rows_in lanes.count (length «data».now) ≤ length beats.old }
-    requires slots_room { 10 * lanes.count * most_rows_in lanes.count (length «data».now)
+    requires notes_room { 10 * lanes.count * most_rows_in lanes.count (length «data».now)
         ≤ length slots.old }
     ensures { ChartAll lanes.count «data».now result text.new densities.new beats.new slots.new }
 {

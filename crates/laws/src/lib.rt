@@ -2,7 +2,7 @@
 // is not built.
 #![tactic(auto)]
 
-ghost use Rattle.std.specs.Prelude.{ℕ, ◌+◌, ◌*◌, ◌^◌, ◌<◌, ◌≤◌, List, length, All};
+ghost use Rattle.std.specs.Prelude.{ℕ, ◌≤◌, List, length};
 ghost use Rattle.definitions.specs.Sizes.{most_bytes};
 ghost use Rattle.definitions.specs.Lanes.{lanes_of};
 ghost use Rattle.definitions.specs.Judged.{judged_tally, flagged_tally};
@@ -16,7 +16,8 @@ ghost use Rattle.files.specs.Rest.{RestAnswered, RestInOrder};
 ghost use Rattle.sheet_print.specs.Example.{PrintExample};
 ghost use Rattle.sheet_json.specs.Example.{JsonExample};
 ghost use Rattle.chart_sheet.specs.Forms.{sheet_in_form};
-ghost use Rattle.chart_sheet.specs.Entry.{places_of_sheet};
+ghost use Rattle.chart_sheet.specs.Entry.{most_sheet_bytes, places_of_sheet};
+ghost use Rattle.laws.specs.Fits.{FitsForAll};
 ghost use Rattle.laws.specs.Examples.{ExamplesHold, RuleExamplesHold, RequestExamplesHold, CardExample, BeatsRight, DamageMet, LastBeatStays};
 
 /// The papers' examples are what the definitions give.

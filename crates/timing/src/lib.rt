@@ -5,12 +5,13 @@
 ghost use Rattle.std.specs.Prelude.{◌≡◌, List, [], ℕ, ◌+◌, ◌≤◌, ◌<◌, Float, length};
 ghost use Rattle.definitions.specs.Sizes.{measures_bound, most_bytes, row_count_bound};
 ghost use Rattle.definitions.specs.Lists.{padded};
-ghost use Rattle.definitions.specs.Lanes.{most_rows_in};
+ghost use Rattle.definitions.specs.Lanes.{lanes_of, most_rows_in};
+ghost use Rattle.definitions.specs.Refusals.{leaves};
 ghost use Rattle.definitions.specs.Tracker.{hold_at};
 ghost use Rattle.definitions.specs.Correction.{is_opening};
 ghost use Rattle.definitions.specs.Beats.{f32, beats as beats_of};
 ghost use Rattle.definitions.specs.TimingRows.{has_some_head, timing_rows};
-ghost use Rattle.definitions.specs.Entries.{figures_of_timing, timing_answer, timing_text, timing_beats};
+ghost use Rattle.definitions.specs.Entries.{figures_of_timing, timing_answer};
 ghost use Rattle.reduction.specs.States.{Holding, AddsRow, EndsMinimised};
 ghost use Rattle.timing.specs.TimingPass.{Timed, TimedAll};
 
@@ -154,8 +155,10 @@ pub fn minimize_timing_rows(
     beats: &mut [f32],
 ) -> Result<TimingFigures, Refusal>
     ensures value { result ≡ timing_answer lanes «data».now text.old beats.old }
-    ensures text_after { text.new ≡ timing_text lanes «data».now text.old beats.old }
-    ensures beats_after { beats.new ≡ timing_beats lanes «data».now text.old beats.old }
+    ensures text_after { text.new
+        ≡ leaves 0 result (timing_rows (lanes_of lanes) «data».now) text.old }
+    ensures beats_after { beats.new
+        ≡ leaves (f32 0) result (beats_of (lanes_of lanes) «data».now) beats.old }
 {
     let len = data.len();
     refusals::text_fits(len)?;

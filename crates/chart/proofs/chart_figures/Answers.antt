@@ -32,5 +32,5 @@ returns c =
       densities_after = c.zero_past-2.ensures ∙ all-densities _ _ _ _ _ x.kept (length c.args.densities.now) c.read_chart-chart.auto.densities;
       beats_after = c.zero_past-3.ensures ∙ all-beats _ _ _ _ _ _ _ x (length c.args.beats.now) c.read_chart-chart.auto.beats c.requires.beats_room;
       work_after = c.corrected_stats-stats.ensures.work_after ∙ none-off (length c.args.work.now);
-      slots_after = all-notes _ _ _ _ _ _ _ x _ _ _ finished ∙ ap (λ n. padded 0 n (records (notes c.args.lanes.count c.args.«data».now))) c.read_chart-chart.auto.slots;
+      notes_after = all-notes _ _ _ _ _ _ _ x _ _ _ finished ∙ ap (λ n. padded 0 n (records (notes c.args.lanes.count c.args.«data».now))) c.read_chart-chart.auto.slots;
     }
