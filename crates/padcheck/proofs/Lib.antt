@@ -1,0 +1,2 @@
+-- Laws of the number that an entry tells.
+pub mod Told
