@@ -5,7 +5,3 @@ use Rattle.definitions.specs.Lists.{padded}
 -- in a slice that held `old`: the answer and zeros past it, or all as it was
 abbrev pub leaves_by : {A : Type 0} → A → ℕ → List A → List A → List A
 leaves_by zero number answer old = if number == 0 then padded zero (length old) answer else old
-
--- in the figures: these places, or all as they were
-abbrev pub replaces_by : ℕ → List ℕ → List ℕ → List ℕ
-replaces_by number places old = if number == 0 then places else old

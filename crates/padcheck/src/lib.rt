@@ -11,12 +11,11 @@ ghost use Rattle.definitions.specs.Beats.{f32, beats as beats_of};
 ghost use Rattle.definitions.specs.Notes.{notes as notes_of};
 ghost use Rattle.definitions.specs.Records.{records as records_of, note_of_record};
 ghost use Rattle.definitions.specs.TimingRows.{timing_rows};
-ghost use Rattle.definitions.specs.Judged.{judged_tally, flagged_tally};
-ghost use Rattle.definitions.specs.Entries.{measures_answer, measure_count, places_of_measures, last_answer, figures_of_last, places_of_last, main_answer, figures_of_chart, places_of_chart, judged_answer, places_of_judged, flagged_answer, kept_answer, figures_of_kept, places_of_kept, timing_answer, figures_of_timing, places_of_timing, figures_of_note};
+ghost use Rattle.definitions.specs.Entries.{measures_answer, places_of_measures, last_answer, places_of_last, main_answer, places_of_chart, judged_answer, judged_work, places_of_judged, flagged_answer, kept_answer, places_of_kept, timing_answer, places_of_timing, figures_of_note};
 ghost use Rattle.definitions.specs.SmFile.{sm_number, places_of_sm};
 ghost use Rattle.chart_sheet.specs.Forms.{sheet_in_form};
-ghost use Rattle.chart_sheet.specs.Entry.{places_of_sheet, sheet_answer};
-ghost use Rattle.padcheck.specs.Told.{leaves_by, replaces_by};
+ghost use Rattle.chart_sheet.specs.Entry.{sheet_answer};
+ghost use Rattle.padcheck.specs.Told.{leaves_by};
 
 use figures::{chart_figures, tell};
 use note_records::read_note;
@@ -45,8 +44,8 @@ pub extern "C" fn padcheck_minimize_chart_count_rows_notes(
     ensures work_after { work.new ≡ leaves_by 0 result [] work.old }
     ensures notes_after { notes.new
         ≡ leaves_by 0 result (records_of (notes_of (lanes_of lanes) «data».now)) notes.old }
-    ensures figures_after { figures.new
-        ≡ replaces_by result (places_of_chart (figures_of_chart (lanes_of lanes) «data».now)) figures.old }
+    ensures figures_after { figures.new ≡ replaces (main_answer lanes «data».now
+        text.old densities.old beats.old work.old notes.old) places_of_chart figures.old }
 {
     let answer = chart::minimize_chart_count_rows_notes(
         data, lanes, text, densities, beats, work, notes,
@@ -73,7 +72,8 @@ pub extern "C" fn padcheck_process_chart_kept(
         ≡ leaves_by 0 result (densities_of (lanes_of lanes) «data».now) densities.old }
     ensures work_after { work.new ≡ leaves_by 0 result [] work.old }
     ensures figures_after { figures.new
-        ≡ replaces_by result (places_of_kept (figures_of_kept (lanes_of lanes) «data».now)) figures.old }
+        ≡ replaces (kept_answer lanes «data».now text.old densities.old work.old)
+        places_of_kept figures.old }
 {
     let answer = kept::process_chart_kept(data, lanes, text, densities, work);
     tell(answer, figures)
@@ -95,7 +95,7 @@ pub extern "C" fn padcheck_minimize_timing_rows(
     ensures beats_after { beats.new
         ≡ leaves_by (f32 0) result (beats_of (lanes_of lanes) «data».now) beats.old }
     ensures figures_after { figures.new
-        ≡ replaces_by result (places_of_timing (figures_of_timing (lanes_of lanes) «data».now)) figures.old }
+        ≡ replaces (timing_answer lanes «data».now text.old beats.old) places_of_timing figures.old }
 {
     let answer = timing::minimize_timing_rows(data, lanes, text, beats);
     tell(answer, figures)
@@ -113,7 +113,7 @@ pub extern "C" fn padcheck_measure_densities(
     ensures densities_after { densities.new
         ≡ leaves_by 0 result (densities_of (lanes_of lanes) «data».now) densities.old }
     ensures figures_after { figures.new
-        ≡ replaces_by result (places_of_measures (measure_count (lanes_of lanes) «data».now)) figures.old }
+        ≡ replaces (measures_answer lanes «data».now densities.old) places_of_measures figures.old }
 {
     let answer = scans::densities::measure_densities(data, lanes, densities);
     tell(answer, figures)
@@ -131,7 +131,7 @@ pub extern "C" fn padcheck_equally_spaced(
     ensures spacing_after { spacing.new
         ≡ leaves_by 0 result (spacings_of (lanes_of lanes) «data».now) spacing.old }
     ensures figures_after { figures.new
-        ≡ replaces_by result (places_of_measures (measure_count (lanes_of lanes) «data».now)) figures.old }
+        ≡ replaces (measures_answer lanes «data».now spacing.old) places_of_measures figures.old }
 {
     let answer = spacing::equally_spaced_impl(data, lanes, spacing);
     tell(answer, figures)
@@ -146,7 +146,7 @@ pub extern "C" fn padcheck_chart_last_beat(
 ) -> u32
     ensures value { result ≡ number_told (last_answer lanes «data».now) }
     ensures figures_after { figures.new
-        ≡ replaces_by result (places_of_last (figures_of_last (lanes_of lanes) «data».now)) figures.old }
+        ≡ replaces (last_answer lanes «data».now) places_of_last figures.old }
 {
     let answer = last_beat::chart_last_beat_impl(data, lanes);
     tell(answer, figures)
@@ -161,9 +161,9 @@ pub extern "C" fn padcheck_process_rows_judgable(
     figures: &mut [u64; 32],
 ) -> u32
     ensures value { result ≡ number_told (judged_answer lanes «data».now work.old) }
-    ensures work_after { work.new ≡ leaves_by 0 result [] work.old }
+    ensures work_after { work.new ≡ judged_work lanes «data».now work.old }
     ensures figures_after { figures.new
-        ≡ replaces_by result (places_of_judged (judged_tally (lanes_of lanes) «data».now)) figures.old }
+        ≡ replaces (judged_answer lanes «data».now work.old) places_of_judged figures.old }
 {
     let answer = judged::process_rows_judgable(data, lanes, work);
     tell(answer, figures)
@@ -180,9 +180,10 @@ pub extern "C" fn padcheck_process_timing_rows(
     figures: &mut [u64; 32],
 ) -> u32
     ensures value { result ≡ number_told (flagged_answer lanes «data».now work.old flags.now) }
-    ensures work_after { work.new ≡ leaves_by 0 result [] work.old }
+    ensures work_after { work.new ≡ judged_work lanes «data».now work.old }
     ensures figures_after { figures.new
-        ≡ replaces_by result (places_of_judged (flagged_tally (lanes_of lanes) flags.now «data».now)) figures.old }
+        ≡ replaces (flagged_answer lanes «data».now work.old flags.now)
+        places_of_judged figures.old }
 {
     let answer = judged::process_timing_rows(data, lanes, flags, work);
     tell(answer, figures)
@@ -247,8 +248,9 @@ pub extern "C" fn padcheck_chart_sheet(
         ≡ leaves_by 0 result (records_of (notes_of (lanes_of lanes) «data».now)) notes.old }
     ensures sheet_after { sheet.new
         ≡ leaves_by 0 result (sheet_in_form form (lanes_of lanes) «data».now) sheet.old }
-    ensures figures_after { figures.new
-        ≡ replaces_by result (places_of_sheet form (lanes_of lanes) «data».now) figures.old }
+    ensures figures_after { figures.new ≡ replaces (sheet_answer lanes form «data».now
+        text.old densities.old spacing.old beats.old work.old notes.old sheet.old)
+        (λ f. f) figures.old }
 {
     let answer = chart_sheet::chart_sheet(
         data, lanes, form, text, densities, spacing, beats, work, notes, sheet,

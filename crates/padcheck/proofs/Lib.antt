@@ -1,2 +1,0 @@
--- Laws of the number that an entry tells.
-pub mod Told
