@@ -3,9 +3,10 @@
 #![tactic(auto)]
 
 ghost use Rattle.std.specs.Prelude.{◌≡◌, [], ◌∷◌};
-ghost use Rattle.definitions.specs.Entries.{figures as stored_figures, tally_figures, figures_of_note, places_of_chart, places_of_kept, places_of_timing, places_of_measures, places_of_last, places_of_judged};
+ghost use Rattle.definitions.specs.Entries.{figures as stored_figures, figures_of_note, places_of_chart, places_of_kept, places_of_timing, places_of_measures, places_of_last, places_of_judged};
 ghost use Rattle.definitions.specs.Lists.{number_of_bool};
 ghost use Rattle.definitions.specs.Records.{number_of_tail};
+ghost use Rattle.definitions.specs.Tally.{tally_figures};
 ghost use Rattle.definitions.specs.Refusals.{number_told, replaces};
 
 use definitions::{

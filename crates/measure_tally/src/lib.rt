@@ -10,7 +10,7 @@ ghost use Rattle.reduction.specs.Rows.{rows_of};
 ghost use Rattle.reduction.specs.States.{HoldingOpen, EndsMeasure};
 ghost use Rattle.measure_tally.specs.Counted.{Few, Counted, CountsRow, CountsOn, CountsAll};
 
-use definitions::{ArrowStats, Cell};
+use definitions::{ArrowStats, Cell, direction};
 use phantoms::Phantoms;
 use taps::{TapTable, Taps};
 
@@ -70,7 +70,7 @@ impl Counting {
                     phantoms.heads += p.heads;
                     phantoms.tails += p.tails;
                     phantoms.met = phantoms.met | p.met;
-                    sum = row_tally::sum_cell(sum, i, b);
+                    sum = row_tally::sum_cell(sum, direction(row.len(), i), b);
                 }
             }
             i += 1;

@@ -16,7 +16,7 @@ ghost use Rattle.row_tally.specs.Bounds.{Under, Below};
 ghost use Rattle.row_tally.specs.Kept.{bit_is_set, cell_by_mask, row_by_mask};
 ghost use Rattle.row_tally.specs.Sums.{add_arrow, add_counted, sum_with_cell, arrow_of};
 
-use definitions::{ArrowStats, Cell, DepthEffect, RowSum};
+use definitions::{ArrowStats, Cell, DepthEffect, RowSum, direction};
 use taps::TapTable;
 
 /// The sum of no cells.
@@ -26,49 +26,50 @@ pub fn no_sum() -> RowSum
     RowSum::default()
 }
 
-// With an arrow in a column. Column mod 4 gives left, down, up, right.
+// With an arrow of a direction: left, down, up, right.
 #[tactic(auto, unfolding(crate::specs::Sums::add_arrow))]
-fn bump_dir(mut s: RowSum, column: usize) -> RowSum
+fn bump_dir(mut s: RowSum, direction: usize) -> RowSum
     requires { Under 10 s }
-    ensures { result ≡ add_arrow s column true }
+    ensures { result ≡ add_arrow s direction true }
 {
     s.arrows += 1;
-    match column % 4 {
+    match direction {
         0 => s.left += 1,
         1 => s.down += 1,
         2 => s.up += 1,
-        _ => s.right += 1,
+        3 => s.right += 1,
+        _ => {}
     }
     s
 }
 
 // With a lift, which is an arrow of a judged row.
 #[tactic(auto, unfolding(crate::specs::Sums::add_arrow, crate::specs::Sums::add_counted))]
-fn add_lift(s: RowSum, column: usize, judged: bool) -> RowSum
+fn add_lift(s: RowSum, direction: usize, judged: bool) -> RowSum
     requires { Under 10 s }
-    ensures { result ≡ add_counted (add_arrow s column judged) Lift }
+    ensures { result ≡ add_counted (add_arrow s direction judged) Lift }
 {
     RowSum {
         lifts: s.lifts + 1,
-        ..if judged { bump_dir(s, column) } else { s }
+        ..if judged { bump_dir(s, direction) } else { s }
     }
 }
 
-// One cell of a row, in a column, by one match: an arrow, what else it is counted as, or both. A judged row has lifts for arrows too.
+// One cell of a row, in a column of a direction, by one match: an arrow, what else it is counted as, or both. On a judged row an L is an arrow too.
 #[tactic(auto, unfolding(crate::specs::Sums::add_arrow, crate::specs::Sums::add_counted))]
-fn add_cell(s: RowSum, column: usize, b: u8, judged: bool) -> RowSum
+fn add_cell(s: RowSum, direction: usize, b: u8, judged: bool) -> RowSum
     requires { Under 10 s }
-    ensures { result ≡ sum_with_cell s column (cell_of b) (arrow_of judged (cell_of b)) }
+    ensures { result ≡ sum_with_cell s direction (cell_of b) (arrow_of judged (cell_of b)) }
 {
     match cells::cell_of(b) {
-        Cell::Tap => bump_dir(s, column),
+        Cell::Tap => bump_dir(s, direction),
         Cell::Hold => RowSum {
             holds: s.holds + 1,
-            ..bump_dir(s, column)
+            ..bump_dir(s, direction)
         },
         Cell::Roll => RowSum {
             rolls: s.rolls + 1,
-            ..bump_dir(s, column)
+            ..bump_dir(s, direction)
         },
         Cell::Tail => RowSum {
             tails: s.tails + 1,
@@ -78,7 +79,7 @@ fn add_cell(s: RowSum, column: usize, b: u8, judged: bool) -> RowSum
             mines: s.mines + 1,
             ..s
         },
-        Cell::Lift | Cell::LowerLift => add_lift(s, column, judged),
+        Cell::Lift | Cell::LowerLift => add_lift(s, direction, judged),
         Cell::Fake | Cell::LowerFake => RowSum {
             fakes: s.fakes + 1,
             ..s
@@ -88,19 +89,19 @@ fn add_cell(s: RowSum, column: usize, b: u8, judged: bool) -> RowSum
 }
 
 /// One cell of a plain row.
-pub fn sum_cell(s: RowSum, column: usize, b: u8) -> RowSum
+pub fn sum_cell(s: RowSum, direction: usize, b: u8) -> RowSum
     requires { Under 10 s }
-    ensures { result ≡ sum_with_cell s column (cell_of b) (is_arrow (cell_of b)) }
+    ensures { result ≡ sum_with_cell s direction (cell_of b) (is_arrow (cell_of b)) }
 {
-    add_cell(s, column, b, false)
+    add_cell(s, direction, b, false)
 }
 
 /// One cell of a judged row.
-pub fn judged_cell(s: RowSum, column: usize, b: u8) -> RowSum
+pub fn judged_cell(s: RowSum, direction: usize, b: u8) -> RowSum
     requires { Under 10 s }
-    ensures { result ≡ sum_with_cell s column (cell_of b) (is_judged_arrow (cell_of b)) }
+    ensures { result ≡ sum_with_cell s direction (cell_of b) (is_judged_arrow (cell_of b)) }
 {
-    add_cell(s, column, b, true)
+    add_cell(s, direction, b, true)
 }
 
 /// The tally of no rows.
@@ -200,12 +201,13 @@ fn keep_head(b: u8, paired: bool) -> u8
 }
 
 // One cell of a row of which only the heads of a mask count, judged or plain.
-fn kept_cell(s: RowSum, column: usize, b: u8, heads: u16, judged: bool) -> RowSum
-    requires { (column < 10) × Under 10 s }
-    ensures { result ≡ sum_with_cell s column (cell_by_mask heads column b) (arrow_of judged (cell_by_mask heads column b)) }
+fn kept_cell(s: RowSum, direction: usize, column: usize, b: u8, heads: u16, judged: bool) -> RowSum
+    requires column_bound { column < 10 }
+    requires sum_bound { Under 10 s }
+    ensures { result ≡ sum_with_cell s direction (cell_by_mask heads column b) (arrow_of judged (cell_by_mask heads column b)) }
 {
     let kept = keep_head(b, has_bit(heads, column));
-    add_cell(s, column, kept, judged)
+    add_cell(s, direction, kept, judged)
 }
 
 // What a row adds up to of which only the heads of a mask count, judged or plain.
@@ -215,7 +217,7 @@ fn kept_sum(row: &[u8], heads: u16, judged: bool) -> RowSum
 {
     let mut s = no_sum();
     for (column, &b) in row.iter().enumerate() {
-        s = kept_cell(s, column, b, heads, judged);
+        s = kept_cell(s, direction(row.len(), column), column, b, heads, judged);
     }
     s
 }
