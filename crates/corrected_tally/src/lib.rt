@@ -7,7 +7,7 @@ ghost use Rattle.definitions.specs.Tally.{row_sum, tally_with_row, tally};
 ghost use Rattle.definitions.specs.Lines.{Row};
 ghost use Rattle.definitions.specs.Correction.{paired_only, corrected};
 ghost use Rattle.row_tally.specs.Bounds.{Below};
-ghost use Rattle.row_tally.specs.Kept.{row_by_mask};
+ghost use Rattle.row_tally.specs.Masked.{row_by_mask};
 ghost use Rattle.phantoms.specs.Phantoms.{Counts};
 ghost use Rattle.reader.specs.BackReading.{rows_back};
 ghost use Rattle.corrected_tally.specs.Heads.{Room, Heads};

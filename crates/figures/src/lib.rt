@@ -30,7 +30,8 @@ struct Places {
 impl Places {
     // The 32 numbers: the figures, the last beat by its bits and in 48ths, and from place 8 on the tally in the order of its fields.
     fn numbers(self) -> [u64; 32]
-        ensures { result ≡ stored_figures self.bytes self.measures self.rows self.notes self.last_bits (number_of_bool self.heads) self.last_row (tally_figures self.stats) }
+        ensures { result ≡ stored_figures self.bytes self.measures self.rows self.notes
+            self.last_bits (number_of_bool self.heads) self.last_row (tally_figures self.stats) }
     {
         let t = self.stats;
         [
@@ -217,7 +218,7 @@ pub fn tell<const N: usize, F: Figures<N>>(
 }
 
 /// The three places of a chart of a file: its lane count, where its data begins, and the data's length.
-pub fn chart_figures(lanes: usize, start: usize, len: usize) -> [u64; 3]
+pub fn sm_chart_places(lanes: usize, start: usize, len: usize) -> [u64; 3]
     ensures { result ≡ lanes ∷ start ∷ len ∷ [] }
 {
     [lanes as u64, start as u64, len as u64]

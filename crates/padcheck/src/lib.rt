@@ -17,7 +17,7 @@ ghost use Rattle.chart_sheet.specs.Forms.{sheet_in_form};
 ghost use Rattle.chart_sheet.specs.Entry.{sheet_answer};
 ghost use Rattle.padcheck.specs.Told.{leaves_by};
 
-use figures::{chart_figures, tell};
+use figures::{sm_chart_places, tell};
 use note_records::read_note;
 
 /// The main call, the Rust's `minimize_chart_count_rows_notes`: minimised text in bytes, densities in steps a measure, row beats, note records of ten
@@ -211,7 +211,7 @@ pub extern "C" fn padcheck_sm_chart(file: &[u8], k: usize, chart: &mut [u64; 3])
     match files::sm::sm_chart(file, k) {
         Err(refusal) => refusal.number(),
         Ok(found) => {
-            *chart = chart_figures(found.lanes, found.start, found.data.len());
+            *chart = sm_chart_places(found.lanes, found.start, found.data.len());
             0
         }
     }

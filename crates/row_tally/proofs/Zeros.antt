@@ -23,11 +23,11 @@ use Rattle.definitions.specs.declared.Cell.{Cell}
 use Rattle.definitions.specs.declared.Cell.TheVariants.{Empty}
 use Rattle.definitions.proofs.Bools.{and_left, and_right}
 
-pub zero-kept : (ps : ℕ → List Pair) (i c : ℕ) (r : Row) → all_zero r ≡ true → keep_row ps i c r ≡ r
+pub zero-stays : (ps : ℕ → List Pair) (i c : ℕ) (r : Row) → all_zero r ≡ true → keep_row ps i c r ≡ r
 unfolding hold_at cell_of
-zero-kept ps i c [] z = refl
-zero-kept ps i c (b ∷ r) z =
-    ap₂ (λ (x : ℕ) (xs : Row). x ∷ xs) (rw (eqb-true b 48 (and_left (eqb b 48) (all_zero r) z))) (zero-kept ps i (suc c) r (and_right (eqb b 48) (all_zero r) z))
+zero-stays ps i c [] z = refl
+zero-stays ps i c (b ∷ r) z =
+    ap₂ (λ (x : ℕ) (xs : Row). x ∷ xs) (rw (eqb-true b 48 (and_left (eqb b 48) (all_zero r) z))) (zero-stays ps i (suc c) r (and_right (eqb b 48) (all_zero r) z))
 
 pub zero-count : (p : ℕ → Bool) → p 48 ≡ false → (r : Row) → all_zero r ≡ true → count_by p r ≡ 0
 zero-count p n [] z = refl

@@ -41,3 +41,7 @@ sum_with_cell s d x arrow = add_counted (add_arrow s d arrow) x
 abbrev pub arrow_of : Bool → Cell → Bool
 arrow_of true x = is_judged_arrow x
 arrow_of false x = is_arrow x
+
+-- with a cell of a judged row, or of a plain one
+abbrev pub add_by : Bool → RowSum → ℕ → Cell → RowSum
+add_by judged s d x = sum_with_cell s d x (arrow_of judged x)

@@ -1,12 +1,12 @@
--- `row_tally::kept_sum` meets its contract. The loop's invariant: the sum so far, with the kept cells from column `i` on, is that of the row.
+-- `row_tally::masked_sum` meets its contract. The loop's invariant: the sum so far, with the cells from column `i` on, is that of the row.
 use mathlib.Core.Path.{ap, subst}
 use lib.ListN.{length, drop_of_length-le}
 use Rattle.definitions.specs.Tally.{row_sum_by}
-use Rattle.row_tally.specs.Kept.{row_by_mask}
+use Rattle.row_tally.specs.Masked.{row_by_mask}
 use Rattle.row_tally.specs.Sums.{arrow_of}
 use Rattle.row_tally.proofs.Loops.{Summed, summed-start, summed-next, summed-end}
-use Rattle.row_tally.proofs.Kept.{keep-length, keep-next}
-use Rattle.row_tally.proofs.kept_sum.Goals as goal
+use Rattle.row_tally.proofs.Masked.{keep-length, keep-next}
+use Rattle.row_tally.proofs.masked_sum.Goals as goal
 
 pub loop-column-init : goal.loop-column-init
 loop-column-init c =
@@ -17,7 +17,7 @@ loop-column-init c =
 pub loop-column-preserved : goal.loop-column-preserved
 loop-column-preserved c =
     let rest = keep-next c.args.heads c.args.row.now c.loop-column.column c.loop-column-test.true in
-    summed-next (length c.args.row.now) (arrow_of c.args.judged) _ _ _ c.loop-column.s _ c.loop-column.column _ rest (rw c.direction.ensures at c.kept_cell-s.ensures) c.loop-column.invariant
+    summed-next (length c.args.row.now) (arrow_of c.args.judged) _ _ _ c.loop-column.s _ c.loop-column.column _ rest (rw c.direction.ensures at c.masked_cell-s.ensures) c.loop-column.invariant
 
 pub returns : goal.returns
 returns c =
