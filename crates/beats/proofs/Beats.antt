@@ -19,6 +19,12 @@ at-beats m n r (suc k) (suc j) h = at-beats m n (suc r) k j (le_of_suc-le-suc h)
 pub beat-at : (m n j : ℕ) → j < n → beat_of_row m j n ≡ get_or (row_beats m n 0 n) j nan
 beat-at m n j h = ap (λ (i : ℕ). beat_of_row m i n) (sym (zero-add j)) ∙ sym (at-beats m n 0 n j h)
 
+-- a slice with the first r of n beats of a row pasted in at `at`
+pub record Appended (before now : List Float) (at : ℕ) (row : List Float) (n r : ℕ) : Type 0 where
+  pub within : r ≤ n
+  pub same_length : length now ≡ length before
+  pub written : now ≡ paste before at row r
+
 -- The slice l₀ with the first r beats of a measure pasted in at `at`: one beat more, and all of them.
 pub beats-next : (l₀ l : List Float) (at m n r : ℕ) (b : Float) → l ≡ paste l₀ at (row_beats m n 0 n) r → at + n ≤ length l₀ → r < n → b ≡ beat_of_row m r n
     → set l (at + r) b ≡ paste l₀ at (row_beats m n 0 n) (r + 1)

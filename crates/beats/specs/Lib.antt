@@ -3,3 +3,4 @@ pub mod Places
 pub mod Upto
 pub mod Vectors
 pub mod Even
+pub mod RowBeats

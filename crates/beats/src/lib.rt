@@ -2,16 +2,17 @@
 // whole numbers and by float operations that are exact but for the last.
 #![tactic(auto)]
 
-ghost use Rattle.std.specs.Prelude.{◌≡◌, ℕ, ◌+◌, ◌*◌, ◌^◌, ◌<◌, ◌≤◌, false, ◌++◌, length, take, drop, to_bits};
+ghost use Rattle.std.specs.Prelude.{◌≡◌, ℕ, ◌+◌, ◌*◌, ◌^◌, ◌<◌, ◌≤◌, false, length, to_bits};
 ghost use Rattle.std.specs.Float.{binary32, binary64};
 ghost use Rattle.std.specs.Float.Ieee.{round};
 ghost use Rattle.std.specs.Float.Ieee.Exact.{HasValue};
 ghost use Rattle.definitions.specs.Sizes.{measures_bound, row_count_bound};
-ghost use Rattle.definitions.specs.Beats.{step, beat_of_row, row_beats, whole, last_row, row_to_beat};
+ghost use Rattle.definitions.specs.Beats.{step, beat_of_row, whole, last_row, row_to_beat};
 ghost use Rattle.definitions.specs.Objects.{place48};
 ghost use Rattle.beats.specs.Places.{Inside, place_of, Placed};
 ghost use Rattle.beats.specs.Upto.{Upto};
-ghost use Rattle.beats.specs.Even.{exact_bound, EvenStep};
+ghost use Rattle.beats.specs.Even.{exact_bound, IsUnits, EvenStep};
+ghost use Rattle.beats.specs.RowBeats.{with_row_beats};
 
 // 2^-43, of which every step is a whole number.
 const FINE: f32 = 1.1368683772161603e-13;
@@ -26,8 +27,10 @@ const EXACT_BOUND: u64 = 16777216;
 
 // The step 4 / n, an f32, in units of 2^-43.
 fn step_units(n: u32) -> u64
-    requires { (0 < n) × (n < row_count_bound) }
-    ensures { (HasValue (step n) false result (2 ^ 43)) × (result * n < 2 ^ 46) }
+    requires some { 0 < n }
+    requires rows_few { n < row_count_bound }
+    ensures value { IsUnits (step n) result }
+    ensures few { result * n < 2 ^ 46 }
 {
     let x: f32 = 4.0 / (n as f32);
     std::num::truncating_f32_to_u64(x * 8796093022208.0)
@@ -36,7 +39,8 @@ fn step_units(n: u32) -> u64
 // x units, rounded once, for a unit of 2^-k: both halves are floats exactly, so that only the sum rounds.
 fn rounded(x: u64, unit: f32) -> f32
     requires { x < 2 ^ 48 }
-    ensures { (k : ℕ) → k ≤ 43 → HasValue unit false 1 (2 ^ k) → result ≡ round binary32 false x (2 ^ k) }
+    ensures { (k : ℕ) → k ≤ 43 → HasValue unit false 1 (2 ^ k)
+        → result ≡ round binary32 false x (2 ^ k) }
 {
     ((x >> 24) as f32) * (unit * 16777216.0) + ((x % 16777216) as f32) * unit
 }
@@ -44,7 +48,8 @@ fn rounded(x: u64, unit: f32) -> f32
 // r × s + 4 × m, with s in units of 2^-43, worked out exactly and rounded once. From m = 4 on the exact number takes up to
 // 69 binary digits. A float keeps 24, so after the 25th it is enough to know whether any digit is not 0: one more digit says so.
 fn mul_add(r: u32, s: u64, m: u32) -> f32
-    requires { (r * s < 2 ^ 46) × (m ≤ measures_bound) }
+    requires few { r * s < 2 ^ 46 }
+    requires measures_few { m ≤ measures_bound }
     ensures { result ≡ round binary32 false (r * s + 4 * m * 2 ^ 43) (2 ^ 43) }
 {
     let p = (r as u64) * s;
@@ -79,15 +84,18 @@ fn step_of(n: u32) -> f32
 // k steps: both factors are floats exactly, so that only the product rounds.
 fn steps_beat(k: u32, step: f32) -> f32
     requires { k < exact_bound }
-    ensures { (s : ℕ) → HasValue step false s (2 ^ 43) → result ≡ round binary32 false (k * s) (2 ^ 43) }
+    ensures { (s : ℕ) → IsUnits step s → result ≡ round binary32 false (k * s) (2 ^ 43) }
 {
     (k as f32) * step
 }
 
 // The beats of a measure whose rows are an even part of 4 beats: row r stands `midx` × `rows` + r steps after beat 0.
 fn append_steps(beats: &mut [f32], at: usize, midx: u32, rows: u32)
-    requires { (at + rows ≤ length beats.old) × (rows < row_count_bound) × (midx * rows + rows ≤ exact_bound) × EvenStep rows }
-    ensures { beats.new ≡ (take at beats.old ++ row_beats midx rows 0 rows) ++ drop (at + rows) beats.old }
+    requires beats_room { at + rows ≤ length beats.old }
+    requires rows_few { rows < row_count_bound }
+    requires exact { midx * rows + rows ≤ exact_bound }
+    requires even { EvenStep rows }
+    ensures { beats.new ≡ with_row_beats at midx rows beats.old }
 {
     let step = step_of(rows);
     let first = midx * rows;
@@ -98,8 +106,11 @@ fn append_steps(beats: &mut [f32], at: usize, midx: u32, rows: u32)
 
 // The beats of any measure's rows, by the step in units of 2^-43.
 fn append_rounded(beats: &mut [f32], at: usize, midx: u32, rows: u32, s: u64)
-    requires { (at + rows ≤ length beats.old) × (midx ≤ measures_bound) × (HasValue (step rows) false s (2 ^ 43)) × (s * rows < 2 ^ 46) }
-    ensures { beats.new ≡ (take at beats.old ++ row_beats midx rows 0 rows) ++ drop (at + rows) beats.old }
+    requires beats_room { at + rows ≤ length beats.old }
+    requires measures_few { midx ≤ measures_bound }
+    requires step_is { IsUnits (step rows) s }
+    requires few { s * rows < 2 ^ 46 }
+    ensures { beats.new ≡ with_row_beats at midx rows beats.old }
 {
     for r in 0..rows {
         beats[at + (r as usize)] = mul_add(r, s, midx);
@@ -109,8 +120,10 @@ fn append_rounded(beats: &mut [f32], at: usize, midx: u32, rows: u32, s: u64)
 /// The beats of the rows of measure `midx`, written from place `at` on. The step is worked out once a measure. Where its rows, as most do,
 /// divide 4 beats evenly and their numbers are floats exactly, each beat is one product.
 pub fn append_row_beats(beats: &mut [f32], at: usize, midx: u32, rows: u32)
-    requires { (at + rows ≤ length beats.old) × (rows < row_count_bound) × (midx ≤ measures_bound) }
-    ensures { beats.new ≡ (take at beats.old ++ row_beats midx rows 0 rows) ++ drop (at + rows) beats.old }
+    requires beats_room { at + rows ≤ length beats.old }
+    requires rows_few { rows < row_count_bound }
+    requires measures_few { midx ≤ measures_bound }
+    ensures { beats.new ≡ with_row_beats at midx rows beats.old }
 {
     if rows == 0 {
         return;
@@ -130,7 +143,8 @@ pub fn append_row_beats(beats: &mut [f32], at: usize, midx: u32, rows: u32)
 // The whole number nearest to x, at a tie the even one.
 fn lrint_f64(x: f64) -> u64
     requires { Upto x (2 ^ 38) }
-    ensures { (result ≡ whole x) × (result ≤ 2 ^ 39) }
+    ensures value { result ≡ whole x }
+    ensures few { result ≤ 2 ^ 39 }
 {
     let w = std::num::truncating_f64_to_u64(x);
     let half = (w as f64) + 0.5;
@@ -146,7 +160,8 @@ fn lrint_f64(x: f64) -> u64
 /// The beat of row r of n in measure m, in 48ths: worked out in f64, and rounded.
 pub fn beat_to_note_row(m: u32, r: u32, n: u32) -> u64
     requires { Inside m r n }
-    ensures { (result ≡ last_row m r n) × (result ≤ 2 ^ 39) }
+    ensures value { result ≡ last_row m r n }
+    ensures few { result ≤ 2 ^ 39 }
 {
     let beat = (m as f64) * 4.0 + 4.0 * (r as f64) / (n as f64);
     lrint_f64(beat * 48.0)
@@ -171,7 +186,8 @@ pub struct RowPlace {
 /// The last beat in 48ths, by the last object row, if there is one.
 pub fn last_note_row(last: Option<RowPlace>) -> u64
     requires { Placed last }
-    ensures { (result ≡ place48 (place_of last)) × (result ≤ 2 ^ 39) }
+    ensures value { result ≡ place48 (place_of last) }
+    ensures few { result ≤ 2 ^ 39 }
 {
     match last {
         None => 0,

@@ -11,11 +11,11 @@ use lib.Seq.{take_at}
 use Rattle.definitions.specs.Sizes.{most_bytes}
 use Rattle.definitions.specs.Lists.{padded}
 use Rattle.definitions.specs.Lanes.{lanes_of, most_rows_in}
-use Rattle.definitions.specs.Refusals.{long_text, short_text, short_measures, short_beats, short_work, short_notes}
+use Rattle.definitions.specs.Refusals.{long_text, short_text, short_measures, short_beats, short_work, short_notes, leaves}
 use Rattle.definitions.specs.declared.Refusal.{Refusal}
 use Rattle.sheet.specs.Card.{sheet}
 use Rattle.chart_sheet.specs.Forms.{sheet_in_form}
-use Rattle.chart_sheet.specs.Entry.{short_sheet, other_form, places_of_sheet, sheet_answer, sheet_left}
+use Rattle.chart_sheet.specs.Entry.{short_sheet, other_form, places_of_sheet, sheet_answer}
 
 rows-most : (len : ℕ) → len ≤ 4095 → most_rows_in 4 len ≤ 819
 unfolding most_rows_in
@@ -45,9 +45,9 @@ padded-fits l n e = omega (arith, simp (length-append, length-replicate) at e)
 
 module _ (text out ds ss : List ℕ) (bs : List Float) (work ns sh : List ℕ)
     (accepted : sheet_answer 4 0 text out ds ss bs work ns sh ≡ Ok (places_of_sheet 0 4 text)) where
-  left : sheet_left 4 0 text out ds ss bs work ns sh ≡ padded 0 (length sh) (sheet 4 text)
+  left : {r : Result (List ℕ) Refusal} {f : List ℕ} → r ≡ Ok f → leaves 0 r (sheet_in_form 0 (lanes_of 4) text) sh ≡ padded 0 (length sh) (sheet 4 text)
   unfolding sheet_in_form lanes_of
-  left = rw accepted
+  left e = rw e refl
 
   count : get_or (places_of_sheet 0 4 text) 7 0 ≡ length (sheet 4 text)
   unfolding sheet_in_form
@@ -58,11 +58,11 @@ module _ (text out ds ss : List ℕ) (bs : List Float) (work ns sh : List ℕ)
     pub not-refused : {e : Refusal} → r ≡ Err e → ⊥
     not-refused e = cc (told, accepted, e)
 
-    pub taken : {h f : List ℕ} → h ≡ sheet_left 4 0 text out ds ss bs work ns sh → r ≡ Ok f
+    pub taken : {h f : List ℕ} → h ≡ leaves 0 r (sheet_in_form 0 (lanes_of 4) text) sh → r ≡ Ok f
         → length h ≡ length sh → (get_or f 7 0 ≤ length h) × (take (get_or f 7 0) h ≡ sheet 4 text)
     taken {h} {f} h-is f-is same =
         let places : f ≡ places_of_sheet 0 4 text = cc (told, accepted, f-is) in
         let n : get_or f 7 0 ≡ length (sheet 4 text) = ap (λ (l : List ℕ). get_or l 7 0) places ∙ count in
-        let padded-is : h ≡ padded 0 (length sh) (sheet 4 text) = h-is ∙ left in
+        let padded-is : h ≡ padded 0 (length sh) (sheet 4 text) = h-is ∙ left f-is in
         let fits = padded-fits (sheet 4 text) (length sh) (ap length (sym padded-is) ∙ same) in
         (omega (arith, n, fits, same), ap (take (get_or f 7 0)) padded-is ∙ take_at (sheet 4 text) _ (get_or f 7 0) (sym n))

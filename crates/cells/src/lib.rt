@@ -1,13 +1,13 @@
 // The cells of a row, byte by byte: what a byte stands for and what it does.
 #![tactic(auto)]
 
-ghost use Rattle.std.specs.Prelude.{◌≡◌, List, ℕ, length};
+ghost use Rattle.std.specs.Prelude.{◌≡◌};
 ghost use Rattle.definitions.specs.Cells.{cell_of, is_arrow};
 ghost use Rattle.definitions.specs.Figures.{is_step};
 ghost use Rattle.definitions.specs.Reduction.{all_zero};
 ghost use Rattle.definitions.specs.Tracker.{hold_at};
 ghost use Rattle.definitions.specs.Objects.{object_at};
-ghost use Rattle.lines.specs.Words.{word_of, Bytes};
+ghost use Rattle.lines.specs.Words.{bytes_of_word};
 
 use definitions::{Cell, DepthEffect};
 use lines::words;
@@ -50,7 +50,7 @@ fn cells_have_note(row: &[u8]) -> bool
 // Whether one of the word's bytes is an arrow.
 #[tactic(auto, using(crate::proofs::RowWords::step_among))]
 fn word_has_note(word: u64) -> bool
-    ensures { (xs : List ℕ) → length xs ≡ 8 → Bytes xs → word_of xs ≡ word → result ≡ is_step xs }
+    ensures { result ≡ is_step (bytes_of_word word) }
 {
     words::has_byte(word, b'1') | words::has_byte(word, b'2') | words::has_byte(word, b'4')
 }

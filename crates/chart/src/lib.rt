@@ -4,12 +4,13 @@
 ghost use Rattle.std.specs.Prelude.{◌≡◌, [], ◌+◌, ◌*◌, ◌/◌, ◌≤◌, length};
 ghost use Rattle.definitions.specs.Sizes.{most_bytes};
 ghost use Rattle.definitions.specs.Lists.{padded};
-ghost use Rattle.definitions.specs.Lanes.{most_rows_in};
+ghost use Rattle.definitions.specs.Lanes.{lanes_of, most_rows_in};
+ghost use Rattle.definitions.specs.Refusals.{leaves};
 ghost use Rattle.definitions.specs.Figures.{minimised_text, densities as densities_of};
 ghost use Rattle.definitions.specs.Beats.{f32, beats as beats_of};
 ghost use Rattle.definitions.specs.Notes.{notes as notes_of};
 ghost use Rattle.definitions.specs.Records.{records};
-ghost use Rattle.definitions.specs.Entries.{figures_of_chart, main_answer, main_text, main_densities, main_beats, main_work, main_notes};
+ghost use Rattle.definitions.specs.Entries.{figures_of_chart, main_answer};
 ghost use Rattle.chart.specs.Ends.{SomeChart, ChartEnds};
 
 use chart_pass::ChartPass;
@@ -58,14 +59,19 @@ pub fn chart_figures(
     requires text_room { length «data».now + 1 ≤ length text.old }
     requires densities_room { (length «data».now + 1) / 2 + 1 ≤ length densities.old }
     requires beats_room { most_rows_in lanes.count (length «data».now) ≤ length beats.old }
-    requires slots_room { 10 * lanes.count * most_rows_in lanes.count (length «data».now) ≤ length slots.old }
+    requires notes_room { 10 * lanes.count * most_rows_in lanes.count (length «data».now)
+        ≤ length slots.old }
     requires work_room { most_rows_in lanes.count (length «data».now) ≤ length work.old }
     ensures value { result ≡ figures_of_chart lanes.count «data».now }
-    ensures text_after { text.new ≡ padded 0 (length text.old) (minimised_text lanes.count «data».now) }
-    ensures densities_after { densities.new ≡ padded 0 (length densities.old) (densities_of lanes.count «data».now) }
-    ensures beats_after { beats.new ≡ padded (f32 0) (length beats.old) (beats_of lanes.count «data».now) }
+    ensures text_after { text.new
+        ≡ padded 0 (length text.old) (minimised_text lanes.count «data».now) }
+    ensures densities_after { densities.new
+        ≡ padded 0 (length densities.old) (densities_of lanes.count «data».now) }
+    ensures beats_after { beats.new
+        ≡ padded (f32 0) (length beats.old) (beats_of lanes.count «data».now) }
     ensures work_after { work.new ≡ padded 0 (length work.old) [] }
-    ensures slots_after { slots.new ≡ padded 0 (length slots.old) (records (notes_of lanes.count «data».now)) }
+    ensures notes_after { slots.new
+        ≡ padded 0 (length slots.old) (records (notes_of lanes.count «data».now)) }
 {
     let pass = chart_pass::read_chart(data, lanes, text, densities, beats, slots);
     let stats = corrected_tally::corrected_stats(
@@ -92,12 +98,17 @@ pub fn minimize_chart_count_rows_notes(
     work: &mut [u16],
     slots: &mut [u8],
 ) -> Result<ChartFigures, Refusal>
-    ensures value { result ≡ main_answer lanes «data».now text.old densities.old beats.old work.old slots.old }
-    ensures text_after { text.new ≡ main_text lanes «data».now text.old densities.old beats.old work.old slots.old }
-    ensures densities_after { densities.new ≡ main_densities lanes «data».now text.old densities.old beats.old work.old slots.old }
-    ensures beats_after { beats.new ≡ main_beats lanes «data».now text.old densities.old beats.old work.old slots.old }
-    ensures work_after { work.new ≡ main_work lanes «data».now text.old densities.old beats.old work.old slots.old }
-    ensures slots_after { slots.new ≡ main_notes lanes «data».now text.old densities.old beats.old work.old slots.old }
+    ensures value { result ≡ main_answer lanes «data».now
+        text.old densities.old beats.old work.old slots.old }
+    ensures text_after { text.new
+        ≡ leaves 0 result (minimised_text (lanes_of lanes) «data».now) text.old }
+    ensures densities_after { densities.new
+        ≡ leaves 0 result (densities_of (lanes_of lanes) «data».now) densities.old }
+    ensures beats_after { beats.new
+        ≡ leaves (f32 0) result (beats_of (lanes_of lanes) «data».now) beats.old }
+    ensures work_after { work.new ≡ leaves 0 result [] work.old }
+    ensures notes_after { slots.new
+        ≡ leaves 0 result (records (notes_of (lanes_of lanes) «data».now)) slots.old }
 {
     let len = data.len();
     refusals::text_fits(len)?;

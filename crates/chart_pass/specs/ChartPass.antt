@@ -1,5 +1,5 @@
 -- What the main pass holds and has written: `done` are the minimised measures, `cur` the rows of the open one, `slots` the note slice.
-use Rattle.std.specs.Prelude.{◌≡◌, List, [], ◌∷◌, ◌++◌, ℕ, Float, length, take}
+use Rattle.std.specs.Prelude.{◌≡◌, List, [], ◌∷◌, ◌++◌, ℕ, ◌+◌, Float, length, take}
 use Rattle.definitions.specs.Lists.{joined}
 use Rattle.definitions.specs.Lines.{Row}
 use Rattle.definitions.specs.Reduction.{reduce, minimised}
@@ -15,6 +15,10 @@ use Rattle.chart_pass.specs.declared.ChartPass.{ChartPass}
 -- what is written and counted, as the kept-row pass has it
 abbrev pub kept_of : ChartPass → KeptPass
 kept_of p = record { counting = counting p.walk; draft = p.draft }
+
+-- how many rows there are, minimised or of the open measure
+abbrev pub rows_so_far : ChartPass → ℕ
+rows_so_far p = p.walk.run.row + p.draft.rows
 
 -- the open measure has these rows, as they were read
 pub record Charted (L : ℕ) (p : ChartPass) (text densities : List ℕ) (beats : List Float) (slots : List ℕ) (done : List (List Row)) (cur : List Row) : Type 0 where

@@ -6,7 +6,7 @@ ghost use Rattle.std.specs.Prelude.{◌≡◌, List, [], ℕ, ◌+◌, ◌*◌, 
 ghost use Rattle.definitions.specs.Sizes.{measures_bound, most_bytes, row_count_bound};
 ghost use Rattle.definitions.specs.Lanes.{most_rows_in};
 ghost use Rattle.reduction.specs.States.{Holding, EndsMinimised};
-ghost use Rattle.chart_pass.specs.ChartPass.{Charted, AddsChartRow, EndsCharted, ChartAll};
+ghost use Rattle.chart_pass.specs.ChartPass.{rows_so_far, Charted, AddsChartRow, EndsCharted, ChartAll};
 
 use definitions::Lanes;
 use kept_pass::Draft;
@@ -24,7 +24,8 @@ pub struct ChartPass {
 impl ChartPass {
     // Before the first line.
     fn new() -> Self
-        ensures before { (L : ℕ) (text densities : List ℕ) (beats : List Float) (slots : List ℕ) → L ≤ 10 → Charted L result text densities beats slots [] [] }
+        ensures charted { (L : ℕ) (text densities : List ℕ) (beats : List Float) (slots : List ℕ)
+            → L ≤ 10 → Charted L result text densities beats slots [] [] }
         ensures nothing_written { result.draft.out ≡ 0 }
     {
         ChartPass {
@@ -35,7 +36,8 @@ impl ChartPass {
 
     // One row more of the open measure.
     fn add_row(&mut self, text: &mut [u8], row: &[u8])
-        requires { (self.old.draft.out + length row.now + 1 ≤ length text.old) × (self.old.draft.rows < row_count_bound) }
+        requires text_room { self.old.draft.out + length row.now + 1 ≤ length text.old }
+        requires rows_few { self.old.draft.rows < row_count_bound }
         ensures charted { AddsChartRow row.now self.old text.old self.new text.new }
         ensures out_after { self.new.draft.out ≡ self.old.draft.out + length row.now + 1 }
     {
@@ -52,14 +54,18 @@ impl ChartPass {
         table: &TapTable,
     )
         requires text_room { self.old.draft.out ≤ length text.old }
-        requires density_room { self.old.draft.midx < length densities.old }
-        requires beats_room { self.old.walk.run.row + self.old.draft.rows ≤ length beats.old }
-        requires slots_room { (self.old.walk.run.row + self.old.draft.rows) * table.now.lanes.count * 10 ≤ length slots.old }
-        requires rows_few { self.old.walk.run.row + self.old.draft.rows < row_count_bound }
+        requires densities_room { self.old.draft.midx < length densities.old }
+        requires beats_room { rows_so_far self.old ≤ length beats.old }
+        requires slots_room { rows_so_far self.old * table.now.lanes.count * 10 ≤ length slots.old }
+        requires rows_few { rows_so_far self.old < row_count_bound }
         requires measures_few { self.old.draft.midx ≤ measures_bound }
-        requires charted { Holding (Charted table.now.lanes.count self.old text.old densities.old beats.old slots.old) }
-        ensures chart_ended { EndsCharted table.now.lanes.count self.old text.old densities.old beats.old slots.old self.new text.new densities.new beats.new slots.new }
-        ensures no_more { (self.new.draft.out ≤ self.old.draft.out) × (self.new.draft.midx ≡ self.old.draft.midx) }
+        requires charted { Holding
+            (Charted table.now.lanes.count self.old text.old densities.old beats.old slots.old) }
+        ensures chart_ended { EndsCharted table.now.lanes.count
+            self.old text.old densities.old beats.old slots.old
+            self.new text.new densities.new beats.new slots.new }
+        ensures no_more_bytes { self.new.draft.out ≤ self.old.draft.out }
+        ensures same_measure { self.new.draft.midx ≡ self.old.draft.midx }
     {
         self.draft.minimise(text, table.lanes);
         let before = self.walk.run.row as usize;
@@ -84,13 +90,14 @@ impl ChartPass {
         table: &TapTable,
     )
         requires text_room { self.old.draft.out + 2 ≤ length text.old }
-        requires density_room { self.old.draft.midx < length densities.old }
-        requires beats_room { self.old.walk.run.row + self.old.draft.rows ≤ length beats.old }
-        requires slots_room { (self.old.walk.run.row + self.old.draft.rows) * table.now.lanes.count * 10 ≤ length slots.old }
-        requires rows_few { self.old.walk.run.row + self.old.draft.rows < row_count_bound }
+        requires densities_room { self.old.draft.midx < length densities.old }
+        requires beats_room { rows_so_far self.old ≤ length beats.old }
+        requires slots_room { rows_so_far self.old * table.now.lanes.count * 10 ≤ length slots.old }
+        requires rows_few { rows_so_far self.old < row_count_bound }
         requires measures_few { self.old.draft.midx ≤ measures_bound }
-        requires charted { Holding (Charted table.now.lanes.count self.old text.old densities.old beats.old slots.old) }
-        ensures charted_after { EndsMinimised
+        requires charted { Holding
+            (Charted table.now.lanes.count self.old text.old densities.old beats.old slots.old) }
+        ensures charted { EndsMinimised
             (Charted table.now.lanes.count self.old text.old densities.old beats.old slots.old)
             (Charted table.now.lanes.count self.new text.new densities.new beats.new slots.new) }
         ensures out_bound { self.new.draft.out ≤ self.old.draft.out + 2 }
@@ -113,9 +120,12 @@ fn read_lines(
     requires text_length { length «data».now ≤ most_bytes }
     requires text_room { length «data».now + 1 ≤ length text.old }
     requires densities_room { (length «data».now + 1) / 2 + 1 ≤ length densities.old }
-    requires beats_room { most_rows_in table.now.lanes.count (length «data».now) ≤ length beats.old }
-    requires slots_room { 10 * table.now.lanes.count * most_rows_in table.now.lanes.count (length «data».now) ≤ length slots.old }
-    ensures { ChartAll table.now.lanes.count «data».now result text.new densities.new beats.new slots.new }
+    requires beats_room { most_rows_in table.now.lanes.count (length «data».now)
+        ≤ length beats.old }
+    requires notes_room { 10 * table.now.lanes.count
+        * most_rows_in table.now.lanes.count (length «data».now) ≤ length slots.old }
+    ensures { ChartAll table.now.lanes.count «data».now
+        result text.new densities.new beats.new slots.new }
 {
     let mut pass = ChartPass::new();
     for line in reader::charts::chart_lines(data, table.lanes) {
@@ -141,7 +151,8 @@ pub fn read_chart(
     requires text_room { length «data».now + 1 ≤ length text.old }
     requires densities_room { (length «data».now + 1) / 2 + 1 ≤ length densities.old }
     requires beats_room { most_rows_in lanes.count (length «data».now) ≤ length beats.old }
-    requires slots_room { 10 * lanes.count * most_rows_in lanes.count (length «data».now) ≤ length slots.old }
+    requires notes_room { 10 * lanes.count * most_rows_in lanes.count (length «data».now)
+        ≤ length slots.old }
     ensures { ChartAll lanes.count «data».now result text.new densities.new beats.new slots.new }
 {
     let table = TapTable::for_lanes(lanes);

@@ -1,20 +1,20 @@
--- The call that writes a chart's sheet: for every input what it answers, a refusal or the 32 figures, and what it leaves in each lent slice. Refusals
--- 1 to 6 are document 01's, 19 and 20 are this call's.
+-- The call that writes a chart's sheet: for every input what it answers, a refusal or the 32 figures. Refusals 1 to 6 are document 01's, 19 and 20
+-- are this call's.
 use Rattle.std.specs.Prelude.{List, [], ◌∷◌, ℕ, ◌+◌, ◌*◌, nat_lt, Float, length, set, Result}
 use Rattle.definitions.specs.Lanes.{lanes_of}
-use Rattle.definitions.specs.Refusals.{refused_if, long_text, short_text, short_measures, short_beats, short_work, short_notes, answered, leaves}
-use Rattle.definitions.specs.Figures.{minimised_text, densities, spacings}
-use Rattle.definitions.specs.Beats.{f32, beats}
-use Rattle.definitions.specs.Notes.{notes}
-use Rattle.definitions.specs.Records.{records}
+use Rattle.definitions.specs.Refusals.{refused_if, long_text, short_text, short_measures, short_beats, short_work, short_notes, answered}
 use Rattle.definitions.specs.Entries.{figures_of_chart, places_of_chart}
 use Rattle.definitions.specs.declared.Refusal.{Refusal}
 use Rattle.definitions.specs.declared.Refusal.TheVariants.{ShortSheet, OtherForm}
 use Rattle.chart_sheet.specs.Forms.{sheet_in_form}
 
--- 19: the sheet slice is shorter than 42 × (len + 1) + 3,000 bytes, which every form of every text of that length has room in.
+-- every form of every text of `len` bytes has room in so many bytes
+abbrev pub most_sheet_bytes : ℕ → ℕ
+most_sheet_bytes len = 42 * (len + 1) + 3000
+
+-- 19: the sheet slice is shorter than that.
 unfoldable pub short_sheet : ℕ → ℕ → Result Unit Refusal
-short_sheet len room = refused_if (nat_lt room (42 * (len + 1) + 3000)) ShortSheet
+short_sheet len room = refused_if (nat_lt room (most_sheet_bytes len)) ShortSheet
 
 -- 20: the form's number is over 2.
 unfoldable pub other_form : ℕ → Result Unit Refusal
@@ -25,7 +25,7 @@ abbrev pub places_of_sheet : ℕ → ℕ → List ℕ → List ℕ
 places_of_sheet form L text = set (places_of_chart (figures_of_chart L text)) 7 (length (sheet_in_form form L text))
 
 module _ (lanes form : ℕ) (text out densities₀ spacing₀ : List ℕ) (beats₀ : List Float) (work notes₀ sheet₀ : List ℕ) where
-  -- what the call answers
+  -- what the call answers, where the lists named after slices are what those held before
   unfoldable pub sheet_answer : Result (List ℕ) Refusal
   sheet_answer =
       answered
@@ -40,30 +40,3 @@ module _ (lanes form : ℕ) (text out densities₀ spacing₀ : List ℕ) (beats
       ∷ other_form form
       ∷ [])
       (places_of_sheet form (lanes_of lanes) text)
-
-  -- what it leaves in the text slice
-  abbrev pub sheet_text : List ℕ
-  sheet_text = leaves 0 sheet_answer (minimised_text (lanes_of lanes) text) out
-
-  -- in the two measure slices
-  abbrev pub sheet_densities : List ℕ
-  sheet_densities = leaves 0 sheet_answer (densities (lanes_of lanes) text) densities₀
-
-  abbrev pub sheet_spacings : List ℕ
-  sheet_spacings = leaves 0 sheet_answer (spacings (lanes_of lanes) text) spacing₀
-
-  -- in the beat slice
-  abbrev pub sheet_beats : List Float
-  sheet_beats = leaves (f32 0) sheet_answer (beats (lanes_of lanes) text) beats₀
-
-  -- in the work slice
-  abbrev pub sheet_work : List ℕ
-  sheet_work = leaves 0 sheet_answer [] work
-
-  -- in the note slice
-  abbrev pub sheet_notes : List ℕ
-  sheet_notes = leaves 0 sheet_answer (records (notes (lanes_of lanes) text)) notes₀
-
-  -- in the sheet slice
-  abbrev pub sheet_left : List ℕ
-  sheet_left = leaves 0 sheet_answer (sheet_in_form form (lanes_of lanes) text) sheet₀

@@ -4,14 +4,15 @@
 ghost use Rattle.std.specs.Prelude.{◌≡◌, [], ◌+◌, ◌*◌, ◌/◌, ◌≤◌, length, take, OnOk};
 ghost use Rattle.definitions.specs.Sizes.{most_bytes};
 ghost use Rattle.definitions.specs.Lists.{padded};
-ghost use Rattle.definitions.specs.Lanes.{most_rows_in};
+ghost use Rattle.definitions.specs.Lanes.{lanes_of, most_rows_in};
+ghost use Rattle.definitions.specs.Refusals.{leaves};
 ghost use Rattle.definitions.specs.Figures.{minimised_text, densities as densities_of, spacings as spacings_of};
 ghost use Rattle.definitions.specs.Beats.{f32, beats as beats_of};
 ghost use Rattle.definitions.specs.Notes.{notes as notes_of};
 ghost use Rattle.definitions.specs.Records.{records as records_of};
 ghost use Rattle.page.specs.Prints.{Prints};
 ghost use Rattle.chart_sheet.specs.Forms.{form_of, sheet_in_form};
-ghost use Rattle.chart_sheet.specs.Entry.{short_sheet, other_form, places_of_sheet, sheet_answer, sheet_text, sheet_densities, sheet_spacings, sheet_beats, sheet_work, sheet_notes, sheet_left};
+ghost use Rattle.chart_sheet.specs.Entry.{most_sheet_bytes, short_sheet, other_form, places_of_sheet, sheet_answer};
 
 use definitions::{Lanes, Refusal};
 use figures::Figures;
@@ -33,7 +34,8 @@ fn print_form(
 ) -> Result<(), Full>
     requires densities_in_bounds { figures.now.chart.measures ≤ length densities.now }
     requires spacing_in_bounds { length densities.now ≤ length spacing.now }
-    ensures { Prints page.old (form_of form figures.now densities.now spacing.now records.now) page.new result }
+    ensures { Prints page.old
+        (form_of form figures.now densities.now spacing.now records.now) page.new result }
 {
     match form {
         0 => print_card(page, &figures.chart, densities, spacing, records),
@@ -51,12 +53,15 @@ fn put_form(
     spacing: &[u8],
     records: &[u8],
 ) -> usize
-    requires room { length (form_of form figures.now densities.now spacing.now records.now) ≤ length out.old }
+    requires sheet_room { length (form_of form figures.now densities.now spacing.now records.now)
+        ≤ length out.old }
     requires densities_in_bounds { figures.now.chart.measures ≤ length densities.now }
     requires spacing_in_bounds { length densities.now ≤ length spacing.now }
-    ensures value { result ≡ length (form_of form figures.now densities.now spacing.now records.now) }
+    ensures value { result
+        ≡ length (form_of form figures.now densities.now spacing.now records.now) }
     ensures within { result ≤ length out.new }
-    ensures out_after { take result out.new ≡ form_of form figures.now densities.now spacing.now records.now }
+    ensures out_after { take result out.new
+        ≡ form_of form figures.now densities.now spacing.now records.now }
 {
     let mut page = Page::new(out);
     match print_form(&mut page, form, figures, densities, spacing, records) {
@@ -84,17 +89,24 @@ fn write_sheet(
     requires spacing_room { (length «data».now + 1) / 2 + 1 ≤ length spacing.old }
     requires beats_room { most_rows_in lanes.count (length «data».now) ≤ length beats.old }
     requires work_room { most_rows_in lanes.count (length «data».now) ≤ length work.old }
-    requires notes_room { 10 * lanes.count * most_rows_in lanes.count (length «data».now) ≤ length notes.old }
-    requires sheet_room { 42 * (length «data».now + 1) + 3000 ≤ length sheet.old }
+    requires notes_room { 10 * lanes.count * most_rows_in lanes.count (length «data».now)
+        ≤ length notes.old }
+    requires sheet_room { most_sheet_bytes (length «data».now) ≤ length sheet.old }
     requires form_known { form ≤ 2 }
     ensures value { result ≡ places_of_sheet form lanes.count «data».now }
-    ensures text_after { text.new ≡ padded 0 (length text.old) (minimised_text lanes.count «data».now) }
-    ensures densities_after { densities.new ≡ padded 0 (length densities.old) (densities_of lanes.count «data».now) }
-    ensures spacing_after { spacing.new ≡ padded 0 (length spacing.old) (spacings_of lanes.count «data».now) }
-    ensures beats_after { beats.new ≡ padded (f32 0) (length beats.old) (beats_of lanes.count «data».now) }
+    ensures text_after { text.new
+        ≡ padded 0 (length text.old) (minimised_text lanes.count «data».now) }
+    ensures densities_after { densities.new
+        ≡ padded 0 (length densities.old) (densities_of lanes.count «data».now) }
+    ensures spacing_after { spacing.new
+        ≡ padded 0 (length spacing.old) (spacings_of lanes.count «data».now) }
+    ensures beats_after { beats.new
+        ≡ padded (f32 0) (length beats.old) (beats_of lanes.count «data».now) }
     ensures work_after { work.new ≡ padded 0 (length work.old) [] }
-    ensures notes_after { notes.new ≡ padded 0 (length notes.old) (records_of (notes_of lanes.count «data».now)) }
-    ensures sheet_after { sheet.new ≡ padded 0 (length sheet.old) (sheet_in_form form lanes.count «data».now) }
+    ensures notes_after { notes.new
+        ≡ padded 0 (length notes.old) (records_of (notes_of lanes.count «data».now)) }
+    ensures sheet_after { sheet.new
+        ≡ padded 0 (length sheet.old) (sheet_in_form form lanes.count «data».now) }
 {
     let figures = sheet_answers(data, lanes, text, densities, spacing, beats, work, notes);
     let measures = figures.chart.measures;
@@ -116,9 +128,9 @@ fn write_sheet(
 // The sheet slice has room for every form of such a text.
 #[tactic(auto, unfolding(crate::specs::Entry::short_sheet))]
 fn room_for_sheet(len: usize, room: usize) -> Result<(), Refusal>
-    requires { len ≤ most_bytes }
+    requires text_length { len ≤ most_bytes }
     ensures value { result ≡ short_sheet len room }
-    ensures ok { OnOk result (42 * (len + 1) + 3000 ≤ room) }
+    ensures ok { OnOk result (most_sheet_bytes len ≤ room) }
 {
     if room < 42 * (len + 1) + 3000 {
         return Err(Refusal::ShortSheet);
@@ -153,14 +165,21 @@ pub fn chart_sheet(
     notes: &mut [u8],
     sheet: &mut [u8],
 ) -> Result<[u64; 32], Refusal>
-    ensures value { result ≡ sheet_answer lanes form «data».now text.old densities.old spacing.old beats.old work.old notes.old sheet.old }
-    ensures text_after { text.new ≡ sheet_text lanes form «data».now text.old densities.old spacing.old beats.old work.old notes.old sheet.old }
-    ensures densities_after { densities.new ≡ sheet_densities lanes form «data».now text.old densities.old spacing.old beats.old work.old notes.old sheet.old }
-    ensures spacing_after { spacing.new ≡ sheet_spacings lanes form «data».now text.old densities.old spacing.old beats.old work.old notes.old sheet.old }
-    ensures beats_after { beats.new ≡ sheet_beats lanes form «data».now text.old densities.old spacing.old beats.old work.old notes.old sheet.old }
-    ensures work_after { work.new ≡ sheet_work lanes form «data».now text.old densities.old spacing.old beats.old work.old notes.old sheet.old }
-    ensures notes_after { notes.new ≡ sheet_notes lanes form «data».now text.old densities.old spacing.old beats.old work.old notes.old sheet.old }
-    ensures sheet_after { sheet.new ≡ sheet_left lanes form «data».now text.old densities.old spacing.old beats.old work.old notes.old sheet.old }
+    ensures value { result ≡ sheet_answer lanes form «data».now
+        text.old densities.old spacing.old beats.old work.old notes.old sheet.old }
+    ensures text_after { text.new
+        ≡ leaves 0 result (minimised_text (lanes_of lanes) «data».now) text.old }
+    ensures densities_after { densities.new
+        ≡ leaves 0 result (densities_of (lanes_of lanes) «data».now) densities.old }
+    ensures spacing_after { spacing.new
+        ≡ leaves 0 result (spacings_of (lanes_of lanes) «data».now) spacing.old }
+    ensures beats_after { beats.new
+        ≡ leaves (f32 0) result (beats_of (lanes_of lanes) «data».now) beats.old }
+    ensures work_after { work.new ≡ leaves 0 result [] work.old }
+    ensures notes_after { notes.new
+        ≡ leaves 0 result (records_of (notes_of (lanes_of lanes) «data».now)) notes.old }
+    ensures sheet_after { sheet.new
+        ≡ leaves 0 result (sheet_in_form form (lanes_of lanes) «data».now) sheet.old }
 {
     let len = data.len();
     refusals::text_fits(len)?;

@@ -12,9 +12,9 @@ use Rattle.definitions.specs.Correction.{keep_row, keep_from, paired_only}
 use Rattle.definitions.specs.declared.ArrowStats.{ArrowStats}
 use Rattle.holds.specs.Entry.{heads_of}
 use Rattle.row_tally.specs.Bounds.{Below}
-use Rattle.row_tally.specs.Kept.{row_by_mask}
+use Rattle.row_tally.specs.Masked.{row_by_mask}
 use Rattle.row_tally.proofs.Bounds.{below_more, below_none, below-line}
-use Rattle.row_tally.proofs.Kept.{keep_mask, keep-length}
+use Rattle.row_tally.proofs.Masked.{keep_mask, keep-length}
 use Rattle.row_tally.proofs.Rows.{tally-snoc, tally-none, keep_snoc}
 use Rattle.corrected_tally.specs.Heads.{Heads}
 

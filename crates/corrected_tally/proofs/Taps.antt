@@ -15,7 +15,7 @@ use Rattle.definitions.proofs.Bools.{and_left, and_right}
 use Rattle.taps.specs.Taps.{tap_mask}
 use Rattle.taps.specs.declared.Taps.TheVariants.{Mask}
 use Rattle.taps.proofs.Masks.{parts}
-use Rattle.row_tally.specs.Kept.{bit_is_set, byte_by_mask, row_by_mask}
+use Rattle.row_tally.specs.Masked.{bit_is_set, byte_by_mask, row_by_mask}
 
 kept-tap : (f : ℕ) → f ≤ 1 → (t : Bool) → head_if_paired (hold_at (48 + f)) t (48 + f) ≡ 48 + f
 unfolding hold_at cell_of

@@ -4,7 +4,7 @@ use Rattle.definitions.specs.Sizes.{row_numbers_bound}
 use Rattle.definitions.specs.Lines.{Row}
 use Rattle.definitions.specs.Tracker.{pairs, is_head_of}
 use Rattle.holds.specs.Entry.{heads_of}
-use Rattle.row_tally.specs.Kept.{bit_is_set}
+use Rattle.row_tally.specs.Masked.{bit_is_set}
 use Rattle.reader.specs.BackReading.{rows_back}
 
 -- The work slice has an entry for each row that is read back out of the text.

@@ -7,7 +7,7 @@ ghost use Rattle.definitions.specs.Tally.{row_sum, tally_with_row, tally};
 ghost use Rattle.definitions.specs.Lines.{Row};
 ghost use Rattle.definitions.specs.Correction.{paired_only, corrected};
 ghost use Rattle.row_tally.specs.Bounds.{Below};
-ghost use Rattle.row_tally.specs.Kept.{row_by_mask};
+ghost use Rattle.row_tally.specs.Masked.{row_by_mask};
 ghost use Rattle.phantoms.specs.Phantoms.{Counts};
 ghost use Rattle.reader.specs.BackReading.{rows_back};
 ghost use Rattle.corrected_tally.specs.Heads.{Room, Heads};
@@ -19,7 +19,8 @@ use taps::{TapTable, Taps};
 
 // Marks in each row's entry of the work slice, which is all 0, the heads that the tracker pairs.
 fn mark_heads(text: &[u8], lanes: Lanes, trim: bool, work: &mut [u16])
-    requires { Room trim lanes.count text.now work.old × ((i : ℕ) → slice_index work.old i ≡ 0) }
+    requires room { Room trim lanes.count text.now work.old }
+    requires clear { (i : ℕ) → slice_index work.old i ≡ 0 }
     ensures { Heads (rows_back trim lanes.count text.now) work.new }
 {
     let mut tracker = Tracker::new();
@@ -32,7 +33,8 @@ fn mark_heads(text: &[u8], lanes: Lanes, trim: bool, work: &mut [u16])
 
 // One row more, of which only the heads of a mask count: a row of taps alone by the table, and an all-zero row adds nothing.
 fn count_row(stats: &mut ArrowStats, row: &[u8], heads: u16, table: &TapTable)
-    requires { (table.now.lanes.count ≡ length row.now) × Below count_bound stats.old }
+    requires wide { table.now.lanes.count ≡ length row.now }
+    requires few { Below count_bound stats.old }
     ensures { stats.new ≡ tally_with_row stats.old (row_sum (row_by_mask heads 0 row.now)) }
 {
     match taps::tap_line_mask(row) {
@@ -46,8 +48,9 @@ fn count_row(stats: &mut ArrowStats, row: &[u8], heads: u16, table: &TapTable)
 }
 
 // The tally of the rows with only the heads that the work slice marks.
-fn count_kept(text: &[u8], lanes: Lanes, trim: bool, work: &[u16]) -> ArrowStats
-    requires { Room trim lanes.count text.now work.now × Heads (rows_back trim lanes.count text.now) work.now }
+fn count_paired(text: &[u8], lanes: Lanes, trim: bool, work: &[u16]) -> ArrowStats
+    requires room { Room trim lanes.count text.now work.now }
+    requires heads { Heads (rows_back trim lanes.count text.now) work.now }
     ensures { result ≡ tally (paired_only (rows_back trim lanes.count text.now)) }
 {
     let table = TapTable::for_lanes(lanes);
@@ -63,11 +66,12 @@ fn count_kept(text: &[u8], lanes: Lanes, trim: bool, work: &[u16]) -> ArrowStats
 /// The tally of the rows of minimised text with only tracker-paired heads. The work slice may hold anything, and is 0 afterwards.
 pub fn recalc_phantom_stats(text: &[u8], lanes: Lanes, trim: bool, work: &mut [u16]) -> ArrowStats
     requires { Room trim lanes.count text.now work.old }
-    ensures { (result ≡ tally (paired_only (rows_back trim lanes.count text.now))) × (work.new ≡ replicate (length work.old) 0) }
+    ensures value { result ≡ tally (paired_only (rows_back trim lanes.count text.now)) }
+    ensures work_after { work.new ≡ replicate (length work.old) 0 }
 {
     slices::zero_past(&mut *work, 0, 0);
     mark_heads(text, lanes, trim, &mut *work);
-    let stats = count_kept(text, lanes, trim, &*work);
+    let stats = count_paired(text, lanes, trim, &*work);
     slices::zero_past(work, 0, 0);
     stats
 }
@@ -83,7 +87,8 @@ pub fn corrected_stats(
     work: &mut [u16],
 ) -> ArrowStats
     requires { Room trim lanes.count text.now work.old }
-    ensures value { (rows : List Row) → Counts lanes.count rows p → stats ≡ tally rows → result ≡ corrected lanes.count rows (rows_back trim lanes.count text.now) }
+    ensures value { (rows : List Row) → Counts lanes.count rows p → stats ≡ tally rows
+        → result ≡ corrected lanes.count rows (rows_back trim lanes.count text.now) }
     ensures work_after { work.new ≡ replicate (length work.old) 0 }
 {
     if phantoms::is_corrected(p, lanes.count) {

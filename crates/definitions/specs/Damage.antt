@@ -47,7 +47,7 @@ pub record InMeasure (L d : ℕ) (p : Standing) (l : List ℕ) : Type 0 where
 -- Striking out some lines of measure d from the first list of lines leaves the second.
 pub data Struck (L d : ℕ) : Standing → List (List ℕ) → List (List ℕ) → Type 0 where
   done : {p : Standing} → Struck L d p [] []
-  kept : {p : Standing} {l : List ℕ} {xs ys : List (List ℕ)}
+  stay : {p : Standing} {l : List ℕ} {xs ys : List (List ℕ)}
       → Struck L d (after p (line_kind L l)) xs ys → Struck L d p (l ∷ xs) (l ∷ ys)
   out : {p : Standing} {l : List ℕ} {xs ys : List (List ℕ)} → InMeasure L d p l → Struck L d p xs ys → Struck L d p (l ∷ xs) ys
 

@@ -9,7 +9,7 @@ use Rattle.definitions.specs.Reduction.{stride, reduce, minimised}
 use Rattle.definitions.specs.Notes.{effect_at, notes}
 use Rattle.definitions.specs.Entries.{figures_of_note}
 use Rattle.definitions.specs.Examples.{bytes}
-use Rattle.definitions.specs.Damage.{Differ, done, kept, out, earlier, later, stops, is_head, rows_above, open_in, open_at}
+use Rattle.definitions.specs.Damage.{Differ, done, stay, out, earlier, later, stops, is_head, rows_above, open_in, open_at}
 
 -- the old text
 unfoldable pub old_text : List ℕ
@@ -24,8 +24,8 @@ unfolding old_text new_text line_kind kind_of is_row_line is_blank_byte
 they_differ =
     record {
       left = bytes "2010" ∷ bytes "3002" ∷ bytes "," ∷ bytes "," ∷ bytes "0100" ∷ bytes "0200" ∷ bytes "0300" ∷ bytes "1000" ∷ [];
-      from_old = kept (kept (kept (out (record { standing = refl; inside = refl }) (out (record { standing = refl; inside = refl }) (kept (kept (kept (kept (kept done)))))))));
-      from_new = kept (kept (kept (out (record { standing = refl; inside = refl }) (out (record { standing = refl; inside = refl }) (kept (kept (kept (kept (kept done)))))))));
+      from_old = stay (stay (stay (out (record { standing = refl; inside = refl }) (out (record { standing = refl; inside = refl }) (stay (stay (stay (stay (stay done)))))))));
+      from_new = stay (stay (stay (out (record { standing = refl; inside = refl }) (out (record { standing = refl; inside = refl }) (stay (stay (stay (stay (stay done)))))))));
     }
 
 -- the head in row 1 and column 3

@@ -14,6 +14,7 @@ use Rattle.definitions.specs.Objects.{last48, last_beat_of}
 use Rattle.definitions.specs.Notes.{notes}
 use Rattle.definitions.specs.Records.{records, number_of_tail, number_of_kind}
 use Rattle.definitions.specs.ReadBack.{main_tally, kept_tally}
+use Rattle.definitions.specs.Tally.{tally_figures}
 use Rattle.definitions.specs.Judged.{judged_tally, flagged_tally}
 use Rattle.definitions.specs.TimingRows.{timing_rows, timing_heads}
 use Rattle.definitions.specs.declared.ArrowStats.{ArrowStats}
@@ -23,25 +24,6 @@ use Rattle.definitions.specs.declared.TimingFigures.{TimingFigures}
 use Rattle.definitions.specs.declared.LastBeat.{LastBeat}
 use Rattle.definitions.specs.declared.Refusal.{Refusal}
 use Rattle.definitions.specs.declared.Note.{Note}
-
--- the tally in the order of its fields
-abbrev pub tally_figures : ArrowStats → List ℕ
-tally_figures t =
-    t.total_arrows
-    ∷ t.left
-    ∷ t.down
-    ∷ t.up
-    ∷ t.right
-    ∷ t.total_steps
-    ∷ t.jumps
-    ∷ t.hands
-    ∷ t.mines
-    ∷ t.holds
-    ∷ t.rolls
-    ∷ t.lifts
-    ∷ t.fakes
-    ∷ t.holding
-    ∷ []
 
 -- the places of the tally in a call that answers none
 abbrev pub no_tally : List ℕ

@@ -18,12 +18,12 @@ use Rattle.definitions.specs.Objects.{object_at, last_object, last48, last_beat_
 use Rattle.definitions.specs.Tracker.{hold_at, pairs}
 use Rattle.definitions.specs.Notes.{effect_at, notes}
 use Rattle.definitions.specs.Records.{records, note_of_record}
-use Rattle.definitions.specs.Tally.{row_sum_by, row_sum, tally_with_row, tally}
+use Rattle.definitions.specs.Tally.{row_sum_by, row_sum, tally_with_row, tally, tally_figures}
 use Rattle.definitions.specs.Correction.{corrects, paired_only, corrected}
 use Rattle.definitions.specs.ReadBack.{rows_read_back, main_tally, kept_tally}
 use Rattle.definitions.specs.Judged.{judged_sum, judge_row, open_before, judged_rows, judged_tally, flagged_tally}
 use Rattle.definitions.specs.TimingRows.{timing_rows, timing_heads}
-use Rattle.definitions.specs.Entries.{tally_figures, figures_of_note, main_answer, main_text, main_work}
+use Rattle.definitions.specs.Entries.{figures_of_note, main_answer, main_text, main_work}
 use Rattle.definitions.specs.declared.ArrowStats.{ArrowStats}
 
 -- the bytes of a text in ASCII, `|` (124) for byte 10 and `^` (94) for byte 13
@@ -31,25 +31,17 @@ abbrev pub bytes : String → List ℕ
 bytes end = []
 bytes (◌then◌ c s) = (if code c == 124 then 10 else if code c == 94 then 13 else code c) ∷ bytes s
 
--- The fields of a tally, by the examples' names for them; `every` stands for all of them in their order.
+-- The fields of a tally that an example speaks of; `every` stands for all of them in their order.
 pub data Field : Type 0 where
-  arrows left down up right steps jumps hands mines holds rolls lifts fakes holding every : Field
+  arrows left steps mines holds holding every : Field
 
 -- the value of that field
 abbrev pub field : Field → ArrowStats → List ℕ
 field arrows t = t.total_arrows ∷ []
 field left t = t.left ∷ []
-field down t = t.down ∷ []
-field up t = t.up ∷ []
-field right t = t.right ∷ []
 field steps t = t.total_steps ∷ []
-field jumps t = t.jumps ∷ []
-field hands t = t.hands ∷ []
 field mines t = t.mines ∷ []
 field holds t = t.holds ∷ []
-field rolls t = t.rolls ∷ []
-field lifts t = t.lifts ∷ []
-field fakes t = t.fakes ∷ []
 field holding t = t.holding ∷ []
 field every t = tally_figures t
 

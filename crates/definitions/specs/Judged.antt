@@ -8,7 +8,6 @@ use Rattle.definitions.specs.Tally.{empty_sum, row_sum_by, empty_stats, tally_wi
 use Rattle.definitions.specs.Correction.{keep_row}
 use Rattle.definitions.specs.ReadBack.{rows_read_back}
 use Rattle.definitions.specs.declared.Cell.{Cell}
-use Rattle.definitions.specs.declared.Cell.TheVariants.{Empty, Tap, Hold, Tail, Roll, Mine, Lift, Fake, KeySound, LowerMine, LowerLift, LowerFake}
 use Rattle.definitions.specs.declared.RowSum.{RowSum}
 use Rattle.definitions.specs.declared.ArrowStats.{ArrowStats}
 

@@ -6,9 +6,7 @@ use Rattle.definitions.specs.Lines.{Row}
 use Rattle.definitions.specs.Cells.{cell_of, byte_at, effects_of}
 use Rattle.definitions.specs.Reduction.{minimised}
 use Rattle.definitions.specs.declared.Cell.{Cell}
-use Rattle.definitions.specs.declared.Cell.TheVariants as cell
 use Rattle.definitions.specs.declared.Kind.{Kind}
-use Rattle.definitions.specs.declared.Kind.TheVariants.{Tap, Hold, Roll, Mine, Lift, Fake}
 use Rattle.definitions.specs.declared.Tail.TheVariants as tail
 use Rattle.definitions.specs.declared.Note.{Note}
 use Rattle.definitions.specs.declared.NoteEffect.{NoteEffect}

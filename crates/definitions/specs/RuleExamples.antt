@@ -28,7 +28,7 @@ use Rattle.definitions.specs.Examples.{Example, arrows, steps, holds, holding, e
 abbrev pub none : ℕ
 none = 4294967295
 
--- a tally in the order of its fields: arrows; left, down, up, right; steps, jumps, hands; mines, holds, rolls, lifts, fakes; holding
+-- the counts of a tally in the order of `tally_fields`
 abbrev pub counts : ℕ → ℕ → ℕ → ℕ → ℕ → ℕ → ℕ → ℕ → ℕ → ℕ → ℕ → ℕ → ℕ → ℕ → List ℕ
 counts a l d u r s j h m ho ro li f hg = a ∷ l ∷ d ∷ u ∷ r ∷ s ∷ j ∷ h ∷ m ∷ ho ∷ ro ∷ li ∷ f ∷ hg ∷ []
 

@@ -1,10 +1,9 @@
 -- Document 01, "Tally": what one row adds up to, and the plain tally of rows.
-use Rattle.std.specs.Prelude.{Bool, ◌&&◌, List, [], ◌∷◌, ℕ, suc, ◌+◌, ◌-◌, ◌%◌, ◌==◌, nat_le, count_by}
+use Rattle.std.specs.Prelude.{Bool, ◌&&◌, List, [], ◌∷◌, ℕ, suc, ◌+◌, ◌-◌, ◌%◌, ◌==◌, nat_le, count_by, length, codes, map}
 use Rattle.definitions.specs.Lists.{number_of_bool}
 use Rattle.definitions.specs.Lines.{Row}
 use Rattle.definitions.specs.Cells.{cell_of, is_arrow, effects_of, CountKind, nothing, hold, roll, tail, mine, lift, fake}
 use Rattle.definitions.specs.declared.Cell.{Cell}
-use Rattle.definitions.specs.declared.Cell.TheVariants.{Empty, Tap, Hold, Tail, Roll, Mine, Lift, Fake, KeySound, LowerMine, LowerLift, LowerFake}
 use Rattle.definitions.specs.declared.RowSum.{RowSum}
 use Rattle.definitions.specs.declared.ArrowStats.{ArrowStats}
 
@@ -30,36 +29,23 @@ abbrev pub count_from : (ℕ → Cell → Bool) → ℕ → Row → ℕ
 count_from p c [] = 0
 count_from p c (b ∷ r) = number_of_bool (p c (cell_of b)) + count_from p (suc c) r
 
--- "Column mod 4 gives left, down, up, right": 0, 1, 2, 3
-abbrev pub direction : ℕ → ℕ
-direction c = c % 4
+-- The direction of a column in a layout of L columns. "Column mod 4 gives left, down, up, right": 0, 1, 2, 3, in each layout so far.
+abbrev pub direction : ℕ → ℕ → ℕ
+direction L c = c % 4
 
--- the sum of no cells
-abbrev pub empty_sum : RowSum
-empty_sum =
-    record {
-      arrows = 0;
-      left = 0;
-      down = 0;
-      up = 0;
-      right = 0;
-      holds = 0;
-      rolls = 0;
-      tails = 0;
-      mines = 0;
-      lifts = 0;
-      fakes = 0;
-    }
+-- the arrows of a row in the columns of direction d
+abbrev pub arrows_towards : ℕ → (Cell → Bool) → Row → ℕ
+arrows_towards d arrow r = count_from (λ c x. arrow x && direction (length r) c == d) 0 r
 
--- What a row adds up to, where `arrow` says which cells are arrows.
-unfoldable pub row_sum_by : (Cell → Bool) → Row → RowSum
-row_sum_by arrow r =
+-- What the cells of a row add up to, where `arrow` says which of them are arrows.
+abbrev pub sum_of_cells : (Cell → Bool) → Row → RowSum
+sum_of_cells arrow r =
     record {
       arrows = count_from (λ c x. arrow x) 0 r;
-      left = count_from (λ c x. arrow x && direction c == 0) 0 r;
-      down = count_from (λ c x. arrow x && direction c == 1) 0 r;
-      up = count_from (λ c x. arrow x && direction c == 2) 0 r;
-      right = count_from (λ c x. arrow x && direction c == 3) 0 r;
+      left = arrows_towards 0 arrow r;
+      down = arrows_towards 1 arrow r;
+      up = arrows_towards 2 arrow r;
+      right = arrows_towards 3 arrow r;
       holds = counted hold r;
       rolls = counted roll r;
       tails = counted tail r;
@@ -68,9 +54,32 @@ row_sum_by arrow r =
       fakes = counted fake r;
     }
 
+unfoldable pub row_sum_by : (Cell → Bool) → Row → RowSum
+row_sum_by arrow r = sum_of_cells arrow r
+
+-- the sum of no cells
+abbrev pub empty_sum : RowSum
+empty_sum = sum_of_cells is_arrow []
+
 -- "The arrows are the cells 1, 2 and 4."
 unfoldable pub row_sum : Row → RowSum
 row_sum r = row_sum_by is_arrow r
+
+-- the counts of a row's sum in their order
+abbrev pub sum_counts : RowSum → List ℕ
+sum_counts s =
+    s.arrows
+    ∷ s.left
+    ∷ s.down
+    ∷ s.up
+    ∷ s.right
+    ∷ s.holds
+    ∷ s.rolls
+    ∷ s.tails
+    ∷ s.mines
+    ∷ s.lifts
+    ∷ s.fakes
+    ∷ []
 
 -- the tally of no rows
 abbrev pub empty_stats : ArrowStats
@@ -91,6 +100,29 @@ empty_stats =
       fakes = 0;
       holding = 0;
     }
+
+-- The fields of a tally in their order, each with its name: the one list of them.
+abbrev pub tally_fields : ArrowStats → List (List ℕ × ℕ)
+tally_fields t =
+    (codes "total_arrows", t.total_arrows)
+    ∷ (codes "left", t.left)
+    ∷ (codes "down", t.down)
+    ∷ (codes "up", t.up)
+    ∷ (codes "right", t.right)
+    ∷ (codes "total_steps", t.total_steps)
+    ∷ (codes "jumps", t.jumps)
+    ∷ (codes "hands", t.hands)
+    ∷ (codes "mines", t.mines)
+    ∷ (codes "holds", t.holds)
+    ∷ (codes "rolls", t.rolls)
+    ∷ (codes "lifts", t.lifts)
+    ∷ (codes "fakes", t.fakes)
+    ∷ (codes "holding", t.holding)
+    ∷ []
+
+-- the counts of a tally in that order
+abbrev pub tally_figures : ArrowStats → List ℕ
+tally_figures t = map (λ (f : List ℕ × ℕ). f.1) (tally_fields t)
 
 -- A tally with one row more, where `hand` says whether it is a hand and `holding` what is held after it. "A step is a row with" an arrow;
 -- "a jump has at least 2 such cells".

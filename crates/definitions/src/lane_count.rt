@@ -1,4 +1,12 @@
 ghost use Rattle.std.specs.Prelude.{◌≡◌, ◌≤◌};
+ghost use Rattle.definitions.specs.Tally.{direction as direction_of};
+
+/// The direction of a column of so many: 0 left, 1 down, 2 up, 3 right. It goes by fours in every layout so far.
+pub fn direction(columns: usize, column: usize) -> usize
+    ensures { result ≡ direction_of columns column }
+{
+    column % 4
+}
 
 /// The lane count in force: how many columns a row has.
 #[derive(Clone, Copy)]

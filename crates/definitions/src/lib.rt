@@ -6,7 +6,7 @@ mod lane_count;
 ghost use Rattle.std.specs.Prelude.{◌≡◌};
 ghost use Rattle.definitions.specs.Refusals.{number_of, cause_of, words_of};
 
-pub use lane_count::Lanes;
+pub use lane_count::{Lanes, direction};
 use std::error::Error;
 use std::fmt;
 

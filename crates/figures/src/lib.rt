@@ -3,9 +3,10 @@
 #![tactic(auto)]
 
 ghost use Rattle.std.specs.Prelude.{◌≡◌, [], ◌∷◌};
-ghost use Rattle.definitions.specs.Entries.{figures as stored_figures, tally_figures, figures_of_note, places_of_chart, places_of_kept, places_of_timing, places_of_measures, places_of_last, places_of_judged};
+ghost use Rattle.definitions.specs.Entries.{figures as stored_figures, figures_of_note, places_of_chart, places_of_kept, places_of_timing, places_of_measures, places_of_last, places_of_judged};
 ghost use Rattle.definitions.specs.Lists.{number_of_bool};
 ghost use Rattle.definitions.specs.Records.{number_of_tail};
+ghost use Rattle.definitions.specs.Tally.{tally_figures};
 ghost use Rattle.definitions.specs.Refusals.{number_told, replaces};
 
 use definitions::{
@@ -29,7 +30,8 @@ struct Places {
 impl Places {
     // The 32 numbers: the figures, the last beat by its bits and in 48ths, and from place 8 on the tally in the order of its fields.
     fn numbers(self) -> [u64; 32]
-        ensures { result ≡ stored_figures self.bytes self.measures self.rows self.notes self.last_bits (number_of_bool self.heads) self.last_row (tally_figures self.stats) }
+        ensures { result ≡ stored_figures self.bytes self.measures self.rows self.notes
+            self.last_bits (number_of_bool self.heads) self.last_row (tally_figures self.stats) }
     {
         let t = self.stats;
         [
@@ -216,7 +218,7 @@ pub fn tell<const N: usize, F: Figures<N>>(
 }
 
 /// The three places of a chart of a file: its lane count, where its data begins, and the data's length.
-pub fn chart_figures(lanes: usize, start: usize, len: usize) -> [u64; 3]
+pub fn sm_chart_places(lanes: usize, start: usize, len: usize) -> [u64; 3]
     ensures { result ≡ lanes ∷ start ∷ len ∷ [] }
 {
     [lanes as u64, start as u64, len as u64]

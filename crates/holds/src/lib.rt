@@ -53,7 +53,8 @@ impl Tracker {
     // The newest head off its column's stack.
     fn pop(&mut self, column: usize) -> Option<u32>
         requires { TrackReady column self.old }
-        ensures { (row : ℕ) → TrackStepped DepthEffect.Closes row column self.old self.new (ended_at row result) }
+        ensures { (row : ℕ)
+            → TrackStepped DepthEffect.Closes row column self.old self.new (ended_at row result) }
     {
         let depth = self.depths[column];
         if 0 < depth {
@@ -86,7 +87,10 @@ impl Tracker {
 
     // The cells of a row, one column after the other: how many of the pairs that they make have a judged head.
     fn track_cells(&mut self, row: u32, cells: &[u8], work: &mut [u16]) -> u16
-        requires { (length cells.now ≤ 10) × (row < length work.old) × Sized self.old × Reached row self.old work.old }
+        requires narrow { length cells.now ≤ 10 }
+        requires entry_room { row < length work.old }
+        requires sized { Sized self.old }
+        requires reached { Reached row self.old work.old }
         ensures { CellsTracked row cells.now self.old work.old self.new work.new result }
     {
         let mut ends = 0;
@@ -102,7 +106,9 @@ impl Tracker {
     /// open head leaves the tracker as it is, and no pair ends there. It is written into each loop, since most rows are such rows.
     #[inline(always)]
     pub fn track_row(&mut self, row: u32, cells: &[u8], judged: bool, work: &mut [u16])
-        requires { (length cells.now ≤ 10) × (row < length work.old) × Reached row self.old work.old }
+        requires narrow { length cells.now ≤ 10 }
+        requires entry_room { row < length work.old }
+        requires reached { Reached row self.old work.old }
         ensures { RowTracked row cells.now judged self.old work.old self.new work.new }
     {
         let ends = match taps::free_taps(cells, self.busy) {
@@ -115,7 +121,8 @@ impl Tracker {
 
 // Marks the head that a cell in this column paired with in its row's entry, and counts it where that row is judged.
 fn mark(work: &mut [u16], ended: Option<u32>, column: usize) -> u16
-    requires { (column < 10) × ((h : ℕ) → ended ≡ Some h → h < length work.old) }
+    requires narrow { column < 10 }
+    requires entry_room { (head : ℕ) → ended ≡ Some head → head < length work.old }
     ensures counted { result ≡ judged_head ended work.old }
     ensures few { result ≤ 1 }
     ensures work_after { work.new ≡ marked ended column work.old }

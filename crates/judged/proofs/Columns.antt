@@ -25,7 +25,7 @@ use Rattle.definitions.specs.declared.DepthEffect.TheVariants.{Nothing, Blocks, 
 use Rattle.definitions.proofs.Columns.{past_end}
 use Rattle.phantoms.proofs.Columns.{column-past}
 use Rattle.phantoms.proofs.Loop.{empty-hold}
-use Rattle.definitions.specs.Tally.{empty_sum}
+use Rattle.definitions.specs.Tally.{direction, empty_sum}
 use Rattle.row_tally.specs.Sums.{sum_with_cell}
 use Rattle.row_tally.proofs.Loops.{Summed, summed-start, summed-next, summed-empty, summed-end, drop-next}
 use Rattle.judged.specs.Clean.{unpairs}
@@ -45,7 +45,7 @@ pub record Passing (row : Row) (l₀ l : List ℕ) (sum : RowSum) (i : ℕ) : Ty
   pub done : (c : ℕ) → c < i → get_or l c 0 ≡ after row l₀ c
   pub left : (c : ℕ) → i ≤ c → get_or l c 0 ≡ get_or l₀ c 0
   pub whole : some_column i (unpairs_at row l₀) ≡ false
-  pub summed : Summed is_judged_arrow (drop i row) (judged_sum true row) sum i
+  pub summed : Summed (length row) is_judged_arrow (drop i row) (judged_sum true row) sum i
 
 pub passing-start : (row : Row) (l : List ℕ) (sum : RowSum) → length l ≡ 10 → sum ≡ empty_sum → Passing row l l sum 0
 unfolding judged_sum
@@ -111,7 +111,7 @@ module _ (row : Row) (l₀ l : List ℕ) (sum : RowSum) (i : ℕ) (s : Passing r
       abbrev Next : RowSum → Type 0
       Next t = Passing row l₀ (set l i n) t (i + 1)
 
-      next : (t : RowSum) → Summed is_judged_arrow (drop (i + 1) row) (judged_sum true row) t (i + 1) → Next t
+      next : (t : RowSum) → Summed (length row) is_judged_arrow (drop (i + 1) row) (judged_sum true row) t (i + 1) → Next t
       next t z =
           record {
             within = omega arith;
@@ -124,11 +124,11 @@ module _ (row : Row) (l₀ l : List ℕ) (sum : RowSum) (i : ℕ) (s : Passing r
 
     -- one cell more
     pub passing-next : (n : ℕ) → clean_depth (hold_at (get_or row i 0)) (get_or l i 0) ≡ Some n
-        → (t : RowSum) → t ≡ sum_with_cell sum i (cell_of (get_or row i 0)) (is_judged_arrow (cell_of (get_or row i 0))) → Passing row l₀ (set l i n) t (i + 1)
+        → (t : RowSum) → t ≡ sum_with_cell sum (direction (length row) i) (cell_of (get_or row i 0)) (is_judged_arrow (cell_of (get_or row i 0))) → Passing row l₀ (set l i n) t (i + 1)
     passing-next n q t e =
         let told = depth-told (hold_at (get_or row i 0)) (get_or l i 0) n q in
         next n told.0 told.1 t
-        (summed-next is_judged_arrow (drop i row) (drop (i + 1) row) (judged_sum true row) sum t i (get_or row i 0) (drop-next row i h) e s.summed)
+        (summed-next (length row) is_judged_arrow (drop i row) (drop (i + 1) row) (judged_sum true row) sum t i (get_or row i 0) (drop-next row i h) e s.summed)
 
     -- an empty cell more
     pub passing-empty : cell_of (get_or row i 0) ≡ Empty → Passing row l₀ l sum (i + 1)
@@ -136,7 +136,7 @@ module _ (row : Row) (l₀ l : List ℕ) (sum : RowSum) (i : ℕ) (s : Passing r
         let n = empty-hold (get_or row i 0) e in
         rw (set-get_or l i 0) at
         (next (get_or l i 0) (rw n refl) (rw n refl) sum
-        (summed-empty is_judged_arrow (drop i row) (drop (i + 1) row) (judged_sum true row) sum i (get_or row i 0) (drop-next row i h) e refl s.summed))
+        (summed-empty (length row) is_judged_arrow (drop i row) (drop (i + 1) row) (judged_sum true row) sum i (get_or row i 0) (drop-next row i h) e refl s.summed))
 
   -- past the last column, whose cells are empty
   module _ (h : length row ≤ i) where
@@ -158,7 +158,7 @@ module _ (row : Row) (l₀ l : List ℕ) (sum : RowSum) (i : ℕ) (s : Passing r
         ]
 
     pub passing-sum : sum ≡ judged_sum true row
-    passing-sum = summed-end is_judged_arrow (drop i row) (judged_sum true row) sum i (drop_of_length-le row h) s.summed
+    passing-sum = summed-end (length row) is_judged_arrow (drop i row) (judged_sum true row) sum i (drop_of_length-le row h) s.summed
 
 -- the same, of values that are the same
 pub passing-moved : {row : Row} {l₀ l l' : List ℕ} {sum sum' : RowSum} {i : ℕ} → l' ≡ l → sum' ≡ sum → Passing row l₀ l sum i → Passing row l₀ l' sum' i

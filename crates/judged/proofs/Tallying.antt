@@ -25,9 +25,9 @@ use Rattle.holds.proofs.Passed.{free-keeps}
 use Rattle.row_tally.proofs.Taps.{taps-heads}
 use Rattle.taps.specs.Taps.{FreeTaps}
 use Rattle.row_tally.specs.Bounds.{Below}
-use Rattle.row_tally.specs.Kept.{row_by_mask}
+use Rattle.row_tally.specs.Masked.{row_by_mask}
 use Rattle.row_tally.proofs.Bounds.{below_more, below_none, below-judged-line}
-use Rattle.row_tally.proofs.Kept.{keep_mask, keep-length, keep-whole}
+use Rattle.row_tally.proofs.Masked.{keep_mask, keep-length, keep-whole}
 use Rattle.row_tally.proofs.Rows.{judge-snoc}
 use Rattle.judged.specs.declared.TimingStats.{TimingStats}
 use Rattle.judged.specs.Timing.{timing_sum, new_holds, empty_timing, timing_row, timing_taps, WorkEntries}

@@ -8,7 +8,7 @@ use Rattle.definitions.specs.declared.RowSum.{RowSum}
 use Rattle.holds.specs.Entry.{heads_of, ends_of, is_judged}
 use Rattle.holds.specs.Tracks.{Tracks}
 use Rattle.holds.specs.declared.Tracker.{Tracker}
-use Rattle.row_tally.specs.Kept.{row_by_mask}
+use Rattle.row_tally.specs.Masked.{row_by_mask}
 use Rattle.judged.specs.declared.TimingStats.{TimingStats}
 
 -- which rows are judged: all where there are no flags, or by the flags

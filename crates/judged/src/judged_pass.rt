@@ -12,7 +12,7 @@ ghost use Rattle.row_tally.specs.Bounds.{Below};
 ghost use Rattle.judged.specs.Clean.{clean_answer};
 ghost use Rattle.judged.specs.JudgedPass.{clean_depth, row_unpairs, DepthsPassed, Ready, RowPassed};
 
-use definitions::{ArrowStats, Cell, DepthEffect, Lanes, RowSum};
+use definitions::{ArrowStats, Cell, DepthEffect, Lanes, RowSum, direction};
 use taps::{TapTable, Taps};
 
 /// What the pass has of the rows so far: the tally, the open heads of each column, of up to ten, the holds open before the next row, and the
@@ -104,7 +104,7 @@ fn clean_cells(depths: &mut [u32; 10], row: &[u8]) -> Option<RowSum>
             Cell::Empty => {}
             _ => {
                 depths[column] = depth_after(b, depths[column])?;
-                sum = row_tally::judged_cell(sum, column, b);
+                sum = row_tally::judged_cell(sum, direction(row.len(), column), b);
             }
         }
     }

@@ -4,9 +4,10 @@
 ghost use Rattle.std.specs.Prelude.{◌≡◌, [], ◌+◌, ◌/◌, ◌≤◌, length};
 ghost use Rattle.definitions.specs.Sizes.{most_bytes};
 ghost use Rattle.definitions.specs.Lists.{padded};
-ghost use Rattle.definitions.specs.Lanes.{most_rows_in};
+ghost use Rattle.definitions.specs.Lanes.{lanes_of, most_rows_in};
+ghost use Rattle.definitions.specs.Refusals.{leaves};
 ghost use Rattle.definitions.specs.Figures.{minimised_text, densities as densities_of};
-ghost use Rattle.definitions.specs.Entries.{figures_of_kept, kept_answer, kept_text, kept_densities, kept_work};
+ghost use Rattle.definitions.specs.Entries.{figures_of_kept, kept_answer};
 
 use definitions::{KeptFigures, Lanes, Refusal};
 
@@ -23,8 +24,10 @@ pub fn keep_figures(
     requires densities_room { (length «data».now + 1) / 2 + 1 ≤ length densities.old }
     requires work_room { most_rows_in lanes.count (length «data».now) ≤ length work.old }
     ensures value { result ≡ figures_of_kept lanes.count «data».now }
-    ensures text_after { text.new ≡ padded 0 (length text.old) (minimised_text lanes.count «data».now) }
-    ensures densities_after { densities.new ≡ padded 0 (length densities.old) (densities_of lanes.count «data».now) }
+    ensures text_after { text.new
+        ≡ padded 0 (length text.old) (minimised_text lanes.count «data».now) }
+    ensures densities_after { densities.new
+        ≡ padded 0 (length densities.old) (densities_of lanes.count «data».now) }
     ensures work_after { work.new ≡ padded 0 (length work.old) [] }
 {
     let pass = kept_pass::keep_chart(data, lanes, text, densities);
@@ -55,9 +58,11 @@ pub fn process_chart_kept(
     work: &mut [u16],
 ) -> Result<KeptFigures, Refusal>
     ensures value { result ≡ kept_answer lanes «data».now text.old densities.old work.old }
-    ensures text_after { text.new ≡ kept_text lanes «data».now text.old densities.old work.old }
-    ensures densities_after { densities.new ≡ kept_densities lanes «data».now text.old densities.old work.old }
-    ensures work_after { work.new ≡ kept_work lanes «data».now text.old densities.old work.old }
+    ensures text_after { text.new
+        ≡ leaves 0 result (minimised_text (lanes_of lanes) «data».now) text.old }
+    ensures densities_after { densities.new
+        ≡ leaves 0 result (densities_of (lanes_of lanes) «data».now) densities.old }
+    ensures work_after { work.new ≡ leaves 0 result [] work.old }
 {
     let len = data.len();
     refusals::text_fits(len)?;

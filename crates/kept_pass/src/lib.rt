@@ -38,10 +38,14 @@ impl Draft {
 
     /// One row more of the open measure.
     pub fn add_row(&mut self, text: &mut [u8], row: &[u8])
-        requires { (self.old.out + length row.now + 1 ≤ length text.old) × (self.old.rows < row_count_bound) }
-        ensures drafted { AddsRow row.now (Drafted (length row.now) self.old text.old) (Drafted (length row.now) self.new text.new) }
+        requires text_room { self.old.out + length row.now + 1 ≤ length text.old }
+        requires rows_few { self.old.rows < row_count_bound }
+        ensures drafted { AddsRow row.now
+            (Drafted (length row.now) self.old text.old)
+            (Drafted (length row.now) self.new text.new) }
         ensures out_after { self.new.out ≡ self.old.out + length row.now + 1 }
-        ensures one_more { (self.new.rows ≡ self.old.rows + 1) × (self.new.midx ≡ self.old.midx) }
+        ensures one_more { self.new.rows ≡ self.old.rows + 1 }
+        ensures same_measure { self.new.midx ≡ self.old.midx }
     {
         output::put_line(text, self.out, row);
         self.out += row.len() + 1;
@@ -50,20 +54,27 @@ impl Draft {
 
     /// The open measure's rows are minimised in place.
     pub fn minimise(&mut self, text: &mut [u8], lanes: Lanes)
-        requires { (self.old.out ≤ length text.old) × Holding (Drafted lanes.count self.old text.old) }
-        ensures drafted { Minimises (Drafted lanes.count self.old text.old) (Drafted lanes.count self.new text.new) }
-        ensures no_more { (self.new.out ≤ self.old.out) × (self.new.rows ≤ self.old.rows) × (self.new.midx ≡ self.old.midx) }
+        requires text_room { self.old.out ≤ length text.old }
+        requires drafted { Holding (Drafted lanes.count self.old text.old) }
+        ensures drafted { Minimises
+            (Drafted lanes.count self.old text.old) (Drafted lanes.count self.new text.new) }
+        ensures no_more_bytes { self.new.out ≤ self.old.out }
+        ensures no_more_rows { self.new.rows ≤ self.old.rows }
+        ensures same_measure { self.new.midx ≡ self.old.midx }
     {
-        let kept = reduction::reduce_output_measure(text, self.start, self.rows, lanes.count);
-        self.out = self.start + kept * (lanes.count + 1);
-        self.rows = kept;
+        let left = reduction::reduce_output_measure(text, self.start, self.rows, lanes.count);
+        self.out = self.start + left * (lanes.count + 1);
+        self.rows = left;
     }
 
     /// The `,` line after a measure that has ended is written, and the next measure begins.
     pub fn begin_measure(&mut self, text: &mut [u8])
-        requires { (self.old.out + 2 ≤ length text.old) × (self.old.midx ≤ measures_bound) }
-        ensures drafted { (L : ℕ) → EndsMeasure (Drafted L self.old text.old) (Drafted L self.new text.new) }
-        ensures out_after { (self.new.out ≡ self.old.out + 2) × (self.new.midx ≡ self.old.midx + 1) }
+        requires text_room { self.old.out + 2 ≤ length text.old }
+        requires measures_few { self.old.midx ≤ measures_bound }
+        ensures drafted { (L : ℕ)
+            → EndsMeasure (Drafted L self.old text.old) (Drafted L self.new text.new) }
+        ensures out_after { self.new.out ≡ self.old.out + 2 }
+        ensures next_measure { self.new.midx ≡ self.old.midx + 1 }
     {
         output::put_comma(text, self.out);
         self.out += 2;
@@ -97,7 +108,8 @@ pub struct KeptPass {
 impl KeptPass {
     // Before the first line.
     fn new() -> Self
-        ensures before { (L : ℕ) (text densities : List ℕ) → L ≤ 10 → Kept L result text densities [] [] }
+        ensures kept { (L : ℕ) (text densities : List ℕ)
+            → L ≤ 10 → Kept L result text densities [] [] }
         ensures nothing_written { result.draft.out ≡ 0 }
     {
         KeptPass {
@@ -108,8 +120,11 @@ impl KeptPass {
 
     // One row more of the open measure.
     fn add_row(&mut self, text: &mut [u8], row: &[u8])
-        requires { (self.old.draft.out + length row.now + 1 ≤ length text.old) × (self.old.draft.rows < row_count_bound) }
-        ensures kept { (densities : List ℕ) → AddsRow row.now (Kept (length row.now) self.old text.old densities) (Kept (length row.now) self.new text.new densities) }
+        requires text_room { self.old.draft.out + length row.now + 1 ≤ length text.old }
+        requires rows_few { self.old.draft.rows < row_count_bound }
+        ensures kept { (densities : List ℕ) → AddsRow row.now
+            (Kept (length row.now) self.old text.old densities)
+            (Kept (length row.now) self.new text.new densities) }
         ensures out_after { self.new.draft.out ≡ self.old.draft.out + length row.now + 1 }
     {
         self.draft.add_row(text, row);
@@ -118,11 +133,13 @@ impl KeptPass {
     // The open measure ends: its rows are minimised in place and counted, and its density is stored.
     fn end_measure(&mut self, text: &mut [u8], densities: &mut [u32], table: &TapTable)
         requires text_room { self.old.draft.out ≤ length text.old }
-        requires density_room { self.old.draft.midx < length densities.old }
+        requires densities_room { self.old.draft.midx < length densities.old }
         requires rows_few { self.old.counting.rows + self.old.draft.rows < row_count_bound }
         requires kept { Holding (Kept table.now.lanes.count self.old text.old densities.old) }
-        ensures measure_ended { EndsKept table.now.lanes.count self.old text.old densities.old self.new text.new densities.new }
-        ensures no_more { (self.new.draft.out ≤ self.old.draft.out) × (self.new.draft.midx ≡ self.old.draft.midx) }
+        ensures measure_ended { EndsKept table.now.lanes.count
+            self.old text.old densities.old self.new text.new densities.new }
+        ensures no_more_bytes { self.new.draft.out ≤ self.old.draft.out }
+        ensures same_measure { self.new.draft.midx ≡ self.old.draft.midx }
     {
         self.draft.minimise(text, table.lanes);
         self.counting
@@ -133,11 +150,13 @@ impl KeptPass {
     // The open measure ends with a `,` line.
     fn comma(&mut self, text: &mut [u8], densities: &mut [u32], table: &TapTable)
         requires text_room { self.old.draft.out + 2 ≤ length text.old }
-        requires density_room { self.old.draft.midx < length densities.old }
+        requires densities_room { self.old.draft.midx < length densities.old }
         requires rows_few { self.old.counting.rows + self.old.draft.rows < row_count_bound }
         requires measures_few { self.old.draft.midx ≤ measures_bound }
         requires kept { Holding (Kept table.now.lanes.count self.old text.old densities.old) }
-        ensures kept_after { EndsMinimised (Kept table.now.lanes.count self.old text.old densities.old) (Kept table.now.lanes.count self.new text.new densities.new) }
+        ensures kept { EndsMinimised
+            (Kept table.now.lanes.count self.old text.old densities.old)
+            (Kept table.now.lanes.count self.new text.new densities.new) }
         ensures out_bound { self.new.draft.out ≤ self.old.draft.out + 2 }
     {
         self.end_measure(text, densities, table);

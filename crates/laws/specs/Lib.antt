@@ -1,2 +1,3 @@
 -- The statements of the examples.
 pub mod Examples
+pub mod Fits

@@ -2,7 +2,7 @@
 // is not built.
 #![tactic(auto)]
 
-ghost use Rattle.std.specs.Prelude.{ℕ, ◌+◌, ◌*◌, ◌^◌, ◌<◌, ◌≤◌, List, length, All};
+ghost use Rattle.std.specs.Prelude.{ℕ, ◌≤◌, List, length};
 ghost use Rattle.definitions.specs.Sizes.{most_bytes};
 ghost use Rattle.definitions.specs.Lanes.{lanes_of};
 ghost use Rattle.definitions.specs.Judged.{judged_tally, flagged_tally};
@@ -16,7 +16,8 @@ ghost use Rattle.files.specs.Rest.{RestAnswered, RestInOrder};
 ghost use Rattle.sheet_print.specs.Example.{PrintExample};
 ghost use Rattle.sheet_json.specs.Example.{JsonExample};
 ghost use Rattle.chart_sheet.specs.Forms.{sheet_in_form};
-ghost use Rattle.chart_sheet.specs.Entry.{places_of_sheet};
+ghost use Rattle.chart_sheet.specs.Entry.{most_sheet_bytes, places_of_sheet};
+ghost use Rattle.laws.specs.Fits.{FitsForAll};
 ghost use Rattle.laws.specs.Examples.{ExamplesHold, RuleExamplesHold, RequestExamplesHold, CardExample, BeatsRight, DamageMet, LastBeatStays};
 
 /// The papers' examples are what the definitions give.
@@ -81,19 +82,21 @@ pub fn writer_makes()
 
 /// Every figure that a call answers of an accepted text is below 2 ^ 64, in its place among the 32.
 pub fn figures_fit()
-    ensures chart { (lanes : ℕ) (text : List ℕ) → length text ≤ most_bytes → All (λ (x : ℕ). x < 2 ^ 64) (places_of_chart (figures_of_chart (lanes_of lanes) text)) }
-    ensures kept { (lanes : ℕ) (text : List ℕ) → length text ≤ most_bytes → All (λ (x : ℕ). x < 2 ^ 64) (places_of_kept (figures_of_kept (lanes_of lanes) text)) }
-    ensures timing { (lanes : ℕ) (text : List ℕ) → length text ≤ most_bytes → All (λ (x : ℕ). x < 2 ^ 64) (places_of_timing (figures_of_timing (lanes_of lanes) text)) }
-    ensures measures { (lanes : ℕ) (text : List ℕ) → length text ≤ most_bytes → All (λ (x : ℕ). x < 2 ^ 64) (places_of_measures (measure_count (lanes_of lanes) text)) }
-    ensures last { (lanes : ℕ) (text : List ℕ) → length text ≤ most_bytes → All (λ (x : ℕ). x < 2 ^ 64) (places_of_last (figures_of_last (lanes_of lanes) text)) }
-    ensures judged { (lanes : ℕ) (text : List ℕ) → length text ≤ most_bytes → All (λ (x : ℕ). x < 2 ^ 64) (places_of_judged (judged_tally (lanes_of lanes) text)) }
-    ensures flagged { (lanes : ℕ) (text flags : List ℕ) → length text ≤ most_bytes → All (λ (x : ℕ). x < 2 ^ 64) (places_of_judged (flagged_tally (lanes_of lanes) flags text)) }
-    ensures sheet { (lanes form : ℕ) (text : List ℕ) → length text ≤ most_bytes → All (λ (x : ℕ). x < 2 ^ 64) (places_of_sheet form (lanes_of lanes) text) }
+    ensures chart { FitsForAll (λ L text. places_of_chart (figures_of_chart L text)) }
+    ensures kept { FitsForAll (λ L text. places_of_kept (figures_of_kept L text)) }
+    ensures timing { FitsForAll (λ L text. places_of_timing (figures_of_timing L text)) }
+    ensures measures { FitsForAll (λ L text. places_of_measures (measure_count L text)) }
+    ensures last { FitsForAll (λ L text. places_of_last (figures_of_last L text)) }
+    ensures judged { FitsForAll (λ L text. places_of_judged (judged_tally L text)) }
+    ensures flagged { (flags : List ℕ)
+        → FitsForAll (λ L text. places_of_judged (flagged_tally L flags text)) }
+    ensures sheet { (form : ℕ) → FitsForAll (places_of_sheet form) }
 {}
 
 /// Every form of its sheet has room in the slice that is asked for.
 pub fn sheet_has_room()
-    ensures { (lanes form : ℕ) (text : List ℕ) → length text ≤ most_bytes → length (sheet_in_form form (lanes_of lanes) text) ≤ 42 * (length text + 1) + 3000 }
+    ensures { (lanes form : ℕ) (text : List ℕ) → length text ≤ most_bytes
+        → length (sheet_in_form form (lanes_of lanes) text) ≤ most_sheet_bytes (length text) }
 {}
 
 /// The data that is found in a file is a part of it.

@@ -12,7 +12,6 @@ use Rattle.definitions.specs.declared.Cell.{Cell}
 use Rattle.definitions.specs.declared.Cell.TheVariants.{Empty, Tap, Hold, Tail, Roll, Mine, Lift, Fake, KeySound, LowerMine, LowerLift, LowerFake}
 use Rattle.definitions.specs.declared.DepthEffect.{DepthEffect}
 use Rattle.definitions.specs.declared.DepthEffect.TheVariants as effect
-use Rattle.definitions.specs.declared.RowSum.{RowSum}
 use Rattle.taps.specs.Taps.{tap_mask}
 use Rattle.taps.specs.declared.Taps.{Taps}
 use Rattle.taps.specs.declared.Taps.TheVariants.{Mask, Other}
@@ -58,22 +57,6 @@ number_of_taps Other = 256
 -- the mask of a row's first n cells; 257 where it has fewer
 unfoldable pub mask_number : ℕ → Row → ℕ
 mask_number n row = if nat_lt (length row) n then 257 else number_of_taps (tap_mask (take n row))
-
--- a row's sum in the order of its fields
-abbrev pub sum_numbers : RowSum → List ℕ
-sum_numbers s =
-    s.arrows
-    ∷ s.left
-    ∷ s.down
-    ∷ s.up
-    ∷ s.right
-    ∷ s.holds
-    ∷ s.rolls
-    ∷ s.tails
-    ∷ s.mines
-    ∷ s.lifts
-    ∷ s.fakes
-    ∷ []
 
 -- ---- Measures
 

@@ -4,8 +4,9 @@ ghost use Rattle.definitions.specs.Cells.{cell_of};
 ghost use Rattle.definitions.specs.Figures.{is_step};
 ghost use Rattle.definitions.specs.Objects.{object_at};
 ghost use Rattle.definitions.specs.Tracker.{hold_at};
+ghost use Rattle.definitions.specs.Tally.{sum_counts};
 ghost use Rattle.taps.specs.Taps.{mask_counts, unpack};
-ghost use Rattle.leaves.specs.Answers.{number_of_cell, number_of_effect, number_of_taps, mask_number, sum_numbers};
+ghost use Rattle.leaves.specs.Answers.{number_of_cell, number_of_effect, number_of_taps, mask_number};
 
 use definitions::Lanes;
 use taps::{TapTable, Taps};
@@ -79,7 +80,7 @@ pub extern "C" fn leaves_tap_mask8(row: &[u8]) -> u32
 /// The sum's fields in their order.
 #[unsafe(no_mangle)]
 pub extern "C" fn leaves_tap_sum(mask: u8, sum: &mut [u32; 11])
-    ensures { sum.new ≡ sum_numbers (unpack (mask_counts mask)) }
+    ensures { sum.new ≡ sum_counts (unpack (mask_counts mask)) }
 {
     let s = TapTable::for_lanes(Lanes { count: 8 }).sum(mask as u16);
     *sum = [

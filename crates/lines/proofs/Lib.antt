@@ -7,3 +7,4 @@ pub mod Hits
 pub mod Matches
 pub mod SliceWords
 pub mod RowWords
+pub mod WordBytes

@@ -5,7 +5,8 @@ use borrow.Author.Tests.{eqb-false}
 use Rattle.definitions.specs.Lists.{among}
 use Rattle.std.specs.Prelude.{Some}
 use Rattle.lines.specs.Search.{count_of}
-use Rattle.lines.specs.Words.{half_word_at, word_at, word_of, Bytes, first_in}
+use Rattle.lines.specs.Words.{half_word_at, word_at, word_of, bytes_of_word, Bytes, first_in}
+use Rattle.lines.proofs.WordBytes.{bytes_read}
 use Rattle.lines.proofs.Search.{find_from, count-append}
 use Rattle.lines.proofs.Hits.{trailing_lt}
 
@@ -52,10 +53,9 @@ module _ (b : ℕ) (s : List ℕ) (i : ℕ) (h : i + 8 ≤ length s) where
   unfolding word_of
   word-of = rw (eight-bytes s i h) (omega arith)
 
-  -- what holds of any list that makes the word w holds of the eight bytes that w was read from
-  pub of_word : (w : ℕ) (P : List ℕ → Type 0) → ((k : ℕ) → get_or s k 0 < 256) → w ≡ word_at s i
-      → ((xs : List ℕ) → length xs ≡ 8 → Bytes xs → word_of xs ≡ w → P xs) → P (take 8 (drop i s))
-  of_word w P small e f = f (take 8 (drop i s)) eight-long (bytes_take 8 (drop i s) (λ k. rw get_or-drop (small (i + k)))) (word-of ∙ sym e)
+  -- the bytes of the word that is read there
+  pub of_word : (w : ℕ) → ((k : ℕ) → get_or s k 0 < 256) → w ≡ word_at s i → bytes_of_word w ≡ take 8 (drop i s)
+  of_word w small e = bytes_read (take 8 (drop i s)) w eight-long (bytes_take 8 (drop i s) (λ k. rw get_or-drop (small (i + k)))) (word-of ∙ sym e)
 
   parts : drop i s ≡ take 8 (drop i s) ++ drop (i + 8) s
   parts = sym (take-append-drop 8 (drop i s)) ∙ rw drop-drop

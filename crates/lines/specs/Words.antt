@@ -1,5 +1,5 @@
 -- Words of bytes, the first one lowest. Only contracts of functions that go by words cite these.
-use Rattle.std.specs.Prelude.{ℕ, suc, ◌+◌, ◌*◌, ◌<◌, if◌then◌else◌, List, [], ◌∷◌, ◌==◌, slice_index}
+use Rattle.std.specs.Prelude.{ℕ, zero, suc, ◌+◌, ◌*◌, ◌/◌, ◌%◌, ◌<◌, if◌then◌else◌, List, [], ◌∷◌, ◌==◌, slice_index}
 
 -- the word of the four bytes from i on
 abbrev pub half_word_at : List ℕ → ℕ → ℕ
@@ -26,6 +26,15 @@ word_of (x ∷ xs) = word_of xs * 256 + x
 abbrev pub Bytes : List ℕ → Type 0
 Bytes [] = Unit {0}
 Bytes (x ∷ xs) = (x < 256) × Bytes xs
+
+-- the n lowest bytes of a word
+unfoldable pub low_bytes : ℕ → ℕ → List ℕ
+low_bytes zero w = []
+low_bytes (suc n) w = w % 256 ∷ low_bytes n (w / 256)
+
+-- the eight bytes of a word
+abbrev pub bytes_of_word : ℕ → List ℕ
+bytes_of_word w = low_bytes 8 w
 
 -- the place of the first b, or the length
 unfoldable pub first_in : ℕ → List ℕ → ℕ

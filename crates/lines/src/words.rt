@@ -1,9 +1,9 @@
 // Words of eight bytes, the first one lowest: reading one out of a slice, and marking the bytes in it that equal a given one.
-ghost use Rattle.std.specs.Prelude.{◌≡◌, ℕ, ◌+◌, ◌/◌, ◌<◌, ◌≤◌, List, length, count_ones};
+ghost use Rattle.std.specs.Prelude.{◌≡◌, ◌+◌, ◌/◌, ◌<◌, ◌≤◌, length, count_ones};
 ghost use Rattle.std.specs.Int.Count.{count_trailing_zeros};
 ghost use Rattle.lines.specs.Search.{count_of};
 ghost use Rattle.definitions.specs.Lists.{among};
-ghost use Rattle.lines.specs.Words.{half_word_at, word_at, word_of, Bytes, first_in};
+ghost use Rattle.lines.specs.Words.{half_word_at, word_at, bytes_of_word, first_in};
 
 // In each byte: a one, the seven low bits, the high bit.
 const LO: u64 = 0x0101_0101_0101_0101;
@@ -30,7 +30,8 @@ pub fn word_at(s: &[u8], i: usize) -> u64
 /// The four bytes from i on.
 pub fn half_at(s: &[u8], i: usize) -> u64
     requires { i + 4 ≤ length s.now }
-    ensures { (result ≡ half_word_at s.now i) × (result < 4294967296) }
+    ensures value { result ≡ half_word_at s.now i }
+    ensures below { result < 4294967296 }
 {
     u64::from(s[i])
         + u64::from(s[i + 1]) * 0x100
@@ -49,14 +50,17 @@ pub fn halves_at(s: &[u8], i: usize) -> u64
 /// Where four bytes of n begin that with the first four are all of up to eight, and of more the first eight.
 pub fn second_half(n: usize) -> usize
     requires { 4 ≤ n }
-    ensures { (result ≤ 4) × (result + 4 ≤ n) × (n ≤ 8 → result + 4 ≡ n) × (8 ≤ n → result ≡ 4) }
+    ensures low { result ≤ 4 }
+    ensures within { result + 4 ≤ n }
+    ensures few { n ≤ 8 → result + 4 ≡ n }
+    ensures many { 8 ≤ n → result ≡ 4 }
 {
     if n < 8 { n - 4 } else { 4 }
 }
 
 /// Bits for bytes of the word that equal `byte`: the lowest set bit stands in the first of them, higher ones mean nothing.
 pub fn byte_hits(word: u64, byte: u8) -> u64
-    ensures { (xs : List ℕ) → length xs ≡ 8 → Bytes xs → word_of xs ≡ word → count_trailing_zeros 64 result / 8 ≡ first_in byte xs }
+    ensures { count_trailing_zeros 64 result / 8 ≡ first_in byte (bytes_of_word word) }
 {
     let x = word ^ (u64::from(byte) * LO);
     std::num::wrapping_sub_u64(x, LO) & !x & HI
@@ -64,14 +68,14 @@ pub fn byte_hits(word: u64, byte: u8) -> u64
 
 /// Whether one of the word's bytes equals `byte`.
 pub fn has_byte(word: u64, byte: u8) -> bool
-    ensures { (xs : List ℕ) → length xs ≡ 8 → Bytes xs → word_of xs ≡ word → result ≡ among byte xs }
+    ensures { result ≡ among byte (bytes_of_word word) }
 {
     byte_hits(word, byte) != 0
 }
 
 /// One bit for each byte of the word that equals `byte`. A sum of seven bits and seven bits carries into no other byte, so each bit is exact.
 pub fn byte_match_mask(word: u64, byte: u8) -> u64
-    ensures { (xs : List ℕ) → length xs ≡ 8 → Bytes xs → word_of xs ≡ word → count_ones result ≡ count_of byte xs }
+    ensures { count_ones result ≡ count_of byte (bytes_of_word word) }
 {
     let x = word ^ (u64::from(byte) * LO);
     !(((x & LOW) + LOW) | x | LOW) & HI

@@ -22,11 +22,6 @@ pub record Counted (L : ℕ) (c : Counting) (done : List (List Row)) (cur : List
   pub few : Few c
   pub free : FreeAre c.busy 0 c.phantoms.depths
 
--- something was counted, and these rows of the open measure
-pub record SomeCounted (L : ℕ) (c : Counting) (cur : List Row) : Type 0 where
-  pub done : List (List Row)
-  pub counted : Counted L c done cur
-
 -- One row more of the open measure: whatever was counted before, at L columns that are enough for the row.
 abbrev pub CountsRow : Row → Counting → Counting → Type 0
 CountsRow row c c' =

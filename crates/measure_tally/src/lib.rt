@@ -7,10 +7,10 @@ ghost use Rattle.definitions.specs.Lines.{Row};
 ghost use Rattle.definitions.specs.Figures.{density as density_of};
 ghost use Rattle.taps.specs.Taps.{FreeTaps, masks};
 ghost use Rattle.reduction.specs.Rows.{rows_of};
-ghost use Rattle.reduction.specs.States.{EndsMeasure};
-ghost use Rattle.measure_tally.specs.Counted.{Few, Counted, CountsRow, CountsOn, CountsAll, SomeCounted};
+ghost use Rattle.reduction.specs.States.{HoldingOpen, EndsMeasure};
+ghost use Rattle.measure_tally.specs.Counted.{Few, Counted, CountsRow, CountsOn, CountsAll};
 
-use definitions::{ArrowStats, Cell};
+use definitions::{ArrowStats, Cell, direction};
 use phantoms::Phantoms;
 use taps::{TapTable, Taps};
 
@@ -41,7 +41,9 @@ impl Counting {
 
     // One row of taps more, all in columns of the phantom depth 0: it leaves the depths, and no turn of a loop branches on its cells.
     fn count_taps(&mut self, mask: u16, table: &TapTable)
-        requires { (self.old.rows < row_count_bound) × Few self.old × (mask < masks table.now.wide) }
+        requires rows_few { self.old.rows < row_count_bound }
+        requires few { Few self.old }
+        requires mask_known { mask < masks table.now.wide }
         ensures { (row : Row) → FreeTaps self.old.busy mask row → CountsRow row self.old self.new }
     {
         row_tally::count_taps(&mut self.stats, mask, table);
@@ -50,7 +52,9 @@ impl Counting {
 
     // One row more, cell by cell: its sum, the phantom depths, heads and tails. Most cells are empty, which change none of them.
     fn count_line(&mut self, row: &[u8])
-        requires { (length row.now ≤ 10) × (self.old.rows < row_count_bound) × Few self.old }
+        requires narrow { length row.now ≤ 10 }
+        requires rows_few { self.old.rows < row_count_bound }
+        requires few { Few self.old }
         ensures { CountsRow row.now self.old self.new }
     {
         let mut phantoms = self.phantoms;
@@ -66,7 +70,7 @@ impl Counting {
                     phantoms.heads += p.heads;
                     phantoms.tails += p.tails;
                     phantoms.met = phantoms.met | p.met;
-                    sum = row_tally::sum_cell(sum, i, b);
+                    sum = row_tally::sum_cell(sum, direction(row.len(), i), b);
                 }
             }
             i += 1;
@@ -79,7 +83,9 @@ impl Counting {
 
     // One row more that is not ordinary. A row that is all zero is counted as a row, and changes nothing else.
     fn count_cells(&mut self, row: &[u8])
-        requires { (length row.now ≤ 10) × (self.old.rows < row_count_bound) × Few self.old }
+        requires narrow { length row.now ≤ 10 }
+        requires rows_few { self.old.rows < row_count_bound }
+        requires few { Few self.old }
         ensures { CountsRow row.now self.old self.new }
     {
         if cells::is_all_zero(row) {
@@ -99,7 +105,8 @@ impl Counting {
     /// The density of the open measure.
     pub fn density(&self) -> u32
         requires { self.now.before ≤ self.now.stats.total_steps }
-        ensures { (L : ℕ) (done : List (List Row)) (cur : List Row) → Counted L self.now done cur → result ≡ density_of cur }
+        ensures { (L : ℕ) (done : List (List Row)) (cur : List Row)
+            → Counted L self.now done cur → result ≡ density_of cur }
     {
         self.stats.total_steps - self.before
     }
@@ -114,10 +121,15 @@ impl Counting {
         rows: usize,
         table: &TapTable,
     ) -> usize
-        requires in_text { (start + rows * (table.now.lanes.count + 1) ≤ length text.now) × (first ≤ rows) }
-        requires few { (self.old.rows + (rows - first) < row_count_bound) × SomeCounted table.now.lanes.count self.old (take first (rows_of table.now.lanes.count rows text.now start)) }
-        ensures onwards { (first ≤ result) × (result ≤ rows) }
-        ensures counted { CountsOn table.now.lanes.count (rows_of table.now.lanes.count rows text.now start) first result self.old self.new }
+        requires in_text { start + rows * (table.now.lanes.count + 1) ≤ length text.now }
+        requires first_within { first ≤ rows }
+        requires rows_few { self.old.rows + (rows - first) < row_count_bound }
+        requires counted { HoldingOpen (Counted table.now.lanes.count self.old)
+            (take first (rows_of table.now.lanes.count rows text.now start)) }
+        ensures onwards { first ≤ result }
+        ensures within { result ≤ rows }
+        ensures counted { CountsOn table.now.lanes.count
+            (rows_of table.now.lanes.count rows text.now start) first result self.old self.new }
     {
         let lanes = table.lanes.count;
         let mut i = first;
@@ -139,8 +151,10 @@ impl Counting {
     /// The rows of a measure that stand in a text from `start` on, each with a newline byte after it.
     pub fn count_rows(&mut self, text: &[u8], start: usize, rows: usize, table: &TapTable)
         requires in_text { start + rows * (table.now.lanes.count + 1) ≤ length text.now }
-        requires few { (self.old.rows + rows < row_count_bound) × SomeCounted table.now.lanes.count self.old [] }
-        ensures { CountsAll table.now.lanes.count (rows_of table.now.lanes.count rows text.now start) self.old self.new }
+        requires rows_few { self.old.rows + rows < row_count_bound }
+        requires counted { HoldingOpen (Counted table.now.lanes.count self.old) [] }
+        ensures { CountsAll table.now.lanes.count
+            (rows_of table.now.lanes.count rows text.now start) self.old self.new }
     {
         let lanes = table.lanes.count;
         let mut i = 0;

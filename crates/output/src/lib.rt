@@ -7,7 +7,8 @@ ghost use Rattle.reduction.specs.Rows.{placed};
 
 // Four bytes of the row, all read before one is written, so that they are moved as one.
 fn put_four(text: &mut [u8], at: usize, row: &[u8], from: usize)
-    requires { (from + 4 ≤ length row.now) × (at + 4 ≤ length text.old) }
+    requires from_within { from + 4 ≤ length row.now }
+    requires text_room { at + 4 ≤ length text.old }
     ensures { text.new ≡ splice text.old at (at + 4) (take 4 (drop from row.now)) }
 {
     let a = row[from];

@@ -3,14 +3,21 @@
 // mistakes of whoever wires up the call. After an accepted call zeros follow each answer in its slice. `figures` has the places of crate `figures`.
 #![tactic(auto)]
 
-ghost use Rattle.std.specs.Prelude.{◌≡◌};
+ghost use Rattle.std.specs.Prelude.{◌≡◌, []};
+ghost use Rattle.definitions.specs.Lanes.{lanes_of};
 ghost use Rattle.definitions.specs.Refusals.{number_told, replaces};
-ghost use Rattle.definitions.specs.Entries.{measures_answer, densities_left, spacings_left, places_of_measures, last_answer, places_of_last, main_answer, main_text, main_densities, main_beats, main_work, main_notes, places_of_chart, judged_answer, judged_work, places_of_judged, flagged_answer, kept_answer, kept_text, kept_densities, kept_work, places_of_kept, timing_answer, timing_text, timing_beats, places_of_timing, figures_of_note};
-ghost use Rattle.definitions.specs.Records.{note_of_record};
+ghost use Rattle.definitions.specs.Figures.{minimised_text, densities as densities_of, spacings as spacings_of};
+ghost use Rattle.definitions.specs.Beats.{f32, beats as beats_of};
+ghost use Rattle.definitions.specs.Notes.{notes as notes_of};
+ghost use Rattle.definitions.specs.Records.{records as records_of, note_of_record};
+ghost use Rattle.definitions.specs.TimingRows.{timing_rows};
+ghost use Rattle.definitions.specs.Entries.{measures_answer, places_of_measures, last_answer, places_of_last, main_answer, places_of_chart, judged_answer, judged_work, places_of_judged, flagged_answer, kept_answer, places_of_kept, timing_answer, places_of_timing, figures_of_note};
 ghost use Rattle.definitions.specs.SmFile.{sm_number, places_of_sm};
-ghost use Rattle.chart_sheet.specs.Entry.{sheet_answer, sheet_text, sheet_densities, sheet_spacings, sheet_beats, sheet_work, sheet_notes, sheet_left};
+ghost use Rattle.chart_sheet.specs.Forms.{sheet_in_form};
+ghost use Rattle.chart_sheet.specs.Entry.{sheet_answer};
+ghost use Rattle.padcheck.specs.Told.{leaves_by};
 
-use figures::{chart_figures, tell};
+use figures::{sm_chart_places, tell};
 use note_records::read_note;
 
 /// The main call, the Rust's `minimize_chart_count_rows_notes`: minimised text in bytes, densities in steps a measure, row beats, note records of ten
@@ -26,13 +33,19 @@ pub extern "C" fn padcheck_minimize_chart_count_rows_notes(
     notes: &mut [u8],
     figures: &mut [u64; 32],
 ) -> u32
-    ensures value { result ≡ number_told (main_answer lanes «data».now text.old densities.old beats.old work.old notes.old) }
-    ensures text_after { text.new ≡ main_text lanes «data».now text.old densities.old beats.old work.old notes.old }
-    ensures densities_after { densities.new ≡ main_densities lanes «data».now text.old densities.old beats.old work.old notes.old }
-    ensures beats_after { beats.new ≡ main_beats lanes «data».now text.old densities.old beats.old work.old notes.old }
-    ensures work_after { work.new ≡ main_work lanes «data».now text.old densities.old beats.old work.old notes.old }
-    ensures notes_after { notes.new ≡ main_notes lanes «data».now text.old densities.old beats.old work.old notes.old }
-    ensures figures_after { figures.new ≡ replaces (main_answer lanes «data».now text.old densities.old beats.old work.old notes.old) places_of_chart figures.old }
+    ensures value { result ≡ number_told (main_answer lanes «data».now
+        text.old densities.old beats.old work.old notes.old) }
+    ensures text_after { text.new
+        ≡ leaves_by 0 result (minimised_text (lanes_of lanes) «data».now) text.old }
+    ensures densities_after { densities.new
+        ≡ leaves_by 0 result (densities_of (lanes_of lanes) «data».now) densities.old }
+    ensures beats_after { beats.new
+        ≡ leaves_by (f32 0) result (beats_of (lanes_of lanes) «data».now) beats.old }
+    ensures work_after { work.new ≡ leaves_by 0 result [] work.old }
+    ensures notes_after { notes.new
+        ≡ leaves_by 0 result (records_of (notes_of (lanes_of lanes) «data».now)) notes.old }
+    ensures figures_after { figures.new ≡ replaces (main_answer lanes «data».now
+        text.old densities.old beats.old work.old notes.old) places_of_chart figures.old }
 {
     let answer = chart::minimize_chart_count_rows_notes(
         data, lanes, text, densities, beats, work, notes,
@@ -51,11 +64,16 @@ pub extern "C" fn padcheck_process_chart_kept(
     work: &mut [u16],
     figures: &mut [u64; 32],
 ) -> u32
-    ensures value { result ≡ number_told (kept_answer lanes «data».now text.old densities.old work.old) }
-    ensures text_after { text.new ≡ kept_text lanes «data».now text.old densities.old work.old }
-    ensures densities_after { densities.new ≡ kept_densities lanes «data».now text.old densities.old work.old }
-    ensures work_after { work.new ≡ kept_work lanes «data».now text.old densities.old work.old }
-    ensures figures_after { figures.new ≡ replaces (kept_answer lanes «data».now text.old densities.old work.old) places_of_kept figures.old }
+    ensures value { result ≡ number_told (kept_answer lanes «data».now
+        text.old densities.old work.old) }
+    ensures text_after { text.new
+        ≡ leaves_by 0 result (minimised_text (lanes_of lanes) «data».now) text.old }
+    ensures densities_after { densities.new
+        ≡ leaves_by 0 result (densities_of (lanes_of lanes) «data».now) densities.old }
+    ensures work_after { work.new ≡ leaves_by 0 result [] work.old }
+    ensures figures_after { figures.new
+        ≡ replaces (kept_answer lanes «data».now text.old densities.old work.old)
+        places_of_kept figures.old }
 {
     let answer = kept::process_chart_kept(data, lanes, text, densities, work);
     tell(answer, figures)
@@ -72,9 +90,12 @@ pub extern "C" fn padcheck_minimize_timing_rows(
     figures: &mut [u64; 32],
 ) -> u32
     ensures value { result ≡ number_told (timing_answer lanes «data».now text.old beats.old) }
-    ensures text_after { text.new ≡ timing_text lanes «data».now text.old beats.old }
-    ensures beats_after { beats.new ≡ timing_beats lanes «data».now text.old beats.old }
-    ensures figures_after { figures.new ≡ replaces (timing_answer lanes «data».now text.old beats.old) places_of_timing figures.old }
+    ensures text_after { text.new
+        ≡ leaves_by 0 result (timing_rows (lanes_of lanes) «data».now) text.old }
+    ensures beats_after { beats.new
+        ≡ leaves_by (f32 0) result (beats_of (lanes_of lanes) «data».now) beats.old }
+    ensures figures_after { figures.new
+        ≡ replaces (timing_answer lanes «data».now text.old beats.old) places_of_timing figures.old }
 {
     let answer = timing::minimize_timing_rows(data, lanes, text, beats);
     tell(answer, figures)
@@ -89,8 +110,10 @@ pub extern "C" fn padcheck_measure_densities(
     figures: &mut [u64; 32],
 ) -> u32
     ensures value { result ≡ number_told (measures_answer lanes «data».now densities.old) }
-    ensures densities_after { densities.new ≡ densities_left lanes «data».now densities.old }
-    ensures figures_after { figures.new ≡ replaces (measures_answer lanes «data».now densities.old) places_of_measures figures.old }
+    ensures densities_after { densities.new
+        ≡ leaves_by 0 result (densities_of (lanes_of lanes) «data».now) densities.old }
+    ensures figures_after { figures.new
+        ≡ replaces (measures_answer lanes «data».now densities.old) places_of_measures figures.old }
 {
     let answer = scans::densities::measure_densities(data, lanes, densities);
     tell(answer, figures)
@@ -105,8 +128,10 @@ pub extern "C" fn padcheck_equally_spaced(
     figures: &mut [u64; 32],
 ) -> u32
     ensures value { result ≡ number_told (measures_answer lanes «data».now spacing.old) }
-    ensures spacing_after { spacing.new ≡ spacings_left lanes «data».now spacing.old }
-    ensures figures_after { figures.new ≡ replaces (measures_answer lanes «data».now spacing.old) places_of_measures figures.old }
+    ensures spacing_after { spacing.new
+        ≡ leaves_by 0 result (spacings_of (lanes_of lanes) «data».now) spacing.old }
+    ensures figures_after { figures.new
+        ≡ replaces (measures_answer lanes «data».now spacing.old) places_of_measures figures.old }
 {
     let answer = scans::spacing::equally_spaced_impl(data, lanes, spacing);
     tell(answer, figures)
@@ -120,7 +145,8 @@ pub extern "C" fn padcheck_chart_last_beat(
     figures: &mut [u64; 32],
 ) -> u32
     ensures value { result ≡ number_told (last_answer lanes «data».now) }
-    ensures figures_after { figures.new ≡ replaces (last_answer lanes «data».now) places_of_last figures.old }
+    ensures figures_after { figures.new
+        ≡ replaces (last_answer lanes «data».now) places_of_last figures.old }
 {
     let answer = scans::last_beat::chart_last_beat_impl(data, lanes);
     tell(answer, figures)
@@ -136,7 +162,8 @@ pub extern "C" fn padcheck_process_rows_judgable(
 ) -> u32
     ensures value { result ≡ number_told (judged_answer lanes «data».now work.old) }
     ensures work_after { work.new ≡ judged_work lanes «data».now work.old }
-    ensures figures_after { figures.new ≡ replaces (judged_answer lanes «data».now work.old) places_of_judged figures.old }
+    ensures figures_after { figures.new
+        ≡ replaces (judged_answer lanes «data».now work.old) places_of_judged figures.old }
 {
     let answer = judged::process_rows_judgable(data, lanes, work);
     tell(answer, figures)
@@ -154,7 +181,9 @@ pub extern "C" fn padcheck_process_timing_rows(
 ) -> u32
     ensures value { result ≡ number_told (flagged_answer lanes «data».now work.old flags.now) }
     ensures work_after { work.new ≡ judged_work lanes «data».now work.old }
-    ensures figures_after { figures.new ≡ replaces (flagged_answer lanes «data».now work.old flags.now) places_of_judged figures.old }
+    ensures figures_after { figures.new
+        ≡ replaces (flagged_answer lanes «data».now work.old flags.now)
+        places_of_judged figures.old }
 {
     let answer = judged::process_timing_rows(data, lanes, flags, work);
     tell(answer, figures)
@@ -165,7 +194,8 @@ pub extern "C" fn padcheck_process_timing_rows(
 #[unsafe(no_mangle)]
 pub extern "C" fn padcheck_read_note(records: &[u8], index: usize, note: &mut [u64; 4]) -> u32
     ensures value { result ≡ number_told (note_of_record records.now index) }
-    ensures note_after { note.new ≡ replaces (note_of_record records.now index) figures_of_note note.old }
+    ensures note_after { note.new
+        ≡ replaces (note_of_record records.now index) figures_of_note note.old }
 {
     let answer = read_note(records, index);
     tell(answer, note)
@@ -181,7 +211,7 @@ pub extern "C" fn padcheck_sm_chart(file: &[u8], k: usize, chart: &mut [u64; 3])
     match files::sm::sm_chart(file, k) {
         Err(refusal) => refusal.number(),
         Ok(found) => {
-            *chart = chart_figures(found.lanes, found.start, found.data.len());
+            *chart = sm_chart_places(found.lanes, found.start, found.data.len());
             0
         }
     }
@@ -203,15 +233,24 @@ pub extern "C" fn padcheck_chart_sheet(
     sheet: &mut [u8],
     figures: &mut [u64; 32],
 ) -> u32
-    ensures value { result ≡ number_told (sheet_answer lanes form «data».now text.old densities.old spacing.old beats.old work.old notes.old sheet.old) }
-    ensures text_after { text.new ≡ sheet_text lanes form «data».now text.old densities.old spacing.old beats.old work.old notes.old sheet.old }
-    ensures densities_after { densities.new ≡ sheet_densities lanes form «data».now text.old densities.old spacing.old beats.old work.old notes.old sheet.old }
-    ensures spacing_after { spacing.new ≡ sheet_spacings lanes form «data».now text.old densities.old spacing.old beats.old work.old notes.old sheet.old }
-    ensures beats_after { beats.new ≡ sheet_beats lanes form «data».now text.old densities.old spacing.old beats.old work.old notes.old sheet.old }
-    ensures work_after { work.new ≡ sheet_work lanes form «data».now text.old densities.old spacing.old beats.old work.old notes.old sheet.old }
-    ensures notes_after { notes.new ≡ sheet_notes lanes form «data».now text.old densities.old spacing.old beats.old work.old notes.old sheet.old }
-    ensures sheet_after { sheet.new ≡ sheet_left lanes form «data».now text.old densities.old spacing.old beats.old work.old notes.old sheet.old }
-    ensures figures_after { figures.new ≡ replaces (sheet_answer lanes form «data».now text.old densities.old spacing.old beats.old work.old notes.old sheet.old) (λ f. f) figures.old }
+    ensures value { result ≡ number_told (sheet_answer lanes form «data».now
+        text.old densities.old spacing.old beats.old work.old notes.old sheet.old) }
+    ensures text_after { text.new
+        ≡ leaves_by 0 result (minimised_text (lanes_of lanes) «data».now) text.old }
+    ensures densities_after { densities.new
+        ≡ leaves_by 0 result (densities_of (lanes_of lanes) «data».now) densities.old }
+    ensures spacing_after { spacing.new
+        ≡ leaves_by 0 result (spacings_of (lanes_of lanes) «data».now) spacing.old }
+    ensures beats_after { beats.new
+        ≡ leaves_by (f32 0) result (beats_of (lanes_of lanes) «data».now) beats.old }
+    ensures work_after { work.new ≡ leaves_by 0 result [] work.old }
+    ensures notes_after { notes.new
+        ≡ leaves_by 0 result (records_of (notes_of (lanes_of lanes) «data».now)) notes.old }
+    ensures sheet_after { sheet.new
+        ≡ leaves_by 0 result (sheet_in_form form (lanes_of lanes) «data».now) sheet.old }
+    ensures figures_after { figures.new ≡ replaces (sheet_answer lanes form «data».now
+        text.old densities.old spacing.old beats.old work.old notes.old sheet.old)
+        (λ f. f) figures.old }
 {
     let answer = chart_sheet::chart_sheet(
         data, lanes, form, text, densities, spacing, beats, work, notes, sheet,

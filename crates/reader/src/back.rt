@@ -70,7 +70,8 @@ fn bare_line(line: &[u8], trim: bool) -> &[u8]
 #[inline(always)]
 fn look_ahead(text: &[u8], lanes: usize, trim: bool) -> RowAhead<'_>
     requires { 0 < lanes }
-    ensures { YieldsFirstRef (λ s. s) (rows_back trim lanes text.now) result.row (rows_back trim lanes result.rest.now) }
+    ensures { YieldsFirstRef (λ s. s)
+        (rows_back trim lanes text.now) result.row (rows_back trim lanes result.rest.now) }
 {
     let mut rest = text;
     while !rest.is_empty() {

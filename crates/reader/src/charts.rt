@@ -45,7 +45,8 @@ struct Ahead<'a> {
 // Line by line to the first that counts. It is written into each loop, where a row's length is then known to be the lane count.
 #[inline(always)]
 fn look_ahead(text: &[u8], lanes: usize) -> Ahead<'_>
-    ensures { YieldsFirstBy mark_of (λ s. s) (chart_marks lanes text.now) result.line (chart_marks lanes result.rest.now) }
+    ensures { YieldsFirstBy mark_of (λ s. s)
+        (chart_marks lanes text.now) result.line (chart_marks lanes result.rest.now) }
 {
     let mut rest = text;
     while !rest.is_empty() {

@@ -38,7 +38,9 @@ pub fn line_kind(line: &[u8], lanes: usize) -> LineKind
 // last seven of a longer one, and the newline after it: that byte 10 is the first in them, and before them are at most four bytes, none of which
 // is one. The tests are joined without a branch.
 fn is_just_row(part: &[u8], width: usize) -> bool
-    requires { (12 ≤ length part.now) × (4 ≤ width) × (width ≤ 11) }
+    requires twelve { 12 ≤ length part.now }
+    requires wide { 4 ≤ width }
+    requires narrow { width ≤ 11 }
     ensures { result ≡ just_row width part.now }
 {
     let from = width.saturating_sub(7);
@@ -53,7 +55,8 @@ fn is_just_row(part: &[u8], width: usize) -> bool
 
 // The same, and no near the text's end.
 fn is_near_row(part: &[u8], width: usize) -> bool
-    requires { (4 ≤ width) × (width ≤ 11) }
+    requires wide { 4 ≤ width }
+    requires narrow { width ≤ 11 }
     ensures { result ≡ near_row width part.now }
 {
     if part.len() < 12 {

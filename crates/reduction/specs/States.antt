@@ -12,6 +12,11 @@ pub record Holding (state : State) : Type 0 where
   pub cur : List Row
   pub held : state done cur
 
+-- it holds of some measures that have ended, and of these rows of the open one
+pub record HoldingOpen (state : State) (cur : List Row) : Type 0 where
+  pub done : List (List Row)
+  pub held : state done cur
+
 -- one row more of the open measure
 abbrev pub AddsRow : Row → State → State → Type 0
 AddsRow row before after = (done : List (List Row)) (cur : List Row) → before done cur → after done (cur ++ (row ∷ []))

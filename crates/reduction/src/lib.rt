@@ -1,13 +1,12 @@
 // Document 01's minimising of a measure's rows in place: the names and the order are those of the Rust.
 #![tactic(auto)]
 
-ghost use Rattle.std.specs.Prelude.{◌≡◌, List, ◌+◌, ◌*◌, ◌^◌, ◌/◌, ◌%◌, ◌≤◌, ◌<◌, length, drop};
+ghost use Rattle.std.specs.Prelude.{◌≡◌, ◌+◌, ◌*◌, ◌^◌, ◌/◌, ◌%◌, ◌≤◌, ◌<◌, length};
 ghost use Rattle.std.specs.List.{copy_within};
-ghost use Rattle.definitions.specs.Lines.{Row};
 ghost use Rattle.definitions.specs.Lists.{joined};
 ghost use Rattle.definitions.specs.Figures.{row_text};
 ghost use Rattle.definitions.specs.Reduction.{stride, reduce};
-ghost use Rattle.reduction.specs.Rows.{rows_at, compacted, RowsStand, Reduced};
+ghost use Rattle.reduction.specs.Rows.{rows_from, compacted, reduced_in, ReducesRows};
 
 /// The exponent of the stride. `step` is the stride found so far, 2 to the power `shift`, and `left` the number of its multiples. Looked at
 /// are the rows that the next stride would drop: the search leaves both its loops at the first of them that is not all zero.
@@ -18,10 +17,11 @@ pub fn measure_reduce_shift(
     width: usize,
     lanes: usize,
 ) -> usize
-    requires width { (0 < width) × (lanes ≤ width) }
+    requires wide { 0 < width }
+    requires cells_within { lanes ≤ width }
     requires in_text { start + rows * width ≤ length text.now }
-    ensures result_value { 2 ^ result ≡ stride (rows_at width lanes rows (drop start text.now)) }
-    ensures result_value_2 { rows % 2 ^ result ≡ 0 }
+    ensures value { 2 ^ result ≡ stride (rows_from width lanes rows start text.now) }
+    ensures divides { rows % 2 ^ result ≡ 0 }
 {
     let mut shift = 0;
     if rows < 2 {
@@ -49,7 +49,8 @@ pub fn measure_reduce_shift(
 
 // Four bytes moved to another place, all read before one is written, so that they are moved as one.
 fn move_four(text: &mut [u8], from: usize, to: usize)
-    requires { (from + 4 ≤ length text.old) × (to + 4 ≤ length text.old) }
+    requires from_within { from + 4 ≤ length text.old }
+    requires to_within { to + 4 ≤ length text.old }
     ensures { text.new ≡ copy_within text.old from (from + 4) to }
 {
     let a = text[from];
@@ -64,7 +65,8 @@ fn move_four(text: &mut [u8], from: usize, to: usize)
 
 // The `width` bytes of a row moved to an earlier place.
 fn move_bytes(text: &mut [u8], from: usize, to: usize, width: usize)
-    requires { (to ≤ from) × (from + width ≤ length text.old) }
+    requires earlier { to ≤ from }
+    requires from_within { from + width ≤ length text.old }
     ensures { text.new ≡ copy_within text.old from (from + width) to }
 {
     text.copy_within(from..from + width, to);
@@ -73,7 +75,8 @@ fn move_bytes(text: &mut [u8], from: usize, to: usize, width: usize)
 // The `width` bytes of a row moved to a place before it: four at a time where it has four to twelve, the last four always, so that fours may
 // overlap.
 fn move_row(text: &mut [u8], from: usize, to: usize, width: usize)
-    requires { (to + width ≤ from) × (from + width ≤ length text.old) }
+    requires apart { to + width ≤ from }
+    requires from_within { from + width ≤ length text.old }
     ensures { text.new ≡ copy_within text.old from (from + width) to }
 {
     if (width < 4) | (12 < width) {
@@ -97,8 +100,9 @@ pub fn compact_output_rows(
     shift: usize,
     width: usize,
 ) -> usize
-    requires rows_nonzero { (0 < rows) × (rows % 2 ^ shift ≡ 0) }
-    requires width_in_bounds { start + rows * width ≤ length text.old }
+    requires some { 0 < rows }
+    requires divides { rows % 2 ^ shift ≡ 0 }
+    requires in_text { start + rows * width ≤ length text.old }
     ensures value { result ≡ rows / 2 ^ shift }
     ensures text_after { text.new ≡ compacted width rows (2 ^ shift) start text.old }
 {
@@ -119,8 +123,8 @@ pub fn compact_output_rows(
 fn reduce_measure(text: &mut [u8], start: usize, rows: usize, lanes: usize, after: usize) -> usize
     requires wide { 0 < lanes + after }
     requires in_text { start + rows * (lanes + after) ≤ length text.old }
-    ensures value { result ≡ length (reduce (rows_at (lanes + after) lanes rows (drop start text.old))) }
-    ensures text_after { text.new ≡ compacted (lanes + after) rows (stride (rows_at (lanes + after) lanes rows (drop start text.old))) start text.old }
+    ensures value { result ≡ length (reduce (rows_from (lanes + after) lanes rows start text.old)) }
+    ensures text_after { text.new ≡ reduced_in (lanes + after) lanes rows start text.old }
 {
     if rows == 0 {
         return 0;
@@ -133,15 +137,16 @@ fn reduce_measure(text: &mut [u8], start: usize, rows: usize, lanes: usize, afte
 /// A measure minimised in the text that is written: each row has byte 10 after it. Rows may be of any width.
 pub fn reduce_output_measure(text: &mut [u8], start: usize, rows: usize, lanes: usize) -> usize
     requires { start + rows * (lanes + 1) ≤ length text.old }
-    ensures { (rs : List Row) → RowsStand row_text lanes rows start rs text.old → Reduced row_text start rs text.old result text.new }
+    ensures { ReducesRows row_text lanes rows start text.old result text.new }
 {
     reduce_measure(text, start, rows, lanes, 1)
 }
 
 /// A measure minimised whose rows stand back to back. They may be of any width but none: rows of no cell are as many as one likes.
 pub fn reduce_rows(text: &mut [u8], start: usize, rows: usize, lanes: usize) -> usize
-    requires { (0 < lanes) × (start + rows * lanes ≤ length text.old) }
-    ensures { (rs : List Row) → RowsStand joined lanes rows start rs text.old → Reduced joined start rs text.old result text.new }
+    requires some_lanes { 0 < lanes }
+    requires in_text { start + rows * lanes ≤ length text.old }
+    ensures { ReducesRows joined lanes rows start text.old result text.new }
 {
     reduce_measure(text, start, rows, lanes, 0)
 }

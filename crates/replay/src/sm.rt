@@ -1,7 +1,7 @@
 // A file's stored answers: for each a block's number, the number that is answered, and the three places of the chart, which held 165 each before.
 use crate::Compared;
 use compare::same_longs;
-use figures::chart_figures;
+use figures::sm_chart_places;
 use files::sm::sm_chart;
 use stored::{bytes, lent, long, number};
 
@@ -18,7 +18,7 @@ fn agrees(file: &[u8], answer: &[u8; ANSWER]) -> bool {
     let answered = match sm_chart(file, k as usize) {
         Err(refusal) => [u64::from(refusal.number()), lanes, start, len],
         Ok(chart) => {
-            let [lanes, start, len] = chart_figures(chart.lanes, chart.start, chart.data.len());
+            let [lanes, start, len] = sm_chart_places(chart.lanes, chart.start, chart.data.len());
             [0, lanes, start, len]
         }
     };

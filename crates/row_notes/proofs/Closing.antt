@@ -10,7 +10,7 @@ use lib.Dec.{eqb}
 use lib.ListN.{length, get_or, set, length-append}
 use lib.Seq.{get_or-set_same, get_or-set_other}
 use Rattle.definitions.specs.Lists.{joined}
-use Rattle.row_notes.specs.Drafts.{State, plain, waiting, ended, Draft, settle_state, settled, settle, note_by, keep, kept}
+use Rattle.row_notes.specs.Drafts.{State, plain, waiting, ended, Draft, settle_state, settled, settle, note_by, keep, notes_left}
 use Rattle.row_notes.specs.Writer.{no_head, dropped, draft_bytes, blank, Stored, DraftsHeld, HeadThere, HoldEnded, invalid_after, SomeDrafts, HeadsEnded}
 use Rattle.row_notes.specs.declared.ChartNotesScratch.{ChartNotesScratch}
 use Rattle.row_notes.proofs.Model.{gather-map}
@@ -31,8 +31,8 @@ keep-settle c d = go (eqb d.column c)
     go true = state d.state
     go false = refl
 
-kept-settle : (c : ℕ) (ds : List Draft) → kept (map (settle c None) ds) ≡ kept ds
-kept-settle c ds = gather-map keep (settle c None) keep (keep-settle c) ds
+left-settle : (c : ℕ) (ds : List Draft) → notes_left (map (settle c None) ds) ≡ notes_left ds
+left-settle c ds = gather-map keep (settle c None) keep (keep-settle c) ds
 
 -- the drafts lie in the slice
 pub stored-length : {l hs : List ℕ} {n : ℕ} {invalid : Bool} {ds : List Draft} → Stored l hs n invalid ds → n * 10 ≤ length l
@@ -48,7 +48,7 @@ pub record Closing (l : List ℕ) (s : ChartNotesScratch) (l' : List ℕ) (r : C
   pub same : length l' ≡ length l
   pub count : r.count ≡ s.count
   pub free : (i : ℕ) → i < c → get_or r.hold_heads i 0 ≡ no_head
-  pub part : (ds : List Draft) → DraftsHeld l s ds → (es : List Draft) × DraftsHeld l' r es × (kept es ≡ kept ds)
+  pub part : (ds : List Draft) → DraftsHeld l s ds → (es : List Draft) × DraftsHeld l' r es × (notes_left es ≡ notes_left ds)
 
 module _ (l : List ℕ) (s : ChartNotesScratch) (l' : List ℕ) (r : ChartNotesScratch) (c : ℕ) (K : Closing l s l' r c) (D : SomeDrafts l s) where
   pub closing-ready : c < 10 → HeadThere l' r c
@@ -65,7 +65,7 @@ module _ (l : List ℕ) (s : ChartNotesScratch) (l' : List ℕ) (r : ChartNotesS
     free = λ i g. rw H.heads (at_i i g (ℕ_discrete i c));
     part = λ ds S.
         let Q = K.part ds S in
-        (map (settle c None) Q.0, rw (H.bytes, H.heads, H.count, H.invalid) (dropped-there l' r c h Q.0 Q.1), kept-settle c Q.0 ∙ Q.2);
+        (map (settle c None) Q.0, rw (H.bytes, H.heads, H.count, H.invalid) (dropped-there l' r c h Q.0 Q.1), left-settle c Q.0 ∙ Q.2);
   }
     where
       at_i : (i : ℕ) → i < c + 1 → Dec (i ≡ c) → get_or (set r.hold_heads c no_head) i 0 ≡ no_head

@@ -9,7 +9,7 @@ use Rattle.definitions.specs.Notes.{notes_from}
 use Rattle.definitions.specs.Records.{records}
 use Rattle.definitions.specs.declared.Note.{Note}
 use Rattle.slices.specs.Zeroed.{zeroed}
-use Rattle.row_notes.specs.Drafts.{drafts, kept}
+use Rattle.row_notes.specs.Drafts.{drafts, notes_left}
 use Rattle.row_notes.specs.Writer.{HeadsEnded, Compacted}
 use Rattle.row_notes.specs.Written.{Written, SomeRows, Finished}
 use Rattle.row_notes.specs.declared.ChartNotesScratch.{ChartNotesScratch}
@@ -27,8 +27,8 @@ pub finished : (l : List ℕ) (s : ChartNotesScratch) (l₁ : List ℕ) (t : Cha
     → (rows : List Row) → Written rows s l → Finished rows (length l) z r
 finished l s l₁ t l₂ z r e₁ e₂ D C ez rows W =
     let P = D.ended (drafts rows) W.holds in
-    let Q : (q : List ℕ) × (l₂ ≡ records (kept P.0) ++ q) = C.bytes P.0 P.1 in
-    let n : kept P.0 ≡ notes_from 0 rows = P.2 ∙ model rows in
+    let Q : (q : List ℕ) × (l₂ ≡ records (notes_left P.0) ++ q) = C.bytes P.0 P.1 in
+    let n : notes_left P.0 ≡ notes_from 0 rows = P.2 ∙ model rows in
     let m : r ≡ length (notes_from 0 rows) = C.count P.0 P.1 ∙ ap length n in
     let g : length (records (notes_from 0 rows)) ≡ r * 10 = records-length (notes_from 0 rows) ∙ ap (λ (k : ℕ). k * 10) (sym m) in
     let b : l₂ ≡ records (notes_from 0 rows) ++ Q.0 = Q.1 ∙ ap (λ (x : List Note). records x ++ Q.0) n in

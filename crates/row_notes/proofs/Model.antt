@@ -15,7 +15,7 @@ use Rattle.definitions.specs.declared.Kind.{Kind}
 use Rattle.definitions.specs.declared.Note.{Note}
 use Rattle.definitions.specs.declared.NoteEffect.{NoteEffect}
 use Rattle.definitions.specs.declared.NoteEffect.TheVariants.{Nothing, Closes, Single, Head}
-use Rattle.row_notes.specs.Drafts.{State, plain, waiting, ended, Draft, settle_state, settled, settle, step_cell, step_row, step_rows, drafts, gather, note_by, kept}
+use Rattle.row_notes.specs.Drafts.{State, plain, waiting, ended, Draft, settle_state, settled, settle, step_cell, step_row, step_rows, drafts, gather, note_by, notes_left}
 
 -- ---- gather
 
@@ -130,7 +130,7 @@ module _ (i : ℕ) (rs : List Row) where
       (gather-same (mid zero r) (ahead i (r ∷ rs))
       (λ d. ap (note_by d.row d.column d.kind d.state) (rw zero-add at (mid-all d.column zero r))) ds)
 
-rows_step : (i : ℕ) (rs : List Row) (ds : List Draft) → kept (step_rows i rs ds) ≡ gather (ahead i rs) ds ++ notes_from i rs
+rows_step : (i : ℕ) (rs : List Row) (ds : List Draft) → notes_left (step_rows i rs ds) ≡ gather (ahead i rs) ds ++ notes_from i rs
 unfolding ahead step_rows
 rows_step i [] ds = sym (append-nil (gather (ahead i []) ds))
 rows_step i (r ∷ rs) ds =
@@ -139,5 +139,5 @@ rows_step i (r ∷ rs) ds =
     ∙ append_assoc (gather (ahead i (r ∷ rs)) ds) (row_notes i zero r rs) (notes_from (suc i) rs)
 
 -- the rows' drafts, at the end, are the notes of the definition
-pub model : (rs : List Row) → kept (drafts rs) ≡ notes_from 0 rs
+pub model : (rs : List Row) → notes_left (drafts rs) ≡ notes_from 0 rs
 model rs = rows_step zero rs []

@@ -16,7 +16,7 @@ use Rattle.definitions.specs.declared.Kind.{Kind}
 use Rattle.definitions.specs.declared.Tail.TheVariants.{Without, Row}
 use Rattle.definitions.specs.declared.Note.{Note}
 use Rattle.note_records.specs.Fields.{fields_at}
-use Rattle.row_notes.specs.Drafts.{State, plain, waiting, ended, Draft, note_by, keep, kept}
+use Rattle.row_notes.specs.Drafts.{State, plain, waiting, ended, Draft, note_by, keep, notes_left}
 use Rattle.row_notes.specs.Writer.{dropped, state_number, draft_bytes, FineState, Fine, blank, DraftsEnded, Compacted}
 use Rattle.row_notes.proofs.Model.{gather_append}
 use Rattle.definitions.proofs.Blocks.{blocks-get, blocks-length}
@@ -47,10 +47,10 @@ state-small waiting f = omega arith
 state-small (ended None) f = omega arith
 state-small (ended (Some j)) f = omega arith
 
-kept_more : (ds : List Draft) (k : ℕ) → k < length ds → kept (take (k + 1) ds) ≡ kept (take k ds) ++ keep (get_or ds k blank)
-kept_more ds k h =
+left_more : (ds : List Draft) (k : ℕ) → k < length ds → notes_left (take (k + 1) ds) ≡ notes_left (take k ds) ++ keep (get_or ds k blank)
+left_more ds k h =
     rw (add-one, take-suc ds k blank h)
-    (gather_append keep (take k ds) (get_or ds k blank ∷ []) ∙ ap (λ (x : List Note). kept (take k ds) ++ x) (append-nil (keep (get_or ds k blank))))
+    (gather_append keep (take k ds) (get_or ds k blank ∷ []) ∙ ap (λ (x : List Note). notes_left (take k ds) ++ x) (append-nil (keep (get_or ds k blank))))
 
 -- ---- what is read past a place
 
@@ -70,8 +70,8 @@ pub record Retaining (l₀ : List ℕ) (n : ℕ) (invalid : Bool) (l : List ℕ)
   pub short : w ≤ k
   pub same : length l ≡ length l₀
   pub after : drop (k * 10) l ≡ drop (k * 10) l₀
-  pub count : (ds : List Draft) → DraftsEnded l₀ n invalid ds → w ≡ length (kept (take k ds))
-  pub part : (ds : List Draft) → DraftsEnded l₀ n invalid ds → (q : List ℕ) × (l ≡ records (kept (take k ds)) ++ q)
+  pub count : (ds : List Draft) → DraftsEnded l₀ n invalid ds → w ≡ length (notes_left (take k ds))
+  pub part : (ds : List Draft) → DraftsEnded l₀ n invalid ds → (q : List ℕ) × (l ≡ records (notes_left (take k ds)) ++ q)
 
 pub retain-start : (l : List ℕ) (n : ℕ) (invalid : Bool) → Retaining l n invalid l 0 0
 unfolding records
@@ -123,21 +123,21 @@ module _ (l₀ : List ℕ) (n : ℕ) (invalid : Bool) (fits : n * 10 ≤ length 
         ≡ fields (get_or ds k blank).row (state_number (get_or ds k blank).state) (get_or ds k blank).column (number_of_kind (get_or ds k blank).kind)
     old-fields = rw (at_row, at_tail, at-column, at-kind)
 
-    left_over : word l (k * 10 + 4) ≡ dropped → kept (take (k + 1) ds) ≡ kept (take k ds)
+    left_over : word l (k * 10 + 4) ≡ dropped → notes_left (take (k + 1) ds) ≡ notes_left (take k ds)
     left_over e =
-        kept_more ds k below
-        ∙ ap (λ (x : List Note). kept (take k ds) ++ x) (gone _ _ _ (get_or ds k blank).state (E.fine k h).state (E.done k h) (sym at_tail ∙ e))
-        ∙ append-nil (kept (take k ds))
+        left_more ds k below
+        ∙ ap (λ (x : List Note). notes_left (take k ds) ++ x) (gone _ _ _ (get_or ds k blank).state (E.fine k h).state (E.done k h) (sym at_tail ∙ e))
+        ∙ append-nil (notes_left (take k ds))
 
     one_more : (word l (k * 10 + 4) ≡ dropped → ⊥)
-        → (x : Note) × (kept (take (k + 1) ds) ≡ kept (take k ds) ++ (x ∷ []))
+        → (x : Note) × (notes_left (take (k + 1) ds) ≡ notes_left (take k ds) ++ (x ∷ []))
         × (fields_at l (k * 10) ≡ encode x)
     one_more ne =
         let d : Draft = get_or ds k blank in
         let s : (x : Note) × (keep d ≡ x ∷ []) × (encode x ≡ fields d.row (state_number d.state) d.column (number_of_kind d.kind)) =
         stays d.row d.column d.kind d.state (E.done k h) (λ e. ne (at_tail ∙ e)) in (
           s.0,
-          kept_more ds k below ∙ ap (λ (x : List Note). kept (take k ds) ++ x) s.1,
+          left_more ds k below ∙ ap (λ (x : List Note). notes_left (take k ds) ++ x) s.1,
           old-fields ∙ sym s.2,
         )
 
@@ -154,7 +154,7 @@ module _ (l₀ : List ℕ) (n : ℕ) (invalid : Bool) (fits : n * 10 ≤ length 
     after = next-after l refl;
     count = λ ds E. C.count ds E ∙ ap length (sym (left_over h ds E e));
     part = λ ds E.
-        let P : (q : List ℕ) × (l ≡ records (kept (take k ds)) ++ q) = C.part ds E in
+        let P : (q : List ℕ) × (l ≡ records (notes_left (take k ds)) ++ q) = C.part ds E in
         (P.0, P.1 ∙ ap (λ (x : List Note). records x ++ P.0) (sym (left_over h ds E e)));
   }
 
@@ -171,41 +171,41 @@ module _ (l₀ : List ℕ) (n : ℕ) (invalid : Bool) (fits : n * 10 ≤ length 
         same = ap length e ∙ length-sets l (w * 10) (fields_at l (k * 10)) ∙ C.same;
         after = next-after l' (ap (drop (k * 10 + 10)) e ∙ drop-sets (fields_at l (k * 10)) l (w * 10) (k * 10 + 10) (omega arith));
         count = λ ds E.
-            let m : w ≡ length (kept (take k ds)) = C.count ds E in
+            let m : w ≡ length (notes_left (take k ds)) = C.count ds E in
             let M = one_more h ds E ne in
             rw (M.1, length-append) (omega arith);
         part = λ ds E. more ds E (C.part ds E) (one_more h ds E ne);
       }
     where
-      more : (ds : List Draft) → DraftsEnded l₀ n invalid ds → (q : List ℕ) × (l ≡ joined (map encode (kept (take k ds))) ++ q)
-          → (x : Note) × (kept (take (k + 1) ds) ≡ kept (take k ds) ++ (x ∷ []))
+      more : (ds : List Draft) → DraftsEnded l₀ n invalid ds → (q : List ℕ) × (l ≡ joined (map encode (notes_left (take k ds))) ++ q)
+          → (x : Note) × (notes_left (take (k + 1) ds) ≡ notes_left (take k ds) ++ (x ∷ []))
           × (fields_at l (k * 10) ≡ encode x)
-          → (q : List ℕ) × (l' ≡ joined (map encode (kept (take (k + 1) ds))) ++ q)
+          → (q : List ℕ) × (l' ≡ joined (map encode (notes_left (take (k + 1) ds))) ++ q)
       more ds E P M =
           let q : List ℕ = P.0 in
           let s : w ≤ k = C.short in
-          let m : w ≡ length (kept (take k ds)) = C.count ds E in
+          let m : w ≡ length (notes_left (take k ds)) = C.count ds E in
           let z : length l ≡ length l₀ = C.same in
-          let g : length (joined (map encode (kept (take k ds)))) ≡ length (kept (take k ds)) * 10 = blocks-length encode ten (kept (take k ds)) in
-          let a : length l ≡ length (joined (map encode (kept (take k ds)))) + length q =
-          ap length P.1 ∙ length-append (joined (map encode (kept (take k ds)))) q in
+          let g : length (joined (map encode (notes_left (take k ds)))) ≡ length (notes_left (take k ds)) * 10 = blocks-length encode ten (notes_left (take k ds)) in
+          let a : length l ≡ length (joined (map encode (notes_left (take k ds)))) + length q =
+          ap length P.1 ∙ length-append (joined (map encode (notes_left (take k ds)))) q in
           let b : 10 ≤ length q = omega arith in
           let t : length (take 10 q) ≡ 10 = length-take 10 q ∙ (omega arith) in (
             drop 10 q,
             e ∙ ap (λ (v : List ℕ). sets l (w * 10) v) M.2
                 ∙ ap₂ (λ (x : List ℕ) (i : ℕ). sets x (i * 10) (encode M.0))
-                (P.1 ∙ ap (λ (r : List ℕ). joined (map encode (kept (take k ds))) ++ r) (sym (take-append-drop 10 q))) m
-                ∙ blocks_more encode ten (kept (take k ds)) (take 10 q) (drop 10 q) M.0 t
+                (P.1 ∙ ap (λ (r : List ℕ). joined (map encode (notes_left (take k ds))) ++ r) (sym (take-append-drop 10 q))) m
+                ∙ blocks_more encode ten (notes_left (take k ds)) (take 10 q) (drop 10 q) M.0 t
                 ∙ ap (λ (x : List Note). joined (map encode x) ++ drop 10 q) (sym M.1),
           )
 
   pub retain_end : n ≤ k → Compacted l₀ n invalid l w
   retain_end h = record {
     bound = let s : w ≤ k = C.short in let u : k ≤ n = C.upto in omega arith;
-    count = λ ds E. C.count ds E ∙ ap (λ (x : List Draft). length (kept x)) (all ds E);
+    count = λ ds E. C.count ds E ∙ ap (λ (x : List Draft). length (notes_left x)) (all ds E);
     bytes = λ ds E.
-        let P : (q : List ℕ) × (l ≡ records (kept (take k ds)) ++ q) = C.part ds E in
-        (P.0, P.1 ∙ ap (λ (x : List Draft). records (kept x) ++ P.0) (all ds E));
+        let P : (q : List ℕ) × (l ≡ records (notes_left (take k ds)) ++ q) = C.part ds E in
+        (P.0, P.1 ∙ ap (λ (x : List Draft). records (notes_left x) ++ P.0) (all ds E));
   }
     where
       all : (ds : List Draft) → DraftsEnded l₀ n invalid ds → take k ds ≡ ds
@@ -227,7 +227,7 @@ pub record Stays (d : Draft) : Type 0 where
 
 -- such drafts are their notes
 all_stay : (ds : List Draft) → ((k : ℕ) → k < length ds → Stays (get_or ds k blank))
-    → (length (kept ds) ≡ length ds) × (joined (map encode (kept ds)) ≡ joined (map draft_bytes ds))
+    → (length (notes_left ds) ≡ length ds) × (joined (map encode (notes_left ds)) ≡ joined (map draft_bytes ds))
 unfolding draft_bytes
 all_stay [] h = (refl, refl)
 all_stay (d ∷ ds) h =
@@ -245,7 +245,7 @@ retain-all l n invalid q = record {
   bytes = λ ds E. (E.rest, E.bytes ∙ ap (λ (x : List ℕ). x ++ E.rest) (sym (staying ds E).1));
 }
   where
-    staying : (ds : List Draft) → DraftsEnded l n invalid ds → (length (kept ds) ≡ length ds) × (joined (map encode (kept ds)) ≡ joined (map draft_bytes ds))
+    staying : (ds : List Draft) → DraftsEnded l n invalid ds → (length (notes_left ds) ≡ length ds) × (joined (map encode (notes_left ds)) ≡ joined (map draft_bytes ds))
     staying ds E =
         let m : n ≡ length ds = E.count in
         all_stay ds (λ k h. record { done = E.done k (omega arith); there = E.clean q k h; fine = E.fine k (omega arith) })

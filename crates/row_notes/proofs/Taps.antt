@@ -1,4 +1,4 @@
--- A row of taps alone in columns without an open head: each cell writes a record behind the others, and only a tap's is kept.
+-- A row of taps alone in columns without an open head: each cell writes a record behind the others, and only a tap's stays.
 use mathlib.Core.Path.{◌≡◌, refl, ap, ap₂, sym, ◌∙◌}
 use mathlib.Core.Bool.{Bool, false, or-false}
 use mathlib.Core.List.{List, map, append-nil}

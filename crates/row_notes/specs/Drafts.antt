@@ -82,5 +82,5 @@ note_by i c k (ended o) t = held_note i c k o
 abbrev pub keep : Draft → List Note
 keep d = note_by d.row d.column d.kind d.state None
 
-abbrev pub kept : List Draft → List Note
-kept ds = gather keep ds
+abbrev pub notes_left : List Draft → List Note
+notes_left ds = gather keep ds

@@ -11,7 +11,7 @@ use Rattle.definitions.specs.declared.Kind.{Kind}
 use Rattle.definitions.specs.declared.Kind.TheVariants.{Tap}
 use Rattle.taps.specs.Taps.{FreeTaps, FreeAre}
 use Rattle.definitions.specs.declared.NoteEffect.{NoteEffect}
-use Rattle.row_notes.specs.Drafts.{State, plain, waiting, ended, Draft, kept, step_cell}
+use Rattle.row_notes.specs.Drafts.{State, plain, waiting, ended, Draft, notes_left, step_cell}
 use Rattle.row_notes.specs.declared.ChartNotesScratch.{ChartNotesScratch}
 
 -- in place of an open head, and the tail fields of records without a tail and of dropped ones
@@ -173,10 +173,10 @@ pub record DraftsEnded (l : List ℕ) (n : ℕ) (invalid : Bool) (ds : List Draf
 -- the heads have ended, and the same notes are left
 pub record HeadsEnded (l : List ℕ) (s : ChartNotesScratch) (l' : List ℕ) (r : ChartNotesScratch) : Type 0 where
   pub count : r.count ≡ s.count
-  pub ended : (ds : List Draft) → DraftsHeld l s ds → (es : List Draft) × DraftsEnded l' r.count r.has_invalid es × (kept es ≡ kept ds)
+  pub ended : (ds : List Draft) → DraftsHeld l s ds → (es : List Draft) × DraftsEnded l' r.count r.has_invalid es × (notes_left es ≡ notes_left ds)
 
 -- l' begins with the r records of the notes that are left
 pub record Compacted (l : List ℕ) (n : ℕ) (invalid : Bool) (l' : List ℕ) (r : ℕ) : Type 0 where
   pub bound : r ≤ n
-  pub count : (ds : List Draft) → DraftsEnded l n invalid ds → r ≡ length (kept ds)
-  pub bytes : (ds : List Draft) → DraftsEnded l n invalid ds → (q : List ℕ) × (l' ≡ records (kept ds) ++ q)
+  pub count : (ds : List Draft) → DraftsEnded l n invalid ds → r ≡ length (notes_left ds)
+  pub bytes : (ds : List Draft) → DraftsEnded l n invalid ds → (q : List ℕ) × (l' ≡ records (notes_left ds) ++ q)

@@ -1,4 +1,4 @@
-// Typed notes: rows go in one by one, and the notes' records stand in a slice that the caller lends. One open head a column is kept in a
+// Typed notes: rows go in one by one, and the notes' records stand in a slice that the caller lends. One open head a column stands in a
 // struct by value; a head's record stands in the slice from its row on, and a later cell of its column writes the tail or drops the record.
 #![tactic(auto)]
 
@@ -85,7 +85,9 @@ fn invalidate_hold(s: ChartNotesScratch, column: usize, notes: &mut [u8]) -> Cha
 
 // A record of a tap at the end of the records, and their number with it; where there is no tap the next record is written over this one.
 fn push_tap(row: u32, count: usize, column: usize, tap: bool, notes: &mut [u8]) -> usize
-    requires { (count * 10 + 10 ≤ length notes.old) × (column < 10) × (count < 4294967295) }
+    requires notes_room { count * 10 + 10 ≤ length notes.old }
+    requires column_bound { column < 10 }
+    requires notes_few { count < 4294967295 }
     ensures value { result ≡ count + number_of_bool tap }
     ensures notes_after { notes.new ≡ sets notes.old (count * 10) (fields row no_tail column 0) }
 {
@@ -157,15 +159,15 @@ fn retain_valid(count: usize, notes: &mut [u8]) -> usize
     requires { count * 10 ≤ length notes.old }
     ensures { Compacted notes.old count true notes.new result }
 {
-    let mut kept = 0;
+    let mut stay = 0;
     for k in 0..count {
         let tail = get_word(notes, k * 10 + 4);
         if tail != INVALID_NOTE_ROW {
-            move_record(notes, k, kept);
-            kept += 1;
+            move_record(notes, k, stay);
+            stay += 1;
         }
     }
-    kept
+    stay
 }
 
 // The same, where a record was dropped; else every record stays where it is.
@@ -183,7 +185,8 @@ fn retain(s: ChartNotesScratch, notes: &mut [u8]) -> usize
 /// The end: heads that are open are dropped, and zeros stand after the records. The answer is their number.
 pub fn finish(s: ChartNotesScratch, notes: &mut [u8]) -> usize
     requires { SomeRows s notes.old }
-    ensures { (rows : List Row) → Written rows s notes.old → Finished rows (length notes.old) notes.new result }
+    ensures { (rows : List Row) → Written rows s notes.old
+        → Finished rows (length notes.old) notes.new result }
 {
     let out = close_heads(s, notes);
     let count = retain(out, notes);

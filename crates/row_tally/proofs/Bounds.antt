@@ -1,7 +1,7 @@
 -- How the counts grow: a row's sum by at most 1 with each cell, and a tally by at most n with a row of n cells.
 use mathlib.Core.Bool.{Bool, true, false, ◌&&◌}
 use mathlib.Core.List.{[], ◌∷◌}
-use Prim.Native.Nat.{ℕ, suc, ◌+◌, ◌%◌, ◌≤◌}
+use Prim.Native.Nat.{ℕ, suc, ◌+◌, ◌≤◌}
 use native.Mathlib.Omega.{arith}
 use lib.Dec.{eqb, leb}
 use lib.ListN.{length}
@@ -10,7 +10,7 @@ use Rattle.std.proofs.lemmas.List.Sums.{count_by-le-length}
 use Rattle.definitions.specs.Lists.{number_of_bool}
 use Rattle.definitions.specs.Lines.{Row}
 use Rattle.definitions.specs.Cells.{cell_of, CountKind, nothing, hold, roll, tail, mine, lift, fake}
-use Rattle.definitions.specs.Tally.{counted_as, place, row_sum, row_sum_by, empty_stats, tally_with_row, empty_sum}
+use Rattle.definitions.specs.Tally.{counted_as, place, direction, row_sum, row_sum_by, empty_stats, tally_with_row, empty_sum}
 use Rattle.definitions.specs.Judged.{is_judged_arrow, is_unjudged_fake, judged_sum, judge_row}
 use Rattle.definitions.specs.declared.Cell.{Cell}
 use Rattle.definitions.specs.declared.RowSum.{RowSum}
@@ -35,15 +35,15 @@ heads-le mine = omega arith
 heads-le lift = omega arith
 heads-le fake = omega arith
 
-module _ (k : ℕ) (s : RowSum) (c : ℕ) (arrow : Bool) (u : Under k s) where
-  pub under-cell : (x : Cell) → Under (k + 1) (sum_with_cell s c x arrow)
+module _ (k : ℕ) (s : RowSum) (d : ℕ) (arrow : Bool) (u : Under k s) where
+  pub under-cell : (x : Cell) → Under (k + 1) (sum_with_cell s d x arrow)
   unfolding add_arrow add_counted
   under-cell x =
       let a = one-le arrow in
-      let l = one-le (arrow && eqb (c % 4) 0) in
-      let d = one-le (arrow && eqb (c % 4) 1) in
-      let p = one-le (arrow && eqb (c % 4) 2) in
-      let r = one-le (arrow && eqb (c % 4) 3) in
+      let l = one-le (arrow && eqb d 0) in
+      let n = one-le (arrow && eqb d 1) in
+      let p = one-le (arrow && eqb d 2) in
+      let r = one-le (arrow && eqb d 3) in
       let h = one-le (eqb (place (counted_as x)) 1) in
       let o = one-le (eqb (place (counted_as x)) 2) in
       let b = heads-le (counted_as x) in
@@ -54,17 +54,17 @@ module _ (k : ℕ) (s : RowSum) (c : ℕ) (arrow : Bool) (u : Under k s) where
       omega arith
 
 -- a row adds at most its length to each count
-under-from : (arrow : Cell → Bool) (k : ℕ) (s : RowSum) (c : ℕ) (r : Row) → Under k s → Under (k + length r) (sum_from arrow s c r)
-under-from arrow k s c [] u = rw (sum-end arrow s c) (under_more k (k + 0) s (omega arith) u)
-under-from arrow k s c (b ∷ r) u =
-    rw (sum-next arrow s c b r)
+under-from : (L : ℕ) (arrow : Cell → Bool) (k : ℕ) (s : RowSum) (c : ℕ) (r : Row) → Under k s → Under (k + length r) (sum_from L arrow s c r)
+under-from L arrow k s c [] u = rw (sum-end L arrow s c) (under_more k (k + 0) s (omega arith) u)
+under-from L arrow k s c (b ∷ r) u =
+    rw (sum-next L arrow s c b r)
     (under_more (k + 1 + length r) (k + suc (length r)) _ (omega arith)
-    (under-from arrow (k + 1) (sum_with_cell s c (cell_of b) (arrow (cell_of b))) (suc c) r (under-cell k s c (arrow (cell_of b)) u (cell_of b))))
+    (under-from L arrow (k + 1) (sum_with_cell s (direction L c) (cell_of b) (arrow (cell_of b))) (suc c) r (under-cell k s (direction L c) (arrow (cell_of b)) u (cell_of b))))
 
 under-by : (arrow : Cell → Bool) (r : Row) → Under (length r) (row_sum_by arrow r)
 under-by arrow r =
     rw (← sum-start arrow r)
-    (under_more (0 + length r) (length r) _ (omega arith) (under-from arrow 0 empty_sum 0 r (omega arith)))
+    (under_more (0 + length r) (length r) _ (omega arith) (under-from (length r) arrow 0 empty_sum 0 r (omega arith)))
 
 -- the counts of a row of at most n cells
 pub under-row : (n : ℕ) (r : Row) → length r ≤ n → Under n (row_sum r)

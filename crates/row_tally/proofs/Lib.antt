@@ -3,7 +3,7 @@ pub mod Sums
 pub mod Bounds
 pub mod Tallies
 pub mod Loops
-pub mod Kept
+pub mod Masked
 pub mod Rows
 pub mod Zeros
 pub mod Taps

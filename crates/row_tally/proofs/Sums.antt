@@ -5,6 +5,7 @@ use mathlib.Core.List.{[], ◌∷◌}
 use Prim.Native.Nat.{ℕ, suc, ◌+◌}
 use native.Mathlib.Nat.{zero-add, add-zero, add_assoc}
 use lib.Dec.{eqb}
+use lib.ListN.{length}
 use Rattle.definitions.specs.Lists.{number_of_bool}
 use Rattle.definitions.proofs.Lists.{count-cons}
 use Rattle.definitions.specs.Lines.{Row}
@@ -15,15 +16,15 @@ use Rattle.definitions.specs.declared.Cell.TheVariants.{Empty}
 use Rattle.definitions.specs.declared.RowSum.{RowSum}
 use Rattle.row_tally.specs.Sums.{add_arrow, add_counted, sum_with_cell}
 
--- the sum s, with the cells of a row from column c on
-unfoldable pub sum_from : (Cell → Bool) → RowSum → ℕ → Row → RowSum
-sum_from arrow s c r =
+-- the sum s, with the cells of a row of L columns from column c on
+unfoldable pub sum_from : ℕ → (Cell → Bool) → RowSum → ℕ → Row → RowSum
+sum_from L arrow s c r =
     record {
       arrows = s.arrows + count_from (λ c x. arrow x) c r;
-      left = s.left + count_from (λ c x. arrow x && eqb (direction c) 0) c r;
-      down = s.down + count_from (λ c x. arrow x && eqb (direction c) 1) c r;
-      up = s.up + count_from (λ c x. arrow x && eqb (direction c) 2) c r;
-      right = s.right + count_from (λ c x. arrow x && eqb (direction c) 3) c r;
+      left = s.left + count_from (λ c x. arrow x && eqb (direction L c) 0) c r;
+      down = s.down + count_from (λ c x. arrow x && eqb (direction L c) 1) c r;
+      up = s.up + count_from (λ c x. arrow x && eqb (direction L c) 2) c r;
+      right = s.right + count_from (λ c x. arrow x && eqb (direction L c) 3) c r;
       holds = s.holds + counted hold r;
       rolls = s.rolls + counted roll r;
       tails = s.tails + counted tail r;
@@ -32,24 +33,24 @@ sum_from arrow s c r =
       fakes = s.fakes + counted fake r;
     }
 
-pub sum-start : (arrow : Cell → Bool) (r : Row) → sum_from arrow empty_sum 0 r ≡ row_sum_by arrow r
+pub sum-start : (arrow : Cell → Bool) (r : Row) → sum_from (length r) arrow empty_sum 0 r ≡ row_sum_by arrow r
 unfolding sum_from row_sum_by
 sum-start arrow r = simp zero-add
 
-pub sum-end : (arrow : Cell → Bool) (s : RowSum) (c : ℕ) → sum_from arrow s c [] ≡ s
+pub sum-end : (L : ℕ) (arrow : Cell → Bool) (s : RowSum) (c : ℕ) → sum_from L arrow s c [] ≡ s
 unfolding sum_from
-sum-end arrow s c = simp add-zero
+sum-end L arrow s c = simp add-zero
 
 counted-cons : (k : CountKind) (b : ℕ) (r : Row) → counted k (b ∷ r) ≡ number_of_bool (eqb (place (counted_as (cell_of b))) (place k)) + counted k r
 counted-cons k b r = count-cons (λ x. eqb (place (counted_as (cell_of x))) (place k)) b r
 
-pub sum-next : (arrow : Cell → Bool) (s : RowSum) (c b : ℕ) (r : Row)
-    → sum_from arrow s c (b ∷ r) ≡ sum_from arrow (sum_with_cell s c (cell_of b) (arrow (cell_of b))) (suc c) r
+pub sum-next : (L : ℕ) (arrow : Cell → Bool) (s : RowSum) (c b : ℕ) (r : Row)
+    → sum_from L arrow s c (b ∷ r) ≡ sum_from L arrow (sum_with_cell s (direction L c) (cell_of b) (arrow (cell_of b))) (suc c) r
 unfolding sum_from add_arrow add_counted
-sum-next arrow s c b r =
+sum-next L arrow s c b r =
     rw (counted-cons hold b r, counted-cons roll b r, counted-cons tail b r, counted-cons mine b r, counted-cons lift b r, counted-cons fake b r)
     (simp add_assoc)
 
-pub no_cell : (s : RowSum) (c : ℕ) → sum_with_cell s c Empty false ≡ s
+pub no_cell : (s : RowSum) (d : ℕ) → sum_with_cell s d Empty false ≡ s
 unfolding add_arrow add_counted
-no_cell s c = simp add-zero
+no_cell s d = simp add-zero

@@ -37,7 +37,7 @@ corrected-below L n {rows} {back} a b few back-few = pick (corrects L rows)
     plain = plain-below n a few
 
     pick : (c : Bool) → Below (10 * n) (cond c (tally_with_steps (tally rows).total_steps (tally (keep_from (pairs back) 0 back))) (tally rows))
-    pick true = steps-below (10 * n) (tally rows).total_steps _ plain.total_steps (plain-below n (keep-narrow 10 (pairs back) 0 b) (omega (arith, keep-many (pairs back) 0 back)))
+    pick true = steps-below (10 * n) (tally rows).total_steps _ (omega (arith, plain)) (plain-below n (keep-narrow 10 (pairs back) 0 b) (omega (arith, keep-many (pairs back) 0 back)))
     pick false = plain
 
 -- ---- The judged tally, where J says which rows are judged

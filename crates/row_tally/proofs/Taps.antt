@@ -6,6 +6,7 @@ use Prim.Native.Nat.{ℕ, zero, suc, ◌+◌, ◌/◌, ◌^◌, ◌<◌}
 use native.Mathlib.Nat.{mod-lt, add-zero}
 use native.Mathlib.Omega.{arith}
 use lib.Dec.{eqb}
+use lib.ListN.{length}
 use Rattle.definitions.specs.Lists.{number_of_bool}
 use Rattle.definitions.specs.Lines.{Row}
 use Rattle.definitions.specs.Cells.{cell_of, byte_at, is_arrow}
@@ -18,7 +19,7 @@ use Rattle.taps.proofs.Masks.{row_of, mask-row, line-taps, tap-line-sum}
 use Rattle.taps.proofs.Free.{tap-cell}
 use Rattle.row_tally.specs.Bounds.{Under}
 use Rattle.row_tally.proofs.Bounds.{under-row}
-use Rattle.row_tally.proofs.Kept.{unjudged}
+use Rattle.row_tally.proofs.Masked.{unjudged}
 
 -- the counts of a mask are those of a row of ten cells
 pub mask_under : (m : ℕ) → m < 1024 → Under 10 (unpack (mask_counts m))
@@ -46,10 +47,10 @@ module _ (r : Row) (m : ℕ) (e : mask_of_line r ≡ Mask m) where
   same_sum =
       rw (count_same (λ c x. is_judged_arrow x) (λ c x. is_arrow x) 0 r (λ d k. same-arrow k), towards 0, towards 1, towards 2, towards 3)
     where
-      towards : (n : ℕ) → count_from (λ c x. is_judged_arrow x && eqb (direction c) n) 0 r ≡ count_from (λ c x. is_arrow x && eqb (direction c) n) 0 r
+      towards : (n : ℕ) → count_from (λ c x. is_judged_arrow x && eqb (direction (length r) c) n) 0 r ≡ count_from (λ c x. is_arrow x && eqb (direction (length r) c) n) 0 r
       towards n =
-          count_same (λ c x. is_judged_arrow x && eqb (direction c) n) (λ c x. is_arrow x && eqb (direction c) n) 0 r
-          (λ d k. ap (λ t. t && eqb (direction d) n) (same-arrow k))
+          count_same (λ c x. is_judged_arrow x && eqb (direction (length r) c) n) (λ c x. is_arrow x && eqb (direction (length r) c) n) 0 r
+          (λ d k. ap (λ t. t && eqb (direction (length r) d) n) (same-arrow k))
 
   pub taps-judged : unpack (mask_counts m) ≡ judged_sum true r
   unfolding judged_sum row_sum

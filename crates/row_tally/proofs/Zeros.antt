@@ -7,6 +7,7 @@ use native.Mathlib.Nat.{add-zero, zero-add, sub-zero}
 use native.Mathlib.Omega.{arith}
 use borrow.Author.Tests.{eqb-true, le-leb}
 use lib.Dec.{eqb, leb}
+use lib.ListN.{length}
 use Rattle.std.specs.List.{count_by}
 use Rattle.definitions.specs.Lists.{number_of_bool}
 use Rattle.definitions.specs.Lines.{Row}
@@ -22,11 +23,11 @@ use Rattle.definitions.specs.declared.Cell.{Cell}
 use Rattle.definitions.specs.declared.Cell.TheVariants.{Empty}
 use Rattle.definitions.proofs.Bools.{and_left, and_right}
 
-pub zero-kept : (ps : ℕ → List Pair) (i c : ℕ) (r : Row) → all_zero r ≡ true → keep_row ps i c r ≡ r
+pub zero-stays : (ps : ℕ → List Pair) (i c : ℕ) (r : Row) → all_zero r ≡ true → keep_row ps i c r ≡ r
 unfolding hold_at cell_of
-zero-kept ps i c [] z = refl
-zero-kept ps i c (b ∷ r) z =
-    ap₂ (λ (x : ℕ) (xs : Row). x ∷ xs) (rw (eqb-true b 48 (and_left (eqb b 48) (all_zero r) z))) (zero-kept ps i (suc c) r (and_right (eqb b 48) (all_zero r) z))
+zero-stays ps i c [] z = refl
+zero-stays ps i c (b ∷ r) z =
+    ap₂ (λ (x : ℕ) (xs : Row). x ∷ xs) (rw (eqb-true b 48 (and_left (eqb b 48) (all_zero r) z))) (zero-stays ps i (suc c) r (and_right (eqb b 48) (all_zero r) z))
 
 pub zero-count : (p : ℕ → Bool) → p 48 ≡ false → (r : Row) → all_zero r ≡ true → count_by p r ≡ 0
 zero-count p n [] z = refl
@@ -44,8 +45,8 @@ module _ (r : Row) (z : all_zero r ≡ true) where
   zero-sum arrow n =
       rw (zero-from (λ c x. arrow x) (λ c. n) 0 r z, towards 0, towards 1, towards 2, towards 3, others 1 refl, others 2 refl, others 3 refl, others 4 refl, others 5 refl, others 6 refl)
     where
-      towards : (d : ℕ) → count_from (λ c x. arrow x && eqb (direction c) d) 0 r ≡ 0
-      towards d = zero-from (λ c x. arrow x && eqb (direction c) d) (λ c. ap (λ t. t && eqb (direction c) d) n) 0 r z
+      towards : (d : ℕ) → count_from (λ c x. arrow x && eqb (direction (length r) c) d) 0 r ≡ 0
+      towards d = zero-from (λ c x. arrow x && eqb (direction (length r) c) d) (λ c. ap (λ t. t && eqb (direction (length r) c) d) n) 0 r z
 
       others : (k : ℕ) → eqb 0 k ≡ false → count_by (λ b. eqb (place (counted_as (cell_of b))) k) r ≡ 0
       others k n = zero-count (λ b. eqb (place (counted_as (cell_of b))) k) n r z

@@ -1,4 +1,5 @@
 -- What the contracts of the tallies cite, beside the definitions.
 pub mod Bounds
-pub mod Kept
+pub mod Masked
 pub mod Sums
+pub mod Taps

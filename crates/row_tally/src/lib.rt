@@ -8,15 +8,14 @@ ghost use Rattle.definitions.specs.Tracker.{hold_at};
 ghost use Rattle.definitions.specs.Tally.{empty_stats, row_sum, row_sum_by, tally_with_sum, tally_with_row, empty_sum};
 ghost use Rattle.definitions.specs.Correction.{head_if_paired, tally_with_steps};
 ghost use Rattle.definitions.specs.Judged.{is_judged_arrow, sum_of_fakes, judged_sum, judge_row};
-ghost use Rattle.taps.specs.Taps.{mask_of_line, masks};
-ghost use Rattle.taps.specs.declared.Taps.TheVariants.{Mask};
-ghost use Rattle.definitions.specs.Lines.{Row};
+ghost use Rattle.taps.specs.Taps.{masks};
 ghost use Rattle.definitions.specs.declared.Cell.TheVariants.{Lift};
 ghost use Rattle.row_tally.specs.Bounds.{Under, Below};
-ghost use Rattle.row_tally.specs.Kept.{bit_is_set, cell_by_mask, row_by_mask};
-ghost use Rattle.row_tally.specs.Sums.{add_arrow, add_counted, sum_with_cell, arrow_of};
+ghost use Rattle.row_tally.specs.Masked.{bit_is_set, cell_by_mask, row_by_mask};
+ghost use Rattle.row_tally.specs.Sums.{add_arrow, add_counted, sum_with_cell, arrow_of, add_by};
+ghost use Rattle.row_tally.specs.Taps.{TapsCounted, TapsSummed, TapsJudged};
 
-use definitions::{ArrowStats, Cell, DepthEffect, RowSum};
+use definitions::{ArrowStats, Cell, DepthEffect, RowSum, direction};
 use taps::TapTable;
 
 /// The sum of no cells.
@@ -26,49 +25,50 @@ pub fn no_sum() -> RowSum
     RowSum::default()
 }
 
-// With an arrow in a column. Column mod 4 gives left, down, up, right.
+// With an arrow of a direction: left, down, up, right.
 #[tactic(auto, unfolding(crate::specs::Sums::add_arrow))]
-fn bump_dir(mut s: RowSum, column: usize) -> RowSum
+fn bump_dir(mut s: RowSum, direction: usize) -> RowSum
     requires { Under 10 s }
-    ensures { result ≡ add_arrow s column true }
+    ensures { result ≡ add_arrow s direction true }
 {
     s.arrows += 1;
-    match column % 4 {
+    match direction {
         0 => s.left += 1,
         1 => s.down += 1,
         2 => s.up += 1,
-        _ => s.right += 1,
+        3 => s.right += 1,
+        _ => {}
     }
     s
 }
 
 // With a lift, which is an arrow of a judged row.
 #[tactic(auto, unfolding(crate::specs::Sums::add_arrow, crate::specs::Sums::add_counted))]
-fn add_lift(s: RowSum, column: usize, judged: bool) -> RowSum
+fn add_lift(s: RowSum, direction: usize, judged: bool) -> RowSum
     requires { Under 10 s }
-    ensures { result ≡ add_counted (add_arrow s column judged) Lift }
+    ensures { result ≡ add_counted (add_arrow s direction judged) Lift }
 {
     RowSum {
         lifts: s.lifts + 1,
-        ..if judged { bump_dir(s, column) } else { s }
+        ..if judged { bump_dir(s, direction) } else { s }
     }
 }
 
-// One cell of a row, in a column, by one match: an arrow, what else it is counted as, or both. A judged row has lifts for arrows too.
+// One cell of a row, in a column of a direction, by one match: an arrow, what else it is counted as, or both. On a judged row an L is an arrow too.
 #[tactic(auto, unfolding(crate::specs::Sums::add_arrow, crate::specs::Sums::add_counted))]
-fn add_cell(s: RowSum, column: usize, b: u8, judged: bool) -> RowSum
+fn add_cell(s: RowSum, direction: usize, b: u8, judged: bool) -> RowSum
     requires { Under 10 s }
-    ensures { result ≡ sum_with_cell s column (cell_of b) (arrow_of judged (cell_of b)) }
+    ensures { result ≡ add_by judged s direction (cell_of b) }
 {
     match cells::cell_of(b) {
-        Cell::Tap => bump_dir(s, column),
+        Cell::Tap => bump_dir(s, direction),
         Cell::Hold => RowSum {
             holds: s.holds + 1,
-            ..bump_dir(s, column)
+            ..bump_dir(s, direction)
         },
         Cell::Roll => RowSum {
             rolls: s.rolls + 1,
-            ..bump_dir(s, column)
+            ..bump_dir(s, direction)
         },
         Cell::Tail => RowSum {
             tails: s.tails + 1,
@@ -78,7 +78,7 @@ fn add_cell(s: RowSum, column: usize, b: u8, judged: bool) -> RowSum
             mines: s.mines + 1,
             ..s
         },
-        Cell::Lift | Cell::LowerLift => add_lift(s, column, judged),
+        Cell::Lift | Cell::LowerLift => add_lift(s, direction, judged),
         Cell::Fake | Cell::LowerFake => RowSum {
             fakes: s.fakes + 1,
             ..s
@@ -88,19 +88,19 @@ fn add_cell(s: RowSum, column: usize, b: u8, judged: bool) -> RowSum
 }
 
 /// One cell of a plain row.
-pub fn sum_cell(s: RowSum, column: usize, b: u8) -> RowSum
+pub fn sum_cell(s: RowSum, direction: usize, b: u8) -> RowSum
     requires { Under 10 s }
-    ensures { result ≡ sum_with_cell s column (cell_of b) (is_arrow (cell_of b)) }
+    ensures { result ≡ sum_with_cell s direction (cell_of b) (is_arrow (cell_of b)) }
 {
-    add_cell(s, column, b, false)
+    add_cell(s, direction, b, false)
 }
 
 /// One cell of a judged row.
-pub fn judged_cell(s: RowSum, column: usize, b: u8) -> RowSum
+pub fn judged_cell(s: RowSum, direction: usize, b: u8) -> RowSum
     requires { Under 10 s }
-    ensures { result ≡ sum_with_cell s column (cell_of b) (is_judged_arrow (cell_of b)) }
+    ensures { result ≡ sum_with_cell s direction (cell_of b) (is_judged_arrow (cell_of b)) }
 {
-    add_cell(s, column, b, true)
+    add_cell(s, direction, b, true)
 }
 
 /// The tally of no rows.
@@ -112,7 +112,8 @@ pub fn no_stats() -> ArrowStats
 
 // The tally with one row more, where `hand` says whether it is a hand and `holding` what is held after it.
 fn add_sum(t: ArrowStats, s: RowSum, hand: bool, holding: u32) -> ArrowStats
-    requires { Below count_bound t × Under 10 s }
+    requires few { Below count_bound t }
+    requires sum_few { Under 10 s }
     ensures { result ≡ tally_with_sum t s hand holding }
 {
     ArrowStats {
@@ -144,7 +145,8 @@ fn held_after(holding: u32, heads: u32, tails: u32) -> u32
 // The tally with one row more, by value. A hand is a step whose arrows plus the holds before the row make 3 or more.
 #[tactic(auto, unfolding(definitions::specs::Tally::tally_with_row))]
 fn add_row(t: ArrowStats, s: RowSum) -> ArrowStats
-    requires { Below count_bound t × Under 10 s }
+    requires few { Below count_bound t }
+    requires sum_few { Under 10 s }
     ensures { result ≡ tally_with_row t s }
 {
     let hand = (1 <= s.arrows) & (3 <= s.arrows + t.holding);
@@ -154,7 +156,8 @@ fn add_row(t: ArrowStats, s: RowSum) -> ArrowStats
 
 /// The running tally is lent by the caller and altered there.
 pub fn add_row_into(stats: &mut ArrowStats, s: RowSum)
-    requires { Below count_bound stats.old × Under 10 s }
+    requires few { Below count_bound stats.old }
+    requires sum_few { Under 10 s }
     ensures { stats.new ≡ tally_with_row stats.old s }
 {
     *stats = add_row(*stats, s);
@@ -163,7 +166,9 @@ pub fn add_row_into(stats: &mut ArrowStats, s: RowSum)
 /// One row more in a judged tally, before which `held` holds are open: a hand is told otherwise than on a plain row, and nothing is held.
 #[tactic(auto, unfolding(definitions::specs::Tally::tally_with_row, definitions::specs::Judged::judge_row))]
 pub fn add_judged_row(stats: &mut ArrowStats, judged: bool, held: u32, s: RowSum)
-    requires { Below count_bound stats.old × Under 10 s × (held ≤ count_bound) }
+    requires few { Below count_bound stats.old }
+    requires sum_few { Under 10 s }
+    requires held_few { held ≤ count_bound }
     ensures { stats.new ≡ judge_row stats.old judged held s }
 {
     let hand = judged & (1 <= s.arrows + s.mines + s.fakes) & (3 <= s.arrows + held);
@@ -175,8 +180,9 @@ pub fn add_judged_row(stats: &mut ArrowStats, judged: bool, held: u32, s: RowSum
 
 /// One row of taps alone more.
 pub fn count_taps(stats: &mut ArrowStats, mask: u16, table: &TapTable)
-    requires { (mask < masks table.now.wide) × Below count_bound stats.old }
-    ensures { (row : Row) → mask_of_line row ≡ Mask mask → stats.new ≡ tally_with_row stats.old (row_sum row) }
+    requires mask_known { mask < masks table.now.wide }
+    requires few { Below count_bound stats.old }
+    ensures { TapsCounted mask stats.old stats.new }
 {
     add_row_into(stats, table.sum(mask));
 }
@@ -200,32 +206,41 @@ fn keep_head(b: u8, paired: bool) -> u8
 }
 
 // One cell of a row of which only the heads of a mask count, judged or plain.
-fn kept_cell(s: RowSum, column: usize, b: u8, heads: u16, judged: bool) -> RowSum
-    requires { (column < 10) × Under 10 s }
-    ensures { result ≡ sum_with_cell s column (cell_by_mask heads column b) (arrow_of judged (cell_by_mask heads column b)) }
+fn masked_cell(
+    s: RowSum,
+    direction: usize,
+    column: usize,
+    b: u8,
+    heads: u16,
+    judged: bool,
+) -> RowSum
+    requires column_bound { column < 10 }
+    requires sum_few { Under 10 s }
+    ensures { result ≡ add_by judged s direction (cell_by_mask heads column b) }
 {
-    let kept = keep_head(b, has_bit(heads, column));
-    add_cell(s, column, kept, judged)
+    let counted = keep_head(b, has_bit(heads, column));
+    add_cell(s, direction, counted, judged)
 }
 
 // What a row adds up to of which only the heads of a mask count, judged or plain.
-fn kept_sum(row: &[u8], heads: u16, judged: bool) -> RowSum
+fn masked_sum(row: &[u8], heads: u16, judged: bool) -> RowSum
     requires { length row.now ≤ 10 }
     ensures { result ≡ row_sum_by (arrow_of judged) (row_by_mask heads 0 row.now) }
 {
     let mut s = no_sum();
     for (column, &b) in row.iter().enumerate() {
-        s = kept_cell(s, column, b, heads, judged);
+        s = masked_cell(s, direction(row.len(), column), column, b, heads, judged);
     }
     s
 }
 
 /// One row more, of which only the heads of a mask count.
 pub fn count_line_masked(stats: &mut ArrowStats, row: &[u8], heads: u16)
-    requires { (length row.now ≤ 10) × Below count_bound stats.old }
+    requires narrow { length row.now ≤ 10 }
+    requires few { Below count_bound stats.old }
     ensures { stats.new ≡ tally_with_row stats.old (row_sum (row_by_mask heads 0 row.now)) }
 {
-    add_row_into(stats, kept_sum(row, heads, false));
+    add_row_into(stats, masked_sum(row, heads, false));
 }
 
 // A sum of fakes alone.
@@ -243,7 +258,7 @@ pub fn judged_sum_masked(judged: bool, row: &[u8], heads: u16) -> RowSum
     requires { length row.now ≤ 10 }
     ensures { result ≡ judged_sum judged (row_by_mask heads 0 row.now) }
 {
-    let s = kept_sum(row, heads, true);
+    let s = masked_sum(row, heads, true);
     if judged {
         return s;
     }
@@ -253,7 +268,8 @@ pub fn judged_sum_masked(judged: bool, row: &[u8], heads: u16) -> RowSum
 // What a row of taps alone adds up to, judged or not. On an unjudged row each tap is one fake.
 fn judged_taps(judged: bool, mask: u16, table: &TapTable) -> RowSum
     requires { mask < masks table.now.wide }
-    ensures { Under 10 result × ((row : Row) → mask_of_line row ≡ Mask mask → result ≡ judged_sum judged row) }
+    ensures sum_few { Under 10 result }
+    ensures summed { TapsSummed judged mask result }
 {
     let s = table.sum(mask);
     if judged {
@@ -264,8 +280,10 @@ fn judged_taps(judged: bool, mask: u16, table: &TapTable) -> RowSum
 
 /// One row of taps alone more in a judged tally, before which `held` holds are open.
 pub fn judge_taps(stats: &mut ArrowStats, judged: bool, held: u32, mask: u16, table: &TapTable)
-    requires { (mask < masks table.now.wide) × Below count_bound stats.old × (held ≤ count_bound) }
-    ensures { (row : Row) → mask_of_line row ≡ Mask mask → stats.new ≡ judge_row stats.old judged held (judged_sum judged row) }
+    requires mask_known { mask < masks table.now.wide }
+    requires few { Below count_bound stats.old }
+    requires held_few { held ≤ count_bound }
+    ensures { TapsJudged judged held mask stats.old stats.new }
 {
     let s = judged_taps(judged, mask, table);
     add_judged_row(stats, judged, held, s);

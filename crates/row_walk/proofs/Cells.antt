@@ -14,7 +14,7 @@ use Rattle.definitions.specs.Cells.{cell_of, is_arrow}
 use Rattle.definitions.specs.Tracker.{hold_at}
 use Rattle.definitions.specs.Objects.{object_at}
 use Rattle.definitions.specs.Notes.{effect_at}
-use Rattle.definitions.specs.Tally.{row_sum, empty_sum}
+use Rattle.definitions.specs.Tally.{direction, row_sum, empty_sum}
 use Rattle.definitions.specs.declared.RowSum.{RowSum}
 use Rattle.taps.specs.Taps.{FreeAre}
 use Rattle.phantoms.specs.declared.Phantoms.{Phantoms}
@@ -41,7 +41,7 @@ pub record Cells (row : Row) (l₀ : List ℕ) (k₀ : Columns) (n a : ℕ) (m :
   pub passed : Passed row (phantoms_of k₀.depths m) (phantoms_of k.depths s.marks) i
   pub scanned : Scanned row k₀.low k.low s.object i
   pub mid : Midrow l₀ (notes_of k₀.hold_heads n a m) l (notes_of k.hold_heads s.count a s.marks) i row
-  pub summed : Summed is_arrow (drop i row) (row_sum row) s.sum i
+  pub summed : Summed (length row) is_arrow (drop i row) (row_sum row) s.sum i
   pub depths : FreeAre k₀.busy 0 k₀.depths → FreeAre k.busy 0 k.depths
   pub lows : FreeAre k₀.busy 0 k₀.low → FreeAre k.busy 0 k.low
   pub heads : FreeAre k₀.busy no_head k₀.hold_heads → FreeAre k.busy no_head k.hold_heads
@@ -89,9 +89,9 @@ unfolding object_at cell_of
 zero-scanned row l₀ l object i s h k e =
     rw (set-get_or l i 0, or-false) at (scan-next row l₀ l object i s false (get_or l i 0) h k (rw e refl) (rw e refl))
 
-zero-sum : (s : RowSum) (c b : ℕ) → b ≡ 48 → s ≡ sum_with_cell s c (cell_of b) (is_arrow (cell_of b))
+zero-sum : (s : RowSum) (d b : ℕ) → b ≡ 48 → s ≡ sum_with_cell s d (cell_of b) (is_arrow (cell_of b))
 unfolding cell_of add_arrow add_counted
-zero-sum s c b e = simp (e, add-zero)
+zero-sum s d b e = simp (e, add-zero)
 
 module _ (row : Row) (l₀ : List ℕ) (k₀ : Columns) (n a : ℕ) (m : Marks) (l : List ℕ) (k : Columns) (s : Seen) (i : ℕ)
     (C : Cells row l₀ k₀ n a m l k s i) (h : i < length row) (u : i < 10) where
@@ -100,7 +100,7 @@ module _ (row : Row) (l₀ : List ℕ) (k₀ : Columns) (n a : ℕ) (m : Marks) 
     passed = zero-passed row (phantoms_of k₀.depths m) (phantoms_of k.depths s.marks) i C.passed h u e;
     scanned = zero-scanned row k₀.low k.low s.object i C.scanned h u e;
     mid = mid_step l₀ _ l _ i row C.mid l _ _ refl h refl (step-nothing l _ _ i _ (zero-nothing _ e));
-    summed = summed-next is_arrow (drop i row) (drop (i + 1) row) (row_sum row) s.sum s.sum i (get_or row i 0) (drop-next row i h) (zero-sum s.sum i _ e) C.summed;
+    summed = summed-next (length row) is_arrow (drop i row) (drop (i + 1) row) (row_sum row) s.sum s.sum i (get_or row i 0) (drop-next row i h) (zero-sum s.sum (direction (length row) i) _ e) C.summed;
     depths = C.depths;
     lows = C.lows;
     heads = C.heads;
@@ -109,7 +109,7 @@ module _ (row : Row) (l₀ : List ℕ) (k₀ : Columns) (n a : ℕ) (m : Marks) 
 
   -- one cell more
   pub cells-next : (l' : List ℕ) (w : WalkCell) → length l' ≡ length l → ByteWalked (get_or row i 0) (cell_at k i s.count a) l l' w
-      → (q : Columns) → ColumnPut k i w q → (t : Seen) → CellSeen s i w t → Cells row l₀ k₀ n a m l' q t (i + 1)
+      → (q : Columns) → ColumnPut k i w q → (t : Seen) → CellSeen s (direction (length row) i) w t → Cells row l₀ k₀ n a m l' q t (i + 1)
   cells-next l' w el W q Q t T =
       let free = unused w.phantom.depth w.object.depth w.head no_head in
       let old = notes_of k.hold_heads s.count a s.marks in
@@ -117,7 +117,7 @@ module _ (row : Row) (l₀ : List ℕ) (k₀ : Columns) (n a : ℕ) (m : Marks) 
         passed = rw (Q.depths, T.heads, T.tails, T.met) (passed-next row (phantoms_of k₀.depths m) (phantoms_of k.depths s.marks) w.phantom i C.passed h u (counted-cell _ _ l l' w W));
         scanned = rw (Q.low, T.object) (scan-next row k₀.low k.low s.object i C.scanned w.object.object w.object.depth h u W.object W.low);
         mid = rw (Q.heads, T.count, T.invalid) (mid_step l₀ _ l old i row C.mid l' (after_cell old i w.head w.count w.invalid) (effect_at (get_or row i 0)) refl h el (W.noted old refl refl refl));
-        summed = summed-next is_arrow (drop i row) (drop (i + 1) row) (row_sum row) s.sum t.sum i (get_or row i 0) (drop-next row i h) (T.sum _ W.kind W.tails) C.summed;
+        summed = summed-next (length row) is_arrow (drop i row) (drop (i + 1) row) (row_sum row) s.sum t.sum i (get_or row i 0) (drop-next row i h) (T.sum _ W.kind W.tails) C.summed;
         depths = λ f. rw Q.depths
             (free-marked k.busy i q.busy (is_used w) 0 k.depths (set k.depths i w.phantom.depth) Q.busy
             (λ e. get_or-set_same k.depths i w.phantom.depth 0 (omega (arith, C.passed.size)) ∙ (free e).0) (λ c ne. get_or-set_other k.depths i c w.phantom.depth 0 ne) (C.depths f));
@@ -134,7 +134,7 @@ module _ (row : Row) (l₀ : List ℕ) (k₀ : Columns) (n a : ℕ) (m : Marks) 
 pub cells-end : (row : Row) (l₀ : List ℕ) (k₀ : Columns) (n a : ℕ) (m : Marks) (l : List ℕ) (k : Columns) (s : Seen) (i : ℕ)
     → CellsReady row l₀ k₀ n a m → Cells row l₀ k₀ n a m l k s i → length row ≤ i → RowWalked row l₀ k₀ n a m l k s
 cells-end row l₀ k₀ n a m l k s i R C h = record {
-  sum = summed-end is_arrow _ _ _ _ (drop_of_length-le row h) C.summed;
+  sum = summed-end (length row) is_arrow _ _ _ _ (drop_of_length-le row h) C.summed;
   under = under_more i 10 s.sum (omega (arith, C.passed.within, R.room.narrow)) C.summed.under;
   counted = λ L rows wide narrow counts. passed-end _ _ _ _ C.passed h L rows wide narrow counts;
   tested = scan-end row (record { depths = k₀.low }) _ _ _ C.scanned h;

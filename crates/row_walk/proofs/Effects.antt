@@ -10,7 +10,6 @@ use Rattle.definitions.specs.Tracker.{hold_at}
 use Rattle.definitions.specs.Objects.{object_at}
 use Rattle.definitions.specs.Notes.{effect_of, effect_at}
 use Rattle.definitions.specs.Correction.{is_closing}
-use Rattle.definitions.specs.Tally.{direction}
 use Rattle.definitions.specs.declared.Cell.{Cell}
 use Rattle.definitions.specs.declared.Cell.TheVariants.{Empty, Tap, Hold, Tail, Roll, Mine, Lift, Fake, KeySound, LowerMine, LowerLift, LowerFake}
 use Rattle.definitions.specs.declared.RowSum.{RowSum}
@@ -25,15 +24,15 @@ pub walked_at : (b : ℕ) (x : Cell) → cell_of b ≡ x → (at : CellAt) (l l'
 unfolding hold_at object_at effect_at
 walked_at b x e at l l' r w = rw e w
 
--- a sum with a cell of this kind in a column, or so many tails
+-- a sum with a cell of this kind in a column of direction d, or so many tails
 abbrev pub add_kind : RowSum → ℕ → ℕ → ℕ → RowSum
-add_kind s c k tails =
+add_kind s d k tails =
     record {
       arrows = s.arrows + number_of_bool (ltb k 3);
-      left = s.left + number_of_bool (ltb k 3 && eqb (direction c) 0);
-      down = s.down + number_of_bool (ltb k 3 && eqb (direction c) 1);
-      up = s.up + number_of_bool (ltb k 3 && eqb (direction c) 2);
-      right = s.right + number_of_bool (ltb k 3 && eqb (direction c) 3);
+      left = s.left + number_of_bool (ltb k 3 && eqb d 0);
+      down = s.down + number_of_bool (ltb k 3 && eqb d 1);
+      up = s.up + number_of_bool (ltb k 3 && eqb d 2);
+      right = s.right + number_of_bool (ltb k 3 && eqb d 3);
       holds = s.holds + number_of_bool (eqb k 1);
       rolls = s.rolls + number_of_bool (eqb k 2);
       tails = s.tails + tails;
@@ -42,21 +41,21 @@ add_kind s c k tails =
       fakes = s.fakes + number_of_bool (eqb k 5);
     }
 
-kind-added : (s : RowSum) (c : ℕ) (x : Cell) → add_kind s c (cell_number x) (number_of_bool (is_closing (hold_effect x))) ≡ sum_with_cell s c x (is_arrow x)
+kind-added : (s : RowSum) (d : ℕ) (x : Cell) → add_kind s d (cell_number x) (number_of_bool (is_closing (hold_effect x))) ≡ sum_with_cell s d x (is_arrow x)
 unfolding add_arrow add_counted
-kind-added s c Empty = refl
-kind-added s c Tap = refl
-kind-added s c Hold = refl
-kind-added s c Tail = refl
-kind-added s c Roll = refl
-kind-added s c Mine = refl
-kind-added s c Lift = refl
-kind-added s c Fake = refl
-kind-added s c KeySound = refl
-kind-added s c LowerMine = refl
-kind-added s c LowerLift = refl
-kind-added s c LowerFake = refl
+kind-added s d Empty = refl
+kind-added s d Tap = refl
+kind-added s d Hold = refl
+kind-added s d Tail = refl
+kind-added s d Roll = refl
+kind-added s d Mine = refl
+kind-added s d Lift = refl
+kind-added s d Fake = refl
+kind-added s d KeySound = refl
+kind-added s d LowerMine = refl
+kind-added s d LowerLift = refl
+kind-added s d LowerFake = refl
 
-pub kind-counted : (s : RowSum) (c k t b : ℕ) → k ≡ cell_number (cell_of b) → t ≡ number_of_bool (is_closing (hold_at b)) → add_kind s c k t ≡ sum_with_cell s c (cell_of b) (is_arrow (cell_of b))
+pub kind-counted : (s : RowSum) (d k t b : ℕ) → k ≡ cell_number (cell_of b) → t ≡ number_of_bool (is_closing (hold_at b)) → add_kind s d k t ≡ sum_with_cell s d (cell_of b) (is_arrow (cell_of b))
 unfolding hold_at
-kind-counted s c k t b ek et = rw (ek, et) (kind-added s c (cell_of b))
+kind-counted s d k t b ek et = rw (ek, et) (kind-added s d (cell_of b))

@@ -44,12 +44,13 @@ pub record ColumnPut (k : Columns) (c : ℕ) (w : WalkCell) (r : Columns) : Type
   pub heads : r.hold_heads ≡ set k.hold_heads c w.head
   pub busy : Marked k.busy c (is_used w) r.busy
 
-pub record CellSeen (s : Seen) (c : ℕ) (w : WalkCell) (r : Seen) : Type 0 where
+-- a cell has been seen in a column of direction d
+pub record CellSeen (s : Seen) (d : ℕ) (w : WalkCell) (r : Seen) : Type 0 where
   pub heads : r.marks.heads ≡ s.marks.heads + w.phantom.heads
   pub tails : r.marks.tails ≡ s.marks.tails + w.phantom.tails
   pub met : r.marks.met ≡ (s.marks.met || w.phantom.met)
   pub invalid : r.marks.invalid ≡ (s.marks.invalid || w.invalid)
-  pub sum : (b : ℕ) → w.kind ≡ cell_number (cell_of b) → w.phantom.tails ≡ number_of_bool (is_closing (hold_at b)) → r.sum ≡ sum_with_cell s.sum c (cell_of b) (is_arrow (cell_of b))
+  pub sum : (b : ℕ) → w.kind ≡ cell_number (cell_of b) → w.phantom.tails ≡ number_of_bool (is_closing (hold_at b)) → r.sum ≡ sum_with_cell s.sum d (cell_of b) (is_arrow (cell_of b))
   pub count : r.count ≡ w.count
   pub object : r.object ≡ (s.object || w.object.object)
 

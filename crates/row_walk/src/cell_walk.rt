@@ -191,13 +191,12 @@ pub fn walk_cell(b: u8, at: CellAt, slots: &mut [u8]) -> WalkCell
     }
 }
 
-/// A row's sum with a cell of this kind more, or so many tails.
-pub fn count_kind(s: RowSum, column: usize, kind: u8, tails: u32) -> RowSum
+/// A row's sum with a cell of this kind more in a column of a direction, or so many tails.
+pub fn count_kind(s: RowSum, direction: usize, kind: u8, tails: u32) -> RowSum
     requires { Under 10 s × (tails ≤ 1) }
-    ensures { (b : ℕ) → kind ≡ cell_number (cell_of b) → tails ≡ number_of_bool (is_closing (hold_at b)) → result ≡ sum_with_cell s column (cell_of b) (is_arrow (cell_of b)) }
+    ensures { (b : ℕ) → kind ≡ cell_number (cell_of b) → tails ≡ number_of_bool (is_closing (hold_at b)) → result ≡ sum_with_cell s direction (cell_of b) (is_arrow (cell_of b)) }
 {
     let arrow = kind < 3;
-    let direction = column % 4;
     RowSum {
         arrows: s.arrows + u32::from(arrow),
         left: s.left + u32::from(arrow & (direction == 0)),

@@ -8,7 +8,7 @@ ghost use Rattle.row_tally.specs.Bounds.{Under};
 ghost use Rattle.row_walk.specs.Rows.{Marked, cell_at, ColumnPut, CellSeen, CellsReady, RowWalked};
 
 use crate::cell_walk::{CellAt, WalkCell};
-use definitions::RowSum;
+use definitions::{RowSum, direction};
 
 /// What the walk keeps of each column, of up to ten: its phantom depth, its object depth and its open head. A column without its bit in `busy`
 /// has the depths 0 and no open head.
@@ -40,17 +40,18 @@ pub struct Seen {
 }
 
 impl Seen {
-    // One cell more.
-    fn add_cell(&mut self, column: usize, w: WalkCell)
-        requires column_bound { (column < 10) × Under 10 self.old.sum × (w.phantom.tails ≤ 1) }
+    // One cell more, in a column of a direction.
+    fn add_cell(&mut self, direction: usize, w: WalkCell)
+        requires sum_bound { Under 10 self.old.sum }
+        requires tails_bound { w.phantom.tails ≤ 1 }
         requires heads_bound { (self.old.marks.heads + w.phantom.heads < 4294967296) × (self.old.marks.tails + w.phantom.tails < 4294967296) }
-        ensures { CellSeen self.old column w self.new }
+        ensures { CellSeen self.old direction w self.new }
     {
         self.marks.heads += w.phantom.heads;
         self.marks.tails += w.phantom.tails;
         self.marks.met |= w.phantom.met;
         self.marks.invalid |= w.invalid;
-        self.sum = cell_walk::count_kind(self.sum, column, w.kind, w.phantom.tails);
+        self.sum = cell_walk::count_kind(self.sum, direction, w.kind, w.phantom.tails);
         self.count = w.count;
         self.object |= w.object.object;
     }
@@ -120,7 +121,7 @@ impl Columns {
                 _ => {
                     let w = cell_walk::walk_cell(b, self.cell(i, s.count, number), slots);
                     self.put(i, w);
-                    s.add_cell(i, w);
+                    s.add_cell(direction(row.len(), i), w);
                 }
             }
             i += 1;

@@ -1,6 +1,7 @@
 -- Document 01, "The program card": the lines it prints.
-use Rattle.std.specs.Prelude.{List, [], ◌∷◌, ◌++◌, ℕ, slice_index_or, slice_index, codes, Result, Ok, Err}
+use Rattle.std.specs.Prelude.{List, [], ◌++◌, ℕ, slice_index_or, slice_index, codes, Result, Ok, Err}
 use Rattle.definitions.specs.Records.{number_of_kind, note_of_record}
+use Rattle.definitions.specs.Tally.{tally_fields}
 use Rattle.definitions.specs.declared.Tail.{Tail}
 use Rattle.definitions.specs.declared.Tail.TheVariants.{Without, Row}
 use Rattle.definitions.specs.declared.Note.{Note}
@@ -11,22 +12,7 @@ use Rattle.page.specs.Texts.{number_field, listed}
 
 -- a tally's fields in their order, each with its name
 unfoldable pub named_fields : ArrowStats → List (List ℕ × ℕ)
-named_fields t =
-    (codes "total_arrows", t.total_arrows)
-    ∷ (codes "left", t.left)
-    ∷ (codes "down", t.down)
-    ∷ (codes "up", t.up)
-    ∷ (codes "right", t.right)
-    ∷ (codes "total_steps", t.total_steps)
-    ∷ (codes "jumps", t.jumps)
-    ∷ (codes "hands", t.hands)
-    ∷ (codes "mines", t.mines)
-    ∷ (codes "holds", t.holds)
-    ∷ (codes "rolls", t.rolls)
-    ∷ (codes "lifts", t.lifts)
-    ∷ (codes "fakes", t.fakes)
-    ∷ (codes "holding", t.holding)
-    ∷ []
+named_fields t = tally_fields t
 
 -- how many they are
 unfoldable pub field_count : ℕ

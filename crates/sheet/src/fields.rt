@@ -10,17 +10,14 @@ pub const FIELD_COUNT: usize = 14;
 
 /// A field of a tally: its name and its count.
 #[derive(Drop)]
-pub struct Field {
-    name: &'static str,
-    count: u32,
-}
+pub struct Field(&'static str, u32);
 
 impl Model for Field {
     ghost use Rattle.std.specs.Prelude.{List, ℕ};
 
     ghost Value = { List ℕ × ℕ };
 
-    ghost view = { λ f. (f.name.now, f.count) };
+    ghost view = { λ f. (f.0.now, f.1) };
 }
 
 impl Field {
@@ -28,14 +25,14 @@ impl Field {
     pub fn name(&self) -> &'static str
         ensures { result.now ≡ self.now.0 }
     {
-        self.name
+        self.0
     }
 
     /// What it counts.
     pub fn count(&self) -> u64
         ensures { result ≡ self.now.1 }
     {
-        self.count as u64
+        self.1 as u64
     }
 }
 
@@ -45,61 +42,19 @@ pub fn fields_of(stats: &ArrowStats) -> [Field; FIELD_COUNT]
     ensures { result ≡ named_fields stats.now }
 {
     [
-        Field {
-            name: "total_arrows",
-            count: stats.total_arrows,
-        },
-        Field {
-            name: "left",
-            count: stats.left,
-        },
-        Field {
-            name: "down",
-            count: stats.down,
-        },
-        Field {
-            name: "up",
-            count: stats.up,
-        },
-        Field {
-            name: "right",
-            count: stats.right,
-        },
-        Field {
-            name: "total_steps",
-            count: stats.total_steps,
-        },
-        Field {
-            name: "jumps",
-            count: stats.jumps,
-        },
-        Field {
-            name: "hands",
-            count: stats.hands,
-        },
-        Field {
-            name: "mines",
-            count: stats.mines,
-        },
-        Field {
-            name: "holds",
-            count: stats.holds,
-        },
-        Field {
-            name: "rolls",
-            count: stats.rolls,
-        },
-        Field {
-            name: "lifts",
-            count: stats.lifts,
-        },
-        Field {
-            name: "fakes",
-            count: stats.fakes,
-        },
-        Field {
-            name: "holding",
-            count: stats.holding,
-        },
+        Field("total_arrows", stats.total_arrows),
+        Field("left", stats.left),
+        Field("down", stats.down),
+        Field("up", stats.up),
+        Field("right", stats.right),
+        Field("total_steps", stats.total_steps),
+        Field("jumps", stats.jumps),
+        Field("hands", stats.hands),
+        Field("mines", stats.mines),
+        Field("holds", stats.holds),
+        Field("rolls", stats.rolls),
+        Field("lifts", stats.lifts),
+        Field("fakes", stats.fakes),
+        Field("holding", stats.holding),
     ]
 }

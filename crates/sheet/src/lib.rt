@@ -128,7 +128,8 @@ pub fn print_card(
 ) -> Result<(), Full>
     requires densities_in_bounds { figures.now.measures ≤ length densities.now }
     requires spacing_in_bounds { figures.now.measures ≤ length spacing.now }
-    ensures { Prints page.old (sheet_of figures.now densities.now spacing.now records.now) page.new result }
+    ensures { Prints page.old (sheet_of figures.now densities.now spacing.now records.now)
+        page.new result }
 {
     head_lines(page, figures)?;
     measure_lines(page, densities, spacing, figures.measures)?;

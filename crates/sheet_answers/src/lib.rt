@@ -22,7 +22,8 @@ use sheet::SheetFigures;
 fn judge_minimised(minimised: &[u8], lanes: Lanes, work: &mut [u16]) -> ArrowStats
     requires text_length { length minimised.now - 1 ≤ most_bytes }
     requires work_room { most_rows_in lanes.count (length minimised.now - 1) ≤ length work.old }
-    ensures value { result ≡ judged_tally lanes.count (take (length minimised.now - 1) minimised.now) }
+    ensures value { result
+        ≡ judged_tally lanes.count (take (length minimised.now - 1) minimised.now) }
     ensures work_after { work.new ≡ padded 0 (length work.old) [] }
 {
     let end = minimised.len().saturating_sub(1);
@@ -47,14 +48,20 @@ pub fn sheet_answers(
     requires spacing_room { (length «data».now + 1) / 2 + 1 ≤ length spacing.old }
     requires beats_room { most_rows_in lanes.count (length «data».now) ≤ length beats.old }
     requires work_room { most_rows_in lanes.count (length «data».now) ≤ length work.old }
-    requires notes_room { 10 * lanes.count * most_rows_in lanes.count (length «data».now) ≤ length notes.old }
+    requires notes_room { 10 * lanes.count * most_rows_in lanes.count (length «data».now)
+        ≤ length notes.old }
     ensures value { result ≡ sheet_figures lanes.count «data».now }
-    ensures text_after { text.new ≡ padded 0 (length text.old) (minimised_text lanes.count «data».now) }
-    ensures densities_after { densities.new ≡ padded 0 (length densities.old) (densities_of lanes.count «data».now) }
-    ensures spacing_after { spacing.new ≡ padded 0 (length spacing.old) (spacings_of lanes.count «data».now) }
-    ensures beats_after { beats.new ≡ padded (f32 0) (length beats.old) (beats_of lanes.count «data».now) }
+    ensures text_after { text.new
+        ≡ padded 0 (length text.old) (minimised_text lanes.count «data».now) }
+    ensures densities_after { densities.new
+        ≡ padded 0 (length densities.old) (densities_of lanes.count «data».now) }
+    ensures spacing_after { spacing.new
+        ≡ padded 0 (length spacing.old) (spacings_of lanes.count «data».now) }
+    ensures beats_after { beats.new
+        ≡ padded (f32 0) (length beats.old) (beats_of lanes.count «data».now) }
     ensures work_after { work.new ≡ padded 0 (length work.old) [] }
-    ensures notes_after { notes.new ≡ padded 0 (length notes.old) (records (notes_of lanes.count «data».now)) }
+    ensures notes_after { notes.new
+        ≡ padded 0 (length notes.old) (records (notes_of lanes.count «data».now)) }
 {
     let pass = chart_pass::read_chart(data, lanes, text, densities, beats, notes);
     let bytes = pass.draft.out;

@@ -114,7 +114,8 @@ fn density_entry(page: &mut Page, k: usize, density: u64) -> Result<(), Full>
 
 #[tactic(auto, using(page::proofs::Listing::in_list))]
 fn density_entries(page: &mut Page, densities: &[u32]) -> Result<(), Full>
-    ensures { Prints page.old (entries_of_densities densities.now (length densities.now)) page.new result }
+    ensures { Prints page.old (entries_of_densities densities.now (length densities.now))
+        page.new result }
 {
     for k in 0..densities.len() {
         density_entry(page, k, densities[k] as u64)?;
@@ -143,7 +144,8 @@ fn spacing_entry(page: &mut Page, k: usize, spaced: u64) -> Result<(), Full>
 
 #[tactic(auto, using(page::proofs::Listing::in_list))]
 fn spacing_entries(page: &mut Page, spacing: &[u8]) -> Result<(), Full>
-    ensures { Prints page.old (entries_of_spacings spacing.now (length spacing.now)) page.new result }
+    ensures { Prints page.old (entries_of_spacings spacing.now (length spacing.now))
+        page.new result }
 {
     for k in 0..spacing.len() {
         spacing_entry(page, k, spacing[k] as u64)?;
@@ -187,7 +189,8 @@ fn record_value(page: &mut Page, records: &[u8], index: usize) -> Result<(), Ful
 
 #[tactic(auto, using(page::proofs::Pages::keeps_then), unfolding(crate::specs::Json::entry_of_record))]
 fn record_entry(page: &mut Page, records: &[u8], index: usize) -> Result<(), Full>
-    ensures { Prints page.old (entry_of_record index (note_of_record records.now index)) page.new result }
+    ensures { Prints page.old (entry_of_record index (note_of_record records.now index))
+        page.new result }
 {
     separator(page, index)?;
     record_value(page, records, index)?;
@@ -228,7 +231,8 @@ pub fn print_json(
     spacing: &[u8],
     records: &[u8],
 ) -> Result<(), Full>
-    ensures { Prints page.old (json_of figures.now densities.now spacing.now records.now) page.new result }
+    ensures { Prints page.old (json_of figures.now densities.now spacing.now records.now)
+        page.new result }
 {
     heads(page, &figures.chart)?;
     tallies(page, figures)?;

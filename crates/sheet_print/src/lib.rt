@@ -62,7 +62,8 @@ fn head_lines(page: &mut Page, figures: &ChartFigures) -> Result<(), Full>
 // A field of the three tallies.
 #[tactic(auto, using(page::proofs::Pages::keeps_then), unfolding(crate::specs::Print::line_of_tally))]
 fn tally_line(page: &mut Page, main: &Field, kept: &Field, judged: &Field) -> Result<(), Full>
-    ensures { Prints page.old (line_of_tally main.now.0 main.now.1 kept.now.1 judged.now.1) page.new result }
+    ensures { Prints page.old (line_of_tally main.now.0 main.now.1 kept.now.1 judged.now.1)
+        page.new result }
 {
     page.left_aligned(main.name(), 12)?;
     three_columns(page, main.count(), kept.count(), judged.count())?;
@@ -137,7 +138,8 @@ fn density_entry(page: &mut Page, k: u64, density: u64, spaced: u64) -> Result<(
 #[tactic(auto, using(page::proofs::Listing::in_list))]
 fn density_lines(page: &mut Page, densities: &[u32], spacing: &[u8]) -> Result<(), Full>
     requires { length densities.now ≤ length spacing.now }
-    ensures { Prints page.old (lines_of_densities densities.now spacing.now (length densities.now)) page.new result }
+    ensures { Prints page.old (lines_of_densities densities.now spacing.now (length densities.now))
+        page.new result }
 {
     for k in 0..densities.len() {
         density_entry(page, k as u64, densities[k] as u64, spacing[k] as u64)?;
@@ -177,7 +179,8 @@ fn held_line(page: &mut Page, note: Note) -> Result<(), Full>
 
 // The line of a record; one that cannot be read has none.
 fn held_record(page: &mut Page, records: &[u8], index: usize) -> Result<(), Full>
-    ensures { Prints page.old (held_line_of_record (note_of_record records.now index)) page.new result }
+    ensures { Prints page.old (held_line_of_record (note_of_record records.now index))
+        page.new result }
 {
     match read_note(records, index) {
         Ok(note) => held_line(page, note),
@@ -205,7 +208,8 @@ pub fn print_columns(
     records: &[u8],
 ) -> Result<(), Full>
     requires { length densities.now ≤ length spacing.now }
-    ensures { Prints page.old (print_of figures.now densities.now spacing.now records.now) page.new result }
+    ensures { Prints page.old (print_of figures.now densities.now spacing.now records.now)
+        page.new result }
 {
     head_lines(page, &figures.chart)?;
     tallies(page, figures)?;

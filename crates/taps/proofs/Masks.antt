@@ -18,8 +18,7 @@ use Rattle.definitions.specs.Lists.{number_of_bool, sum_columns}
 use Rattle.definitions.proofs.Lists.{count-cons}
 use Rattle.definitions.specs.declared.Cell.{Cell}
 use Rattle.definitions.specs.declared.Cell.TheVariants.{Empty, Tap}
-use Rattle.definitions.specs.Tally.{row_sum, row_sum_by, count_from, direction}
-use Rattle.definitions.specs.declared.RowSum.{RowSum}
+use Rattle.definitions.specs.Tally.{counted_as, place, count_from, direction, arrows_towards, empty_sum, row_sum_by, row_sum}
 use Rattle.taps.specs.Taps.{Small, with_bit, tap_mask, has_mask, mask_of_line, bit, towards, masks, mask_counts, unpack}
 use Rattle.taps.specs.declared.table.TapTable.{TapTable}
 use Rattle.taps.specs.declared.Taps.{Taps}
@@ -152,7 +151,7 @@ low-two x y h e = omega arith
 
 -- the row's sum, of numbers that are small enough for their places
 packed : (a l d u r : ℕ) → a ≤ 10 → l ≤ 3 → d ≤ 3 → u ≤ 3 → r ≤ 3
-    → record { arrows = a; left = l; down = d; up = u; right = r; holds = 0; rolls = 0; tails = 0; mines = 0; lifts = 0; fakes = 0 }
+    → record empty_sum { arrows = a; left = l; down = d; up = u; right = r }
     ≡ unpack (a + (2 ^ 4 * l + 2 ^ 6 * d + 2 ^ 8 * u + 2 ^ 10 * r))
 unfolding unpack
 packed a l d u r h₁ h₂ h₃ h₄ h₅ =
@@ -188,25 +187,25 @@ module _ (w m : ℕ) (short : w ≤ 10) (few : m < 2 ^ w) where
       go a b c d e f g h i j = omega arith
 
   -- the columns of each direction; there is no eleventh and no twelfth
-  lefts : sum_bits (λ c. eqb (direction c) 0) m 0 10 ≡ towards 0 m
+  lefts : sum_bits (λ c. eqb (c % 4) 0) m 0 10 ≡ towards 0 m
   lefts = go (bit 0 m) (bit 4 m) (bit 8 m)
     where
       go : (x y z : ℕ) → x + (0 + (0 + (0 + (y + (0 + (0 + (0 + (z + (0 + 0))))))))) ≡ x + y + z
       go x y z = omega arith
 
-  downs : sum_bits (λ c. eqb (direction c) 1) m 0 10 ≡ towards 1 m
+  downs : sum_bits (λ c. eqb (c % 4) 1) m 0 10 ≡ towards 1 m
   downs = go (bit 1 m) (bit 5 m) (bit 9 m)
     where
       go : (x y z : ℕ) → 0 + (x + (0 + (0 + (0 + (y + (0 + (0 + (0 + (z + 0))))))))) ≡ x + y + z
       go x y z = omega arith
 
-  ups : sum_bits (λ c. eqb (direction c) 2) m 0 10 ≡ towards 2 m
+  ups : sum_bits (λ c. eqb (c % 4) 2) m 0 10 ≡ towards 2 m
   ups = go (bit 2 m) (bit 6 m) (bit 10 m) (ap (λ n. n % 2) (div-eq_of_lt below))
     where
       go : (x y z : ℕ) → z ≡ 0 → 0 + (0 + (x + (0 + (0 + (0 + (y + (0 + (0 + (0 + 0))))))))) ≡ x + y + z
       go x y z h = omega arith
 
-  rights : sum_bits (λ c. eqb (direction c) 3) m 0 10 ≡ towards 3 m
+  rights : sum_bits (λ c. eqb (c % 4) 3) m 0 10 ≡ towards 3 m
   rights = go (bit 3 m) (bit 7 m) (bit 11 m) (ap (λ n. n % 2) (div-eq_of_lt (omega (arith, below))))
     where
       go : (x y z : ℕ) → z ≡ 0 → 0 + (0 + (0 + (x + (0 + (0 + (0 + (y + (0 + (0 + 0))))))))) ≡ x + y + z
@@ -230,26 +229,28 @@ module _ (w m : ℕ) (short : w ≤ 10) (few : m < 2 ^ w) where
   pub sum_row : row_sum (row_of w m) ≡ unpack (mask_counts m)
   unfolding row_sum row_sum_by mask_counts cell_of
   sum_row =
-      made
-      (counts (λ c x. is_arrow x) (λ c. true) (λ c. refl) (λ c. refl) ∙ ten-bits)
-      (counts (λ c x. is_arrow x && eqb (direction c) 0) (λ c. eqb (direction c) 0) (λ c. refl) (λ c. refl) ∙ lefts)
-      (counts (λ c x. is_arrow x && eqb (direction c) 1) (λ c. eqb (direction c) 1) (λ c. refl) (λ c. refl) ∙ downs)
-      (counts (λ c x. is_arrow x && eqb (direction c) 2) (λ c. eqb (direction c) 2) (λ c. refl) (λ c. refl) ∙ ups)
-      (counts (λ c x. is_arrow x && eqb (direction c) 3) (λ c. eqb (direction c) 3) (λ c. refl) (λ c. refl) ∙ rights)
-      (counts-none _ refl refl w m)
-      (counts-none _ refl refl w m)
-      (counts-none _ refl refl w m)
-      (counts-none _ refl refl w m)
-      (counts-none _ refl refl w m)
-      (counts-none _ refl refl w m)
-      ∙ packed (sum_columns 10 (λ c. bit c m)) (towards 0 m) (towards 1 m) (towards 2 m) (towards 3 m)
-      (subst (λ n. n ≤ 10) ten-bits (few_bits (λ c. true) m 0 10)) (few-towards 0) (few-towards 1) (few-towards 2) (few-towards 3)
+      rw (
+        counts (λ c x. is_arrow x) (λ c. true) (λ c. refl) (λ c. refl) ∙ ten-bits,
+        ways 0 ∙ lefts,
+        ways 1 ∙ downs,
+        ways 2 ∙ ups,
+        ways 3 ∙ rights,
+        others 1 refl,
+        others 2 refl,
+        others 3 refl,
+        others 4 refl,
+        others 5 refl,
+        others 6 refl,
+      )
+      (packed (sum_columns 10 (λ c. bit c m)) (towards 0 m) (towards 1 m) (towards 2 m) (towards 3 m)
+      (subst (λ n. n ≤ 10) ten-bits (few_bits (λ c. true) m 0 10)) (few-towards 0) (few-towards 1) (few-towards 2) (few-towards 3))
     where
-      made : {a₁ a₂ b₁ b₂ c₁ c₂ d₁ d₂ e₁ e₂ f₁ f₂ g₁ g₂ h₁ h₂ i₁ i₂ j₁ j₂ k₁ k₂ : ℕ} → a₁ ≡ a₂ → b₁ ≡ b₂ → c₁ ≡ c₂ → d₁ ≡ d₂ → e₁ ≡ e₂
-          → f₁ ≡ f₂ → g₁ ≡ g₂ → h₁ ≡ h₂ → i₁ ≡ i₂ → j₁ ≡ j₂ → k₁ ≡ k₂
-          → ◌≡◌ {A = RowSum} (record { arrows = a₁; left = b₁; down = c₁; up = d₁; right = e₁; holds = f₁; rolls = g₁; tails = h₁; mines = i₁; lifts = j₁; fakes = k₁ })
-          (record { arrows = a₂; left = b₂; down = c₂; up = d₂; right = e₂; holds = f₂; rolls = g₂; tails = h₂; mines = i₂; lifts = j₂; fakes = k₂ })
-      made a b c d e f g h i j k = cc
+      ways : (d : ℕ) → arrows_towards d is_arrow (row_of w m) ≡ sum_bits (λ c. eqb (c % 4) d) m 0 10
+      ways d = counts (λ c x. is_arrow x && eqb (direction (length (row_of w m)) c) d) (λ c. eqb (c % 4) d) (λ c. refl) (λ c. refl)
+
+      -- a tap is counted as an arrow and as nothing else
+      others : (k : ℕ) → eqb 0 k ≡ false → count_by (λ b. eqb (place (counted_as (cell_of b))) k) (row_of w m) ≡ 0
+      others k n = counts-none _ n n w m
 
 -- A row of taps alone adds up to what its mask's counts stand for.
 tap-row-sum : (r : Row) (m : ℕ) → length r ≤ 10 → tap_mask r ≡ Mask m → row_sum r ≡ unpack (mask_counts m)

@@ -25,7 +25,9 @@ pub enum Taps {
 // product has each of them in a place of its own.
 fn gather(x: u64) -> u16
     requires { x < 137438953472 }
-    ensures { ((lo hi : ℕ) → lo < 16 → hi < 16 → x ≡ spread lo + 16 * spread hi → result ≡ lo + 16 * hi) × (result < 256) }
+    ensures value { (lo hi : ℕ) → lo < 16 → hi < 16
+        → x ≡ spread lo + 16 * spread hi → result ≡ lo + 16 * hi }
+    ensures small { result < 256 }
 {
     (x * 0x0102_0408 / 0x100_0000 % 256) as u16
 }
@@ -36,7 +38,9 @@ const NO_MASK: u32 = 65536;
 // The mask of four cells and up to four after them, by one test of all: a byte but for its lowest bit is 48 where it is a `0` or a `1`. The
 // cells are handed over as words, and `zeros` is the second word where all its cells are `0`.
 fn tap_cells(first: u64, second: u64, zeros: u64) -> u32
-    requires { (first < 4294967296) × (second < 4294967296) × (zeros < 4294967296) }
+    requires first_half { first < 4294967296 }
+    requires second_half { second < 4294967296 }
+    requires zeros_half { zeros < 4294967296 }
     ensures { (a b : Row) → Bytes a → Bytes b → length a ≡ 4 → length b ≤ 4
         → first ≡ word_of a → second ≡ word_of b → zeros ≡ word_of (zero_cells (length b))
         → result ≡ number_of (tap_mask (a ++ b)) }
@@ -68,7 +72,10 @@ fn number8(row: &[u8]) -> u32
 // A mask with one or two cells more, handed over as a word; `zeros` is that word where they are all `0`. A product by `factor` has their bits in
 // the places of `bits`. A number past all masks stays past them.
 fn with_rest(number: u32, rest: u64, zeros: u64, factor: u64, bits: u64) -> u32
-    requires { (number ≤ 65536) × (rest < 65536) × (factor < 65536) × (bits < 1024) }
+    requires number_known { number ≤ 65536 }
+    requires rest_two { rest < 65536 }
+    requires factor_two { factor < 65536 }
+    requires bits_of_ten { bits < 1024 }
     ensures { (a b : Row) → Bytes b → length b ≤ 2
         → number ≡ number_of (tap_mask a) → rest ≡ word_of b → zeros ≡ word_of (zero_cells (length b))
         → BitsPlaced zeros factor bits (length a) (length b) → Tells result (tap_mask (a ++ b)) }
@@ -82,7 +89,8 @@ fn with_rest(number: u32, rest: u64, zeros: u64, factor: u64, bits: u64) -> u32
 
 // The mask of five cells, by that of the first four.
 fn number5(row: &[u8], four: u32) -> u32
-    requires { (length row.now ≡ 5) × (four ≡ number_of (tap_mask (take 4 row.now))) }
+    requires five_cells { length row.now ≡ 5 }
+    requires first_four { four ≡ number_of (tap_mask (take 4 row.now)) }
     ensures { Tells result (tap_mask row.now) }
 {
     with_rest(four, u64::from(row[4]), 0x30, 16, 0x10)

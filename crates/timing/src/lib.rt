@@ -5,12 +5,13 @@
 ghost use Rattle.std.specs.Prelude.{◌≡◌, List, [], ℕ, ◌+◌, ◌≤◌, ◌<◌, Float, length};
 ghost use Rattle.definitions.specs.Sizes.{measures_bound, most_bytes, row_count_bound};
 ghost use Rattle.definitions.specs.Lists.{padded};
-ghost use Rattle.definitions.specs.Lanes.{most_rows_in};
+ghost use Rattle.definitions.specs.Lanes.{lanes_of, most_rows_in};
+ghost use Rattle.definitions.specs.Refusals.{leaves};
 ghost use Rattle.definitions.specs.Tracker.{hold_at};
 ghost use Rattle.definitions.specs.Correction.{is_opening};
 ghost use Rattle.definitions.specs.Beats.{f32, beats as beats_of};
 ghost use Rattle.definitions.specs.TimingRows.{has_some_head, timing_rows};
-ghost use Rattle.definitions.specs.Entries.{figures_of_timing, timing_answer, timing_text, timing_beats};
+ghost use Rattle.definitions.specs.Entries.{figures_of_timing, timing_answer};
 ghost use Rattle.reduction.specs.States.{Holding, AddsRow, EndsMinimised};
 ghost use Rattle.timing.specs.TimingPass.{Timed, TimedAll};
 
@@ -32,7 +33,8 @@ pub struct TimingPass {
 impl TimingPass {
     // Before the first line.
     fn new() -> Self
-        ensures before { (L : ℕ) (text : List ℕ) (beats : List Float) → Timed L result text beats [] [] }
+        ensures timed { (L : ℕ) (text : List ℕ) (beats : List Float)
+            → Timed L result text beats [] [] }
         ensures nothing_written { result.out ≡ 0 }
     {
         TimingPass {
@@ -49,7 +51,9 @@ impl TimingPass {
     fn add_row(&mut self, text: &mut [u8], row: &[u8])
         requires text_room { self.old.out + length row.now ≤ length text.old }
         requires rows_few { self.old.rows < row_count_bound }
-        ensures timed { (beats : List Float) → AddsRow row.now (Timed (length row.now) self.old text.old beats) (Timed (length row.now) self.new text.new beats) }
+        ensures timed { (beats : List Float) → AddsRow row.now
+            (Timed (length row.now) self.old text.old beats)
+            (Timed (length row.now) self.new text.new beats) }
         ensures out_after { self.new.out ≡ self.old.out + length row.now }
     {
         output::put_row(text, self.out, row);
@@ -63,8 +67,10 @@ impl TimingPass {
         requires beats_room { self.old.kept + self.old.rows ≤ length beats.old }
         requires rows_few { self.old.rows < row_count_bound }
         requires measures_few { self.old.midx ≤ measures_bound }
-        requires held { Holding (Timed lanes.count self.old text.old beats.old) }
-        ensures timed { EndsMinimised (Timed lanes.count self.old text.old beats.old) (Timed lanes.count self.new text.new beats.new) }
+        requires timed { Holding (Timed lanes.count self.old text.old beats.old) }
+        ensures timed { EndsMinimised
+            (Timed lanes.count self.old text.old beats.old)
+            (Timed lanes.count self.new text.new beats.new) }
         ensures no_more_bytes { self.new.out ≤ self.old.out }
         ensures no_more_rows { self.new.kept ≤ self.old.kept + self.old.rows }
     {
@@ -124,8 +130,10 @@ fn timing_figures(data: &[u8], lanes: Lanes, text: &mut [u8], beats: &mut [f32])
     requires text_room { length «data».now + 1 ≤ length text.old }
     requires beats_room { most_rows_in lanes.count (length «data».now) ≤ length beats.old }
     ensures value { result ≡ figures_of_timing lanes.count «data».now }
-    ensures text_after { text.new ≡ padded 0 (length text.old) (timing_rows lanes.count «data».now) }
-    ensures beats_after { beats.new ≡ padded (f32 0) (length beats.old) (beats_of lanes.count «data».now) }
+    ensures text_after { text.new
+        ≡ padded 0 (length text.old) (timing_rows lanes.count «data».now) }
+    ensures beats_after { beats.new
+        ≡ padded (f32 0) (length beats.old) (beats_of lanes.count «data».now) }
 {
     let pass = pass_chart(data, lanes, text, beats);
     slices::zero_past(text, pass.out, 0);
@@ -147,8 +155,10 @@ pub fn minimize_timing_rows(
     beats: &mut [f32],
 ) -> Result<TimingFigures, Refusal>
     ensures value { result ≡ timing_answer lanes «data».now text.old beats.old }
-    ensures text_after { text.new ≡ timing_text lanes «data».now text.old beats.old }
-    ensures beats_after { beats.new ≡ timing_beats lanes «data».now text.old beats.old }
+    ensures text_after { text.new
+        ≡ leaves 0 result (timing_rows (lanes_of lanes) «data».now) text.old }
+    ensures beats_after { beats.new
+        ≡ leaves (f32 0) result (beats_of (lanes_of lanes) «data».now) beats.old }
 {
     let len = data.len();
     refusals::text_fits(len)?;

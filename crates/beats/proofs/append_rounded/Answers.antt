@@ -7,15 +7,15 @@ use Rattle.beats.proofs.Beats.{beats-next, beats-all}
 use Rattle.beats.proofs.append_rounded.Goals as goal
 
 pub loop-r-preserved : goal.loop-r-preserved
-loop-r-preserved c = (
-  search rules,
-  length-set c.loop-r.beats (c.args.at + c.loop-r.r) c.mul_add.result ∙ c.loop-r.invariant.1,
-  beats-next c.args.beats.now c.loop-r.beats c.args.at c.args.midx c.args.rows c.loop-r.r _ c.loop-r.invariant.2 c.requires.0 c.loop-r-test.true
-      (c.mul_add.ensures ∙ beat-is c.args.midx c.loop-r.r c.args.rows c.args.s c.requires.2),
-)
+loop-r-preserved c = record {
+  within = search rules;
+  same_length = length-set c.loop-r.beats (c.args.at + c.loop-r.r) c.mul_add.result ∙ c.loop-r.invariant.same_length;
+  written = beats-next c.args.beats.now c.loop-r.beats c.args.at c.args.midx c.args.rows c.loop-r.r _ c.loop-r.invariant.written c.requires.beats_room c.loop-r-test.true
+      (c.mul_add.ensures ∙ beat-is c.args.midx c.loop-r.r c.args.rows c.args.s c.requires.step_is);
+}
 
 pub returns : goal.returns
 returns c =
-    c.loop-r.invariant.2
-    ∙ ap (λ (k : ℕ). paste c.args.beats.now c.args.at (row_beats c.args.midx c.args.rows 0 c.args.rows) k) (le_antisymm c.loop-r.invariant.0 c.loop-r-test.false)
+    c.loop-r.invariant.written
+    ∙ ap (λ (k : ℕ). paste c.args.beats.now c.args.at (row_beats c.args.midx c.args.rows 0 c.args.rows) k) (le_antisymm c.loop-r.invariant.within c.loop-r-test.false)
     ∙ beats-all c.args.beats.now c.args.at c.args.midx c.args.rows

@@ -10,17 +10,18 @@ use Rattle.beats.proofs.append_steps.Goals as goal
 
 pub loop-r-preserved : goal.loop-r-preserved
 loop-r-preserved c =
-    let value = subst (λ (x : Float). HasValue x false c.requires.3.units (2 ^ 43)) (sym c.step_of-step.ensures) c.requires.3.value in (
-      search rules,
-      length-set c.loop-r.beats (c.args.at + c.loop-r.r) c.steps_beat.result ∙ c.loop-r.invariant.1,
-      beats-next c.args.beats.now c.loop-r.beats c.args.at c.args.midx c.args.rows c.loop-r.r _ c.loop-r.invariant.2 c.requires.0 c.loop-r-test.true
-          (c.steps_beat.ensures c.requires.3.units value
-          ∙ steps-are c.args.midx c.loop-r.r c.args.rows c.requires.3.units c.requires.3.whole
-          ∙ beat-is c.args.midx c.loop-r.r c.args.rows c.requires.3.units c.requires.3.value),
-    )
+    let value = subst (λ (x : Float). HasValue x false c.requires.even.units (2 ^ 43)) (sym c.step_of-step.ensures) c.requires.even.value in
+    record {
+      within = search rules;
+      same_length = length-set c.loop-r.beats (c.args.at + c.loop-r.r) c.steps_beat.result ∙ c.loop-r.invariant.same_length;
+      written = beats-next c.args.beats.now c.loop-r.beats c.args.at c.args.midx c.args.rows c.loop-r.r _ c.loop-r.invariant.written c.requires.beats_room c.loop-r-test.true
+          (c.steps_beat.ensures c.requires.even.units value
+          ∙ steps-are c.args.midx c.loop-r.r c.args.rows c.requires.even.units c.requires.even.whole
+          ∙ beat-is c.args.midx c.loop-r.r c.args.rows c.requires.even.units c.requires.even.value);
+    }
 
 pub returns : goal.returns
 returns c =
-    c.loop-r.invariant.2
-    ∙ ap (λ (k : ℕ). paste c.args.beats.now c.args.at (row_beats c.args.midx c.args.rows 0 c.args.rows) k) (le_antisymm c.loop-r.invariant.0 c.loop-r-test.false)
+    c.loop-r.invariant.written
+    ∙ ap (λ (k : ℕ). paste c.args.beats.now c.args.at (row_beats c.args.midx c.args.rows 0 c.args.rows) k) (le_antisymm c.loop-r.invariant.within c.loop-r-test.false)
     ∙ beats-all c.args.beats.now c.args.at c.args.midx c.args.rows

@@ -28,4 +28,4 @@ lrint_f64-requires c =
 
 pub returns : goal.returns
 returns c =
-    (c.lrint_f64.ensures.0 ∙ code_is c.args.m c.args.r c.args.n, c.lrint_f64.ensures.1)
+    record { value = c.lrint_f64.ensures.value ∙ code_is c.args.m c.args.r c.args.n; few = c.lrint_f64.ensures.few }

@@ -45,7 +45,7 @@ returns-then-x-half c =
     let u = c.requires in
     let w = c.truncating_f64_to_u64-w.result in
     let s = small x u w c.truncating_f64_to_u64-w.ensures in
-    (down-case x u.value w (c.truncating_f64_to_u64-w.ensures ∙ whole-part x u) (half w) (half_is w s) (subst T (sym c.if-x-half.true) tt), omega (arith, s))
+    record { value = down-case x u.value w (c.truncating_f64_to_u64-w.ensures ∙ whole-part x u) (half w) (half_is w s) (subst T (sym c.if-x-half.true) tt); few = omega (arith, s) }
 
 pub overflow_add-result : goal.overflow_add-result
 overflow_add-result c = omega (arith, small c.args.x c.requires c.truncating_f64_to_u64-w.result c.truncating_f64_to_u64-w.ensures)
@@ -56,7 +56,7 @@ returns-then-half-x c =
     let u = c.requires in
     let w = c.truncating_f64_to_u64-w.result in
     let s = small x u w c.truncating_f64_to_u64-w.ensures in
-    (add-one w ∙ up-case x u.value w (c.truncating_f64_to_u64-w.ensures ∙ whole-part x u) (half w) (half_is w s) (subst T (sym c.if-half-x.true) tt), omega (arith, s))
+    record { value = add-one w ∙ up-case x u.value w (c.truncating_f64_to_u64-w.ensures ∙ whole-part x u) (half w) (half_is w s) (subst T (sym c.if-half-x.true) tt); few = omega (arith, s) }
 
 pub overflow_add-result-2 : goal.overflow_add-result-2
 overflow_add-result-2 c = omega (arith, small c.args.x c.requires c.truncating_f64_to_u64-w.result c.truncating_f64_to_u64-w.ensures)
@@ -69,4 +69,4 @@ returns c =
     let s = small x u w c.truncating_f64_to_u64-w.ensures in
     let left = subst (λ (b : Bool). T (not b)) (sym c.if-x-half.false) tt in
     let left-2 = subst (λ (b : Bool). T (not b)) (sym c.if-half-x.false) tt in
-    (tie-case x u.value w (c.truncating_f64_to_u64-w.ensures ∙ whole-part x u) (half w) (half_is w s) left left-2, even-le w s)
+    record { value = tie-case x u.value w (c.truncating_f64_to_u64-w.ensures ∙ whole-part x u) (half w) (half_is w s) left left-2; few = even-le w s }

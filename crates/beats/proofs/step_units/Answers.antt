@@ -22,9 +22,9 @@ cut-is n P S =
 
 pub truncating_f32_to_u64-requires : goal.truncating_f32_to_u64-requires
 truncating_f32_to_u64-requires c =
-    let v = code-float c.args.n c.requires.0 c.requires.1 in record { lower_bound = above_minus_one (code c.args.n) (units c.args.n) 1 v; upper_bound = below-pow 64 (code c.args.n) (units c.args.n) 1 (lit< tt) (lt_of_lt_of_le (units_lt c.args.n c.requires.0 c.requires.1) (lit≤ tt)) v }
+    let v = code-float c.args.n c.requires.some c.requires.rows_few in record { lower_bound = above_minus_one (code c.args.n) (units c.args.n) 1 v; upper_bound = below-pow 64 (code c.args.n) (units c.args.n) 1 (lit< tt) (lt_of_lt_of_le (units_lt c.args.n c.requires.some c.requires.rows_few) (lit≤ tt)) v }
 
 pub returns : goal.returns
 returns c =
-    let e : units c.args.n ≡ c.truncating_f32_to_u64.result = sym (c.truncating_f32_to_u64.ensures ∙ cut-is c.args.n c.requires.0 c.requires.1) in
-    (subst (λ (z : ℕ). HasValue (step c.args.n) false z (2 ^ 43)) e (step_value c.args.n c.requires.0 c.requires.1), subst (λ (z : ℕ). z * c.args.n < 2 ^ 46) e (step-bound c.args.n c.requires.0 c.requires.1))
+    let e : units c.args.n ≡ c.truncating_f32_to_u64.result = sym (c.truncating_f32_to_u64.ensures ∙ cut-is c.args.n c.requires.some c.requires.rows_few) in
+    record { value = subst (λ (z : ℕ). HasValue (step c.args.n) false z (2 ^ 43)) e (step_value c.args.n c.requires.some c.requires.rows_few); few = subst (λ (z : ℕ). z * c.args.n < 2 ^ 46) e (step-bound c.args.n c.requires.some c.requires.rows_few) }

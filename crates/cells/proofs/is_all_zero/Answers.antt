@@ -28,10 +28,10 @@ returns c =
     let A = picks c.args.row.now (places 0 []) in
     let B = picks c.args.row.now (places c.second_half-mid.result []) in
     let C = picks c.args.row.now (places (n - 4) []) in
-    let a : eqb c.half_at-2.result 808464432 ≡ all_zero A = ap (λ (w : ℕ). eqb w 808464432) c.half_at-2.ensures.0 ∙ zero-half c.args.row.now fits 0 in
-    let b : eqb c.half_at-3.result 808464432 ≡ all_zero B = ap (λ (w : ℕ). eqb w 808464432) c.half_at-3.ensures.0 ∙ zero-half c.args.row.now fits c.second_half-mid.result in
-    let d : eqb c.half_at-4.result 808464432 ≡ all_zero C = ap (λ (w : ℕ). eqb w 808464432) c.half_at-4.ensures.0 ∙ zero-half c.args.row.now fits (n - 4) in
+    let a : eqb c.half_at-2.result 808464432 ≡ all_zero A = ap (λ (w : ℕ). eqb w 808464432) c.half_at-2.ensures.value ∙ zero-half c.args.row.now fits 0 in
+    let b : eqb c.half_at-3.result 808464432 ≡ all_zero B = ap (λ (w : ℕ). eqb w 808464432) c.half_at-3.ensures.value ∙ zero-half c.args.row.now fits c.second_half-mid.result in
+    let d : eqb c.half_at-4.result 808464432 ≡ all_zero C = ap (λ (w : ℕ). eqb w 808464432) c.half_at-4.ensures.value ∙ zero-half c.args.row.now fits (n - 4) in
     let r = few c in
     ap₂ (λ (x y : Bool). x && y) (ap₂ (λ (x y : Bool). x && y) a b ∙ zero-append A B) d
     ∙ zero-append (A ++ B) C
-    ∙ zero-picks c.args.row.now (thirds n c.second_half-mid.result) (thirds-below n c.second_half-mid.result r.0 c.second_half-mid.ensures.1) (thirds-all n c.second_half-mid.result r.1 c.second_half-mid.ensures.0 c.second_half-mid.ensures.2 c.second_half-mid.ensures.3)
+    ∙ zero-picks c.args.row.now (thirds n c.second_half-mid.result) (thirds-below n c.second_half-mid.result r.0 c.second_half-mid.ensures.within) (thirds-all n c.second_half-mid.result r.1 c.second_half-mid.ensures.low c.second_half-mid.ensures.few c.second_half-mid.ensures.many)

@@ -44,5 +44,5 @@ returns c =
       densities_after = a.densities_are ∙ ap (λ n. padded 0 n (densities L text)) pass.auto.densities;
       beats_after = a.beats_are ∙ ap (λ n. padded (f32 0) n (beats L text)) pass.auto.beats;
       work_after = c.corrected_stats-stats.ensures.work_after ∙ none-off (length c.args.work.now);
-      slots_after = a.slots_are ∙ ap (λ n. padded 0 n (records (notes L text))) pass.auto.slots;
+      notes_after = a.slots_are ∙ ap (λ n. padded 0 n (records (notes L text))) pass.auto.slots;
     }

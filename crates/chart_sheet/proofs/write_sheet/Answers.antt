@@ -67,7 +67,7 @@ put_form-bytes-requires c =
     let ds = length-take-le _ _ (measures-fit g) in
     let ss = length-take-le _ _ (spacings-fit g) in
     record {
-      room = omega (arith, form-fits g c.args.form);
+      sheet_room = omega (arith, form-fits g c.args.form);
       densities_in_bounds = omega (arith, ds);
       spacing_in_bounds = omega (arith, ds, ss);
     }

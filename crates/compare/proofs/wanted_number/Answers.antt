@@ -6,7 +6,7 @@ use Rattle.compare.proofs.Reading.{number-get, numbers-length}
 use Rattle.compare.proofs.wanted_number.Goals as goal
 
 pub returns-then-i-want : goal.returns-then-i-want
-returns-then-i-want c = c.half_at.ensures.0 ∙ sym (number-get _ _ c.if-i-want.true)
+returns-then-i-want c = c.half_at.ensures.value ∙ sym (number-get _ _ c.if-i-want.true)
 
 pub returns-else-i-want : goal.returns-else-i-want
 returns-else-i-want c = sym (get_or_past (numbers c.args.want.now) _ 0 (omega (arith, numbers-length c.args.want.now)))

@@ -7,9 +7,9 @@ use Rattle.corrected_tally.proofs.corrected_stats.Goals as goal
 
 pub returns-then-is_corrected : goal.returns-then-is_corrected
 returns-then-is_corrected c = record {
-  value = λ rows x e. c.with_steps.ensures ∙ ap (tally_with_steps c.args.stats.total_steps) c.recalc_phantom_stats-anew.ensures.0
+  value = λ rows x e. c.with_steps.ensures ∙ ap (tally_with_steps c.args.stats.total_steps) c.recalc_phantom_stats-anew.ensures.value
       ∙ corrected-anew c.args.lanes.count rows _ c.args.stats (sym (c.is_corrected.ensures rows x) ∙ c.if-is_corrected.true) e;
-  work_after = c.recalc_phantom_stats-anew.ensures.1;
+  work_after = c.recalc_phantom_stats-anew.ensures.work_after;
 }
 
 pub returns-else-is_corrected : goal.returns-else-is_corrected

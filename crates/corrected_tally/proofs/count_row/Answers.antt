@@ -8,7 +8,7 @@ use borrow.Author.Rules.{rules}
 use Rattle.corrected_tally.proofs.count_row.Goals as goal
 
 pub count_taps-requires : goal.count_taps-requires
-count_taps-requires c = let below = fits-table c.args.table.now _ (below-at _ _ _ (sym c.requires.0) (sym c.tap_line_mask.ensures ∙ c.in-Mask.is)) in search rules
+count_taps-requires c = let below = fits-table c.args.table.now _ (below-at _ _ _ (sym c.requires.wide) (sym c.tap_line_mask.ensures ∙ c.in-Mask.is)) in search rules
 
 pub returns-in-Mask : goal.returns-in-Mask
 returns-in-Mask c =

@@ -8,16 +8,17 @@ use Rattle.corrected_tally.proofs.mark_heads.Goals as goal
 pub loop-cells-init : goal.loop-cells-init
 loop-cells-init c =
     back-start _ _ _ (c.into_iter-cells-iterator.ensures.into_iter_gives ∙ c.back_rows-cells-items.ensures) c.args.lanes.within.0
-    (marking-start _ _ c.new-tracker.ensures c.requires.1)
+    (marking-start _ _ c.new-tracker.ensures c.requires.clear)
 
 -- a row's entry stands in the work slice
 pub track_row-requires : goal.track_row-requires
 track_row-requires c =
-    let x = c.loop-cells.invariant.come in (
-      omega (arith, c.args.lanes.within.1, next-wide x c.in-Some.ensures.steps),
-      omega (arith, c.requires.0.room, c.loop-cells.invariant.held.size, next-inside x c.in-Some.ensures.steps),
-      marking-reached _ _ _ _ c.loop-cells.invariant.held,
-    )
+    let x = c.loop-cells.invariant.come in
+    record {
+      narrow = omega (arith, c.args.lanes.within.1, next-wide x c.in-Some.ensures.steps);
+      entry_room = omega (arith, c.requires.room.room, c.loop-cells.invariant.held.size, next-inside x c.in-Some.ensures.steps);
+      reached = marking-reached _ _ _ _ c.loop-cells.invariant.held;
+    }
 
 pub loop-cells-preserved : goal.loop-cells-preserved
 loop-cells-preserved c = back-more c.loop-cells.invariant _ c.in-Some.ensures.steps (marking-row _ _ _ _ c.loop-cells.invariant.held _ _ _ c.track_row.ensures)

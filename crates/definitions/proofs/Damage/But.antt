@@ -12,7 +12,7 @@ use Rattle.definitions.specs.Measures.{add_line, measures, chart}
 use Rattle.definitions.specs.Beats.{beats_from}
 use Rattle.definitions.specs.declared.LineKind.{LineKind}
 use Rattle.definitions.specs.declared.LineKind.TheVariants as line
-use Rattle.definitions.specs.Damage.{Standing, ended, over, after, ends, Struck, done, kept, out, Differ, SameBut}
+use Rattle.definitions.specs.Damage.{Standing, ended, over, after, ends, Struck, done, stay, out, Differ, SameBut}
 
 module _ {A : Type 0} where
   pub data But (d : ℕ) : ℕ → List A → List A → Type 0 where
@@ -133,7 +133,7 @@ goes over line.Row r e n f h = read
 
 struck : {L d : ℕ} {p : Standing} {xs ys : List (List ℕ)} → Struck L d p xs ys → Rel d p (measures L xs) (measures L ys)
 struck (done {p = p}) = rel-refl p ([] ∷ [])
-struck {L = L} (kept {p = p} {l = l} h) = stays p (line_kind L l) (line_row L l) (struck h)
+struck {L = L} (stay {p = p} {l = l} h) = stays p (line_kind L l) (line_row L l) (struck h)
 struck {L = L} (out {p = p} {l = l} {xs = xs} i h) =
     goes p (line_kind L l) (line_row L l) i.standing i.inside (filled L xs) (struck h)
 

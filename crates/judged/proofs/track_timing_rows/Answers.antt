@@ -14,11 +14,12 @@ loop-cells-init c =
 -- a row's entry stands in the work slice
 pub track_row-requires : goal.track_row-requires
 track_row-requires c =
-    let x = c.loop-cells.invariant.come in (
-      omega (arith, c.args.lanes.within.1, next-wide x c.in-Some.ensures.steps),
-      omega (arith, c.requires.work_room, x.most, c.loop-cells.invariant.held.size, next-inside x c.in-Some.ensures.steps),
-      tracking-reached _ _ _ _ _ c.loop-cells.invariant.held,
-    )
+    let x = c.loop-cells.invariant.come in
+    record {
+      narrow = omega (arith, c.args.lanes.within.1, next-wide x c.in-Some.ensures.steps);
+      entry_room = omega (arith, c.requires.work_room, x.most, c.loop-cells.invariant.held.size, next-inside x c.in-Some.ensures.steps);
+      reached = tracking-reached _ _ _ _ _ c.loop-cells.invariant.held;
+    }
 
 pub loop-cells-preserved : goal.loop-cells-preserved
 loop-cells-preserved c =

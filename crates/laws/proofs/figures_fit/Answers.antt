@@ -12,6 +12,6 @@ returns c =
       measures = λ lanes. measures-fit _ (lanes-at-least lanes) (lanes-at-most lanes);
       last = λ lanes. last-fits _ (lanes-at-least lanes) (lanes-at-most lanes);
       judged = λ lanes. judged-fits _ (lanes-at-least lanes) (lanes-at-most lanes);
-      flagged = λ lanes text flags short. flagged-fits _ (lanes-at-least lanes) (lanes-at-most lanes) text short flags;
-      sheet = λ lanes. sheet-fits _ (lanes-at-least lanes) (lanes-at-most lanes);
+      flagged = λ flags lanes text short. flagged-fits _ (lanes-at-least lanes) (lanes-at-most lanes) text short flags;
+      sheet = λ form lanes. sheet-fits _ (lanes-at-least lanes) (lanes-at-most lanes) form;
     }

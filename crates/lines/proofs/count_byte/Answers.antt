@@ -10,9 +10,8 @@ use Rattle.lines.proofs.count_byte.Goals.{then-slice-i, else-slice-i}
 -- the bits of the mask are as many as such bytes of the word: they are counted once in the rest
 told : (c : goal.After-byte_match_mask-mask) → count_of c.args.needle (drop c.loop-i.i c.args.slice.now) ≡ ones c.byte_match_mask-mask.result + count_of c.args.needle (drop (c.loop-i.i + 8) c.args.slice.now)
 told c =
-    rw (of_word c.args.needle c.args.slice.now c.loop-i.i c.loop-i-test.true c.word_at.result
-    (λ xs. ones c.byte_match_mask-mask.result ≡ count_of c.args.needle xs)
-    (λ k. (c.type_inv.slice k).fits) c.word_at.ensures c.byte_match_mask-mask.ensures)
+    let read = of_word c.args.needle c.args.slice.now c.loop-i.i c.loop-i-test.true c.word_at.result (λ k. (c.type_inv.slice k).fits) c.word_at.ensures in
+    rw (c.byte_match_mask-mask.ensures, read)
     (word_count c.args.needle c.args.slice.now c.loop-i.i c.loop-i-test.true)
 
 pub overflow_add-n : goal.overflow_add-n

@@ -12,9 +12,8 @@ use Rattle.lines.proofs.find_byte.Goals.{After-byte_hits-hits}
 -- the place of the lowest bit is that of the first such byte
 first : (c : After-byte_hits-hits) → count_trailing_zeros 64 c.byte_hits-hits.result / 8 ≡ first_in c.args.needle (take 8 (drop c.loop-i.i c.args.slice.now))
 first c =
-    of_word c.args.needle c.args.slice.now c.loop-i.i c.loop-i-test.true c.word_at.result
-    (λ xs. count_trailing_zeros 64 c.byte_hits-hits.result / 8 ≡ first_in c.args.needle xs)
-    (λ k. (c.type_inv.slice k).fits) c.word_at.ensures c.byte_hits-hits.ensures
+    c.byte_hits-hits.ensures
+    ∙ ap (first_in c.args.needle) (of_word c.args.needle c.args.slice.now c.loop-i.i c.loop-i-test.true c.word_at.result (λ k. (c.type_inv.slice k).fits) c.word_at.ensures)
 
 pub returns-then-hits-ne0 : goal.returns-then-hits-ne0
 returns-then-hits-ne0 c =

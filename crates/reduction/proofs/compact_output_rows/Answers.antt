@@ -22,24 +22,24 @@ use Rattle.reduction.proofs.Moves.{moved-within}
 use Rattle.reduction.proofs.compact_output_rows.Goals as goal
 
 -- the exponent is below the number of bits, since its power divides the rows, which are some
-shift_fits : (shift rows : ℕ) → (0 < rows) × (rows % 2 ^ shift ≡ 0) → Fits w64 rows → shift < 64
-shift_fits shift rows h f = power-fits shift rows h.0 f.fits h.1
+shift_fits : (shift rows : ℕ) → 0 < rows → rows % 2 ^ shift ≡ 0 → Fits w64 rows → shift < 64
+shift_fits shift rows some even f = power-fits shift rows some f.fits even
 
 pub overflow_shl-step : goal.overflow_shl-step
-overflow_shl-step c = shift_fits c.args.shift c.args.rows c.requires.rows_nonzero c.ranges.rows
+overflow_shl-step c = shift_fits c.args.shift c.args.rows c.requires.some c.requires.divides c.ranges.rows
 
 pub overflow_shr-kept : goal.overflow_shr-kept
-overflow_shr-kept c = shift_fits c.args.shift c.args.rows c.requires.rows_nonzero c.ranges.rows
+overflow_shr-kept c = shift_fits c.args.shift c.args.rows c.requires.some c.requires.divides c.ranges.rows
 
 pub loop-row-init : goal.loop-row-init
 loop-row-init c =
-    let e = shifted_one c.args.shift (shift_fits c.args.shift c.args.rows c.requires.rows_nonzero c.ranges.rows) in (
+    let e = shifted_one c.args.shift (shift_fits c.args.shift c.args.rows c.requires.some c.requires.divides c.ranges.rows) in (
       e,
       moved-start _ _ _ _ _ _
           (rw e (omega (arith, below_power c.args.shift, c.if-shift-eq0.false)))
-          (kept-times c.args.rows c.args.shift _ e c.requires.rows_nonzero.1)
-          c.requires.rows_nonzero.0
-          c.requires.width_in_bounds,
+          (kept-times c.args.rows c.args.shift _ e c.requires.divides)
+          c.requires.some
+          c.requires.in_text,
     )
 
 pub overflow_mul-row : goal.overflow_mul-row
@@ -48,7 +48,7 @@ overflow_mul-row c = omega (arith, moved-next c.loop-row.invariant.1 c.loop-row-
 pub move_row-requires : goal.move_row-requires
 move_row-requires c =
     let next = moved-next c.loop-row.invariant.1 c.loop-row-test.true in
-    (next.1, omega (arith, next, moved-size c.loop-row.invariant.1))
+    record { apart = next.1; from_within = omega (arith, next, moved-size c.loop-row.invariant.1) }
 
 pub overflow_add-row : goal.overflow_add-row
 overflow_add-row c = omega (arith, div-le_self c.args.rows (2 ^ c.args.shift))
@@ -61,7 +61,7 @@ returns-then-shift-eq0 c =
     record {
       value = sym (ap (λ (k : ℕ). c.args.rows / 2 ^ k) c.if-shift-eq0.true ∙ div-one c.args.rows);
       text_after =
-          one-stays c.args.width c.args.rows c.args.start c.args.text.now c.requires.width_in_bounds
+          one-stays c.args.width c.args.rows c.args.start c.args.text.now c.requires.in_text
           ∙ ap (λ (k : ℕ). compacted c.args.width c.args.rows (2 ^ k) c.args.start c.args.text.now) (sym c.if-shift-eq0.true);
     }
 

@@ -32,7 +32,7 @@ row_zero text start w L n k h e = ap all_zero (row-part text start w L n k h) âˆ
 pub returns-then-rows-lt2 : goal.returns-then-rows-lt2
 returns-then-rows-lt2 c =
     let all = shift_is _ _ 0 (rows-length _ _ _ _) (stride-small _ (simp rows-length (omega arith))) in
-    record { result_value = all.0; result_value_2 = all.1 }
+    record { value = all.0; divides = all.1 }
 
 pub search-init : goal.search-init
 search-init c = found-start _ _ (rows-length _ _ _ _) (omega arith)
@@ -51,11 +51,11 @@ search-preserved c = found-step c.search.invariant c.search-test.true c.loop-row
 pub returns-after-search : goal.returns-after-search
 returns-after-search c =
     let all = shift_is _ _ _ (rows-length _ _ _ _) (found-odd c.search.invariant c.search-test.false) in
-    record { result_value = all.0; result_value_2 = all.1 }
+    record { value = all.0; divides = all.1 }
 
 pub returns-then-not-is_all_zero : goal.returns-then-not-is_all_zero
 returns-then-not-is_all_zero c =
     let all = shift_is _ _ _ (rows-length _ _ _ _)
     (found-stop c.search.invariant c.loop-row.invariant c.loop-row-test.true
     (row_zero c.args.text.now c.args.start c.args.width c.args.lanes c.args.rows c.loop-row.row c.loop-row-test.true c.is_all_zero.ensures âˆ™ c.if-not-is_all_zero.true)) in
-    record { result_value = all.0; result_value_2 = all.1 }
+    record { value = all.0; divides = all.1 }

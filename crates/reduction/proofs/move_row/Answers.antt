@@ -51,10 +51,10 @@ returns c =
     let front : Front c.args.text.now c.args.to (drop c.args.from c.args.text.now) c.args.width c.if-width-gt8.text =
     elim c.if-width-gt8.branch [
       | then-width-gt8 w ↦
-          eight c.args.text.now c.args.from c.args.to c.args.width range c.requires first (w.text-is ∙ w.move_four-then-width-gt8.ensures ∙ sym (moved-within _ (c.args.from + 4) (c.args.to + 4) 4)) w.if-width-gt8.true
-      | else-width-gt8 w ↦ four c.args.text.now c.args.from c.args.to c.args.width range c.requires (w.text-is ∙ first) w.if-width-gt8.false
+          eight c.args.text.now c.args.from c.args.to c.args.width range (c.requires.apart, c.requires.from_within) first (w.text-is ∙ w.move_four-then-width-gt8.ensures ∙ sym (moved-within _ (c.args.from + 4) (c.args.to + 4) 4)) w.if-width-gt8.true
+      | else-width-gt8 w ↦ four c.args.text.now c.args.from c.args.to c.args.width range (c.requires.apart, c.requires.from_within) (w.text-is ∙ first) w.if-width-gt8.false
     ] in
     c.move_four-2.ensures
     ∙ sym (moved-within _ (c.args.from + (c.args.width - 4)) (c.args.to + (c.args.width - 4)) 4)
-    ∙ with-last c.args.text.now c.args.from c.args.to c.args.width range c.requires front
+    ∙ with-last c.args.text.now c.args.from c.args.to c.args.width range (c.requires.apart, c.requires.from_within) front
     ∙ moved-within c.args.text.now c.args.from c.args.to c.args.width

@@ -21,5 +21,5 @@ pub returns : goal.returns
 returns c =
     let found = c.measure_reduce_shift-shift.ensures in
     let moved = c.compact_output_rows.ensures in
-    let all = reduced-by _ _ _ _ _ _ _ _ found.result_value found.result_value_2 moved.value moved.text_after in
+    let all = reduced-by _ _ _ _ _ _ _ _ found.value found.divides moved.value moved.text_after in
     record { value = all.0; text_after = all.1 }

@@ -12,14 +12,22 @@ pub push_tap-first-requires : goal.push_tap-first-requires
 push_tap-first-requires c =
     let F = c.requires.fits in
     let t = mask_start _ _ _ _ _ _ F in
-    (mask-early _ _ _ _ _ _ F _ _ _ t (omega arith), c.low_bit-one.ensures.inside, mask-few _ _ _ _ _ _ F _ _ _ t)
+    record {
+      notes_room = mask-early _ _ _ _ _ _ F _ _ _ t (omega arith);
+      column_bound = c.low_bit-one.ensures.inside;
+      notes_few = mask-few _ _ _ _ _ _ F _ _ _ t;
+    }
 
 pub push_tap-count-requires : goal.push_tap-count-requires
 push_tap-count-requires c =
     let F = c.requires.fits in
     let first = c.push_tap-first.ensures in
     let t = mask_next _ _ _ _ _ _ F _ _ _ (mask_start _ _ _ _ _ _ F) _ _ _ (rw c.from.ensures at c.low_bit-one.ensures) _ _ first.notes_after first.value c.push_tap-first.auto.notes in
-    (mask-early _ _ _ _ _ _ F _ _ _ t (omega (arith, one-le c.low_bit-one.result.tap)), c.low_bit-two.ensures.inside, mask-few _ _ _ _ _ _ F _ _ _ t)
+    record {
+      notes_room = mask-early _ _ _ _ _ _ F _ _ _ t (omega (arith, one-le c.low_bit-one.result.tap));
+      column_bound = c.low_bit-two.ensures.inside;
+      notes_few = mask-few _ _ _ _ _ _ F _ _ _ t;
+    }
 
 pub loop-left-init : goal.loop-left-init
 loop-left-init c = λ s cells F.
@@ -35,7 +43,11 @@ pub push_tap-count-requires-in-loop-left : goal.push_tap-count-requires-in-loop-
 push_tap-count-requires-in-loop-left c =
     let F = c.requires.fits in
     let t = c.loop-left.invariant _ _ F in
-    (mask-late _ _ _ _ _ _ F _ _ _ t _ _ _ c.low_bit-next.ensures c.loop-left-test.true, c.low_bit-next.ensures.inside, mask-few _ _ _ _ _ _ F _ _ _ t)
+    record {
+      notes_room = mask-late _ _ _ _ _ _ F _ _ _ t _ _ _ c.low_bit-next.ensures c.loop-left-test.true;
+      column_bound = c.low_bit-next.ensures.inside;
+      notes_few = mask-few _ _ _ _ _ _ F _ _ _ t;
+    }
 
 pub loop-left-preserved : goal.loop-left-preserved
 loop-left-preserved c = λ s cells F.

@@ -13,8 +13,8 @@ loop-k-preserved c =
     let inside = c.loop-k-test.true in
     let tail = c.get_word-tail.ensures in
     elim c.if-tail.branch [
-      | then-tail w ↦ rw w.kept-is (retain-stays _ _ _ c.requires _ _ _ at c.if-tail.notes inside (λ e. w.if-tail.true (tail ∙ e)) (w.notes-is ∙ w.move_record.ensures))
-      | else-tail w ↦ rw (w.notes-is, w.kept-is) (retain-gone _ _ _ c.requires _ _ _ at inside (sym tail ∙ w.if-tail.false))
+      | then-tail w ↦ rw w.stay-is (retain-stays _ _ _ c.requires _ _ _ at c.if-tail.notes inside (λ e. w.if-tail.true (tail ∙ e)) (w.notes-is ∙ w.move_record.ensures))
+      | else-tail w ↦ rw (w.notes-is, w.stay-is) (retain-gone _ _ _ c.requires _ _ _ at inside (sym tail ∙ w.if-tail.false))
     ]
 
 pub returns : goal.returns

@@ -4,4 +4,4 @@ use Rattle.row_notes.proofs.Retaining.{Retaining}
 use Rattle.row_notes.proofs.retain_valid.Given as goal
 
 abbrev pub invariant-loop-k : goal.invariant-loop-k
-invariant-loop-k l = Retaining l.initial.notes l.count true l.notes l.kept l.k
+invariant-loop-k l = Retaining l.initial.notes l.count true l.notes l.stay l.k

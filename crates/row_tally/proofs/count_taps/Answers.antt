@@ -6,7 +6,7 @@ use Rattle.row_tally.proofs.Taps.{mask_under}
 use Rattle.row_tally.proofs.count_taps.Goals as goal
 
 pub add_row_into-requires : goal.add_row_into-requires
-add_row_into-requires c = (c.requires.1, rw c.sum.ensures (mask_under _ (masks-few _ _ c.requires.0)))
+add_row_into-requires c = record { few = c.requires.few; sum_few = rw c.sum.ensures (mask_under _ (masks-few _ _ c.requires.mask_known)) }
 
 pub returns : goal.returns
 returns c row e = c.add_row_into.ensures ∙ ap (tally_with_row _) (c.sum.ensures ∙ sym (tap-line-sum row _ e))

@@ -9,29 +9,29 @@ use Rattle.definitions.specs.Lines.{Row}
 use Rattle.definitions.specs.Tally.{row_sum_by}
 use Rattle.definitions.specs.declared.RowSum.{RowSum}
 use Rattle.row_tally.specs.Bounds.{Under}
-use Rattle.row_tally.specs.Kept.{row_by_mask}
+use Rattle.row_tally.specs.Masked.{row_by_mask}
 use Rattle.row_tally.specs.Sums.{arrow_of}
 use Rattle.row_tally.proofs.Bounds.{under-judged}
-use Rattle.row_tally.proofs.Kept.{keep-length, unjudged}
+use Rattle.row_tally.proofs.Masked.{keep-length, unjudged}
 use Rattle.row_tally.proofs.judged_sum_masked.Goals as goal
 
 -- the counts of the judged sum
-kept_under : (s : RowSum) (heads : ℕ) (row : Row) → length row ≤ 10 → s ≡ row_sum_by (arrow_of true) (row_by_mask heads 0 row) → Under 10 s
+masked_under : (s : RowSum) (heads : ℕ) (row : Row) → length row ≤ 10 → s ≡ row_sum_by (arrow_of true) (row_by_mask heads 0 row) → Under 10 s
 unfolding judged_sum
-kept_under s heads row h e = rw e (under-judged 10 true (row_by_mask heads 0 row) (rw keep-length h))
+masked_under s heads row h e = rw e (under-judged 10 true (row_by_mask heads 0 row) (rw keep-length h))
 
 pub returns-then-judged : goal.returns-then-judged
 unfolding judged_sum
-returns-then-judged c = c.kept_sum-s.ensures ∙ rw c.if-judged.true
+returns-then-judged c = c.masked_sum-s.ensures ∙ rw c.if-judged.true
 
 pub overflow_add-s : goal.overflow_add-s
-overflow_add-s c = omega (arith, kept_under _ _ _ c.requires c.kept_sum-s.ensures)
+overflow_add-s c = omega (arith, masked_under _ _ _ c.requires c.masked_sum-s.ensures)
 
 pub overflow_add-s-2 : goal.overflow_add-s-2
-overflow_add-s-2 c = omega (arith, kept_under _ _ _ c.requires c.kept_sum-s.ensures)
+overflow_add-s-2 c = omega (arith, masked_under _ _ _ c.requires c.masked_sum-s.ensures)
 
 pub returns : goal.returns
 returns c =
     c.only_fakes.ensures
-    ∙ rw (c.kept_sum-s.ensures, c.if-judged.false)
+    ∙ rw (c.masked_sum-s.ensures, c.if-judged.false)
     (unjudged (row_by_mask c.args.heads 0 c.args.row.now))

@@ -8,16 +8,17 @@ use Rattle.row_tally.proofs.Taps.{mask_under, taps-judged, taps-unjudged}
 use Rattle.row_tally.proofs.judged_taps.Goals as goal
 
 pub returns-then-judged : goal.returns-then-judged
-returns-then-judged c = (
-  rw c.sum-s.ensures (mask_under _ (masks-few _ _ c.requires)),
-  λ row e. rw c.if-judged.true (c.sum-s.ensures ∙ taps-judged row _ e),
-)
+returns-then-judged c = record {
+  sum_few = rw c.sum-s.ensures (mask_under _ (masks-few _ _ c.requires));
+  summed = λ row e. rw c.if-judged.true (c.sum-s.ensures ∙ taps-judged row _ e);
+}
 
 pub returns : goal.returns
 returns c =
-    let u : Under 10 c.sum-s.result = rw c.sum-s.ensures (mask_under _ (masks-few _ _ c.requires)) in (
-      rw c.only_fakes.ensures (omega arith),
-      λ row e.
+    let u : Under 10 c.sum-s.result = rw c.sum-s.ensures (mask_under _ (masks-few _ _ c.requires)) in
+    record {
+      sum_few = rw c.only_fakes.ensures (omega arith);
+      summed = λ row e.
           rw c.if-judged.false
-          (c.only_fakes.ensures ∙ ap (λ s. sum_of_fakes s.arrows) c.sum-s.ensures ∙ taps-unjudged row _ e),
-    )
+          (c.only_fakes.ensures ∙ ap (λ s. sum_of_fakes s.arrows) c.sum-s.ensures ∙ taps-unjudged row _ e);
+    }

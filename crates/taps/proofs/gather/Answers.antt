@@ -6,4 +6,7 @@ use Rattle.taps.proofs.Words.{gathered}
 use Rattle.taps.proofs.gather.Goals as goal
 
 pub returns : goal.returns
-returns c = (λ lo hi h k e. ap (λ w. w * 16909320 / 16777216 % 256) e ∙ gathered lo hi h k, omega arith)
+returns c = record {
+  value = λ lo hi h k e. ap (λ w. w * 16909320 / 16777216 % 256) e ∙ gathered lo hi h k;
+  small = omega arith;
+}

@@ -12,7 +12,7 @@ use Rattle.taps.proofs.number10.Goals as goal
 pub with_rest-requires : goal.with_rest-requires
 with_rest-requires c =
     let h = number-le (tap_mask (take 8 c.args.row.now)) _ (mask-small (take 8 c.args.row.now) (omega (arith, length-take 8 c.args.row.now))) c.number8-eight.ensures in
-    (h, omega (arith, c.from.ensures, c.from-2.ensures), omega arith, omega arith)
+    record { number_known = h; rest_two = omega (arith, c.from.ensures, c.from-2.ensures); factor_two = omega arith; bits_of_ten = omega arith }
 
 pub returns : goal.returns
 unfolding word_of

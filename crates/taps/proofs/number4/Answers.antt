@@ -15,5 +15,5 @@ unfolding word_of
 returns c =
     let bytes = bytes_of c.args.row.now (λ k. (c.type_inv.row k).fits) in
     c.tap_cells.ensures (take 4 c.args.row.now) [] (bytes_take 4 c.args.row.now bytes) tt (length-take-le 4 c.args.row.now c.requires) (omega arith)
-    (c.half_at.ensures.0 ∙ half-word c.args.row.now 0 c.requires) refl refl
+    (c.half_at.ensures.value ∙ half-word c.args.row.now 0 c.requires) refl refl
     ∙ ap (λ l. number_of (tap_mask l)) (append-nil (take 4 c.args.row.now))

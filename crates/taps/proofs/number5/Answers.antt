@@ -12,12 +12,12 @@ use Rattle.taps.proofs.number5.Goals as goal
 
 pub with_rest-requires : goal.with_rest-requires
 with_rest-requires c =
-    let h = number-le (tap_mask (take 4 c.args.row.now)) _ (mask-small (take 4 c.args.row.now) (omega (arith, length-take 4 c.args.row.now))) c.requires.1 in
-    (h, omega arith, omega arith, omega arith)
+    let h = number-le (tap_mask (take 4 c.args.row.now)) _ (mask-small (take 4 c.args.row.now) (omega (arith, length-take 4 c.args.row.now))) c.requires.first_four in
+    record { number_known = h; rest_two = omega arith; factor_two = omega arith; bits_of_ten = omega arith }
 
 pub returns : goal.returns
 unfolding word_of
 returns c =
     let bytes = bytes_of c.args.row.now (λ k. (c.type_inv.row k).fits) in
-    rest_of c.args.row.now 4 1 c.requires.0 (omega arith) 16 16 _ fifth-placed
-    (λ few placed ez. c.with_rest.ensures (take 4 c.args.row.now) (drop 4 c.args.row.now) (bytes_drop 4 c.args.row.now bytes) few c.requires.1 (c.from.ensures ∙ one_word c.args.row.now 4 c.requires.0) ez placed)
+    rest_of c.args.row.now 4 1 c.requires.five_cells (omega arith) 16 16 _ fifth-placed
+    (λ few placed ez. c.with_rest.ensures (take 4 c.args.row.now) (drop 4 c.args.row.now) (bytes_drop 4 c.args.row.now bytes) few c.requires.first_four (c.from.ensures ∙ one_word c.args.row.now 4 c.requires.five_cells) ez placed)

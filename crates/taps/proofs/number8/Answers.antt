@@ -17,6 +17,6 @@ returns c =
     let more : 4 ≤ length (drop 4 c.args.row.now) = omega (arith, length-drop 4 c.args.row.now) in
     let four : length (take 4 (drop 4 c.args.row.now)) ≡ 4 = length-take-le 4 (drop 4 c.args.row.now) more in
     c.tap_cells.ensures (take 4 c.args.row.now) (take 4 (drop 4 c.args.row.now)) (bytes_take 4 c.args.row.now bytes) (bytes_take 4 (drop 4 c.args.row.now) (bytes_drop 4 c.args.row.now bytes))
-    (length-take-le 4 c.args.row.now (omega arith)) (omega (arith, four)) (c.half_at.ensures.0 ∙ half-word c.args.row.now 0 (omega arith))
-    (c.half_at-2.ensures.0 ∙ half-word c.args.row.now 4 more) (ap (λ n. word_of (zero_cells n)) (sym four))
+    (length-take-le 4 c.args.row.now (omega arith)) (omega (arith, four)) (c.half_at.ensures.value ∙ half-word c.args.row.now 0 (omega arith))
+    (c.half_at-2.ensures.value ∙ half-word c.args.row.now 4 more) (ap (λ n. word_of (zero_cells n)) (sym four))
     ∙ ap (λ l. number_of (tap_mask l)) (sym (take-add 4 4 c.args.row.now))

@@ -10,7 +10,7 @@ use Rattle.timing.proofs.pass_chart.Goals as goal
 pub loop-line-init : goal.loop-line-init
 loop-line-init c =
     minimising-start (c.into_iter-line-iterator.ensures.into_iter_gives ∙ c.chart_lines-line-items.ensures) c.args.lanes.within.0 c.new-pass.ensures.nothing_written
-    (c.new-pass.ensures.before c.args.lanes.count c.args.text.now c.args.beats.now)
+    (c.new-pass.ensures.timed c.args.lanes.count c.args.text.now c.args.beats.now)
 
 pub add_row-requires : goal.add_row-requires
 add_row-requires c =

@@ -6,7 +6,7 @@ use Rattle.chart_pass.proofs.ChartPass.add_row.Goals as goal
 pub returns-clause-charted : goal.returns-clause-charted
 returns-clause-charted c =
     λ densities beats slots done cur x. record {
-      kept = record { drafted = c.add_row.ensures.drafted done cur x.kept.drafted; counted = x.kept.counted; stored = ap (λ n. take n densities) c.add_row.ensures.one_more.1 ∙ x.kept.stored };
+      kept = record { drafted = c.add_row.ensures.drafted done cur x.kept.drafted; counted = x.kept.counted; stored = ap (λ n. take n densities) c.add_row.ensures.same_measure ∙ x.kept.stored };
       noted = x.noted;
       ten = x.ten;
       beats_are = x.beats_are;

@@ -23,7 +23,7 @@ done c J rows size tracks =
 
 pub new-requires : goal.new-requires
 new-requires c =
-    let from = c.requires.2 in
+    let from = c.requires.reached in
     (done (goal.at.new-requires c).Joined-free_taps from.judging from.rows from.size from.tracks).few
 
 pub returns : goal.returns

@@ -3,7 +3,7 @@ use native.Mathlib.Omega.{arith}
 use mathlib.Core.Path.{◌≡◌}
 use Rattle.row_tally.specs.Bounds.{Under}
 use Rattle.row_tally.proofs.Bounds.{under-judged}
-use Rattle.row_tally.proofs.Kept.{keep-length}
+use Rattle.row_tally.proofs.Masked.{keep-length}
 use Rattle.judged.specs.Timing.{timing_sum, new_holds, timing_row}
 use Rattle.judged.proofs.TimingStats.add_row.Goals.{After-judged_sum_masked-sum}
 use Rattle.judged.proofs.TimingStats.add_row.Goals as goal
@@ -18,7 +18,11 @@ under c = rw c.judged_sum_masked-sum.ensures (under-judged 10 _ _ (rw keep-lengt
 
 pub add_judged_row-requires : goal.add_judged_row-requires
 add_judged_row-requires c =
-    (c.requires.tally_room.1, under (goal.at.add_judged_row-requires c).After-judged_sum_masked-sum, c.requires.tally_room.2)
+    record {
+      few = c.requires.tally_room.1;
+      sum_few = under (goal.at.add_judged_row-requires c).After-judged_sum_masked-sum;
+      held_few = c.requires.tally_room.2;
+    }
 
 pub overflow_add-self : goal.overflow_add-self
 overflow_add-self c = omega (arith, (under (goal.at.overflow_add-self c).After-judged_sum_masked-sum).heads)

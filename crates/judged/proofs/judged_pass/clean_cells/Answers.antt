@@ -26,7 +26,7 @@ loop-column-preserved c =
       | in-Empty w ↦ passing-moved w.depths-is w.sum-is (passing-empty _ _ _ _ _ c.loop-column.invariant c.loop-column-test.true inside (sym w.in-Empty.ensures))
       | in_default+in_ok-depths-in_default w ↦
           passing-moved w.depths-is w.sum-is
-          (passing-next _ _ _ _ _ c.loop-column.invariant c.loop-column-test.true inside _ (sym w.in_ok-depths-in_default.ensures) _ w.judged_cell-sum.ensures)
+          (passing-next _ _ _ _ _ c.loop-column.invariant c.loop-column-test.true inside _ (sym w.in_ok-depths-in_default.ensures) _ (rw w.direction.ensures at w.judged_cell-sum.ensures))
     ]
 
 pub returns : goal.returns

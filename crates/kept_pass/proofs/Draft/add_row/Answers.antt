@@ -4,4 +4,4 @@ use Rattle.kept_pass.proofs.Passing.{draft-row}
 use Rattle.kept_pass.proofs.Draft.add_row.Goals as goal
 
 pub returns-clause-drafted : goal.returns-clause-drafted
-returns-clause-drafted c = draft-row c.args.self.now c.args.text.now c.args.row.now c.requires.0 _ c.put_line.ensures _ (omega arith)
+returns-clause-drafted c = draft-row c.args.self.now c.args.text.now c.args.row.now c.requires.text_room _ c.put_line.ensures _ (omega arith)

@@ -7,5 +7,5 @@ pub returns-clause-kept : goal.returns-clause-kept
 returns-clause-kept c = λ densities done cur x. record {
   drafted = c.add_row.ensures.drafted done cur x.drafted;
   counted = x.counted;
-  stored = ap (λ n. take n densities) c.add_row.ensures.one_more.1 ∙ x.stored;
+  stored = ap (λ n. take n densities) c.add_row.ensures.same_measure ∙ x.stored;
 }

@@ -27,12 +27,12 @@ loop-i-init c = lined-start _ c.args.self.now.phantoms _ (search rules) c.no_sum
 
 pub overflow_add-phantoms : goal.overflow_add-phantoms
 overflow_add-phantoms c =
-    let few = low c.args.self.now.rows _ _ _ _ c.requires.1 c.requires.2.phantoms c.loop-i.invariant.passed in
+    let few = low c.args.self.now.rows _ _ _ _ c.requires.rows_few c.requires.few.phantoms c.loop-i.invariant.passed in
     omega (arith, few.heads, one-head _ _ _ c.phantom_cell-p.ensures)
 
 pub overflow_add-phantoms-in_default : goal.overflow_add-phantoms-in_default
 overflow_add-phantoms-in_default c =
-    let few = low c.args.self.now.rows _ _ _ _ c.requires.1 c.requires.2.phantoms c.loop-i.invariant.passed in
+    let few = low c.args.self.now.rows _ _ _ _ c.requires.rows_few c.requires.few.phantoms c.loop-i.invariant.passed in
     omega (arith, few.tails, one-tail _ _ _ c.phantom_cell-p.ensures)
 
 pub loop-i-preserved : goal.loop-i-preserved
@@ -42,7 +42,7 @@ loop-i-preserved c =
     let m : c.loop-i.i < 10 = omega arith in
     elim c.match-cell_of.branch [
       | in-Empty w ↦ rw (w.phantoms-is, w.sum-is) (lined-empty _ _ _ _ _ at h m (sym c.cell_of.ensures ∙ w.in-Empty.is))
-      | in_default w ↦ rw (w.phantoms-is, w.sum-is) (lined-next _ _ _ _ _ at h m _ w.phantom_cell-p.ensures _ w.sum_cell-sum.ensures)
+      | in_default w ↦ rw (w.phantoms-is, w.sum-is) (lined-next _ _ _ _ _ at h m _ w.phantom_cell-p.ensures _ (rw w.direction.ensures at w.sum_cell-sum.ensures))
     ]
 
 pub returns : goal.returns
@@ -51,6 +51,6 @@ returns c =
     let left = c.loop-i-test.false in
     λ L done cur w v x.
     counted-row L _ done cur x _ w v _ _ _
-    (c.add_row_into.ensures ∙ ap (tally_with_row c.args.self.now.stats) (summed-end is_arrow _ _ _ _ (drop_of_length-le row left) c.loop-i.invariant.summed))
+    (c.add_row_into.ensures ∙ ap (tally_with_row c.args.self.now.stats) (summed-end _ is_arrow _ _ _ _ (drop_of_length-le row left) c.loop-i.invariant.summed))
     (λ L rows wide narrow counts. passed-end _ _ _ _ c.loop-i.invariant.passed left L rows wide narrow counts)
     (rw c.unlike-self.ensures (unlike-free 0 _))

@@ -17,15 +17,16 @@ count_taps-requires c =
     let a = c.args in
     let L = a.table.now.lanes.count in
     let ms = rows_of L a.rows a.text.now a.start in
-    let some = c.requires.few.1 in
-    let x = c.loop-i.invariant.3 some.done some.counted in
-    let grown = counted-grown _ _ _ _ ms a.first c.loop-i.i (rw rows-length c.requires.in_text.1) (rw rows-length c.loop-i.invariant.1) some.counted x in
+    let some = c.requires.counted in
+    let x = c.loop-i.invariant.counted some.done some.held in
+    let grown = counted-grown _ _ _ _ ms a.first c.loop-i.i (rw rows-length c.requires.first_within) (rw rows-length c.loop-i.invariant.within) some.held x in
     let free = free-told c.free_taps.ensures c.in-Mask.is in
-    let wide = row-wide L a.rows a.text.now a.start c.requires.in_text.0 c.loop-i.i c.loop-i.at c.loop-i-test.true c.loop-i.invariant.2 in (
-      omega (arith, grown, c.requires.few.0, c.loop-i.invariant.0, c.loop-i-test.true),
-      x.few,
-      fits-table c.args.table.now _ (below-at _ _ _ wide free.mask),
-    )
+    let wide = row-wide L a.rows a.text.now a.start c.requires.in_text c.loop-i.i c.loop-i.at c.loop-i-test.true c.loop-i.invariant.stands in
+    record {
+      rows_few = omega (arith, grown, c.requires.rows_few, c.loop-i.invariant.onwards, c.loop-i-test.true);
+      few = x.few;
+      mask_known = fits-table c.args.table.now _ (below-at _ _ _ wide free.mask);
+    }
 
 pub loop-i-preserved : goal.loop-i-preserved
 loop-i-preserved c =
@@ -34,11 +35,12 @@ loop-i-preserved c =
     let L = lanes.count in
     let ms = rows_of L a.rows a.text.now a.start in
     let free = free-told c.free_taps.ensures c.in-Mask.is in
-    let wide = row-wide L a.rows a.text.now a.start c.requires.in_text.0 c.loop-i.i c.loop-i.at c.loop-i-test.true c.loop-i.invariant.2 in
-    let more = row_more L a.rows a.text.now a.start c.requires.in_text.0 c.loop-i.i c.loop-i.at c.loop-i-test.true c.loop-i.invariant.2 in (
-      omega (arith, c.loop-i.invariant.0),
-      omega (arith, c.loop-i-test.true),
-      next-at c.loop-i.at a.start c.loop-i.i L c.loop-i.invariant.2,
-      λ done x. subst (Counted L _ done) (sym more)
-          (c.count_taps.ensures _ free L done (take c.loop-i.i ms) (omega (arith, wide)) lanes.within.1 (c.loop-i.invariant.3 done x)),
-    )
+    let wide = row-wide L a.rows a.text.now a.start c.requires.in_text c.loop-i.i c.loop-i.at c.loop-i-test.true c.loop-i.invariant.stands in
+    let more = row_more L a.rows a.text.now a.start c.requires.in_text c.loop-i.i c.loop-i.at c.loop-i-test.true c.loop-i.invariant.stands in
+    record {
+      onwards = omega (arith, c.loop-i.invariant.onwards);
+      within = omega (arith, c.loop-i-test.true);
+      stands = next-at c.loop-i.at a.start c.loop-i.i L c.loop-i.invariant.stands;
+      counted = λ done x. subst (Counted L _ done) (sym more)
+          (c.count_taps.ensures _ free L done (take c.loop-i.i ms) (omega (arith, wide)) lanes.within.1 (c.loop-i.invariant.counted done x));
+    }

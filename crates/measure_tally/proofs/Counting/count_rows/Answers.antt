@@ -27,11 +27,11 @@ count_cells-requires c =
     let L = lanes.count in
     let t = c.count_ordinary-k in
     let ms = rows_of L a.rows a.text.now a.start in
-    let some = c.requires.few.1 in
-    let x = t.ensures.counted some.done (c.loop-start.invariant.1 some.done some.counted) in
-    let grown = counted-grown _ _ _ _ ms 0 t.result (omega arith) (rw rows-length t.ensures.onwards.1) some.counted x in
+    let some = c.requires.counted in
+    let x = t.ensures.counted some.done (c.loop-start.invariant.1 some.done some.held) in
+    let grown = counted-grown _ _ _ _ ms 0 t.result (omega arith) (rw rows-length t.ensures.within) some.held x in
     let wide = row-wide L a.rows a.text.now a.start c.requires.in_text t.result _ c.if-rows-k.false refl in
-    (omega (arith, wide, lanes.within.1), omega (arith, grown, c.requires.few.0, c.if-rows-k.false), x.few)
+    record { narrow = omega (arith, wide, lanes.within.1); rows_few = omega (arith, grown, c.requires.rows_few, c.if-rows-k.false); few = x.few }
 
 pub loop-start-preserved : goal.loop-start-preserved
 loop-start-preserved c =

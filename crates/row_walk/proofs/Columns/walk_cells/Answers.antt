@@ -31,7 +31,8 @@ add_cell-requires c =
     let w = counted-cell _ _ _ _ _ c.walk_cell-w.ensures in
     let few = c.loop-i.invariant.passed.low count_bound c.requires.phantoms in
     record {
-      column_bound = (m, under_more c.loop-i.i 10 _ (omega (arith, m)) c.loop-i.invariant.summed.under, one-tail _ _ _ w);
+      sum_bound = under_more c.loop-i.i 10 _ (omega (arith, m)) c.loop-i.invariant.summed.under;
+      tails_bound = one-tail _ _ _ w;
       heads_bound = (omega (arith, m, few.heads, one-head _ _ _ w), omega (arith, m, few.tails, one-tail _ _ _ w));
     }
 
@@ -44,7 +45,7 @@ loop-i-preserved c =
           (cells-zero _ _ _ _ _ _ _ _ _ _ c.loop-i.invariant c.loop-i-test.true m w.in-48.is)
       | in_default w ↦
           rw (w.self-is, w.slots-is, w.s-is)
-          (cells-next _ _ _ _ _ _ _ _ _ _ c.loop-i.invariant c.loop-i-test.true m _ _ w.walk_cell-w.auto.slots (rw w.cell.ensures at w.walk_cell-w.ensures) _ w.put.ensures _ w.add_cell.ensures)
+          (cells-next _ _ _ _ _ _ _ _ _ _ c.loop-i.invariant c.loop-i-test.true m _ _ w.walk_cell-w.auto.slots (rw w.cell.ensures at w.walk_cell-w.ensures) _ w.put.ensures _ (rw w.direction.ensures at w.add_cell.ensures))
     ]
 
 pub returns : goal.returns

@@ -16,4 +16,4 @@ returns c b ek et =
       c.from-9.ensures,
       c.from-10.ensures,
     )
-    (kind-counted c.args.s c.args.column c.args.kind c.args.tails b ek et)
+    (kind-counted c.args.s c.args.direction c.args.kind c.args.tails b ek et)

@@ -19,4 +19,4 @@ returns c =
     made
     (c.calc_last_beat.ensures ∙ ap row_to_beat row)
     (c.last_beat_bits.ensures ∙ ap (λ n. to_bits binary64 (row_to_beat n)) row)
-    (c.last_note_row.ensures.0 ∙ row)
+    (c.last_note_row.ensures.value ∙ row)

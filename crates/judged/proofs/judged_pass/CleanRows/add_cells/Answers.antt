@@ -18,11 +18,11 @@ use Rattle.judged.proofs.Rows.{active_few, few-open, cells-ready}
 use Rattle.judged.proofs.judged_pass.CleanRows.add_cells.Goals as goal
 
 pub add_judged_row-requires : goal.add_judged_row-requires
-add_judged_row-requires c = (
-  c.requires.2,
-  rw c.in_ok-sum.ensures.sum (under-judged 10 true _ c.requires.0),
-  le_trans (active_few _ c.requires.1) (omega arith),
-)
+add_judged_row-requires c = record {
+  few = c.requires.2;
+  sum_few = rw c.in_ok-sum.ensures.sum (under-judged 10 true _ c.requires.0);
+  held_few = le_trans (active_few _ c.requires.1) (omega arith);
+}
 
 -- a row makes each column at most one deeper
 pub sum-self-requires-clause-fits : goal.sum-self-requires-clause-fits

@@ -22,7 +22,7 @@ use Rattle.definitions.specs.declared.DepthEffect.TheVariants.{Nothing, Blocks, 
 use Rattle.definitions.specs.declared.Cell.{Cell}
 use Rattle.definitions.specs.declared.Cell.TheVariants.{Empty, Tap, Hold, Tail, Roll, Mine, Lift, Fake, KeySound, LowerMine, LowerLift, LowerFake}
 use Rattle.definitions.specs.declared.RowSum.{RowSum}
-use Rattle.row_tally.specs.Kept.{bit_is_set, byte_by_mask, row_by_mask}
+use Rattle.row_tally.specs.Masked.{bit_is_set, byte_by_mask, row_by_mask}
 
 -- A mask of a row's paired heads leaves the row that is counted anew.
 keep-from : (ps : ℕ → List Pair) (i m c : ℕ) (row : Row)
@@ -47,7 +47,7 @@ pub keep-next : (m : ℕ) (row : Row) (i : ℕ) → i < length row
     → row_by_mask m i (drop i row) ≡ byte_by_mask m i (get_or row i 0) ∷ row_by_mask m (i + 1) (drop (i + 1) row)
 keep-next m row i h = rw (add-one, drop-cons row i 0)
 
--- ---- A row whose heads are all kept stays as it is.
+-- ---- A row of which no head is left out stays as it is.
 keep_one : (e : DepthEffect) (p : Bool) (b : ℕ) → (e ≡ Opens → p ≡ true) → head_if_paired e p b ≡ b
 keep_one Nothing p b h = refl
 keep_one Blocks p b h = refl

@@ -1,0 +1,2 @@
+-- What the contracts of the entries cite, beside the definitions.
+pub mod Told
