@@ -17,7 +17,7 @@ call at each lane count, over all texts and line ends; and the ratios of all cel
 beside it.
 
 A LIST has its words parted by commas, and leaves out the others:
-  --ways   entry     an exported entry, its slices (at first as the allocator gives them) and the Rust's buffers reused
+  --ways   entry     an exported entry, its slices (at first with no page resident) and the Rust's buffers reused
            resident  the same over slices of which every page is resident
            buffers   padcheck::Buffers of bindings/rust, one for all charts, the notes read one by one
            stats     padcheck::stats, the Rust's own signatures, one scratch for all charts

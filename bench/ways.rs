@@ -12,7 +12,7 @@ use std::hint::black_box;
 /// How a call is made.
 #[derive(Clone, Copy, PartialEq, Eq, PartialOrd, Ord)]
 pub enum Way {
-    /// An exported entry over slices that are lent again and again, at first as the allocator gives them; the Rust with its
+    /// An exported entry over slices that are lent again and again, of which at first no page is resident; the Rust with its
     /// buffers reused.
     Entry,
     /// The same over slices of which every page is resident, since something was written to all of it before.

@@ -5,10 +5,16 @@ use padcheck::{Lengths, lent};
 
 const LANES: usize = 4;
 
-/// Two rows, and blanks up to a length of which each slice is several parts that are looked at.
-fn data() -> Vec<u8> {
+/// How many entries are looked at at a time; no more than so many are written without a look.
+const PART: usize = 16_384;
+
+/// A length of which every slice is few entries, and one of which each is several parts that are looked at.
+const LENGTHS: [usize; 2] = [1000, 200_000];
+
+/// Two rows, and blanks up to a length.
+fn data(len: usize) -> Vec<u8> {
     let mut data = b"1000\n0110\n".to_vec();
-    data.resize(60_000, b' ');
+    data.resize(len, b' ');
     data
 }
 
@@ -24,9 +30,9 @@ struct Slices {
 }
 
 impl Slices {
-    /// Slices that are 0 throughout.
-    fn fresh() -> Self {
-        let lengths = Lengths::of(data().len(), LANES);
+    /// Slices for a text of a length that are 0 throughout.
+    fn fresh(len: usize) -> Self {
+        let lengths = Lengths::of(len, LANES);
         Self {
             text: vec![0; lengths.text],
             densities: vec![0; lengths.measures],
@@ -37,10 +43,10 @@ impl Slices {
     }
 
     /// What the call leaves of them.
-    fn called(mut self) -> Self {
+    fn called(mut self, data: &[u8]) -> Self {
         let mut beats: Vec<f32> = self.beats.iter().copied().map(f32::from_bits).collect();
         lent::minimize_chart_count_rows_notes(
-            &data(),
+            data,
             LANES,
             &mut self.text,
             &mut self.densities,
@@ -56,8 +62,8 @@ impl Slices {
 }
 
 /// The answer, and zeros past it, written out by hand.
-fn answer() -> Slices {
-    let mut want = Slices::fresh();
+fn answer(len: usize) -> Slices {
+    let mut want = Slices::fresh(len);
     want.text[..10].copy_from_slice(b"1000\n0110\n");
     want.densities[0] = 2;
     want.beats[1] = 2.0_f32.to_bits();
@@ -69,7 +75,9 @@ fn answer() -> Slices {
 
 #[test]
 fn fresh_slices() {
-    assert_eq!(Slices::fresh().called(), answer());
+    for len in LENGTHS {
+        assert_eq!(Slices::fresh(len).called(&data(len)), answer(len));
+    }
 }
 
 /// The greatest number, 1, −0.0, the least float past 0, the infinities, and numbers that are none, quiet and not.
@@ -85,36 +93,43 @@ fn slices_full_of_one_thing() {
         0xFFC0_0001,
         0x7F80_0001,
     ];
-    for (bits, byte) in floats.into_iter().zip([255, 1, 2, 4, 8, 16, 32, 128]) {
-        let mut slices = Slices::fresh();
-        slices.text.fill(byte);
-        slices.densities.fill(bits);
-        slices.beats.fill(bits);
-        slices.work.fill(byte.into());
-        slices.notes.fill(byte);
-        assert_eq!(slices.called(), answer());
+    for len in LENGTHS {
+        for (bits, byte) in floats.into_iter().zip([255, 1, 2, 4, 8, 16, 32, 128]) {
+            let mut slices = Slices::fresh(len);
+            slices.text.fill(byte);
+            slices.densities.fill(bits);
+            slices.beats.fill(bits);
+            slices.work.fill(byte.into());
+            slices.notes.fill(byte);
+            assert_eq!(slices.called(&data(len)), answer(len));
+        }
     }
 }
 
-/// The places where one part that is looked at ends and the next begins, and the last one.
+/// The places where one half of a part that is looked at ends and the next begins, past each answer, and the last one.
 #[test]
 fn one_entry_that_is_not_0() {
-    let want = answer();
-    for end in [100, 4096, 4097, 4100, 8192, 8202, usize::MAX] {
-        for before in 1..=2 {
-            let place = |len: usize| end.min(len) - before;
-            let mut slices = Slices::fresh();
-            let at = place(slices.text.len());
-            slices.text[at] = 1;
-            let at = place(slices.densities.len());
-            slices.densities[at] = 1 << 31;
-            let at = place(slices.beats.len());
-            slices.beats[at] = 1 << 31;
-            let at = place(slices.work.len());
-            slices.work[at] = 1 << 15;
-            let at = place(slices.notes.len());
-            slices.notes[at] = 1;
-            assert_eq!(slices.called(), want);
+    let answers = [0, 1, 2, 10, 30].into_iter();
+    let halves = answers.flat_map(|answer| (1..=4).map(move |half| answer + half * PART / 2 + 1));
+    let ends: Vec<usize> = halves.chain([100, usize::MAX]).collect();
+    for len in LENGTHS {
+        let (data, want) = (data(len), answer(len));
+        for &end in &ends {
+            for before in 1..=2 {
+                let place = |len: usize| end.min(len) - before;
+                let mut slices = Slices::fresh(len);
+                let at = place(slices.text.len());
+                slices.text[at] = 1;
+                let at = place(slices.densities.len());
+                slices.densities[at] = 1 << 31;
+                let at = place(slices.beats.len());
+                slices.beats[at] = 1 << 31;
+                let at = place(slices.work.len());
+                slices.work[at] = 1 << 15;
+                let at = place(slices.notes.len());
+                slices.notes[at] = 1;
+                assert_eq!(slices.called(&data), want);
+            }
         }
     }
 }

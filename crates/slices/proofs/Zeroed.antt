@@ -1,7 +1,8 @@
 -- The laws of the filling loops, over the element.
 use mathlib.Core.Path.{◌≡◌, refl, ap, sym, ◌∙◌}
 use mathlib.Core.List.{List, ◌++◌, append_assoc}
-use Prim.Native.Nat.{ℕ, zero, suc, ◌+◌, ◌-◌, ◌≤◌}
+use mathlib.Core.Logic.{inl, inr}
+use Prim.Native.Nat.{ℕ, zero, suc, ◌+◌, ◌-◌, ◌<◌, ◌≤◌}
 use lib.Ieee.{Float, binary32, fits, to_bits, of_bits}
 use lib.Ieee.Bits.{of_bits-to_bits}
 use lib.ListN.{length, get_or, take, replicate, length-replicate, replicate-append-replicate}
@@ -11,6 +12,7 @@ use borrow.Rule.Slice.PartMut.{put_mid}
 use Rattle.std.specs.Prelude.{true, nat_eq}
 use Rattle.std.specs.Bool.{passes}
 use Rattle.std.proofs.Common.{eqb-true}
+use Rattle.std.proofs.lemmas.Bool.{cases_lt}
 use Rattle.std.proofs.lemmas.Slice.{take-put_mid}
 use Rattle.definitions.specs.Lists.{padded}
 use Rattle.slices.specs.Zeroed.{zeroed}
@@ -33,6 +35,14 @@ pub zeros-none : (n i : ℕ) → ◌≡◌ {A = ℕ} (get_or (replicate n 0) i 0
 zeros-none zero i = refl
 zeros-none (suc n) zero = refl
 zeros-none (suc n) (suc i) = zeros-none n i
+
+-- what each place of both halves has, each place has
+pub halves-all : {A : Type 0} (z : A) (l : List A) (a h : ℕ) → a ≤ h → ((k : ℕ) → k < h → (get_or l k z ≡ z) × (get_or l (a + k) z ≡ z)) → (i : ℕ) → i < a + h → get_or l i z ≡ z
+halves-all z l a h less both i within =
+    elim (cases_lt i h) [
+      | inl first ↦ (both i first).0
+      | inr second ↦ ap (λ (j : ℕ). get_or l j z) (omega arith) ∙ (both (i - a) (omega arith)).1
+    ]
 
 -- one part more of zeros, after those from f to a
 pub zeroed-next : {A : Type 0} (z : A) (l s part : List A) (f a k n m : ℕ) → f ≤ a → a ≤ length s → take a s ≡ take f l ++ replicate (a - f) z → part ≡ replicate m z → m ≡ n → take (a + n) (put_mid a k s part) ≡ take f l ++ replicate (a + n - f) z

@@ -4,8 +4,8 @@
 ghost use Rattle.std.specs.Prelude.{◌≡◌, ◌≤◌, length, true, replicate};
 ghost use Rattle.slices.specs.Zeroed.{zeroed};
 
-// How many elements are looked at, and then written or left, at a time.
-const PART: usize = 4096;
+// How many elements are looked at, and then written or left, at a time. No more than so many are written without a look.
+const PART: usize = 16384;
 
 /// A number that is told from others by its bits: `-0.0` is not `0.0`.
 pub trait Bits: Copy {
@@ -39,15 +39,17 @@ impl Bits for f32 {
     }
 }
 
-// Whether all are `it`. No turn ends the loop, so that it is compiled to vectors, and it stands by itself, so that what the asking costs can be
-// told from what else a call does.
+// Whether all are `it`: both halves in turns, since two runs of memory are read faster than one. The middle one of an odd number is in both. No turn
+// ends the loop, so that it is compiled to vectors, and it stands by itself, so that what the asking costs can be told from what else a call does.
 #[inline(never)]
 fn are_all<T: Bits>(part: &[T], it: T) -> bool
     ensures { result ≡ true → part.now ≡ replicate (length part.now) it }
 {
+    let after = part.len() / 2;
+    let half = part.len() - after;
     let mut same = true;
-    for x in part {
-        same &= x.is(it);
+    for i in 0..half {
+        same &= part[i].is(it) & part[after + i].is(it);
     }
     same
 }
@@ -70,6 +72,10 @@ pub fn zero_past<T: Bits>(s: &mut [T], from: usize, zero: T)
     requires itself { (x : T) → T.Clone.is_clone zero x → x ≡ zero }
     ensures { s.new ≡ zeroed zero from s.old }
 {
+    if s.len() - from <= PART {
+        s[from..].fill(zero);
+        return;
+    }
     let mut at = from;
     while at < s.len() {
         let end = at + usize::min(s.len() - at, PART);
