@@ -2,17 +2,19 @@
 use mathlib.Core.Path.{◌≡◌, refl, ap, sym, ◌∙◌}
 use mathlib.Core.List.{List, ◌++◌, append_assoc}
 use mathlib.Core.Logic.{inl, inr}
-use Prim.Native.Nat.{ℕ, zero, suc, ◌+◌, ◌-◌, ◌<◌, ◌≤◌}
+use Prim.Native.Nat.{ℕ, zero, suc, ◌+◌, ◌-◌, ◌%◌, ◌<◌, ◌≤◌, max}
 use lib.Ieee.{Float, binary32, fits, to_bits, of_bits}
 use lib.Ieee.Bits.{of_bits-to_bits}
 use lib.ListN.{length, get_or, take, replicate, length-replicate, replicate-append-replicate}
 use lib.Seq.{length-take-le}
 use native.Mathlib.Omega.{arith}
 use borrow.Rule.Slice.PartMut.{put_mid}
-use Rattle.std.specs.Prelude.{true, nat_eq}
+use Rattle.std.specs.Prelude.{true}
+use Rattle.std.specs.Int.{bit_at}
+use Rattle.std.specs.Int.RustNames.{bit_or, bit_xor}
 use Rattle.std.specs.Bool.{passes}
-use Rattle.std.proofs.Common.{eqb-true}
 use Rattle.std.proofs.lemmas.Bool.{cases_lt}
+use Rattle.std.proofs.lemmas.Nat.Bits.{bit_at-lt, bit_at-zero, bit_at_or, bit_at_xor, same_from_bits}
 use Rattle.std.proofs.lemmas.Slice.{take-put_mid}
 use Rattle.definitions.specs.Lists.{padded}
 use Rattle.slices.specs.Zeroed.{zeroed}
@@ -53,9 +55,27 @@ zeroed-next z l s part f a k n m h room so zeros all =
     ∙ ap (λ (ys : List _). take f l ++ (replicate (a - f) z ++ ys)) zeros
     ∙ ap (λ (ys : List _). take f l ++ ys) (replicate-append-replicate (a - f) m z ∙ ap (λ (j : ℕ). replicate j z) (omega arith))
 
+-- where the bits before and those in which two differ are none together, each of them is none
+joined-bits : (before x y : ℕ) → bit_or before (bit_xor x y) ≡ 0 → (i : ℕ) → (bit_at before i ≡ 0) × ((bit_at x i + bit_at y i) % 2 ≡ 0)
+joined-bits before x y none i =
+    let both : max (bit_at before i) (bit_at (bit_xor x y) i) ≡ 0 = sym (bit_at_or before (bit_xor x y) i) ∙ ap (λ (n : ℕ). bit_at n i) none ∙ bit_at-zero i in
+    (omega arith, sym (bit_at_xor x y i) ∙ omega arith)
+
+-- there the two are the same
+pub same_where_none : (before x y : ℕ) → bit_or before (bit_xor x y) ≡ 0 → x ≡ y
+same_where_none before x y none =
+    same_from_bits x y (λ i. equal _ _ (bit_at-lt x i) (bit_at-lt y i) (joined-bits before x y none i).1)
+  where
+    equal : (a b : ℕ) → a < 2 → b < 2 → (a + b) % 2 ≡ 0 → a ≡ b
+    equal a b p q e = omega arith
+
+-- and there were none before
+pub none_before : (before x y : ℕ) → bit_or before (bit_xor x y) ≡ 0 → before ≡ 0
+none_before before x y none = same_from_bits before 0 (λ i. (joined-bits before x y none i).0 ∙ sym (bit_at-zero i))
+
 -- floats with the same bits are the same
-pub same_bits : (x y : Float) → fits binary32 x ≡ true → fits binary32 y ≡ true → nat_eq (to_bits binary32 x) (to_bits binary32 y) ≡ true → x ≡ y
+pub same_bits : (x y : Float) → fits binary32 x ≡ true → fits binary32 y ≡ true → to_bits binary32 x ≡ to_bits binary32 y → x ≡ y
 same_bits x y fx fy same =
     sym (of_bits-to_bits binary32 x (passes _ fx))
-    ∙ ap (of_bits binary32) (eqb-true _ _ same)
+    ∙ ap (of_bits binary32) same
     ∙ of_bits-to_bits binary32 y (passes _ fy)

@@ -7,4 +7,4 @@ use Rattle.slices.proofs.are_all.Goals as goal
 pub returns : goal.returns
 returns g c same =
     ext_get_or c.args.it _ _ (sym (length-replicate _ _))
-    (λ i h. halves-all _ _ _ _ (omega arith) (c.loop-i.invariant same) i (omega arith) ∙ sym (get_or-replicate _ i _ _ h))
+    (λ i h. halves-all _ _ _ _ (omega arith) (c.loop-i.invariant (c.is_none.ensures same)) i (omega arith) ∙ sym (get_or-replicate _ i _ _ h))
