@@ -11,7 +11,7 @@ pub length-beats : (m n r k : ℕ) → length (row_beats m n r k) ≡ k
 length-beats m n r zero = refl
 length-beats m n r (suc k) = ap suc (length-beats m n (suc r) k)
 
-at-beats : (m n r k j : ℕ) → j < k → get_or (row_beats m n r k) j nan ≡ beat_of_row m (r + j) n
+pub at-beats : (m n r k j : ℕ) → j < k → get_or (row_beats m n r k) j nan ≡ beat_of_row m (r + j) n
 at-beats m n r zero j h = absurd (not-suc-le-zero h)
 at-beats m n r (suc k) zero h = ap (λ (i : ℕ). beat_of_row m i n) (sym (add-zero r))
 at-beats m n r (suc k) (suc j) h = at-beats m n (suc r) k j (le_of_suc-le-suc h) ∙ ap (λ (i : ℕ). beat_of_row m i n) (suc-add r j ∙ sym (add-suc r j))

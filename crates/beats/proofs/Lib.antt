@@ -1,4 +1,5 @@
--- Laws that the functions' proofs cite: of floats by the fractions that they equal, then of the row beat and the last beat. Callers cite Beats and Placed.
+-- Laws that the functions' proofs cite: of floats by the fractions that they equal, then of the row beat and the last beat. Callers cite Beats
+-- and Placed. The claims on how near the beats are stand in Texts.
 mod Numbers
 mod Values
 mod Step
@@ -10,3 +11,9 @@ pub mod Beats
 pub mod Placed
 pub mod LastRows
 pub mod Scaled
+mod Rounding
+mod Near
+mod Exact48
+mod Nearest48
+mod TextPlaces
+pub mod Texts

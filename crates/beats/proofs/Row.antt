@@ -13,7 +13,7 @@ cross r N a d s c h =
     ∙ ap₂ ◌+◌ (mul_assoc r N c ∙ ap (λ (z : ℕ). r * z) h ∙ sym (mul_assoc r s d)) (mul_right_comm a d c)
     ∙ sym (add-mul (r * s) (a * c) d)
 
-fused-is : (r a s c : ℕ) (x : Float) → 0 < c → HasValue x false s c → fused r x a ≡ round binary32 false (r * s + a * c) c
+pub fused-is : (r a s c : ℕ) (x : Float) → 0 < c → HasValue x false s c → fused r x a ≡ round binary32 false (r * s + a * c) c
 unfolding fused
 fused-is r a s c x C v =
     round_same binary32 false (r * num x + a * den x) (den x) (r * s + a * c) c (den_pos x) C (cross r (num x) a (den x) s c (value→cross x s c v))

@@ -94,7 +94,7 @@ module _ (n : ℕ) (P : 0 < n) (S : n < 2 ^ 22) where
       let U = n * 2 ^ dropped n in
       le_trans (nearest-le (top / U) (compare (top % U * 2) U)) (subst (λ (x : ℕ). x < 2 ^ 24) (div-div-eq-div-mul top n (2 ^ dropped n)) (kept-lt 24 (top / n)))
 
-  step_is : step n ≡ round binary32 false 4 n
+  pub step_is : step n ≡ round binary32 false 4 n
   unfolding step
   step_is =
       div-at binary32 (f32 4) (f32 n) 4 1 n 1 (lit< tt) (lit< tt) P (of-whole binary32 4 (lit≤ tt)) (of-whole binary32 n (le_trans (le_of_lt S) (lit≤ tt)))

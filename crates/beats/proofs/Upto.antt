@@ -21,7 +21,7 @@ upto-number (inf s) B u = absurd u.value
 upto-number (fin s m e) B u = tt
 
 -- ---- by any fraction a / c that x equals
-own : (x : Float) (a c : ℕ) → HasValue x false a c → HasValue x false (num x) (den x)
+pub own : (x : Float) (a c : ℕ) → HasValue x false a c → HasValue x false (num x) (den x)
 own nan a c v = v
 own (inf s) a c v = v
 own (fin s m e) a c v = (v.0, refl)
@@ -71,7 +71,7 @@ grid-le f a c C =
     total : (K q U n c : ℕ) → K ≤ q + U → q ≤ n → U ≤ n + c → K ≤ n + n + c
     total K q U n c a b d = omega arith
 
-grid-most : (f : Format) (a c B : ℕ) → 0 < c → a ≤ B * c → grid f a c ≤ (2 * B + 1) * 2 ^ low f
+pub grid-most : (f : Format) (a c B : ℕ) → 0 < c → a ≤ B * c → grid f a c ≤ (2 * B + 1) * 2 ^ low f
 grid-most f a c B C h =
     let L = 2 ^ low f in
     le_of_mul-le-mul_right
@@ -88,14 +88,16 @@ grid-most f a c B C h =
         ∙ sym (add-mul (2 * B * L) L c)
         ∙ ap (λ (z : ℕ). z * c) (ap (λ (z : ℕ). 2 * B * L + z) (sym (one-mul L)) ∙ sym (add-mul (2 * B) 1 L))
 
-upto-round : (f : Format) (a c B : ℕ) → 0 < c → a ≤ B * c → 2 * B + 1 < 2 ^ suc (emax f) → Upto (round f false a c) (2 * B + 1)
-upto-round f a c B C h E =
-    upto-of (round f false a c) (grid f a c) (2 ^ low f) (2 * B + 1) (pow_pos (low f))
-    (round_val f a c
+pub grid-value : (f : Format) (a c B : ℕ) → 0 < c → a ≤ B * c → 2 * B + 1 < 2 ^ suc (emax f) → HasValue (round f false a c) false (grid f a c) (2 ^ low f)
+grid-value f a c B C h E =
+    round_val f a c
     (lt_of_le_of_lt (grid-most f a c B C h)
     (subst (λ (z : ℕ). (2 * B + 1) * 2 ^ low f < z) (mul_comm (2 ^ suc (emax f)) (2 ^ low f) ∙ sym (pow-add 2 (low f) (suc (emax f))))
-    (mul-lt-mul_of_pos_right E (pow_pos (low f))))))
-    (grid-most f a c B C h)
+    (mul-lt-mul_of_pos_right E (pow_pos (low f)))))
+
+upto-round : (f : Format) (a c B : ℕ) → 0 < c → a ≤ B * c → 2 * B + 1 < 2 ^ suc (emax f) → Upto (round f false a c) (2 * B + 1)
+upto-round f a c B C h E =
+    upto-of (round f false a c) (grid f a c) (2 ^ low f) (2 * B + 1) (pow_pos (low f)) (grid-value f a c B C h E) (grid-most f a c B C h)
 
 -- ---- the operations
 pub upto-whole : (f : Format) (n : ℕ) → n ≤ 2 ^ prec f → Upto (of_int f (pos n)) n

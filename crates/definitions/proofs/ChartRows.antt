@@ -181,7 +181,7 @@ thin-bytes none = omega arith
 thin-bytes (keep x) = omega (arith, thin-bytes x)
 thin-bytes (leave z x) = omega (arith, thin-bytes x)
 
-reduced-bytes : (ms : List (List Row)) → measure_bytes (map reduce ms) ≤ measure_bytes ms
+pub reduced-bytes : (ms : List (List Row)) → measure_bytes (map reduce ms) ≤ measure_bytes ms
 reduced-bytes [] = omega arith
 reduced-bytes (m ∷ ms) = omega (arith, thin-bytes (reduce-thin m), reduced-bytes ms)
 
@@ -197,7 +197,7 @@ minimised-short L text =
     omega (arith, measures-text (map reduce (measures L (cut text))), reduced-bytes (measures L (cut text)), measures-bytes L (cut text), cut-bytes text)
 
 -- each row takes L + 1 bytes of it
-rows-bytes : (L : ℕ) (m : List Row) → All (ChartRow L) m → (L + 1) * length m ≡ line_bytes m
+pub rows-bytes : (L : ℕ) (m : List Row) → All (ChartRow L) m → (L + 1) * length m ≡ line_bytes m
 rows-bytes L [] a = mul-zero (L + 1)
 rows-bytes L (r ∷ m) (one x a) = mul-suc (L + 1) (length m) ∙ omega (arith, x.size, rows-bytes L m a)
 

@@ -18,5 +18,6 @@ pub mod WriterMakes
 pub mod Damage
 pub mod Figures
 pub mod SmBlocks
+pub mod BeatsNear
 pub mod Consequences
 pub mod Refusals

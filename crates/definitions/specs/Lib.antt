@@ -29,3 +29,4 @@ pub mod RequestExamples
 pub mod Damage
 pub mod DamageExample
 pub mod Consequences
+pub mod BeatsNear

@@ -11,6 +11,8 @@ ghost use Rattle.definitions.specs.Damage.{Differ, DamageStays};
 ghost use Rattle.definitions.specs.Halving.{ReduceHalved};
 ghost use Rattle.definitions.specs.WriterMakes.{WriterMakes};
 ghost use Rattle.definitions.specs.SmBlocks.{DataInFile, SemicolonLast, BlocksApart, LeastRefused};
+ghost use Rattle.definitions.specs.Beats.{last_row};
+ghost use Rattle.definitions.specs.BeatsNear.{SizeWithin, Nearest48, BeatsNear, BeatsToSpare, BeatsNearer, BeatsExact, LastNear, TextBeatsStand, TextLastNear};
 ghost use Rattle.definitions.specs.Consequences.{MeasuresAround, LaterNotes, NothingOpen, NotesBefore, OpenHeads, SameLastBeat, ReducedStays, LimitsSuffice, RecordsOfTexts, DataThere, OneSemicolon, FewBlocks, BlocksDisjoint, ElevenSays, ExamplesCounted};
 ghost use Rattle.files.specs.Rest.{RestAnswered, RestInOrder};
 ghost use Rattle.sheet_print.specs.Example.{PrintExample};
@@ -122,6 +124,46 @@ pub fn least_refused()
 /// What follows the line on which a file's first block ends has the other charts, each with the same answer.
 pub fn rest_answered()
     ensures { RestAnswered }
+{}
+
+/// In the measures 0 to 1,023 every row beat is within 1/4096 of 4 × m + 4 × r / n.
+pub fn beats_near()
+    ensures { BeatsNear }
+{}
+
+/// There it is within 1/8176, too, and in the measures below 2^j within (2^j + 2) / 2^23.
+pub fn beats_nearer()
+    ensures to_spare { BeatsToSpare }
+    ensures every_measure { BeatsNearer }
+{}
+
+/// In the measures 0 to 1,023, where n divides 192, a row beat times 48, rounded, is exactly 192 × m + 192 × r / n.
+pub fn beats_exact()
+    ensures { BeatsExact }
+{}
+
+/// No whole number is nearer to 192 × m + 192 × r / n than the one that is divided by 48 to give the last beat.
+pub fn last_near()
+    ensures { LastNear }
+{}
+
+/// Every beat of a text is that of one of its rows, and so near and exact.
+pub fn text_beats_stand()
+    ensures { TextBeatsStand }
+{}
+
+/// A text's last object row is one of its rows, and its last beat in 48ths is so near to it.
+pub fn text_last_near()
+    ensures { TextLastNear }
+{}
+
+/// More is false: half of 1/4096, or 1/8177, in the measures 0 to 1,023; 1/4096 in measure 1,024; and the nearest whole number in a measure that
+/// no text has before so many rows.
+pub fn claims_tight()
+    ensures half { ¬ SizeWithin 1 8192 715 3784 4091 }
+    ensures little_less { ¬ SizeWithin 1 8177 512 32254 32477 }
+    ensures measure_1024 { ¬ SizeWithin 1 4096 1024 1563 1583 }
+    ensures past_the_text { ¬ Nearest48 (last_row 5592405 1828774 2396755) 5592405 1828774 2396755 }
 {}
 
 // What a reader expects of these, each by the statement alone.
