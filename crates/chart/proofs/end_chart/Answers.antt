@@ -22,7 +22,7 @@ returns c =
     λ some told.
     let x = some.read in
     let finished = rw c.scratch.ensures at c.finish-notes.ensures in record {
-      value = all-figures _ _ _ _ _ _ _ x _ _ _ _ _ _ told c.finish.ensures.value (note-count _ _ _ _ _ _ _ x _ _ _ finished) (found-48 _ _ _ _ _ _ _ x) c.last_beat_bits.ensures c.last_note_row.ensures.0;
+      value = all-figures _ _ _ _ _ _ _ x _ _ _ _ _ _ told c.finish.ensures.value (note-count _ _ _ _ _ _ _ x _ _ _ finished) (found-48 _ _ _ _ _ _ _ x) c.last_beat_bits.ensures c.last_note_row.ensures.value;
       text_is = c.finish.ensures.text_after ∙ all-text _ _ _ _ _ x.kept (length c.args.text.now) refl some.text_room;
       densities_are = c.finish.ensures.densities_after ∙ all-densities _ _ _ _ _ x.kept (length c.args.densities.now) refl;
       beats_are = c.zero_past.ensures ∙ all-beats _ _ _ _ _ _ _ x (length c.args.beats.now) refl some.beats_room;
