@@ -193,8 +193,11 @@ pub fn walk_cell(b: u8, at: CellAt, slots: &mut [u8]) -> WalkCell
 
 /// A row's sum with a cell of this kind more, or so many tails.
 pub fn count_kind(s: RowSum, column: usize, kind: u8, tails: u32) -> RowSum
-    requires { Under 10 s × (tails ≤ 1) }
-    ensures { (b : ℕ) → kind ≡ cell_number (cell_of b) → tails ≡ number_of_bool (is_closing (hold_at b)) → result ≡ sum_with_cell s column (cell_of b) (is_arrow (cell_of b)) }
+    requires row_sum { Under 10 s }
+    requires one_tail { tails ≤ 1 }
+    ensures { (b : ℕ) → kind ≡ cell_number (cell_of b)
+        → tails ≡ number_of_bool (is_closing (hold_at b))
+        → result ≡ sum_with_cell s column (cell_of b) (is_arrow (cell_of b)) }
 {
     let arrow = kind < 3;
     let direction = column % 4;

@@ -42,8 +42,11 @@ pub struct Seen {
 impl Seen {
     // One cell more.
     fn add_cell(&mut self, column: usize, w: WalkCell)
-        requires column_bound { (column < 10) × Under 10 self.old.sum × (w.phantom.tails ≤ 1) }
-        requires heads_bound { (self.old.marks.heads + w.phantom.heads < 4294967296) × (self.old.marks.tails + w.phantom.tails < 4294967296) }
+        requires column_bound { column < 10 }
+        requires row_sum { Under 10 self.old.sum }
+        requires one_tail { w.phantom.tails ≤ 1 }
+        requires heads_bound { self.old.marks.heads + w.phantom.heads < 4294967296 }
+        requires tails_bound { self.old.marks.tails + w.phantom.tails < 4294967296 }
         ensures { CellSeen self.old column w self.new }
     {
         self.marks.heads += w.phantom.heads;
@@ -104,7 +107,9 @@ impl Columns {
         slots: &mut [u8],
     ) -> Seen
         requires { CellsReady row.now slots.old self.old count number marks }
-        ensures { RowWalked row.now slots.old self.old count number marks slots.new self.new result }
+        ensures { RowWalked row.now
+            slots.old self.old count number marks
+            slots.new self.new result }
     {
         let mut s = Seen {
             marks,

@@ -31,8 +31,11 @@ add_cell-requires c =
     let w = counted-cell _ _ _ _ _ c.walk_cell-w.ensures in
     let few = c.loop-i.invariant.passed.low count_bound c.requires.phantoms in
     record {
-      column_bound = (m, under_more c.loop-i.i 10 _ (omega (arith, m)) c.loop-i.invariant.summed.under, one-tail _ _ _ w);
-      heads_bound = (omega (arith, m, few.heads, one-head _ _ _ w), omega (arith, m, few.tails, one-tail _ _ _ w));
+      column_bound = m;
+      row_sum = under_more c.loop-i.i 10 _ (omega (arith, m)) c.loop-i.invariant.summed.under;
+      one_tail = one-tail _ _ _ w;
+      heads_bound = omega (arith, m, few.heads, one-head _ _ _ w);
+      tails_bound = omega (arith, m, few.tails, one-tail _ _ _ w);
     }
 
 pub loop-i-preserved : goal.loop-i-preserved
