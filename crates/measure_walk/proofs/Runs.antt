@@ -30,7 +30,7 @@ module _ (L : ℕ) (q : Rest) (k : Columns) (r : Run) (l l' : List ℕ) (done : 
     noted-cells first above x =
         rw e
         (noted-row L _ l l' row done cur w x _ _ W.written
-        (held_run first q k r above done cur x.last row k'.low s.object k'.busy W.tested (W.lows x.last.free))
+        (held_run first q k r above done cur x.last row k'.object_depths s.object k'.busy W.tested (W.object_depths x.last.free))
         (W.heads x.free))
 
 -- what it asks

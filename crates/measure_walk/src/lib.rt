@@ -42,7 +42,7 @@ impl Walk {
         Walk {
             columns: Columns {
                 depths: [0; 10],
-                low: [0; 10],
+                object_depths: [0; 10],
                 hold_heads: [row_notes::NO_HEAD; 10],
                 busy: 0,
             },

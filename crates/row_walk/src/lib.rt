@@ -15,7 +15,7 @@ use definitions::RowSum;
 #[derive(Clone, Copy)]
 pub struct Columns {
     pub depths: [u32; 10],
-    pub low: [u32; 10],
+    pub object_depths: [u32; 10],
     pub hold_heads: [u32; 10],
     pub busy: u32,
 }
@@ -77,7 +77,7 @@ impl Columns {
     {
         CellAt {
             depth: self.depths[column],
-            low: self.low[column],
+            object_depth: self.object_depths[column],
             head: self.hold_heads[column],
             count,
             row,
@@ -91,7 +91,7 @@ impl Columns {
         ensures { ColumnPut self.old column w self.new }
     {
         self.depths[column] = w.phantom.depth;
-        self.low[column] = w.object.depth;
+        self.object_depths[column] = w.object.depth;
         self.hold_heads[column] = w.head;
         let used = (w.phantom.depth != 0) | (w.object.depth != 0) | (w.head != row_notes::NO_HEAD);
         self.busy = mark(self.busy, column, used);

@@ -21,7 +21,7 @@ walk_cell-w-requires c =
     rw c.cell.ensures
     (record {
       depth = omega (arith, few.depths c.loop-i.i m, m);
-      low = omega (arith, scan-depth _ _ _ _ _ c.loop-i.invariant.scanned, c.requires.objects c.loop-i.i m);
+      object_depth = omega (arith, scan-depth _ _ _ _ _ c.loop-i.invariant.scanned, c.requires.objects c.loop-i.i m);
       ready = record { inside = R.inside; low = R.low; room = R.room; few = R.few; there = R.head };
     })
 
