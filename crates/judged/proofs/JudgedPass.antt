@@ -29,7 +29,7 @@ use Rattle.row_tally.proofs.Rows.{judge-snoc}
 use Rattle.judged.specs.Clean.{unpairs, unpairs_from, is_clean, every, clean_answer}
 use Rattle.judged.specs.JudgedPass.{row_unpairs, Ready, RowPassed}
 use Rattle.judged.specs.declared.judged_pass.CleanRows.{CleanRows}
-use Rattle.judged.proofs.Paired.{AllClean, clean-kept, clean-active}
+use Rattle.judged.proofs.Paired.{AllClean, clean-whole, clean-active}
 use Rattle.judged.proofs.Rows.{none-unpairs, sum-columns}
 
 -- `all` are the rows of the text, and `rows` those that have come.
@@ -107,7 +107,7 @@ module _ (L : ℕ) (rows : List Row) (r : Row) (rest : List Row) (m : L ≤ 10) 
   counted-here : Counted (rows ++ (r ∷ rest))
   counted-here short k a e =
       rw (a, ← clean-active L rows (r ∷ rest) m short k, e)
-      (ap (λ (q : Row). judge_row (judge_from L every (pairs (rows ++ (r ∷ rest))) empty_stats 0 rows) true (open_before L every (pairs (rows ++ (r ∷ rest))) (length rows)) (judged_sum true q)) (sym (clean-kept rows r rest w k))
+      (ap (λ (q : Row). judge_row (judge_from L every (pairs (rows ++ (r ∷ rest))) empty_stats 0 rows) true (open_before L every (pairs (rows ++ (r ∷ rest))) (length rows)) (judged_sum true q)) (sym (clean-whole rows r rest w k))
       ∙ sym (rw zero-add at (judge-snoc (pairs (rows ++ (r ∷ rest))) L every empty_stats 0 rows r)))
 
   counted : (all : List Row) → rows ++ (r ∷ rest) ≡ all → Counted all

@@ -132,9 +132,9 @@ unfolding pairs
 clean-headed c rows r rest k o = rw zero-add at (later-headed c 0 [] rows r rest k o)
 
 -- so its row is counted as it is
-pub clean-kept : (rows : List Row) (r : Row) (rest : List Row) → length r ≤ 10 → AllClean (rows ++ (r ∷ rest))
+pub clean-whole : (rows : List Row) (r : Row) (rest : List Row) → length r ≤ 10 → AllClean (rows ++ (r ∷ rest))
     → keep_row (pairs (rows ++ (r ∷ rest))) (length rows) 0 r ≡ r
-clean-kept rows r rest m k =
+clean-whole rows r rest m k =
     keep-whole (pairs (rows ++ (r ∷ rest))) (length rows) 0 r
     (λ c l o. rw zero-add (clean-headed c rows r rest (k c (omega arith)) o))
 

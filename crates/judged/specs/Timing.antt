@@ -3,7 +3,9 @@ use Rattle.std.specs.Borrow.{Bor}
 use Rattle.std.specs.Prelude.{Option, None, Some, Bool, true, List, ℕ, ◌+◌, ◌-◌}
 use Rattle.definitions.specs.Lines.{Row}
 use Rattle.definitions.specs.Tally.{empty_stats}
-use Rattle.definitions.specs.Judged.{judged_at, judged_sum, judge_row}
+use Rattle.definitions.specs.ReadBack.{rows_read_back}
+use Rattle.definitions.specs.Judged.{judged_at, judged_rows, judged_sum, judge_row}
+use Rattle.definitions.specs.declared.ArrowStats.{ArrowStats}
 use Rattle.definitions.specs.declared.RowSum.{RowSum}
 use Rattle.holds.specs.Entry.{heads_of, ends_of, is_judged}
 use Rattle.holds.specs.Tracks.{Tracks}
@@ -15,6 +17,10 @@ use Rattle.judged.specs.declared.TimingStats.{TimingStats}
 abbrev pub judged_by : Option (Bor (List ℕ)) → ℕ → Bool
 judged_by None i = true
 judged_by (Some flags) i = judged_at flags.now i
+
+-- the judged tally of a text, all rows judged or by the flags
+abbrev pub tally_by : Option (Bor (List ℕ)) → ℕ → List ℕ → ArrowStats
+tally_by flags L text = judged_rows L (judged_by flags) (rows_read_back L text)
 
 -- what a row adds up to by its entry, and the holds that it opens
 unfoldable pub timing_sum : ℕ → Row → RowSum

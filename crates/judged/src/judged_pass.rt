@@ -28,7 +28,9 @@ pub struct CleanRows {
 impl CleanRows {
     // Before the first row.
     fn new() -> Self
-        ensures { Ready result × (result.stats ≡ empty_stats) × ((c : ℕ) → c < 10 → slice_index result.depths c ≡ 0) }
+        ensures ready { Ready result }
+        ensures nothing_counted { result.stats ≡ empty_stats }
+        ensures none_open { (c : ℕ) → c < 10 → slice_index result.depths c ≡ 0 }
     {
         CleanRows {
             stats: row_tally::no_stats(),
@@ -40,7 +42,9 @@ impl CleanRows {
 
     // One row more, cell by cell.
     fn add_cells(&mut self, row: &[u8]) -> Option<()>
-        requires { (length row.now ≤ 10) × Ready self.old × Below count_bound self.old.stats }
+        requires width { length row.now ≤ 10 }
+        requires ready { Ready self.old }
+        requires tally_bound { Below count_bound self.old.stats }
         ensures clean { is_some result ≡ not (row_unpairs row.now self.old.depths) }
         ensures passed { OnSome result (RowPassed row.now self.old self.new) }
     {
@@ -54,15 +58,20 @@ impl CleanRows {
     // One row more of taps alone, none in a column with an open head: it leaves the depths as they are.
     #[tactic(auto, using(crate::proofs::Rows::active_few))]
     fn add_taps(&mut self, mask: u16, table: &TapTable)
-        requires { (mask < masks table.now.wide) × Ready self.old × Below count_bound self.old.stats }
-        ensures { (row : Row) → FreeTaps self.old.busy mask row → RowPassed row self.old self.new }
+        requires mask_bound { mask < masks table.now.wide }
+        requires ready { Ready self.old }
+        requires tally_bound { Below count_bound self.old.stats }
+        ensures { (row : Row) → FreeTaps self.old.busy mask row
+            → RowPassed row self.old self.new }
     {
         row_tally::judge_taps(&mut self.stats, true, self.active, mask, table);
     }
 
     // One row more, unless it leaves a head unpaired.
     fn add_row(&mut self, row: &[u8], table: &TapTable) -> Option<()>
-        requires { (table.now.lanes.count ≡ length row.now) × Ready self.old × Below count_bound self.old.stats }
+        requires width { table.now.lanes.count ≡ length row.now }
+        requires ready { Ready self.old }
+        requires tally_bound { Below count_bound self.old.stats }
         ensures clean { is_some result ≡ not (row_unpairs row.now self.old.depths) }
         ensures passed { OnSome result (RowPassed row.now self.old self.new) }
     {
@@ -93,7 +102,9 @@ fn depth_after(b: u8, depth: u32) -> Option<u32>
 // The cells of a row, one column after the other: what they add up to on a judged row, unless one leaves a head unpaired. Most are empty, which
 // change nothing.
 fn clean_cells(depths: &mut [u32; 10], row: &[u8]) -> Option<RowSum>
-    requires { (length row.now ≤ 10) × (length depths.old ≡ 10) × ((c : ℕ) → c < 10 → slice_index depths.old c ≤ 8) }
+    requires width { length row.now ≤ 10 }
+    requires ten { length depths.old ≡ 10 }
+    requires depths_bound { (c : ℕ) → c < 10 → slice_index depths.old c ≤ 8 }
     ensures clean { is_some result ≡ not (row_unpairs row.now depths.old) }
     ensures sum { IfSome result (λ sum. sum ≡ judged_sum true row.now) }
     ensures depths_after { OnSome result (DepthsPassed row.now depths.old depths.new) }

@@ -15,7 +15,7 @@ ghost use Rattle.taps.specs.Taps.{mask_of_line, masks};
 ghost use Rattle.taps.specs.declared.Taps.TheVariants.{Mask};
 ghost use Rattle.row_tally.specs.Bounds.{Below};
 ghost use Rattle.holds.specs.Entry.{ends_of};
-ghost use Rattle.judged.specs.Timing.{judged_by, new_holds, empty_timing, timing_row, timing_taps, WorkEntries, SomeWorkEntries};
+ghost use Rattle.judged.specs.Timing.{judged_by, tally_by, new_holds, empty_timing, timing_row, timing_taps, WorkEntries, SomeWorkEntries};
 
 use definitions::{ArrowStats, Lanes, Refusal};
 use holds::{Tracker, entry};
@@ -41,7 +41,9 @@ impl TimingStats {
 
     // One row more, by its entry. A tail's hold is open through the tail's row; an unjudged row's sum has no head.
     fn add_row(&mut self, cells: &[u8], entry: u16)
-        requires tally_room { (length cells.now ≤ 10) × Below count_bound self.old.stats × (self.old.active ≤ count_bound) }
+        requires width { length cells.now ≤ 10 }
+        requires tally_bound { Below count_bound self.old.stats }
+        requires active_bound { self.old.active ≤ count_bound }
         requires ends_open { ends_of entry ≤ self.old.active + new_holds entry cells.now }
         ensures { self.new ≡ timing_row self.old entry cells.now }
     {
@@ -54,8 +56,11 @@ impl TimingStats {
 
     // One row of taps alone more, by its entry: no hold begins or ends there.
     fn add_taps(&mut self, mask: u16, entry: u16, table: &TapTable)
-        requires { (mask < masks table.now.wide) × Below count_bound self.old.stats × (self.old.active ≤ count_bound) }
-        ensures { (row : Row) → mask_of_line row ≡ Mask mask → self.new ≡ timing_taps self.old entry row }
+        requires mask_bound { mask < masks table.now.wide }
+        requires tally_bound { Below count_bound self.old.stats }
+        requires active_bound { self.old.active ≤ count_bound }
+        ensures { (row : Row) → mask_of_line row ≡ Mask mask
+            → self.new ≡ timing_taps self.old entry row }
     {
         let judged = entry::is_judged(entry);
         row_tally::judge_taps(&mut self.stats, judged, self.active, mask, table);
@@ -78,7 +83,8 @@ fn is_judged(flags: Option<&[u8]>, i: usize) -> bool
 fn track_timing_rows(data: &[u8], lanes: Lanes, flags: Option<&[u8]>, work: &mut [u16])
     requires text_length { length «data».now ≤ most_bytes }
     requires work_room { most_rows_in lanes.count (length «data».now) ≤ length work.old }
-    ensures { WorkEntries (judged_by flags.entry) (rows_read_back lanes.count «data».now) work.new }
+    ensures { WorkEntries (judged_by flags.entry)
+        (rows_read_back lanes.count «data».now) work.new }
 {
     slices::zero_past(&mut *work, 0, 0);
     let mut tracker = Tracker::new();
@@ -95,7 +101,8 @@ fn tally_timing_rows(data: &[u8], lanes: Lanes, work: &[u16]) -> ArrowStats
     requires text_length { length «data».now ≤ most_bytes }
     requires work_room { most_rows_in lanes.count (length «data».now) ≤ length work.now }
     requires entries { SomeWorkEntries (rows_read_back lanes.count «data».now) work.now }
-    ensures { (J : ℕ → Bool) → WorkEntries J (rows_read_back lanes.count «data».now) work.now → result ≡ judged_rows lanes.count J (rows_read_back lanes.count «data».now) }
+    ensures { (J : ℕ → Bool) → WorkEntries J (rows_read_back lanes.count «data».now) work.now
+        → result ≡ judged_rows lanes.count J (rows_read_back lanes.count «data».now) }
 {
     let table = TapTable::for_lanes(lanes);
     let mut tally = TimingStats::new();
@@ -115,7 +122,7 @@ fn tally_timing_rows(data: &[u8], lanes: Lanes, work: &[u16]) -> ArrowStats
 fn judge_rows(data: &[u8], lanes: Lanes, flags: Option<&[u8]>, work: &mut [u16]) -> ArrowStats
     requires text_length { length «data».now ≤ most_bytes }
     requires work_room { most_rows_in lanes.count (length «data».now) ≤ length work.old }
-    ensures value { result ≡ judged_rows lanes.count (judged_by flags.entry) (rows_read_back lanes.count «data».now) }
+    ensures value { result ≡ tally_by flags.entry lanes.count «data».now }
     ensures work_after { work.new ≡ padded 0 (length work.old) [] }
 {
     track_timing_rows(data, lanes, flags, &mut *work);
@@ -135,7 +142,7 @@ pub fn judge_accepted(
 ) -> ArrowStats
     requires text_length { length «data».now ≤ most_bytes }
     requires work_room { most_rows_in lanes.count (length «data».now) ≤ length work.old }
-    ensures value { result ≡ judged_rows lanes.count (judged_by flags.entry) (rows_read_back lanes.count «data».now) }
+    ensures value { result ≡ tally_by flags.entry lanes.count «data».now }
     ensures work_after { work.new ≡ padded 0 (length work.old) [] }
 {
     if flags.is_none()
@@ -155,7 +162,8 @@ fn judge(
     flags: Option<&[u8]>,
     work: &mut [u16],
 ) -> Result<ArrowStats, Refusal>
-    ensures value { result ≡ judged_checked lanes «data».now work.old (judged_rows (lanes_of lanes) (judged_by flags.entry) (rows_read_back (lanes_of lanes) «data».now)) }
+    ensures value { result
+        ≡ judged_checked lanes «data».now work.old (tally_by flags.entry (lanes_of lanes) «data».now) }
     ensures work_after { work.new ≡ judged_work lanes «data».now work.old }
 {
     let len = data.len();

@@ -17,7 +17,7 @@ use Rattle.tap_walk.specs.Noted.{NotedRows, RowReady}
 use Rattle.tap_walk.proofs.Rows.{noted-row}
 use Rattle.tap_walk.specs.declared.measure_run.Run.{Run}
 use Rattle.tap_walk.specs.Held.{Rest, counting_of, noting_of, after_cells}
-use Rattle.tap_walk.proofs.Runs.{kept_run}
+use Rattle.tap_walk.proofs.Runs.{held_run}
 
 module _ (L : ℕ) (q : Rest) (k : Columns) (r : Run) (l l' : List ℕ) (done : List (List Row)) (cur : List Row) (row : Row) where
   -- of any cells
@@ -30,7 +30,7 @@ module _ (L : ℕ) (q : Rest) (k : Columns) (r : Run) (l l' : List ℕ) (done : 
     noted-cells first above x =
         rw e
         (noted-row L _ l l' row done cur w x _ _ W.written
-        (kept_run first q k r above done cur x.last row k'.low s.object k'.busy W.tested (W.lows x.last.free))
+        (held_run first q k r above done cur x.last row k'.object_depths s.object k'.busy W.tested (W.object_depths x.last.free))
         (W.heads x.free))
 
 -- what it asks

@@ -14,7 +14,7 @@ use Rattle.definitions.specs.declared.ArrowStats.{ArrowStats}
 use Rattle.beats.specs.declared.RowPlace.{RowPlace}
 use Rattle.phantoms.specs.Phantoms.{Counts}
 use Rattle.phantoms.proofs.Columns.{column-none}
-use Rattle.objects.proofs.Kept.{kept-start, kept-none, kept_at}
+use Rattle.objects.proofs.LastHeld.{held-start, held-none, held_at}
 use Rattle.row_notes.specs.Writer.{no_head}
 use Rattle.row_notes.specs.Drafts.{step_rows}
 use Rattle.row_notes.specs.Written.{Written}
@@ -52,7 +52,7 @@ pub noted-new : (L : ℕ) (l : List ℕ)
       scratch = record { hold_heads = replicate 10 no_head; count = 0; row_index = 0; has_invalid = false };
       last = record { depths = record { depths = replicate 10 0 }; busy = 0; found = None; row = None; rows = 0; midx = 0 };
     }) l []
-noted-new L l = noted-start L l _ _ (none-written l) (kept-start _ (record { none = λ c h. none c h; low = λ c h. omega (arith, none c h) }))
+noted-new L l = noted-start L l _ _ (none-written l) (held-start _ (record { none = λ c h. none c h; low = λ c h. omega (arith, none c h) }))
 
 -- a measure's end, without an object row and with one
 module _ (L first : ℕ) (q : Rest) (k : Columns) (r : Run) (above : first ≤ r.row) (few : r.row - first < row_count_bound) (least : q.midx ≤ measures_bound)
@@ -73,10 +73,10 @@ module _ (L first : ℕ) (q : Rest) (k : Columns) (r : Run) (above : first ≤ r
   ended-none h =
       let none : row_at first r.last ≡ None = rw (le-ltb first r.last h) in
       let nothing : (n : ℕ) → row_at first r.last ≡ Some n → ⊥ = λ n e. let q : ◌≡◌ {A = Option ℕ} None (Some n) = sym none ∙ e in let z : ◌≡◌ {A = ℕ} 0 1 = cc in absurd (omega arith) in
-      rw (same, gone) (noted-measure L _ l done cur x _ (kept-none _ done cur x.last nothing) refl)
+      rw (same, gone) (noted-measure L _ l done cur x _ (held-none _ done cur x.last nothing) refl)
 
   pub ended-some : first < r.last
       → Noted L (noting_of r.row (after (Some (record { measure = q.midx; row = r.last - 1 - first; rows = r.row - first }))) k ended) l (done ++ (cur ∷ []))
   ended-some h =
       let some : row_at first r.last ≡ Some (r.last - 1 - first) = rw (lt-ltb first r.last h) in
-      rw (same, gone) (noted-measure L _ l done cur x _ (kept_at _ done cur x.last _ some few least) refl)
+      rw (same, gone) (noted-measure L _ l done cur x _ (held_at _ done cur x.last _ some few least) refl)

@@ -42,7 +42,7 @@ impl Walk {
         Walk {
             columns: Columns {
                 depths: [0; 10],
-                low: [0; 10],
+                object_depths: [0; 10],
                 hold_heads: [row_notes::NO_HEAD; 10],
                 busy: 0,
             },
@@ -66,8 +66,12 @@ impl Walk {
 
     // For the notes and the last object row the open measure ends, before which `first` rows stand.
     fn end_rows(&mut self, first: u32)
-        requires { (first ≤ self.old.run.row) × (self.old.run.row - first < row_count_bound) × (self.old.midx ≤ measures_bound) }
-        ensures noted { (L : ℕ) (l : List ℕ) → EndsMeasure (NotedRows L (noting_of first (rest self.old) self.old.columns self.old.run) l) (NotedRows L (noting self.new) l) }
+        requires first_row { first ≤ self.old.run.row }
+        requires rows_few { self.old.run.row - first < row_count_bound }
+        requires measures_few { self.old.midx ≤ measures_bound }
+        ensures noted { (L : ℕ) (l : List ℕ) → EndsMeasure
+            (NotedRows L (noting_of first (rest self.old) self.old.columns self.old.run) l)
+            (NotedRows L (noting self.new) l) }
         ensures counting_stays { counting self.new ≡ counting self.old }
         ensures columns_stay { self.new.columns ≡ self.old.columns }
     {
@@ -94,10 +98,15 @@ impl Walk {
     )
         requires in_text { start + rows * (table.now.lanes.count + 1) ≤ length text.now }
         requires ten { Ten self.old.columns }
-        requires walking { Walking table.now.lanes.count (counting self.old) (noting self.old) slots.old (rows_of table.now.lanes.count rows text.now start) 0 }
+        requires walking { Walking table.now.lanes.count (counting self.old) (noting self.old) slots.old
+            (rows_of table.now.lanes.count rows text.now start) 0 }
         ensures ten { Ten self.new.columns }
-        ensures counted { CountsAll table.now.lanes.count (rows_of table.now.lanes.count rows text.now start) (counting self.old) (counting self.new) }
-        ensures noted { NotesAll table.now.lanes.count (rows_of table.now.lanes.count rows text.now start) (noting self.old) slots.old (noting self.new) slots.new }
+        ensures counted { CountsAll table.now.lanes.count
+            (rows_of table.now.lanes.count rows text.now start)
+            (counting self.old) (counting self.new) }
+        ensures noted { NotesAll table.now.lanes.count
+            (rows_of table.now.lanes.count rows text.now start)
+            (noting self.old) slots.old (noting self.new) slots.new }
     {
         let lanes = table.lanes.count;
         let first = self.run.row;
@@ -131,14 +140,16 @@ impl Walk {
     /// The density of the open measure.
     pub fn density(&self) -> u32
         requires { self.now.before ≤ self.now.run.stats.total_steps }
-        ensures { (L : ℕ) (done : List (List Row)) (cur : List Row) → Counted L (counting self.now) done cur → result ≡ density_of cur }
+        ensures { (L : ℕ) (done : List (List Row)) (cur : List Row)
+            → Counted L (counting self.now) done cur → result ≡ density_of cur }
     {
         self.run.stats.total_steps - self.before
     }
 
     /// For what is counted the open measure ends.
     pub fn end_measure(&mut self)
-        ensures counted { (L : ℕ) → EndsMeasure (Counted L (counting self.old)) (Counted L (counting self.new)) }
+        ensures counted { (L : ℕ)
+            → EndsMeasure (Counted L (counting self.old)) (Counted L (counting self.new)) }
         ensures noting_stays { noting self.new ≡ noting self.old }
         ensures columns_stay { self.new.columns ≡ self.old.columns }
     {

@@ -1,5 +1,5 @@
 -- Laws of the object rows.
 pub mod Scan
 pub mod Zeros
-pub mod Kept
+pub mod LastHeld
 pub mod Free

@@ -1,3 +1,3 @@
 -- What the contracts of the object rows cite, beside the definitions.
 pub mod Rows
-pub mod LastKept
+pub mod LastHeld

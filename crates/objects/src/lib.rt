@@ -5,7 +5,7 @@ ghost use Rattle.std.specs.Prelude.{◌≡◌, [], ◌≤◌, ◌<◌, length};
 ghost use Rattle.definitions.specs.Sizes.{measures_bound, row_numbers_bound, row_count_bound};
 ghost use Rattle.objects.specs.Rows.{DepthsLow, NoDepths, CellDone, RowDone};
 ghost use Rattle.reduction.specs.States.{AddsRow, EndsMeasure};
-ghost use Rattle.objects.specs.LastKept.{counted, LastKept};
+ghost use Rattle.objects.specs.LastHeld.{counted, LastHeld};
 
 use beats::RowPlace;
 use definitions::DepthEffect;
@@ -74,7 +74,8 @@ pub fn object_cell(b: u8, depth: u32) -> ObjectCell
 
 /// Whether the row is an object row where its columns have these depths, and the depths after it. Each grows by at most 1.
 pub fn row_has_object(row: &[u8], old: Depths) -> Objects
-    requires { (length row.now ≤ 10) × DepthsLow 4294967294 old }
+    requires width { length row.now ≤ 10 }
+    requires depths_low { DepthsLow 4294967294 old }
     ensures { RowDone row.now old result }
 {
     let mut depths = old;
@@ -102,7 +103,7 @@ pub struct LastScan {
 impl LastScan {
     /// Before the first row.
     pub fn new() -> Self
-        ensures { LastKept result [] [] }
+        ensures { LastHeld result [] [] }
     {
         LastScan {
             depths: no_depths(),
@@ -127,8 +128,10 @@ impl LastScan {
 
     // One row more, by its cells. One that is all zero is no object row and changes no depth.
     fn add_cells(&mut self, cells: &[u8])
-        requires { (length cells.now ≤ 10) × (self.old.rows < row_numbers_bound) × DepthsLow 4294967294 self.old.depths }
-        ensures { AddsRow cells.now (LastKept self.old) (LastKept self.new) }
+        requires width { length cells.now ≤ 10 }
+        requires rows_few { self.old.rows < row_numbers_bound }
+        requires depths_low { DepthsLow 4294967294 self.old.depths }
+        ensures { AddsRow cells.now (LastHeld self.old) (LastHeld self.new) }
     {
         if cells::is_all_zero(cells) {
             self.count_row(false);
@@ -142,8 +145,10 @@ impl LastScan {
 
     /// One row more. One of taps alone, all in columns of the depth 0, is an object row where it has one, and leaves the depths.
     pub fn add_row(&mut self, cells: &[u8])
-        requires { (length cells.now ≤ 10) × (self.old.rows < row_numbers_bound) × DepthsLow 4294967294 self.old.depths }
-        ensures { AddsRow cells.now (LastKept self.old) (LastKept self.new) }
+        requires width { length cells.now ≤ 10 }
+        requires rows_few { self.old.rows < row_numbers_bound }
+        requires depths_low { DepthsLow 4294967294 self.old.depths }
+        ensures { AddsRow cells.now (LastHeld self.old) (LastHeld self.new) }
     {
         match taps::free_taps(cells, self.busy) {
             Taps::Mask(mask) => self.count_row(mask != 0),
@@ -153,8 +158,9 @@ impl LastScan {
 
     /// The open measure ends.
     pub fn end_measure(&mut self)
-        requires { (self.old.rows < row_count_bound) × (self.old.midx ≤ measures_bound) }
-        ensures kept { EndsMeasure (LastKept self.old) (LastKept self.new) }
+        requires rows_few { self.old.rows < row_count_bound }
+        requires measures_few { self.old.midx ≤ measures_bound }
+        ensures held { EndsMeasure (LastHeld self.old) (LastHeld self.new) }
         ensures busy_stays { self.new.busy ≡ self.old.busy }
     {
         let LastScan {

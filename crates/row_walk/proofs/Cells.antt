@@ -39,11 +39,11 @@ use Rattle.row_walk.proofs.Bits.{free-marked}
 -- From the columns k₀, n records in l₀ and the marks m₀ on, in row number a.
 pub record Cells (row : Row) (l₀ : List ℕ) (k₀ : Columns) (n a : ℕ) (m : Marks) (l : List ℕ) (k : Columns) (s : Seen) (i : ℕ) : Type 0 where
   pub passed : Passed row (phantoms_of k₀.depths m) (phantoms_of k.depths s.marks) i
-  pub scanned : Scanned row k₀.low k.low s.object i
+  pub scanned : Scanned row k₀.object_depths k.object_depths s.object i
   pub mid : Midrow l₀ (notes_of k₀.hold_heads n a m) l (notes_of k.hold_heads s.count a s.marks) i row
   pub summed : Summed (length row) is_arrow (drop i row) (row_sum row) s.sum i
   pub depths : FreeAre k₀.busy 0 k₀.depths → FreeAre k.busy 0 k.depths
-  pub lows : FreeAre k₀.busy 0 k₀.low → FreeAre k.busy 0 k.low
+  pub object_depths : FreeAre k₀.busy 0 k₀.object_depths → FreeAre k.busy 0 k.object_depths
   pub heads : FreeAre k₀.busy no_head k₀.hold_heads → FreeAre k.busy no_head k.hold_heads
   pub size : length k.hold_heads ≡ 10
 
@@ -52,11 +52,11 @@ pub cells-start : (row : Row) (l : List ℕ) (k : Columns) (n a : ℕ) (m : Mark
 unfolding row_sum
 cells-start row l k n a m R sum e = record {
   passed = passed_start row (phantoms_of k.depths m) R.ten.depths;
-  scanned = scan-start row k.low R.ten.low;
+  scanned = scan-start row k.object_depths R.ten.object_depths;
   mid = mid_start l (notes_of k.hold_heads n a m) row;
   summed = summed-start is_arrow row sum e;
   depths = λ f. f;
-  lows = λ f. f;
+  object_depths = λ f. f;
   heads = λ f. f;
   size = R.ten.heads;
 }
@@ -98,11 +98,11 @@ module _ (row : Row) (l₀ : List ℕ) (k₀ : Columns) (n a : ℕ) (m : Marks) 
   pub cells-zero : get_or row i 0 ≡ 48 → Cells row l₀ k₀ n a m l k s (i + 1)
   cells-zero e = record {
     passed = zero-passed row (phantoms_of k₀.depths m) (phantoms_of k.depths s.marks) i C.passed h u e;
-    scanned = zero-scanned row k₀.low k.low s.object i C.scanned h u e;
+    scanned = zero-scanned row k₀.object_depths k.object_depths s.object i C.scanned h u e;
     mid = mid_step l₀ _ l _ i row C.mid l _ _ refl h refl (step-nothing l _ _ i _ (zero-nothing _ e));
     summed = summed-next (length row) is_arrow (drop i row) (drop (i + 1) row) (row_sum row) s.sum s.sum i (get_or row i 0) (drop-next row i h) (zero-sum s.sum (direction (length row) i) _ e) C.summed;
     depths = C.depths;
-    lows = C.lows;
+    object_depths = C.object_depths;
     heads = C.heads;
     size = C.size;
   }
@@ -115,15 +115,15 @@ module _ (row : Row) (l₀ : List ℕ) (k₀ : Columns) (n a : ℕ) (m : Marks) 
       let old = notes_of k.hold_heads s.count a s.marks in
       record {
         passed = rw (Q.depths, T.heads, T.tails, T.met) (passed-next row (phantoms_of k₀.depths m) (phantoms_of k.depths s.marks) w.phantom i C.passed h u (counted-cell _ _ l l' w W));
-        scanned = rw (Q.low, T.object) (scan-next row k₀.low k.low s.object i C.scanned w.object.object w.object.depth h u W.object W.low);
+        scanned = rw (Q.object_depths, T.object) (scan-next row k₀.object_depths k.object_depths s.object i C.scanned w.object.object w.object.depth h u W.object W.object_depth);
         mid = rw (Q.heads, T.count, T.invalid) (mid_step l₀ _ l old i row C.mid l' (after_cell old i w.head w.count w.invalid) (effect_at (get_or row i 0)) refl h el (W.noted old refl refl refl));
         summed = summed-next (length row) is_arrow (drop i row) (drop (i + 1) row) (row_sum row) s.sum t.sum i (get_or row i 0) (drop-next row i h) (T.sum _ W.kind W.tails) C.summed;
         depths = λ f. rw Q.depths
             (free-marked k.busy i q.busy (is_used w) 0 k.depths (set k.depths i w.phantom.depth) Q.busy
             (λ e. get_or-set_same k.depths i w.phantom.depth 0 (omega (arith, C.passed.size)) ∙ (free e).0) (λ c ne. get_or-set_other k.depths i c w.phantom.depth 0 ne) (C.depths f));
-        lows = λ f. rw Q.low
-            (free-marked k.busy i q.busy (is_used w) 0 k.low (set k.low i w.object.depth) Q.busy
-            (λ e. get_or-set_same k.low i w.object.depth 0 (omega (arith, C.scanned.size)) ∙ (free e).1) (λ c ne. get_or-set_other k.low i c w.object.depth 0 ne) (C.lows f));
+        object_depths = λ f. rw Q.object_depths
+            (free-marked k.busy i q.busy (is_used w) 0 k.object_depths (set k.object_depths i w.object.depth) Q.busy
+            (λ e. get_or-set_same k.object_depths i w.object.depth 0 (omega (arith, C.scanned.size)) ∙ (free e).1) (λ c ne. get_or-set_other k.object_depths i c w.object.depth 0 ne) (C.object_depths f));
         heads = λ f. rw Q.heads
             (free-marked k.busy i q.busy (is_used w) no_head k.hold_heads (set k.hold_heads i w.head) Q.busy
             (λ e. get_or-set_same k.hold_heads i w.head 0 (omega (arith, C.size)) ∙ (free e).2) (λ c ne. get_or-set_other k.hold_heads i c w.head 0 ne) (C.heads f));
@@ -137,10 +137,10 @@ cells-end row l₀ k₀ n a m l k s i R C h = record {
   sum = summed-end (length row) is_arrow _ _ _ _ (drop_of_length-le row h) C.summed;
   under = under_more i 10 s.sum (omega (arith, C.passed.within, R.room.narrow)) C.summed.under;
   counted = λ L rows wide narrow counts. passed-end _ _ _ _ C.passed h L rows wide narrow counts;
-  tested = scan-end row (record { depths = k₀.low }) _ _ _ C.scanned h;
+  tested = scan-end row (record { depths = k₀.object_depths }) _ _ _ C.scanned h;
   written = row_written _ _ _ R.room _ (notes_of k.hold_heads s.count (a + 1) s.marks) _ _ C.mid h refl refl refl refl;
   depths = C.depths;
-  lows = C.lows;
+  object_depths = C.object_depths;
   heads = C.heads;
-  ten = record { depths = C.passed.size; low = C.scanned.size; heads = C.size };
+  ten = record { depths = C.passed.size; object_depths = C.scanned.size; heads = C.size };
 }

@@ -34,7 +34,7 @@ cell_number x = number_counted (effects_of x).counted (effects_of x).arrow
 -- what a cell asks
 pub record CellFits (at : CellAt) (l : List ℕ) : Type 0 where
   pub depth : at.depth < 4294967295
-  pub low : at.low < 4294967295
+  pub object_depth : at.object_depth < 4294967295
   pub ready : CellReady l at.head at.count at.row at.column
 
 -- a cell with these effects, counted as k, has been walked
@@ -43,8 +43,8 @@ pub record CellWalked (h o : DepthEffect) (n : NoteEffect) (k : ℕ) (at : CellA
   pub heads : r.phantom.heads ≡ number_of_bool (is_opening h)
   pub tails : r.phantom.tails ≡ number_of_bool (is_closing h)
   pub met : r.phantom.met ≡ meets_phantom h at.depth
-  pub object : r.object.object ≡ is_object o at.low
-  pub low : r.object.depth ≡ deeper o at.low
+  pub object : r.object.object ≡ is_object o at.object_depth
+  pub object_depth : r.object.depth ≡ deeper o at.object_depth
   pub noted : CellNoted l at.head at.count at.row at.column n l' r.head r.count r.invalid
   pub kind : r.kind ≡ k
 
@@ -62,7 +62,7 @@ Closing = CellWalked depth.TheVariants.Closes depth.TheVariants.Closes Closes 6
 
 abbrev pub Unnoted : CellAt → ObjectCell → WalkCell → Type 0
 Unnoted at x r =
-    (o : DepthEffect) (l : List ℕ) → x.object ≡ is_object o at.low → x.depth ≡ deeper o at.low
+    (o : DepthEffect) (l : List ℕ) → x.object ≡ is_object o at.object_depth → x.depth ≡ deeper o at.object_depth
     → CellWalked depth.TheVariants.Nothing o Nothing 6 at l l r
 
 abbrev pub ByteWalked : ℕ → CellAt → List ℕ → List ℕ → WalkCell → Type 0

@@ -35,12 +35,12 @@ is_used w = (not (w.phantom.depth == 0) || not (w.object.depth == 0)) || not (w.
 -- where a cell of a column stands, with so many records before it
 abbrev pub cell_at : Columns → ℕ → ℕ → ℕ → CellAt
 cell_at k c n i =
-    record { depth = slice_index k.depths c; low = slice_index k.low c; head = slice_index k.hold_heads c; count = n; row = i; column = c }
+    record { depth = slice_index k.depths c; object_depth = slice_index k.object_depths c; head = slice_index k.hold_heads c; count = n; row = i; column = c }
 
 -- the cell has been walked in column c
 pub record ColumnPut (k : Columns) (c : ℕ) (w : WalkCell) (r : Columns) : Type 0 where
   pub depths : r.depths ≡ set k.depths c w.phantom.depth
-  pub low : r.low ≡ set k.low c w.object.depth
+  pub object_depths : r.object_depths ≡ set k.object_depths c w.object.depth
   pub heads : r.hold_heads ≡ set k.hold_heads c w.head
   pub busy : Marked k.busy c (is_used w) r.busy
 
@@ -64,14 +64,14 @@ notes_of hs n i m = record { hold_heads = hs; count = n; row_index = i; has_inva
 -- each column has its three numbers
 pub record Ten (k : Columns) : Type 0 where
   pub depths : length k.depths ≡ 10
-  pub low : length k.low ≡ 10
+  pub object_depths : length k.object_depths ≡ 10
   pub heads : length k.hold_heads ≡ 10
 
 -- what a row asks: the columns, the number of records and of rows
 pub record CellsReady (row : Row) (l : List ℕ) (k : Columns) (n i : ℕ) (m : Marks) : Type 0 where
   pub ten : Ten k
   pub phantoms : Low count_bound (phantoms_of k.depths m)
-  pub objects : objects.DepthsLow 4294967294 (record { depths = k.low })
+  pub objects : objects.DepthsLow 4294967294 (record { depths = k.object_depths })
   pub room : RecordRoom (notes_of k.hold_heads n i m) row l
 
 -- The row's cells are done: it is summed, counted, tested for an object and noted, and what was free and still is has no bit in `busy`.
@@ -79,9 +79,9 @@ pub record RowWalked (row : Row) (l : List ℕ) (k : Columns) (n i : ℕ) (m : M
   pub sum : r.sum ≡ row_sum row
   pub under : Under 10 r.sum
   pub counted : RowCounted row (phantoms_of k.depths m) (phantoms_of k'.depths r.marks)
-  pub tested : RowDone row (record { depths = k.low }) (record { object = r.object; depths = record { depths = k'.low } })
+  pub tested : RowDone row (record { depths = k.object_depths }) (record { object = r.object; depths = record { depths = k'.object_depths } })
   pub written : (rows : List Row) → Written rows (notes_of k.hold_heads n i m) l → Written (rows ++ (row ∷ [])) (notes_of k'.hold_heads r.count (i + 1) r.marks) l'
   pub depths : FreeAre k.busy 0 k.depths → FreeAre k'.busy 0 k'.depths
-  pub lows : FreeAre k.busy 0 k.low → FreeAre k'.busy 0 k'.low
+  pub object_depths : FreeAre k.busy 0 k.object_depths → FreeAre k'.busy 0 k'.object_depths
   pub heads : FreeAre k.busy no_head k.hold_heads → FreeAre k'.busy no_head k'.hold_heads
   pub ten : Ten k'

@@ -17,7 +17,7 @@ use phantoms::PhantomCell;
 #[derive(Clone, Copy)]
 pub struct CellAt {
     pub depth: u32,
-    pub low: u32,
+    pub object_depth: u32,
     pub head: u32,
     pub count: usize,
     pub row: u32,
@@ -78,7 +78,7 @@ fn walk_lower(at: CellAt, kind: Kind, slots: &mut [u8]) -> WalkCell
         },
         object: ObjectCell {
             object: false,
-            depth: at.low,
+            depth: at.object_depth,
         },
         head: row_notes::NO_HEAD,
         count: at.count + 1,
@@ -102,7 +102,7 @@ fn walk_opening(at: CellAt, kind: Kind, slots: &mut [u8]) -> WalkCell
         },
         object: ObjectCell {
             object: false,
-            depth: at.low + 1,
+            depth: at.object_depth + 1,
         },
         head: at.count as u32,
         count: at.count + 1,
@@ -125,8 +125,8 @@ fn walk_closing(at: CellAt, slots: &mut [u8]) -> WalkCell
             met: false,
         },
         object: ObjectCell {
-            object: 0 < at.low,
-            depth: at.low.saturating_sub(1),
+            object: 0 < at.object_depth,
+            depth: at.object_depth.saturating_sub(1),
         },
         head: row_notes::NO_HEAD,
         count: at.count,
@@ -184,7 +184,7 @@ pub fn walk_cell(b: u8, at: CellAt, slots: &mut [u8]) -> WalkCell
                 at,
                 ObjectCell {
                     object: false,
-                    depth: at.low,
+                    depth: at.object_depth,
                 },
             )
         }
@@ -193,8 +193,11 @@ pub fn walk_cell(b: u8, at: CellAt, slots: &mut [u8]) -> WalkCell
 
 /// A row's sum with a cell of this kind more in a column of a direction, or so many tails.
 pub fn count_kind(s: RowSum, direction: usize, kind: u8, tails: u32) -> RowSum
-    requires { Under 10 s × (tails ≤ 1) }
-    ensures { (b : ℕ) → kind ≡ cell_number (cell_of b) → tails ≡ number_of_bool (is_closing (hold_at b)) → result ≡ sum_with_cell s direction (cell_of b) (is_arrow (cell_of b)) }
+    requires row_sum { Under 10 s }
+    requires one_tail { tails ≤ 1 }
+    ensures { (b : ℕ) → kind ≡ cell_number (cell_of b)
+        → tails ≡ number_of_bool (is_closing (hold_at b))
+        → result ≡ sum_with_cell s direction (cell_of b) (is_arrow (cell_of b)) }
 {
     let arrow = kind < 3;
     RowSum {

@@ -15,7 +15,7 @@ use definitions::{RowSum, direction};
 #[derive(Clone, Copy)]
 pub struct Columns {
     pub depths: [u32; 10],
-    pub low: [u32; 10],
+    pub object_depths: [u32; 10],
     pub hold_heads: [u32; 10],
     pub busy: u32,
 }
@@ -42,9 +42,10 @@ pub struct Seen {
 impl Seen {
     // One cell more, in a column of a direction.
     fn add_cell(&mut self, direction: usize, w: WalkCell)
-        requires sum_bound { Under 10 self.old.sum }
-        requires tails_bound { w.phantom.tails ≤ 1 }
-        requires heads_bound { (self.old.marks.heads + w.phantom.heads < 4294967296) × (self.old.marks.tails + w.phantom.tails < 4294967296) }
+        requires row_sum { Under 10 self.old.sum }
+        requires one_tail { w.phantom.tails ≤ 1 }
+        requires heads_bound { self.old.marks.heads + w.phantom.heads < 4294967296 }
+        requires tails_bound { self.old.marks.tails + w.phantom.tails < 4294967296 }
         ensures { CellSeen self.old direction w self.new }
     {
         self.marks.heads += w.phantom.heads;
@@ -75,7 +76,7 @@ impl Columns {
     {
         CellAt {
             depth: self.depths[column],
-            low: self.low[column],
+            object_depth: self.object_depths[column],
             head: self.hold_heads[column],
             count,
             row,
@@ -89,7 +90,7 @@ impl Columns {
         ensures { ColumnPut self.old column w self.new }
     {
         self.depths[column] = w.phantom.depth;
-        self.low[column] = w.object.depth;
+        self.object_depths[column] = w.object.depth;
         self.hold_heads[column] = w.head;
         let used = (w.phantom.depth != 0) | (w.object.depth != 0) | (w.head != row_notes::NO_HEAD);
         self.busy = mark(self.busy, column, used);
@@ -105,7 +106,9 @@ impl Columns {
         slots: &mut [u8],
     ) -> Seen
         requires { CellsReady row.now slots.old self.old count number marks }
-        ensures { RowWalked row.now slots.old self.old count number marks slots.new self.new result }
+        ensures { RowWalked row.now
+            slots.old self.old count number marks
+            slots.new self.new result }
     {
         let mut s = Seen {
             marks,

@@ -1,4 +1,4 @@
--- The loop of the last-beat scan: what is kept of the lines read tells the last object row in the end.
+-- The loop of the last-beat scan: what is held of the lines read tells the last object row in the end.
 use mathlib.Core.Path.{◌≡◌, refl, sym, ap, ◌∙◌}
 use mathlib.Core.List.{List, [], ◌∷◌, ◌++◌}
 use Prim.Native.Nat.{ℕ, ◌≤◌, ◌<◌}
@@ -12,11 +12,11 @@ use Rattle.beats.specs.declared.RowPlace.{RowPlace}
 use Rattle.beats.specs.Places.{place_of, Placed}
 use Rattle.reader.proofs.ChartLoops.{Over}
 use Rattle.objects.specs.declared.LastScan.{LastScan}
-use Rattle.objects.specs.LastKept.{LastKept}
+use Rattle.objects.specs.LastHeld.{LastHeld}
 use Rattle.scans.proofs.LastRaw.{last-raw}
 
 -- with the last measure ended, the last object row of the chart is found
-pub looked-last : (s t : LastScan) (L : ℕ) (text : List ℕ) → ((done : List (List Row)) (cur : List Row) → LastKept s done cur → LastKept t (done ++ (cur ∷ [])) []) → Over L text (LastKept s)
+pub looked-last : (s t : LastScan) (L : ℕ) (text : List ℕ) → ((done : List (List Row)) (cur : List Row) → LastHeld s done cur → LastHeld t (done ++ (cur ∷ [])) []) → Over L text (LastHeld s)
     → (Placed t.found) × (place_of t.found ≡ last_of (objects_from (λ c. 0) 0 (chart L text)))
 looked-last s t L text f x =
     let k = f x.done x.cur x.held in

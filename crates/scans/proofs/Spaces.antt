@@ -106,8 +106,8 @@ spaced-none s (r ∷ cur) x h = absurd (omega (arith, x.rows))
 
 -- with rows it is, where as many have a step as stay
 module _ (s : MeasureSpacing) (cur : List Row) (x : Spaces s cur) (some : 0 < s.rows) (few : s.rows ≤ row_numbers_bound) (t : ℕ) (q : t ≡ min s.shift (count_trailing_zeros 64 s.rows)) where
-  kept : s.rows / 2 ^ t ≡ length (reduce cur)
-  kept =
+  staying : s.rows / 2 ^ t ≡ length (reduce cur)
+  staying =
       let a : 0 < length cur = omega (arith, x.rows) in
       let b : length cur < 2 ^ 64 = omega (arith, x.rows) in
       ap (λ n. s.rows / 2 ^ n) q
@@ -124,8 +124,8 @@ module _ (s : MeasureSpacing) (cur : List Row) (x : Spaces s cur) (some : 0 < s.
   pub spaced-told : eqb s.steps (s.rows / 2 ^ t) ≡ spacing (reduce cur)
   spaced-told =
       ⊎_elim
-      (λ e. ap₂ eqb e kept ∙ sym (spacing-raw cur))
+      (λ e. ap₂ eqb e staying ∙ sym (spacing-raw cur))
       (λ y.
       ne_eqb s.steps (s.rows / 2 ^ t) (λ h. omega (arith, y.1, x.rows, h, all_stay y.0))
-      ∙ sym (spacing-raw cur ∙ ne_eqb (density cur) (length (reduce cur)) (λ e. omega (arith, y.2, x.rows, e, kept, all_stay y.0))))
+      ∙ sym (spacing-raw cur ∙ ne_eqb (density cur) (length (reduce cur)) (λ e. omega (arith, y.2, x.rows, e, staying, all_stay y.0))))
       x.steps

@@ -14,7 +14,9 @@ use reader::charts::ChartLine;
 // The last object row of an accepted text, among its raw rows.
 fn scan_last(data: &[u8], lanes: Lanes) -> Option<RowPlace>
     requires { length «data».now ≤ most_bytes }
-    ensures { (Placed result) × (place_of result ≡ last_of (objects_from (λ c. 0) 0 (chart lanes.count «data».now))) }
+    ensures placed { Placed result }
+    ensures value { place_of result
+        ≡ last_of (objects_from (λ c. 0) 0 (chart lanes.count «data».now)) }
 {
     let mut last = LastScan::new();
     for line in reader::charts::chart_lines(data, lanes) {

@@ -36,8 +36,10 @@ impl MeasureSpacing {
     // none is looked at. It is written into the loop, where the measure then stays in registers.
     #[inline(always)]
     fn add_row(&mut self, row: &[u8])
-        requires { (self.old.rows < row_numbers_bound) × (self.old.steps < row_numbers_bound) }
-        ensures { (cur : List Row) → Spaces self.old cur → Spaces self.new (cur ++ (row.now ∷ [])) }
+        requires rows_few { self.old.rows < row_numbers_bound }
+        requires steps_few { self.old.steps < row_numbers_bound }
+        ensures { (cur : List Row) → Spaces self.old cur
+            → Spaces self.new (cur ++ (row.now ∷ [])) }
     {
         let number = self.rows;
         self.rows += 1;
@@ -68,7 +70,8 @@ pub fn fill_spacing(data: &[u8], lanes: Lanes, spacing: &mut [u8]) -> usize
     requires text_length { length «data».now ≤ most_bytes }
     requires data_in_bounds { (length «data».now + 1) / 2 + 1 ≤ length spacing.old }
     ensures value { result ≡ length (spacings lanes.count «data».now) }
-    ensures spacing_after { spacing.new ≡ padded 0 (length spacing.old) (spacings lanes.count «data».now) }
+    ensures spacing_after { spacing.new
+        ≡ padded 0 (length spacing.old) (spacings lanes.count «data».now) }
 {
     let mut m = 0;
     let mut measure = MeasureSpacing::new();

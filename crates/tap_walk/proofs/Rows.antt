@@ -19,16 +19,16 @@ use Rattle.row_notes.specs.Writer.{no_head}
 use Rattle.row_notes.specs.Written.{Written}
 use Rattle.row_notes.proofs.Rows.{cells-within}
 use Rattle.objects.specs.declared.LastScan.{LastScan}
-use Rattle.objects.specs.LastKept.{LastKept}
+use Rattle.objects.specs.LastHeld.{LastHeld}
 use Rattle.objects.proofs.Scan.{low-more}
 use Rattle.tap_walk.specs.Noted.{Noting, NotedRows, Noted, RowReady}
 
 -- before the first row no column has an open head
-pub noted-start : (L : ℕ) (l : List ℕ) (s : ChartNotesScratch) (o : LastScan) → Written [] s l → LastKept o [] [] → Noted L (record { scratch = s; last = o }) l []
-noted-start L l s o w kept = record {
+pub noted-start : (L : ℕ) (l : List ℕ) (s : ChartNotesScratch) (o : LastScan) → Written [] s l → LastHeld o [] [] → Noted L (record { scratch = s; last = o }) l []
+noted-start L l s o w held = record {
   written = w;
   wide = all-by_index (λ r. length r ≤ L) none;
-  last = kept;
+  last = held;
   free = λ c h e. closed c h (eqb (get_or s.hold_heads c 0) no_head) refl;
 }
   where
@@ -38,25 +38,25 @@ noted-start L l s o w kept = record {
 
 pub noted-row : (L : ℕ) (n : Noting) (l after : List ℕ) (row : Row) (done : List (List Row)) (cur : List Row) → length row ≤ L → NotedRows L n l done cur
     → (s : ChartNotesScratch) (o : LastScan) → ((rows : List Row) → Written rows n.scratch l → Written (rows ++ (row ∷ [])) s after)
-    → LastKept o done (cur ++ (row ∷ [])) → FreeAre o.busy no_head s.hold_heads → NotedRows L (record { scratch = s; last = o }) after done (cur ++ (row ∷ []))
-noted-row L n l after row done cur w x s o f kept free =
+    → LastHeld o done (cur ++ (row ∷ [])) → FreeAre o.busy no_head s.hold_heads → NotedRows L (record { scratch = s; last = o }) after done (cur ++ (row ∷ []))
+noted-row L n l after row done cur w x s o f held free =
     let all : (joined done ++ cur) ++ (row ∷ []) ≡ joined done ++ (cur ++ (row ∷ [])) = append_assoc (joined done) cur (row ∷ []) in
     record {
       written = subst (λ rs. Written rs s after) all (f (joined done ++ cur) x.written);
       wide = subst (All (λ r. length r ≤ L)) all (all-by_index (λ r. length r ≤ L) (all_append (all-from_index (λ r. length r ≤ L) (joined done ++ cur) x.wide) (one w none)));
-      last = kept;
+      last = held;
       free = free;
     }
 
 -- the measure ends
 pub noted-measure : (L : ℕ) (n : Noting) (l : List ℕ) (done : List (List Row)) (cur : List Row) → NotedRows L n l done cur
-    → (o : LastScan) → LastKept o (done ++ (cur ∷ [])) [] → o.busy ≡ n.last.busy → Noted L (record { scratch = n.scratch; last = o }) l (done ++ (cur ∷ []))
-noted-measure L n l done cur x o kept same =
+    → (o : LastScan) → LastHeld o (done ++ (cur ∷ [])) [] → o.busy ≡ n.last.busy → Noted L (record { scratch = n.scratch; last = o }) l (done ++ (cur ∷ []))
+noted-measure L n l done cur x o held same =
     let all : joined done ++ cur ≡ joined (done ++ (cur ∷ [])) ++ [] = sym (append-nil (joined (done ++ (cur ∷ []))) ∙ joined_snoc done cur) in
     record {
       written = subst (λ rs. Written rs n.scratch l) all x.written;
       wide = subst (All (λ r. length r ≤ L)) all x.wide;
-      last = kept;
+      last = held;
       free = rw same x.free;
     }
 

@@ -15,9 +15,9 @@ use Rattle.taps.specs.Taps.{FreeTaps, FreeAre}
 use Rattle.phantoms.proofs.Free.{free-row}
 use Rattle.std.specs.Prelude.{Some}
 use Rattle.objects.specs.Rows.{RowDone}
-use Rattle.objects.specs.LastKept.{LastKept}
+use Rattle.objects.specs.LastHeld.{LastHeld}
 use Rattle.objects.proofs.Free.{free-done}
-use Rattle.objects.proofs.Kept.{kept-object, kept-other}
+use Rattle.objects.proofs.LastHeld.{held-object, held-other}
 use Rattle.row_tally.specs.Bounds.{Below}
 use Rattle.row_tally.proofs.Bounds.{below_more}
 use Rattle.row_notes.specs.Written.{RecordRoom}
@@ -34,16 +34,16 @@ use Rattle.tap_walk.specs.Walked.{TapsAdded, Walking}
 
 -- the last object row
 module _ (first : ℕ) (q : Rest) (k : Columns) (r : Run) (above : first ≤ r.row) (done : List (List Row)) (cur : List Row) where
-  pub kept_run : LastKept (noting_of first q k r).last done cur → (row : Row) (low : List ℕ) (object : Bool) (busy : ℕ)
-      → RowDone row (record { depths = k.low }) (record { object = object; depths = record { depths = low } }) → FreeAre busy 0 low
-      → LastKept (record { depths = record { depths = low }; busy = busy; found = q.found; row = row_at first (cond object (r.row + 1) r.last); rows = r.row + 1 - first; midx = q.midx }) done (cur ++ (row ∷ []))
-  kept_run x row low true busy w free =
+  pub held_run : LastHeld (noting_of first q k r).last done cur → (row : Row) (depths : List ℕ) (object : Bool) (busy : ℕ)
+      → RowDone row (record { depths = k.object_depths }) (record { object = object; depths = record { depths = depths } }) → FreeAre busy 0 depths
+      → LastHeld (record { depths = record { depths = depths }; busy = busy; found = q.found; row = row_at first (cond object (r.row + 1) r.last); rows = r.row + 1 - first; midx = q.midx }) done (cur ++ (row ∷ []))
+  held_run x row depths true busy w free =
       let rows : r.row + 1 - first ≡ r.row - first + 1 = omega arith in
       let at : row_at first (r.row + 1) ≡ Some (r.row - first) = rw (lt-ltb first (r.row + 1) (omega arith)) (ap Some (omega arith)) in
-      rw (rows, at) (kept-object _ done cur x row _ w busy free refl)
-  kept_run x row low false busy w free =
+      rw (rows, at) (held-object _ done cur x row _ w busy free refl)
+  held_run x row depths false busy w free =
       let rows : r.row + 1 - first ≡ r.row - first + 1 = omega arith in
-      rw rows (kept-other _ done cur x row _ w busy free refl)
+      rw rows (held-other _ done cur x row _ w busy free refl)
 
 module _ (L : ℕ) (q : Rest) (k : Columns) (r : Run) (l l' : List ℕ) (done : List (List Row)) (cur : List Row) (row : Row) where
   -- of taps
@@ -59,7 +59,7 @@ module _ (L : ℕ) (q : Rest) (k : Columns) (r : Run) (l l' : List ℕ) (done : 
         rw (A.marks, A.row, A.last)
         (noted-row L _ l l' row done cur w x _ _
         (A.written (noting_of first q k r).scratch row (record { row = refl; count = refl; room = room; heads = record { busy = k.busy; mask = mask; taps = free; free = x.free }; mask = free.mask }))
-        (kept_run first q k r above done cur x.last row k.low (not (eqb mask 0)) k.busy (free-done _ _ row _ free x.last.free) x.last.free)
+        (held_run first q k r above done cur x.last row k.object_depths (not (eqb mask 0)) k.busy (free-done _ _ row _ free x.last.free) x.last.free)
         x.free)
 
 -- ---- what one more asks

@@ -25,7 +25,7 @@ row_at first last = if nat_lt first last then Some (last - 1 - first) else None
 abbrev pub noting_of : ℕ → Rest → Columns → Run → Noting
 noting_of first q k r = record {
   scratch = notes_of k.hold_heads r.count r.row r.marks;
-  last = record { depths = record { depths = k.low }; busy = k.busy; found = q.found; row = row_at first r.last; rows = r.row - first; midx = q.midx };
+  last = record { depths = record { depths = k.object_depths }; busy = k.busy; found = q.found; row = row_at first r.last; rows = r.row - first; midx = q.midx };
 }
 
 -- after a row whose cells have come to this

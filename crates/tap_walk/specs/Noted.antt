@@ -7,7 +7,7 @@ use Rattle.taps.specs.Taps.{FreeAre}
 use Rattle.row_notes.specs.Writer.{no_head}
 use Rattle.row_notes.specs.Written.{Written, RecordRoom}
 use Rattle.objects.specs.Rows.{DepthsLow}
-use Rattle.objects.specs.LastKept.{LastKept}
+use Rattle.objects.specs.LastHeld.{LastHeld}
 use Rattle.row_notes.specs.declared.ChartNotesScratch.{ChartNotesScratch}
 use Rattle.objects.specs.declared.LastScan.{LastScan}
 
@@ -19,7 +19,7 @@ pub record Noting : Type 0 where
 pub record NotedRows (L : ℕ) (n : Noting) (l : List ℕ) (done : List (List Row)) (cur : List Row) : Type 0 where
   pub written : Written (joined done ++ cur) n.scratch l
   pub wide : All (λ r. length r ≤ L) (joined done ++ cur)
-  pub last : LastKept n.last done cur
+  pub last : LastHeld n.last done cur
   pub free : FreeAre n.last.busy no_head n.scratch.hold_heads
 
 -- no measure is open

@@ -34,11 +34,17 @@ pub fn walk_taps(
     table: &TapTable,
 )
     requires in_text { start + rows * (table.now.lanes.count + 1) ≤ length text.now }
-    requires in_measure { (first ≤ run.old.row) × (run.old.row ≤ first + rows) }
-    requires running { Running table.now.lanes.count first columns.now run.old slots.old (rows_of table.now.lanes.count rows text.now start) }
-    ensures onwards { (run.old.row ≤ run.new.row) × (run.new.row ≤ first + rows) }
-    ensures counted { RunCounts table.now.lanes.count first columns.now (rows_of table.now.lanes.count rows text.now start) run.old run.new }
-    ensures noted_rows { RunNotes table.now.lanes.count first columns.now (rows_of table.now.lanes.count rows text.now start) run.old slots.old run.new slots.new }
+    requires first_row { first ≤ run.old.row }
+    requires in_measure { run.old.row ≤ first + rows }
+    requires running { Running table.now.lanes.count first columns.now run.old slots.old
+        (rows_of table.now.lanes.count rows text.now start) }
+    ensures onwards { run.old.row ≤ run.new.row }
+    ensures in_measure { run.new.row ≤ first + rows }
+    ensures counted { RunCounts table.now.lanes.count first columns.now
+        (rows_of table.now.lanes.count rows text.now start) run.old run.new }
+    ensures noted_rows { RunNotes table.now.lanes.count first columns.now
+        (rows_of table.now.lanes.count rows text.now start)
+        run.old slots.old run.new slots.new }
 {
     let lanes = table.lanes.count;
     let stop = first + rows as u32;

@@ -30,10 +30,10 @@ few : {lanes first rows : ℕ} {k : Columns} {old : Run} {slots : List ℕ} {ms 
 few below above size W = omega (arith, run-few _ _ W.rest _ _ _ _ W.walking below (omega arith))
 
 pub overflow_cast-stop : goal.overflow_cast-stop
-overflow_cast-stop c = omega (arith, few c.requires.in_measure.0 c.requires.in_measure.1 (rows-length _ _ _ _) c.requires.running)
+overflow_cast-stop c = omega (arith, few c.requires.first_row c.requires.in_measure (rows-length _ _ _ _) c.requires.running)
 
 pub overflow_add-stop : goal.overflow_add-stop
-overflow_add-stop c = omega (arith, few c.requires.in_measure.0 c.requires.in_measure.1 (rows-length _ _ _ _) c.requires.running)
+overflow_add-stop c = omega (arith, few c.requires.first_row c.requires.in_measure (rows-length _ _ _ _) c.requires.running)
 
 -- the measure's rows
 abbrev all : In-Mask → List Row
@@ -44,7 +44,7 @@ abbrev number : In-Mask → ℕ
 number c = c.loop-run.run.row - c.args.first
 
 below : (c : In-Mask) → number c < c.args.rows
-below c = omega (arith, c.loop-run-test.true, c.requires.in_measure.0, c.loop-run.invariant.0)
+below c = omega (arith, c.loop-run-test.true, c.requires.first_row, c.loop-run.invariant.0)
 
 -- it has `lanes` bytes
 wide : (c : In-Mask) → length (part c.args.table.now.lanes.count c.args.text.now c.loop-run.at) ≡ c.args.table.now.lanes.count
@@ -97,9 +97,9 @@ loop-run-preserved c =
     let ms = all k in
     let t = c.add_taps.ensures in
     let free = free-told c.free_taps.ensures c.in-Mask.is in
-    let next : c.add_taps.new.run.row - a.first ≡ i + 1 = omega (arith, t.row, pre.in_measure.0, v.invariant.0) in
+    let next : c.add_taps.new.run.row - a.first ≡ i + 1 = omega (arith, t.row, pre.first_row, v.invariant.0) in
     let more = ap (λ n. take n ms) next ∙ row_more L a.rows a.text.now a.start pre.in_text i v.at (below k) v.invariant.2 in
-    let above : a.first ≤ v.run.row = omega (arith, pre.in_measure.0, v.invariant.0) in
+    let above : a.first ≤ v.run.row = omega (arith, pre.first_row, v.invariant.0) in
     let counted = count-few _ _ _ _ _ _ (walked k) (within k) in
     let width = wide k in
     let noted = note-ready _ _ _ _ _ _ (walked k) (within k) (part L a.text.now v.at) width narrow in (

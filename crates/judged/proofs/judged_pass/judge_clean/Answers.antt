@@ -13,13 +13,17 @@ use Rattle.judged.proofs.judged_pass.judge_clean.Goals as goal
 pub loop-row-init : goal.loop-row-init
 loop-row-init c =
     back-start _ _ _ (c.into_iter-row-iterator.ensures.into_iter_gives ∙ c.back_rows-row-items.ensures) c.args.lanes.within.0
-    (passes-start _ _ _ c.new-rows.ensures.0 c.new-rows.ensures.1 c.new-rows.ensures.2)
+    (passes-start _ _ _ c.new-rows.ensures.ready c.new-rows.ensures.nothing_counted c.new-rows.ensures.none_open)
 
 pub add_row-requires : goal.add_row-requires
 add_row-requires c =
     let x = c.loop-row.invariant.come in
     let wide = next-wide x c.in-Some.ensures.steps in
-    (c.for_lanes-table.ensures ∙ sym wide, c.loop-row.invariant.held.ready, passes-few _ _ _ _ c.loop-row.invariant.held (omega (arith, x.few)))
+    record {
+      width = c.for_lanes-table.ensures ∙ sym wide;
+      ready = c.loop-row.invariant.held.ready;
+      tally_bound = passes-few _ _ _ _ c.loop-row.invariant.held (omega (arith, x.few));
+    }
 
 pub returns-in_err-add_row : goal.returns-in_err-add_row
 returns-in_err-add_row c =

@@ -5,7 +5,7 @@ use Rattle.measure_walk.proofs.Walk.new.Goals as goal
 
 pub returns : goal.returns
 returns c = record {
-  ten = record { depths = refl; low = refl; heads = refl };
+  ten = record { depths = refl; object_depths = refl; heads = refl };
   counted = λ L h. counted-new L h _ c.no_stats.ensures;
   noted = λ L l. noted-new L l;
   nothing_walked = refl;

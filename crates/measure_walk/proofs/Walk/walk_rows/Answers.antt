@@ -43,7 +43,8 @@ walk_taps-requires c =
     let v = c.loop-run.invariant in
     record {
       in_text = c.requires.in_text;
-      in_measure = (v.0, v.1);
+      first_row = v.0;
+      in_measure = v.1;
       running = record {
         rest = rest c.loop-run.self;
         walking = walked_on _ _ _ _ _ _ _ _ 0 _ c.requires.walking v.2 v.4 v.5;
@@ -74,9 +75,13 @@ walked c =
 pub end_rows-requires : goal.end_rows-requires
 end_rows-requires c =
     let k = (goal.at.end_rows-requires c).After-walk_taps in
-    let h : number k ≤ length (all k) = rw rows-length (omega (arith, c.walk_taps.ensures.onwards.1)) in
+    let h : number k ≤ length (all k) = rw rows-length (omega (arith, c.walk_taps.ensures.in_measure)) in
     let ready = measure-ready _ _ _ _ _ _ (walked k) h in
-    (omega (arith, c.walk_taps.ensures.onwards.0, c.loop-run.invariant.0), ready.0, ready.1)
+    record {
+      first_row = omega (arith, c.walk_taps.ensures.onwards, c.loop-run.invariant.0);
+      rows_few = ready.0;
+      measures_few = ready.1;
+    }
 
 pub returns-then-rows-i : goal.returns-then-rows-i
 returns-then-rows-i c =
@@ -111,7 +116,11 @@ add_cells-requires c =
     let k = (goal.at.add_cells-requires c).After-walk_taps in
     let h : number k < length (all k) = rw rows-length c.if-rows-i.false in
     let few = count-few _ _ _ _ _ _ (walked k) h in
-    (stats-few (rest k.loop-run.self) c.loop-run.self.columns c.walk_taps.new.run few.0 few.1, c.walk_cells-s.ensures.under, few.0)
+    record {
+      tally_bound = stats-few (rest k.loop-run.self) c.loop-run.self.columns c.walk_taps.new.run few.0 few.1;
+      row_sum = c.walk_cells-s.ensures.under;
+      rows_few = few.0;
+    }
 
 pub loop-run-preserved : goal.loop-run-preserved
 loop-run-preserved c =
@@ -128,7 +137,7 @@ loop-run-preserved c =
     let i = number k in
     let ms = all k in
     let at = a.start + i * (L + 1) in
-    let above : a.self.now.run.row ≤ t.new.run.row = omega (arith, t.ensures.onwards.0, v.0) in
+    let above : a.self.now.run.row ≤ t.new.run.row = omega (arith, t.ensures.onwards, v.0) in
     let row : c.add_cells.new.self.row ≡ t.new.run.row + 1 = ap (λ (x : Run). x.row) e in
     let next : c.add_cells.new.self.row - a.self.now.run.row ≡ i + 1 = omega (arith, above, row) in
     let more = ap (λ n. take n ms) next ∙ row_more L a.rows a.text.now a.start c.requires.in_text i at c.if-rows-i.false refl in

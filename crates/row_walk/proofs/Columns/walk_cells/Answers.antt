@@ -21,7 +21,7 @@ walk_cell-w-requires c =
     rw c.cell.ensures
     (record {
       depth = omega (arith, few.depths c.loop-i.i m, m);
-      low = omega (arith, scan-depth _ _ _ _ _ c.loop-i.invariant.scanned, c.requires.objects c.loop-i.i m);
+      object_depth = omega (arith, scan-depth _ _ _ _ _ c.loop-i.invariant.scanned, c.requires.objects c.loop-i.i m);
       ready = record { inside = R.inside; low = R.low; room = R.room; few = R.few; there = R.head };
     })
 
@@ -31,9 +31,10 @@ add_cell-requires c =
     let w = counted-cell _ _ _ _ _ c.walk_cell-w.ensures in
     let few = c.loop-i.invariant.passed.low count_bound c.requires.phantoms in
     record {
-      sum_bound = under_more c.loop-i.i 10 _ (omega (arith, m)) c.loop-i.invariant.summed.under;
-      tails_bound = one-tail _ _ _ w;
-      heads_bound = (omega (arith, m, few.heads, one-head _ _ _ w), omega (arith, m, few.tails, one-tail _ _ _ w));
+      row_sum = under_more c.loop-i.i 10 _ (omega (arith, m)) c.loop-i.invariant.summed.under;
+      one_tail = one-tail _ _ _ w;
+      heads_bound = omega (arith, m, few.heads, one-head _ _ _ w);
+      tails_bound = omega (arith, m, few.tails, one-tail _ _ _ w);
     }
 
 pub loop-i-preserved : goal.loop-i-preserved

@@ -10,7 +10,7 @@ returns c = record {
   tails = refl;
   met = refl;
   object = refl;
-  low = c.saturating_sub-2.ensures;
+  object_depth = c.saturating_sub-2.ensures;
   noted = noted-closes _ _ _ _ _ c.requires.ready _ _ refl c.end_note.ensures;
   kind = refl;
 }

@@ -10,7 +10,7 @@ returns c = record {
   tails = refl;
   met = refl;
   object = refl;
-  low = refl;
+  object_depth = refl;
   noted = noted-single _ _ _ _ _ c.requires.ready _ _ _ refl c.put_note.ensures;
   kind = c.kind_number.ensures;
 }

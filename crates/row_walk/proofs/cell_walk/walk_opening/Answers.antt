@@ -11,7 +11,7 @@ returns c = record {
   tails = refl;
   met = refl;
   object = refl;
-  low = add-one c.args.at.low;
+  object_depth = add-one c.args.at.object_depth;
   noted = noted-head _ _ _ _ _ c.requires.ready _ _ _ refl c.put_note.ensures;
   kind = c.kind_number.ensures;
 }

@@ -15,7 +15,7 @@ made p q r = cc
 pub returns : goal.returns
 unfolding figures_of_last last_beat_of
 returns c =
-    let row = looked-48 c.args.lanes.count c.args.«data».now _ c.scan_last-last.ensures.0 c.scan_last-last.ensures.1 in
+    let row = looked-48 c.args.lanes.count c.args.«data».now _ c.scan_last-last.ensures.placed c.scan_last-last.ensures.value in
     made
     (c.calc_last_beat.ensures ∙ ap row_to_beat row)
     (c.last_beat_bits.ensures ∙ ap (λ n. to_bits binary64 (row_to_beat n)) row)

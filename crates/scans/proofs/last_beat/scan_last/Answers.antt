@@ -1,4 +1,4 @@
--- `last_beat::scan_last` meets its contract. The loop's invariant: what is kept is what counts of the lines that have come.
+-- `last_beat::scan_last` meets its contract. The loop's invariant: what is held is what counts of the lines that have come.
 use mathlib.Core.Path.{◌∙◌}
 use native.Mathlib.Omega.{arith}
 use Rattle.objects.proofs.Scan.{low-more}
@@ -13,7 +13,11 @@ pub add_row-requires : goal.add_row-requires
 add_row-requires c =
     let wide = row-wide c.loop-line.invariant.come c.in-Some.ensures.steps _ c.in-Row.is in
     let x = c.loop-line.invariant in
-    (omega (arith, wide), omega (arith, x.held.rows, x.few.fifth), low-more _ _ _ (omega (arith, x.few.fifth)) x.held.low)
+    record {
+      width = omega (arith, wide);
+      rows_few = omega (arith, x.held.rows, x.few.fifth);
+      depths_low = low-more _ _ _ (omega (arith, x.few.fifth)) x.held.low;
+    }
 
 pub loop-line-preserved-in-Row : goal.loop-line-preserved-in-Row
 loop-line-preserved-in-Row c =
@@ -21,9 +25,9 @@ loop-line-preserved-in-Row c =
 
 pub loop-line-preserved : goal.loop-line-preserved
 loop-line-preserved c =
-    holds-comma c.loop-line.invariant c.in-Some.ensures.steps c.in-Comma.is c.end_measure.ensures.kept
+    holds-comma c.loop-line.invariant c.in-Some.ensures.steps c.in-Comma.is c.end_measure.ensures.held
 
 pub returns : goal.returns
 returns c =
-    looked-last _ _ _ _ c.end_measure-2.ensures.kept
-    (holds-over c.loop-line.invariant c.in-None.ensures.steps.0)
+    let last = looked-last _ _ _ _ c.end_measure-2.ensures.held (holds-over c.loop-line.invariant c.in-None.ensures.steps.0) in
+    record { placed = last.0; value = last.1 }

@@ -19,9 +19,9 @@ use Rattle.judged.proofs.judged_pass.CleanRows.add_cells.Goals as goal
 
 pub add_judged_row-requires : goal.add_judged_row-requires
 add_judged_row-requires c = record {
-  few = c.requires.2;
-  sum_few = rw c.in_ok-sum.ensures.sum (under-judged 10 true _ c.requires.0);
-  held_few = le_trans (active_few _ c.requires.1) (omega arith);
+  few = c.requires.tally_bound;
+  sum_few = rw c.in_ok-sum.ensures.sum (under-judged 10 true _ c.requires.width);
+  held_few = le_trans (active_few _ c.requires.ready) (omega arith);
 }
 
 -- a row makes each column at most one deeper
@@ -31,7 +31,7 @@ sum-self-requires-clause-fits c =
     omega (
       arith,
       few-open 10 9 c.clean_cells.new.depths c.clean_cells.array_long
-          (λ k h. omega (arith, c.in_ok-sum.ensures.depths_after k h, step-most (hold_at (byte_at k c.args.row.now)) (get_or c.args.self.now.depths k 0), c.requires.1.low k h)),
+          (λ k h. omega (arith, c.in_ok-sum.ensures.depths_after k h, step-most (hold_at (byte_at k c.args.row.now)) (get_or c.args.self.now.depths k 0), c.requires.ready.low k h)),
     ) in
     search rules
 
@@ -41,6 +41,6 @@ returns-clause-passed c =
       depths = c.in_ok-sum.ensures.depths_after;
       stats = c.add_judged_row.ensures ∙ ap (judge_row _ _ _) c.in_ok-sum.ensures.sum;
       ready =
-          cells-ready _ c.args.self.now _ c.requires.1 (not-true _ (sym c.in_ok-sum.ensures.clean)) c.in_ok-sum.ensures.depths_after c.clean_cells.array_long (search rules)
+          cells-ready _ c.args.self.now _ c.requires.ready (not-true _ (sym c.in_ok-sum.ensures.clean)) c.in_ok-sum.ensures.depths_after c.clean_cells.array_long (search rules)
           (rw c.unlike-self.ensures (unlike-free 0 _));
     }

@@ -6,7 +6,7 @@ pub returns : goal.returns
 returns c =
     λ row f.
     record {
-      depths = free-passed c.args.self.now _ row c.requires.1 f;
+      depths = free-passed c.args.self.now _ row c.requires.ready f;
       stats = c.judge_taps.ensures row f.mask;
-      ready = record { ten = c.requires.1.ten; low = c.requires.1.low; active = c.requires.1.active; busy = c.requires.1.busy };
+      ready = record { ten = c.requires.ready.ten; low = c.requires.ready.low; active = c.requires.ready.active; busy = c.requires.ready.busy };
     }

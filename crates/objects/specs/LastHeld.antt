@@ -1,4 +1,4 @@
--- What is kept of the last object row: `done` are the measures that have ended, `cur` the rows of the open one.
+-- What is held of the last object row: `done` are the measures that have ended, `cur` the rows of the open one.
 use Rattle.std.specs.Prelude.{◌≡◌, List, [], ◌∷◌, ℕ, suc, ◌+◌, ◌<◌, length, Bool, Option, Some, None, if◌then◌else◌}
 use Rattle.definitions.specs.Lists.{joined}
 use Rattle.definitions.specs.Lines.{Row}
@@ -17,7 +17,7 @@ row_last D r o (x ∷ xs) = row_last (after_row D x) (suc r) (if object_row D x 
 abbrev pub depths_after : List (List Row) → Depths
 depths_after done = after_rows (λ c. 0) (joined done)
 
-pub record LastKept (s : LastScan) (done : List (List Row)) (cur : List Row) : Type 0 where
+pub record LastHeld (s : LastScan) (done : List (List Row)) (cur : List Row) : Type 0 where
   pub depths : DepthsHeld (after_rows (depths_after done) cur) s.depths
   pub low : DepthsLow (length (joined done) + length cur) s.depths
   pub found : place_of s.found ≡ last_of (objects_from (λ c. 0) 0 done)

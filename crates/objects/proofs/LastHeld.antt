@@ -1,4 +1,4 @@
--- What is kept of the last object row, with one row more and at the end of a measure.
+-- What is held of the last object row, with one row more and at the end of a measure.
 use mathlib.Core.Path.{◌≡◌, refl, ap, ap₂, sym, ◌∙◌, subst}
 use mathlib.Core.Bool.{Bool, true, false, cond}
 use mathlib.Core.List.{List, [], ◌∷◌, ◌++◌, append_assoc, append-nil}
@@ -20,7 +20,7 @@ use Rattle.objects.specs.declared.Objects.{Objects}
 use Rattle.objects.specs.Rows.{DepthsHeld, DepthsLow, NoDepths, RowDone}
 use Rattle.objects.proofs.Scan.{low-more}
 use Rattle.objects.specs.declared.LastScan.{LastScan}
-use Rattle.objects.specs.LastKept.{row_last, depths_after, LastKept, counted}
+use Rattle.objects.specs.LastHeld.{row_last, depths_after, LastHeld, counted}
 use Rattle.objects.proofs.Zeros.{zero-after, zero-object}
 
 -- one row more
@@ -102,8 +102,8 @@ measure-last done cur =
     ∙ none-else (last_of (objects_in (depths_after done) (length done) 0 (length cur) cur))
     ∙ in-last (depths_after done) (length done) 0 (length cur) None cur)
 
-pub kept-start : (d : Held) → NoDepths d → LastKept (record { depths = d; busy = 0; found = None; row = None; rows = 0; midx = 0 }) [] []
-kept-start d n =
+pub held-start : (d : Held) → NoDepths d → LastHeld (record { depths = d; busy = 0; found = None; row = None; rows = 0; midx = 0 }) [] []
+held-start d n =
     record {
       depths = n.none;
       low = n.low;
@@ -116,10 +116,10 @@ kept-start d n =
       free = λ c h e. n.none c h;
     }
 
-module _ (s : LastScan) (done : List (List Row)) (cur : List Row) (x : LastKept s done cur) where
+module _ (s : LastScan) (done : List (List Row)) (cur : List Row) (x : LastHeld s done cur) where
   -- a row that is all zero
-  pub kept-zero : (row : Row) → all_zero row ≡ true → LastKept (counted s false) done (cur ++ (row ∷ []))
-  kept-zero row z =
+  pub held-zero : (row : Row) → all_zero row ≡ true → LastHeld (counted s false) done (cur ++ (row ∷ []))
+  held-zero row z =
       record {
         depths = subst (λ E. DepthsHeld E s.depths) (sym (rows_snoc (depths_after done) cur row ∙ zero-after (after_rows (depths_after done) cur) row z)) x.depths;
         low = low-more _ _ s.depths (rw length-append (omega arith)) x.low;
@@ -143,8 +143,8 @@ module _ (s : LastScan) (done : List (List Row)) (cur : List Row) (x : LastKept 
     is-object : (t : Bool) → o.object ≡ t → object_row (after_rows (depths_after done) cur) row ≡ t
     is-object t e = sym (w.object (after_rows (depths_after done) cur) x.depths) ∙ e
 
-    pub kept-object : o.object ≡ true → LastKept (record { depths = o.depths; busy = busy; found = s.found; row = Some s.rows; rows = s.rows + 1; midx = s.midx }) done (cur ++ (row ∷ []))
-    kept-object e =
+    pub held-object : o.object ≡ true → LastHeld (record { depths = o.depths; busy = busy; found = s.found; row = Some s.rows; rows = s.rows + 1; midx = s.midx }) done (cur ++ (row ∷ []))
+    held-object e =
         record {
           depths = depths-after;
           low = low-after;
@@ -157,8 +157,8 @@ module _ (s : LastScan) (done : List (List Row)) (cur : List Row) (x : LastKept 
           free = free;
         }
 
-    pub kept-other : o.object ≡ false → LastKept (record { depths = o.depths; busy = busy; found = s.found; row = s.row; rows = s.rows + 1; midx = s.midx }) done (cur ++ (row ∷ []))
-    kept-other e =
+    pub held-other : o.object ≡ false → LastHeld (record { depths = o.depths; busy = busy; found = s.found; row = s.row; rows = s.rows + 1; midx = s.midx }) done (cur ++ (row ∷ []))
+    held-other e =
         record {
           depths = depths-after;
           low = low-after;
@@ -171,19 +171,19 @@ module _ (s : LastScan) (done : List (List Row)) (cur : List Row) (x : LastKept 
           free = free;
         }
 
-    pub kept-row : LastKept (counted (record { depths = o.depths; busy = busy; found = s.found; row = s.row; rows = s.rows; midx = s.midx }) o.object) done (cur ++ (row ∷ []))
-    kept-row = go o.object refl
+    pub held-row : LastHeld (counted (record { depths = o.depths; busy = busy; found = s.found; row = s.row; rows = s.rows; midx = s.midx }) o.object) done (cur ++ (row ∷ []))
+    held-row = go o.object refl
       where
-        go : (t : Bool) → o.object ≡ t → LastKept (counted (record { depths = o.depths; busy = busy; found = s.found; row = s.row; rows = s.rows; midx = s.midx }) t) done (cur ++ (row ∷ []))
-        go true e = kept-object e
-        go false e = kept-other e
+        go : (t : Bool) → o.object ≡ t → LastHeld (counted (record { depths = o.depths; busy = busy; found = s.found; row = s.row; rows = s.rows; midx = s.midx }) t) done (cur ++ (row ∷ []))
+        go true e = held-object e
+        go false e = held-other e
 
   -- the measure ends, with an object row or without one
-  depths-kept : DepthsHeld (after_rows (depths_after (done ++ (cur ∷ []))) []) s.depths
-  depths-kept = subst (λ E. DepthsHeld E s.depths) (sym (ap (after_rows (λ c. 0)) (joined_snoc done cur) ∙ rows_append (λ c. 0) (joined done) cur)) x.depths
+  depths-held : DepthsHeld (after_rows (depths_after (done ++ (cur ∷ []))) []) s.depths
+  depths-held = subst (λ E. DepthsHeld E s.depths) (sym (ap (after_rows (λ c. 0)) (joined_snoc done cur) ∙ rows_append (λ c. 0) (joined done) cur)) x.depths
 
-  low-kept : DepthsLow (length (joined (done ++ (cur ∷ []))) + 0) s.depths
-  low-kept = subst (λ n. DepthsLow n s.depths) (sym (add-zero (length (joined (done ++ (cur ∷ [])))) ∙ ap length (joined_snoc done cur) ∙ length-append (joined done) cur)) x.low
+  low-held : DepthsLow (length (joined (done ++ (cur ∷ []))) + 0) s.depths
+  low-held = subst (λ n. DepthsLow n s.depths) (sym (add-zero (length (joined (done ++ (cur ∷ [])))) ∙ ap length (joined_snoc done cur) ∙ length-append (joined done) cur)) x.low
 
   one_more : s.midx + 1 ≡ length (done ++ (cur ∷ []))
   one_more = rw length-append (omega (arith, x.midx))
@@ -195,11 +195,11 @@ module _ (s : LastScan) (done : List (List Row)) (cur : List Row) (x : LastKept 
   no-row None f = refl
   no-row (Some r) f = absurd (f r refl)
 
-  pub kept-none : ((r : ℕ) → s.row ≡ Some r → ⊥) → LastKept (record { depths = s.depths; busy = s.busy; found = s.found; row = None; rows = 0; midx = s.midx + 1 }) (done ++ (cur ∷ [])) []
-  kept-none e =
+  pub held-none : ((r : ℕ) → s.row ≡ Some r → ⊥) → LastHeld (record { depths = s.depths; busy = s.busy; found = s.found; row = None; rows = 0; midx = s.midx + 1 }) (done ++ (cur ∷ [])) []
+  held-none e =
       record {
-        depths = depths-kept;
-        low = low-kept;
+        depths = depths-held;
+        low = low-held;
         found = x.found ∙ sym (measure-last done cur ∙ rw (sym x.row ∙ no-row s.row e));
         placed = x.placed;
         row = refl;
@@ -209,13 +209,13 @@ module _ (s : LastScan) (done : List (List Row)) (cur : List Row) (x : LastKept 
         free = x.free;
       }
 
-  pub kept_at : (r : ℕ) → s.row ≡ Some r → s.rows < row_count_bound → s.midx ≤ measures_bound
-      → LastKept (record { depths = s.depths; busy = s.busy; found = Some (record { measure = s.midx; row = r; rows = s.rows }); row = None; rows = 0; midx = s.midx + 1 }) (done ++ (cur ∷ [])) []
-  kept_at r e f g =
+  pub held_at : (r : ℕ) → s.row ≡ Some r → s.rows < row_count_bound → s.midx ≤ measures_bound
+      → LastHeld (record { depths = s.depths; busy = s.busy; found = Some (record { measure = s.midx; row = r; rows = s.rows }); row = None; rows = 0; midx = s.midx + 1 }) (done ++ (cur ∷ [])) []
+  held_at r e f g =
       let inside : r < length cur = x.inside r e in
       record {
-        depths = depths-kept;
-        low = low-kept;
+        depths = depths-held;
+        low = low-held;
         found = rw (x.midx, x.rows) (sym (measure-last done cur ∙ rw (sym x.row ∙ e)));
         placed = placed_at _ (record { row = omega (arith, x.rows); rows = f; measure = g });
         row = refl;
