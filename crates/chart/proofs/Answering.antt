@@ -1,8 +1,8 @@
 -- From the pass over a whole text to what the main call answers.
-use mathlib.Core.Path.{◌≡◌, refl, ap, sym, ◌∙◌, subst}
-use mathlib.Core.Bool.{Bool, true}
-use mathlib.Core.List.{List, [], append-nil}
-use Prim.Native.Nat.{ℕ, suc, ◌+◌, ◌-◌, ◌*◌, ◌/◌, ◌≤◌}
+use mathlib.Core.Path.{◌≡◌, refl, ap, ◌∙◌, subst}
+use mathlib.Core.Bool.{true}
+use mathlib.Core.List.{List, append-nil}
+use Prim.Native.Nat.{ℕ, ◌+◌, ◌-◌, ◌≤◌}
 use native.Mathlib.Omega.{arith}
 use lib.Ieee.{Float, binary64, to_bits}
 use lib.ListN.{length, take}
@@ -10,7 +10,6 @@ use Rattle.definitions.specs.Lists.{joined, padded}
 use Rattle.definitions.specs.Lanes.{most_rows_in}
 use Rattle.definitions.specs.Lines.{Row}
 use Rattle.definitions.specs.Reduction.{minimised}
-use Rattle.definitions.specs.Figures.{minimised_text}
 use Rattle.definitions.specs.Beats.{f32, row_to_beat, beats as beats_of}
 use Rattle.definitions.specs.Objects.{place48, last_object, last48, last_beat_of}
 use Rattle.definitions.specs.Notes.{notes}
