@@ -1,5 +1,5 @@
 -- The word of a list of bytes, the first one lowest, and back: the bytes of that word are those of the list.
-use Rattle.std.proofs.Common.{◌≡◌, ℕ, zero, suc, ◌+◌, ◌*◌, ◌/◌, ◌%◌, ◌^◌, ◌<◌, List, [], ◌∷◌, length, refl, ap, ap₂, ◌∙◌, sym, arith, div-add-mod'}
+use Rattle.std.proofs.Common.{◌≡◌, ℕ, zero, suc, ◌+◌, ◌*◌, ◌/◌, ◌%◌, ◌^◌, ◌<◌, List, [], ◌∷◌, length, refl, ap, arith}
 use Rattle.lines.specs.Words.{word_of, Bytes, low_bytes, bytes_of_word}
 
 -- the bytes of a list's word

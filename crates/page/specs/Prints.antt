@@ -3,6 +3,17 @@ use Rattle.std.specs.Prelude.{◌≡◌, List, ℕ, ◌+◌, ◌<◌, ◌≤◌,
 use Rattle.page.specs.declared.Page.{Page}
 use Rattle.page.specs.declared.Full.{Full}
 
+-- what the slice of a page holds, and how many of its bytes are written
+abbrev pub slice_of : Page → List ℕ
+slice_of p = p.out.now
+
+abbrev pub place_of : Page → ℕ
+place_of p = p.at
+
+-- which slice it is
+abbrev pub name_of : Page → ℕ
+name_of p = p.out.ghost_name
+
 -- what is written so far
 abbrev pub written : Page → List ℕ
 written p = take p.at p.out.now

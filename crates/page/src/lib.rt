@@ -19,20 +19,20 @@ pub struct Page<'a> {
 }
 
 impl<'a> Page<'a> {
-    ghost use Rattle.page.specs.Prints.{Prints};
+    ghost use Rattle.page.specs.Prints.{slice_of, place_of, name_of, Prints};
 
     /// A page over a slice, with nothing written.
     pub fn new(out: &'a mut [u8]) -> Page<'a>
-        ensures same_slice { result.out.ghost_name ≡ out.entry.ghost_name }
-        ensures slice { result.out.now ≡ out.old }
-        ensures place { result.at ≡ 0 }
+        ensures same_slice { name_of result ≡ out.entry.ghost_name }
+        ensures slice { slice_of result ≡ out.old }
+        ensures place { place_of result ≡ 0 }
     {
         Page { out, at: 0 }
     }
 
     /// How many bytes are written.
     pub fn len(&self) -> usize
-        ensures { result ≡ self.now.at }
+        ensures { result ≡ place_of self.now }
     {
         self.at
     }

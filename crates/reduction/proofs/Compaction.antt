@@ -1,4 +1,4 @@
--- The compaction: what the loop over the kept rows has moved.
+-- The compaction: what the loop over the rows that stay has moved.
 use mathlib.Core.Path.{◌≡◌, refl, ap, sym, ◌∙◌}
 use mathlib.Core.Bool.{Bool, true, false}
 use mathlib.Core.List.{List, ◌++◌, append-nil}
@@ -18,20 +18,20 @@ use Rattle.reduction.proofs.Powers.{row-end}
 use Rattle.reduction.proofs.Placed.{placed_same, placed-more, placed-length}
 use Rattle.reduction.proofs.Blocks.{multiples-apart, apart-length, apart_more, blocks-joined}
 
--- The first `row` of the kept rows stand at their new places, and the rest of the text is as it was.
-pub record Moved (text₀ : List ℕ) (start rows step kept w : ℕ) (text : List ℕ) (row : ℕ) : Type 0 where
+-- The first `row` of the rows that stay are at their new places, and the rest of the text is as it was.
+pub record Moved (text₀ : List ℕ) (start rows step left w : ℕ) (text : List ℕ) (row : ℕ) : Type 0 where
   pub unit : 0 < step
   pub apart : 1 < step
   pub first : 0 < row
-  pub count : rows ≡ kept * step
+  pub count : rows ≡ left * step
   pub room : start + rows * w ≤ length text₀
-  pub most : row ≤ kept
+  pub most : row ≤ left
   pub contents : text ≡ placed start (joined (rows_at (step * w) w row (drop start text₀))) text₀
 
-pub moved-start : (text₀ : List ℕ) (start rows step kept w : ℕ) → 1 < step → rows ≡ kept * step → 0 < rows → start + rows * w ≤ length text₀
-    → Moved text₀ start rows step kept w text₀ 1
-moved-start text₀ start rows step kept w u e p h =
-    record { unit = omega arith; apart = u; first = omega arith; count = e; room = h; most = some kept e; contents = sym same }
+pub moved-start : (text₀ : List ℕ) (start rows step left w : ℕ) → 1 < step → rows ≡ left * step → 0 < rows → start + rows * w ≤ length text₀
+    → Moved text₀ start rows step left w text₀ 1
+moved-start text₀ start rows step left w u e p h =
+    record { unit = omega arith; apart = u; first = omega arith; count = e; room = h; most = some left e; contents = sym same }
   where
     some : (k : ℕ) → rows ≡ k * step → 1 ≤ k
     some zero q = let none : rows ≡ 0 = q ∙ zero-mul step in absurd (omega arith)
@@ -43,11 +43,11 @@ moved-start text₀ start rows step kept w u e p h =
     same : placed start (joined (rows_at (step * w) w 1 (drop start text₀))) text₀ ≡ text₀
     same = rw (append-nil (take w (drop start text₀))) (placed_same start w text₀ fits)
 
-module _ {text₀ : List ℕ} {start rows step kept w : ℕ} {text : List ℕ} {row : ℕ} (m : Moved text₀ start rows step kept w text row) (h : row < kept) where
+module _ {text₀ : List ℕ} {start rows step left w : ℕ} {text : List ℕ} {row : ℕ} (m : Moved text₀ start rows step left w text row) (h : row < left) where
   -- the row to be moved next is one of the rows
   moved_row : row * step < rows
   moved_row =
-      let more : row * step + step ≤ rows = rw m.count (row-end row kept step h) in
+      let more : row * step + step ≤ rows = rw m.count (row-end row left step h) in
       omega (arith, m.unit)
 
   -- its new place lies before it
@@ -64,10 +64,10 @@ module _ {text₀ : List ℕ} {start rows step kept w : ℕ} {text : List ℕ} {
   pub moved-next : (row * step < rows) × (start + row * w + w ≤ start + row * step * w) × (start + row * step * w + w ≤ length text₀)
   moved-next = (moved_row, moved_back, moved-fits)
 
-module _ {text₀ : List ℕ} {start rows step kept w : ℕ} {text : List ℕ} {row : ℕ} (m : Moved text₀ start rows step kept w text row) where
+module _ {text₀ : List ℕ} {start rows step left w : ℕ} {text : List ℕ} {row : ℕ} (m : Moved text₀ start rows step left w text row) where
   moved-places : row * (step * w) ≤ rows * w
   moved-places =
-      rw (← mul_assoc row step w, m.count) (mul-le-mul_right {m = row * step} {n = kept * step} w (mul-le-mul_right {m = row} {n = kept} step m.most))
+      rw (← mul_assoc row step w, m.count) (mul-le-mul_right {m = row * step} {n = left * step} w (mul-le-mul_right {m = row} {n = left} step m.most))
 
   wide : w ≤ step * w
   wide = omega (arith, mul-le-mul_right {m = 1} {n = step} w m.unit)
@@ -81,10 +81,10 @@ module _ {text₀ : List ℕ} {start rows step kept w : ℕ} {text : List ℕ} {
       ∙ placed-length start (joined (rows_at (step * w) w row (drop start text₀))) text₀
       (rw moved_length (omega (arith, m.room, moved-places, mul-le-mul_left {m = w} {n = step * w} row wide)))
 
-pub moved-step : {text₀ : List ℕ} {start rows step kept w : ℕ} {text : List ℕ} {row : ℕ} → Moved text₀ start rows step kept w text row → row < kept
+pub moved-step : {text₀ : List ℕ} {start rows step left w : ℕ} {text : List ℕ} {row : ℕ} → Moved text₀ start rows step left w text row → row < left
     → (after : List ℕ) → after ≡ paste text (start + row * w) (drop (start + row * step * w) text) w
-    → Moved text₀ start rows step kept w after (row + 1)
-moved-step {text₀} {start} {rows} {step} {kept} {w} {text} {row} m h after e =
+    → Moved text₀ start rows step left w after (row + 1)
+moved-step {text₀} {start} {rows} {step} {left} {w} {text} {row} m h after e =
     record {
       unit = m.unit;
       apart = m.apart;
@@ -110,16 +110,16 @@ moved-step {text₀} {start} {rows} {step} {kept} {w} {text} {row} m h after e =
     source : drop (start + row * step * w) text₀ ≡ drop (row * (step * w)) (drop start text₀)
     source = ap (λ (k : ℕ). drop (start + k) text₀) (mul_assoc row step w) ∙ sym (drop-drop (row * (step * w)) start text₀)
 
-pub moved-end : {text₀ : List ℕ} {start rows step kept w : ℕ} {text : List ℕ} {row : ℕ} → Moved text₀ start rows step kept w text row → kept ≤ row
+pub moved-end : {text₀ : List ℕ} {start rows step left w : ℕ} {text : List ℕ} {row : ℕ} → Moved text₀ start rows step left w text row → left ≤ row
     → text ≡ compacted w rows step start text₀
 unfolding compacted
-moved-end {text₀} {start} {rows} {step} {kept} {w} {text} {row} m h =
+moved-end {text₀} {start} {rows} {step} {left} {w} {text} {row} m h =
     m.contents
     ∙ ap (λ (k : ℕ). placed start (joined (rows_at (step * w) w k (drop start text₀))) text₀) all
-    ∙ ap (λ (l : List Row). placed start (joined l) text₀) (sym (multiples-apart w w step kept (drop start text₀) m.unit))
+    ∙ ap (λ (l : List Row). placed start (joined l) text₀) (sym (multiples-apart w w step left (drop start text₀) m.unit))
     ∙ ap (λ (n : ℕ). placed start (joined (at_multiples step 0 (rows_at w w n (drop start text₀)))) text₀) (sym m.count)
   where
-    all : row ≡ kept
+    all : row ≡ left
     all = omega (arith, m.most)
 
 -- nothing is moved where the stride is 1
@@ -152,5 +152,5 @@ power-fits shift rows p f d = go (leb 64 shift) refl
 pub shifted_one : (shift : ℕ) → shift < 64 → 1 * 2 ^ shift % 18446744073709551616 ≡ 2 ^ shift
 shifted_one shift h = rw one-mul (mod-eq_of_lt (pow-lt {i = shift} {j = 64} h))
 
-pub kept-times : (rows shift step : ℕ) → step ≡ 2 ^ shift → rows % 2 ^ shift ≡ 0 → rows ≡ rows / 2 ^ shift * step
-kept-times rows shift step e d = rw e (sym (div-mul_cancel (2 ^ shift) (dvd_of_mod-eq-zero (2 ^ shift) d)))
+pub left-times : (rows shift step : ℕ) → step ≡ 2 ^ shift → rows % 2 ^ shift ≡ 0 → rows ≡ rows / 2 ^ shift * step
+left-times rows shift step e d = rw e (sym (div-mul_cancel (2 ^ shift) (dvd_of_mod-eq-zero (2 ^ shift) d)))

@@ -110,13 +110,13 @@ pub fn compact_output_rows(
         return rows;
     }
     let step = 1usize << shift;
-    let kept = rows >> shift;
+    let left = rows >> shift;
     let mut row = 1;
-    while row < kept {
+    while row < left {
         move_row(text, start + row * step * width, start + row * width, width);
         row += 1;
     }
-    kept
+    left
 }
 
 // Search and compaction of `rows` rows from `start` on, each with `after` bytes after its cells. A measure without rows stays as it is.

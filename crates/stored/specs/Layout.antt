@@ -1,5 +1,5 @@
 -- The bytes of what is stored, as tests/vectors/README.md has them.
-use Rattle.std.specs.Prelude.{◌≡◌, List, ◌++◌, ℕ, zero, suc, ◌+◌, length, take, drop}
+use Rattle.std.specs.Prelude.{◌≡◌, List, ◌++◌, ℕ, zero, suc, ◌+◌, ◌^◌, ◌<◌, ◌≤◌, length, take, drop}
 use Rattle.std.specs.Int.{w32, w64, to_le_bytes, from_le_bytes}
 use Rattle.stored.specs.declared.answer.Answer.{Answer}
 use Rattle.stored.specs.declared.answer.Answers.{Answers}
@@ -68,3 +68,11 @@ answers_length (suc n) s = answer_length s + answers_length n (drop (answer_leng
 
 unfoldable pub record_length : List ℕ → ℕ
 record_length s = 16 + number_at s 0 + number_at s 4 + answers_length 8 (drop (16 + number_at s 0 + number_at s 4) s)
+
+-- the head of a sample: its mark, a seed, and the number of its records, below 2 ^ 32
+abbrev pub IsHead : ℕ → List ℕ → Type 0
+IsHead mark s = (24 ≤ length s) × (long_at s 0 ≡ mark) × (long_at s 16 < 2 ^ 32)
+
+-- the length of a record, with its own four bytes: at most 65,536 follow them
+abbrev pub IsRecordLength : List ℕ → Type 0
+IsRecordLength s = (4 ≤ length s) × (4 ≤ number_at s 0) × (number_at s 0 ≤ 65540)

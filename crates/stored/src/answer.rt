@@ -19,7 +19,8 @@ impl<'a> Answer<'a> {
     /// The answer at the front of `rest`, which keeps what follows it.
     pub fn read(rest: &mut &'a [u8]) -> Option<Answer<'a>>
         ensures value { IfSome result (λ a. Begins rest.old.now (answer_bytes a) rest.new.now) }
-        ensures after { IfSome result (λ _. rest.new.now ≡ drop (answer_length rest.old.now) rest.old.now) }
+        ensures after { IfSome result
+            (λ _. rest.new.now ≡ drop (answer_length rest.old.now) rest.old.now) }
         ensures variant { IsSome result ↔ (answer_length rest.old.now ≤ length rest.old.now) }
     {
         let figures = figures(rest)?;
@@ -56,7 +57,8 @@ impl<'a> Answers<'a> {
     /// The eight answers at the front of `rest`, which keeps what follows them.
     pub fn read(rest: &mut &'a [u8]) -> Option<Answers<'a>>
         ensures value { IfSome result (λ a. Begins rest.old.now (answers_bytes a) rest.new.now) }
-        ensures after { IfSome result (λ _. length rest.old.now ≡ answers_length 8 rest.old.now + length rest.new.now) }
+        ensures after { IfSome result (λ _. length rest.old.now
+            ≡ answers_length 8 rest.old.now + length rest.new.now) }
         ensures variant { IsSome result ↔ (answers_length 8 rest.old.now ≤ length rest.old.now) }
     {
         Some(Answers {

@@ -53,7 +53,8 @@ pub fn long(rest: &mut &[u8]) -> Option<u64>
 
 /// The next bytes, so many.
 pub fn bytes<'a>(rest: &mut &'a [u8], n: u32) -> Option<&'a [u8]>
-    ensures value { IfSome result (λ part. (Begins rest.old.now part.now rest.new.now) × (length part.now ≡ n)) }
+    ensures value { IfSome result (λ part. Begins rest.old.now part.now rest.new.now) }
+    ensures size { IfSome result (λ part. length part.now ≡ n) }
     ensures variant { IsSome result ↔ (n ≤ length rest.old.now) }
 {
     rest.split_off(..n as usize)
@@ -61,7 +62,8 @@ pub fn bytes<'a>(rest: &mut &'a [u8], n: u32) -> Option<&'a [u8]>
 
 /// The next 256 bytes, which are figures.
 pub fn figures<'a>(rest: &mut &'a [u8]) -> Option<&'a [u8; 256]>
-    ensures value { IfSome result (λ f. (Begins rest.old.now f.now rest.new.now) × (length f.now ≡ 256)) }
+    ensures value { IfSome result (λ f. Begins rest.old.now f.now rest.new.now) }
+    ensures size { IfSome result (λ f. length f.now ≡ 256) }
     ensures variant { IsSome result ↔ (256 ≤ length rest.old.now) }
 {
     let (figures, after) = rest.split_first_chunk::<256>()?;

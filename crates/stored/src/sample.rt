@@ -1,6 +1,6 @@
 // The file of a stored sample: its head, and its records one after the other.
-ghost use Rattle.std.specs.Prelude.{◌≡◌, ◌↔◌, ◌+◌, ◌^◌, ◌<◌, ◌≤◌, length, IfOk, IsSome, IfSome, vec_len};
-ghost use Rattle.stored.specs.Layout.{number_at, long_at};
+ghost use Rattle.std.specs.Prelude.{◌≡◌, ◌↔◌, ◌+◌, ◌≤◌, IfOk, IsSome, IfSome, vec_len};
+ghost use Rattle.stored.specs.Layout.{number_at, long_at, IsHead, IsRecordLength};
 
 use crate::{long, number};
 use std::alloc::Global;
@@ -20,7 +20,7 @@ pub fn read_up_to<R: Read>(alloc: Global, reader: &mut R, n: u32) -> io::Result<
 // The number of records in a head: mark, seed, number.
 fn records_in(head: &[u8], mark: u64) -> Option<u32>
     ensures value { IfSome result (λ n. n ≡ long_at head.now 16) }
-    ensures variant { IsSome result ↔ ((24 ≤ length head.now) × (long_at head.now 0 ≡ mark) × (long_at head.now 16 < 2 ^ 32)) }
+    ensures variant { IsSome result ↔ IsHead mark head.now }
 {
     let mut rest = head;
     if long(&mut rest)? != mark {
@@ -39,7 +39,7 @@ pub fn read_head<R: Read>(alloc: Global, reader: &mut R, mark: u64) -> io::Resul
 // The length of a record without the four bytes of the length itself.
 fn length_in(head: &[u8]) -> Option<u32>
     ensures value { IfSome result (λ n. n + 4 ≡ number_at head.now 0) }
-    ensures variant { IsSome result ↔ ((4 ≤ length head.now) × (4 ≤ number_at head.now 0) × (number_at head.now 0 ≤ 65540)) }
+    ensures variant { IsSome result ↔ IsRecordLength head.now }
 {
     let mut rest = head;
     let len = number(&mut rest)?.checked_sub(4)?;

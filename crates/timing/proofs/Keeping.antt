@@ -24,15 +24,15 @@ use Rattle.timing.specs.TimingPass.{Timed, TimedAll}
 
 -- the pass counts rows and measures, which are few
 pub record Small (L : ℕ) (p : TimingPass) (len : ℕ) : Type 0 where
-  pub rows : p.kept + p.rows ≤ most_rows_in L len
-  pub fifth : 5 * (p.kept + p.rows) ≤ len + 1
+  pub rows : p.before + p.rows ≤ most_rows_in L len
+  pub fifth : 5 * (p.before + p.rows) ≤ len + 1
   pub midx : 2 * p.midx ≤ len + 1
 
 pub timed-small : {L : ℕ} {p : TimingPass} {text : List ℕ} {beats : List Float} {len : ℕ} {done : List (List Row)} {cur : List Row} → Few L len done cur → Timed L p text beats done cur → Small L p len
 timed-small f x =
     record {
-      rows = omega (arith, f.rows, x.rows, x.kept);
-      fifth = omega (arith, f.fifth, x.rows, x.kept);
+      rows = omega (arith, f.rows, x.rows, x.before);
+      fifth = omega (arith, f.fifth, x.rows, x.before);
       midx = omega (arith, f.measures, x.midx);
     }
 
@@ -45,7 +45,7 @@ timed-more L p q text after beats row w f done cur = subst (λ n. Timed n p text
 -- The last measure ended too: all of the chart's.
 pub timed-all : (L : ℕ) (p q : TimingPass) (data-text text after : List ℕ) (beats beats₁ : List Float) → Over L data-text (Reduced (Timed L p text beats))
     → ((done : List (List Row)) (cur : List Row) → Timed L p text beats done cur → Timed L q after beats₁ (done ++ (reduce cur ∷ [])) [])
-    → q.out ≤ length after → q.kept ≤ length beats₁ → TimedAll L data-text q after beats₁
+    → q.out ≤ length after → q.before ≤ length beats₁ → TimedAll L data-text q after beats₁
 unfolding timing_rows timing_heads minimised measure_beats beats_of
 timed-all L p q data-text text after beats beats₁ x f fits room =
     let ended : map reduce x.done ++ (reduce x.cur ∷ []) ≡ map reduce (chart L data-text) =
@@ -57,7 +57,7 @@ timed-all L p q data-text text after beats beats₁ x f fits room =
       text_room = fits;
       beats_are = k.beats_are;
       beats_room = room;
-      rows = k.kept;
+      rows = k.before;
       heads = k.heads;
     }
 
@@ -68,5 +68,5 @@ module _ (L : ℕ) (data-text : List ℕ) (p : TimingPass) (text : List ℕ) (be
   pub all-text : {n : ℕ} → length text ≡ n → zeroed 0 p.out text ≡ padded 0 n (timing_rows L data-text)
   all-text size = zeroed-answer 0 text p.out _ (λ L. timing_rows L data-text) refl size x.text_room x.text_is
 
-  pub all-beats : {n : ℕ} → length beats ≡ n → zeroed (f32 0) p.kept beats ≡ padded (f32 0) n (beats_of L data-text)
-  all-beats size = zeroed-answer (f32 0) beats p.kept _ (λ L. beats_of L data-text) refl size x.beats_room x.beats_are
+  pub all-beats : {n : ℕ} → length beats ≡ n → zeroed (f32 0) p.before beats ≡ padded (f32 0) n (beats_of L data-text)
+  all-beats size = zeroed-answer (f32 0) beats p.before _ (λ L. beats_of L data-text) refl size x.beats_room x.beats_are

@@ -34,14 +34,14 @@ head-measure done m = rw (joined_snoc done m, joined-append (joined done) m) (he
 
 pub timed-row : (p : TimingPass) (text : List ℕ) (row : Row) → p.out + length row ≤ length text → (after : List ℕ) → after ≡ placed p.out row text
     → (beats : List Float) (done : List (List Row)) (cur : List Row) → Timed (length row) p text beats done cur
-    → Timed (length row) (record { start = p.start; out = p.out + length row; kept = p.kept; rows = p.rows + 1; midx = p.midx; heads = p.heads }) after beats done (cur ++ (row ∷ []))
+    → Timed (length row) (record { start = p.start; out = p.out + length row; before = p.before; rows = p.rows + 1; midx = p.midx; heads = p.heads }) after beats done (cur ++ (row ∷ []))
 unfolding back-to-back
 timed-row p text row room after e beats done cur x =
     record {
       wrote =
           subst (λ t. Wrote joined [] (length row) (length row) t p.start (p.out + length row) done (cur ++ (row ∷ []))) (sym e)
           (wrote-row (back-to-back (length row)) [] text p.start p.out done cur x.wrote row refl room);
-      kept = x.kept;
+      before = x.before;
       rows = rw length-append (omega (arith, x.rows));
       midx = x.midx;
       beats_are = x.beats_are;
@@ -52,49 +52,49 @@ timed-row p text row room after e beats done cur x =
 pub timed-size : (L : ℕ) (p : TimingPass) (text : List ℕ) (beats : List Float) → Holding (Timed L p text beats) → p.start + p.rows * L ≡ p.out
 timed-size L p text beats s = sym (s.held.wrote.size ∙ ap (λ n. p.start + n * L) (sym s.held.rows))
 
-module _ (L : ℕ) (p : TimingPass) (text after : List ℕ) (beats : List Float) (kept : ℕ) (fits : p.out ≤ length text)
-    (red : (rs : List Row) → RowsStand joined L p.rows p.start rs text → Reduced joined p.start rs text kept after) where
+module _ (L : ℕ) (p : TimingPass) (text after : List ℕ) (beats : List Float) (left : ℕ) (fits : p.out ≤ length text)
+    (red : (rs : List Row) → RowsStand joined L p.rows p.start rs text → Reduced joined p.start rs text left after) where
   module _ (done : List (List Row)) (cur : List Row) (x : Timed L p text beats done cur) where
-    reduced : Reduced joined p.start cur text kept after
+    reduced : Reduced joined p.start cur text left after
     reduced = red cur (subst (λ n. RowsStand joined L n p.start cur text) (sym x.rows) (wrote-holds (back-to-back L) [] text p.start p.out done cur x.wrote))
 
-    wrote : Wrote joined [] L L after p.start (p.start + kept * L) done (reduce cur)
-    wrote = wrote-reduced (back-to-back L) [] text p.start p.out done cur x.wrote kept after (omega (arith, x.wrote.size)) reduced
+    wrote : Wrote joined [] L L after p.start (p.start + left * L) done (reduce cur)
+    wrote = wrote-reduced (back-to-back L) [] text p.start p.out done cur x.wrote left after (omega (arith, x.wrote.size)) reduced
 
     -- the minimised rows' bytes
-    bytes-there : take (p.start + kept * L - p.start) (drop p.start after) ≡ joined (reduce cur)
+    bytes-there : take (p.start + left * L - p.start) (drop p.start after) ≡ joined (reduce cur)
     bytes-there =
         ap (λ n. take n (drop p.start after))
-        (add-sub_cancel_left p.start (kept * L) ∙ ap (λ n. n * L) reduced.count ∙ sym (form-length (back-to-back L) (reduce cur) wrote.wide))
-        ∙ (wrote-holds (back-to-back L) [] after p.start (p.start + kept * L) done (reduce cur) wrote).bytes
+        (add-sub_cancel_left p.start (left * L) ∙ ap (λ n. n * L) reduced.count ∙ sym (form-length (back-to-back L) (reduce cur) wrote.wide))
+        ∙ (wrote-holds (back-to-back L) [] after p.start (p.start + left * L) done (reduce cur) wrote).bytes
 
-    kept-few : kept ≤ p.rows
-    kept-few = omega (arith, reduced.count, reduce-short cur, x.rows)
+    left-few : left ≤ p.rows
+    left-few = omega (arith, reduced.count, reduce-short cur, x.rows)
 
     -- nothing is written between two measures
-    ended : p.start + kept * L ≤ length after → Wrote joined [] L L after (p.start + kept * L) (p.start + kept * L) (done ++ (reduce cur ∷ [])) []
+    ended : p.start + left * L ≤ length after → Wrote joined [] L L after (p.start + left * L) (p.start + left * L) (done ++ (reduce cur ∷ [])) []
     ended h =
-        let out = p.start + kept * L in
+        let out = p.start + left * L in
         subst (λ t. Wrote joined [] L L t out out (done ++ (reduce cur ∷ [])) []) (ap (λ n. take out after ++ drop n after) (add-zero out) ∙ take-append-drop out after)
         (subst (λ n. Wrote joined [] L L (placed out [] after) n n (done ++ (reduce cur ∷ [])) []) (add-zero out)
         (wrote-sep (back-to-back L) [] after p.start out done (reduce cur) wrote (rw add-zero h)))
 
-    pub timed-measure : p.start + kept * L ≤ length after → p.kept ≤ length beats → (beats₁ : List Float) (found : Bool)
-        → beats₁ ≡ (take p.kept beats ++ row_beats p.midx kept 0 kept) ++ drop (p.kept + kept) beats
-        → found ≡ has_some_head (take (p.start + kept * L - p.start) (drop p.start after))
-        → Timed L (record { start = p.start + kept * L; out = p.start + kept * L; kept = p.kept + kept; rows = 0; midx = p.midx + 1; heads = p.heads || found }) after beats₁ (done ++ (reduce cur ∷ [])) []
+    pub timed-measure : p.start + left * L ≤ length after → p.before ≤ length beats → (beats₁ : List Float) (found : Bool)
+        → beats₁ ≡ (take p.before beats ++ row_beats p.midx left 0 left) ++ drop (p.before + left) beats
+        → found ≡ has_some_head (take (p.start + left * L - p.start) (drop p.start after))
+        → Timed L (record { start = p.start + left * L; out = p.start + left * L; before = p.before + left; rows = 0; midx = p.midx + 1; heads = p.heads || found }) after beats₁ (done ++ (reduce cur ∷ [])) []
     timed-measure h room beats₁ found eb ef =
         record {
           wrote = ended h;
-          kept = rw (joined_snoc done (reduce cur), length-append, x.kept, reduced.count);
+          before = rw (joined_snoc done (reduce cur), length-append, x.before, reduced.count);
           rows = refl;
           midx = rw length-append (omega (arith, x.midx));
-          beats_are = ap (take (p.kept + kept)) eb ∙ beats-appended beats p.kept p.midx kept done (reduce cur) room x.beats_are x.midx reduced.count;
+          beats_are = ap (take (p.before + left)) eb ∙ beats-appended beats p.before p.midx left done (reduce cur) room x.beats_are x.midx reduced.count;
           heads = rw (x.heads, ef, bytes-there) (sym (head-measure done (reduce cur)));
         }
 
   -- no more rows and bytes than before
-  pub timed-few : Holding (Timed L p text beats) → (kept ≤ p.rows) × (p.start + kept * L ≤ p.out)
+  pub timed-few : Holding (Timed L p text beats) → (left ≤ p.rows) × (p.start + left * L ≤ p.out)
   timed-few s =
-      let k = kept-few s.done s.cur s.held in
+      let k = left-few s.done s.cur s.held in
       (k, omega (arith, mul-le-mul_right L k, timed-size L p text beats s))

@@ -11,17 +11,17 @@ use Rattle.timing.specs.declared.TimingPass.{TimingPass}
 -- The rows of the open measure stand as they were read; the beats are those of the measures that have ended.
 pub record Timed (L : ℕ) (p : TimingPass) (text : List ℕ) (beats : List Float) (done : List (List Row)) (cur : List Row) : Type 0 where
   pub wrote : Wrote joined [] L L text p.start p.out done cur
-  pub kept : p.kept ≡ length (joined done)
+  pub before : p.before ≡ length (joined done)
   pub rows : p.rows ≡ length cur
   pub midx : p.midx ≡ length done
-  pub beats_are : take p.kept beats ≡ joined (beats_from 0 done)
+  pub beats_are : take p.before beats ≡ joined (beats_from 0 done)
   pub heads : p.heads ≡ has_some_head (joined (joined done))
 
 -- A whole text was read: rows, beats and heads are those of its minimised measures.
 pub record TimedAll (L : ℕ) (chart-text : List ℕ) (p : TimingPass) (text : List ℕ) (beats : List Float) : Type 0 where
   pub text_is : take p.out text ≡ timing_rows L chart-text
   pub text_room : p.out ≤ length text
-  pub beats_are : take p.kept beats ≡ beats_of L chart-text
-  pub beats_room : p.kept ≤ length beats
-  pub rows : p.kept ≡ row_count L chart-text
+  pub beats_are : take p.before beats ≡ beats_of L chart-text
+  pub beats_room : p.before ≤ length beats
+  pub rows : p.before ≡ row_count L chart-text
   pub heads : p.heads ≡ timing_heads L chart-text

@@ -24,7 +24,7 @@ use reader::charts::ChartLine;
 pub struct TimingPass {
     pub start: usize,
     pub out: usize,
-    pub kept: usize,
+    pub before: usize,
     pub rows: usize,
     pub midx: u32,
     pub heads: bool,
@@ -40,7 +40,7 @@ impl TimingPass {
         TimingPass {
             start: 0,
             out: 0,
-            kept: 0,
+            before: 0,
             rows: 0,
             midx: 0,
             heads: false,
@@ -61,10 +61,10 @@ impl TimingPass {
         self.rows += 1;
     }
 
-    // The open measure ends: its rows are minimised in place, and the beats of those that are kept are written.
+    // The open measure ends: its rows are minimised in place, and the beats of those that are left are written.
     fn end_measure(&mut self, text: &mut [u8], beats: &mut [f32], lanes: Lanes)
         requires text_room { self.old.out ≤ length text.old }
-        requires beats_room { self.old.kept + self.old.rows ≤ length beats.old }
+        requires beats_room { self.old.before + self.old.rows ≤ length beats.old }
         requires rows_few { self.old.rows < row_count_bound }
         requires measures_few { self.old.midx ≤ measures_bound }
         requires timed { Holding (Timed lanes.count self.old text.old beats.old) }
@@ -72,16 +72,16 @@ impl TimingPass {
             (Timed lanes.count self.old text.old beats.old)
             (Timed lanes.count self.new text.new beats.new) }
         ensures no_more_bytes { self.new.out ≤ self.old.out }
-        ensures no_more_rows { self.new.kept ≤ self.old.kept + self.old.rows }
+        ensures no_more_rows { self.new.before ≤ self.old.before + self.old.rows }
     {
-        let kept = reduction::reduce_rows(text, self.start, self.rows, lanes.count);
-        let end = self.start + kept * lanes.count;
-        let count = kept as u32;
-        beats::append_row_beats(beats, self.kept, self.midx, count);
+        let left = reduction::reduce_rows(text, self.start, self.rows, lanes.count);
+        let end = self.start + left * lanes.count;
+        let count = left as u32;
+        beats::append_row_beats(beats, self.before, self.midx, count);
         self.heads |= has_head(&text[self.start..end]);
         self.start = end;
         self.out = end;
-        self.kept += kept;
+        self.before += left;
         self.rows = 0;
         self.midx += 1;
     }
@@ -137,10 +137,10 @@ fn timing_figures(data: &[u8], lanes: Lanes, text: &mut [u8], beats: &mut [f32])
 {
     let pass = pass_chart(data, lanes, text, beats);
     slices::zero_past(text, pass.out, 0);
-    slices::zero_past(beats, pass.kept, 0.0);
+    slices::zero_past(beats, pass.before, 0.0);
     TimingFigures {
         bytes: pass.out,
-        rows: pass.kept,
+        rows: pass.before,
         heads: pass.heads,
     }
 }

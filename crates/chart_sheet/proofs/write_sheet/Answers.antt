@@ -5,8 +5,6 @@ use Prim.Native.Nat.{ℕ}
 use native.Mathlib.Omega.{arith}
 use lib.ListN.{length, set}
 use lib.Seq.{length-take-le}
-use Rattle.definitions.specs.Figures.{densities}
-use Rattle.definitions.specs.Notes.{notes}
 use Rattle.definitions.specs.Entries.{figures_of_chart, places_of_chart}
 use Rattle.slices.proofs.Zeroed.{zeroed-answer}
 use Rattle.chart_sheet.specs.Forms.{sheet_in_form}

@@ -1,4 +1,4 @@
--- `reduction::compact_output_rows` meets its contract: each kept row is moved from within the rows to a place before it, and with the exponent 0 all
+-- `reduction::compact_output_rows` meets its contract: each row that stays is moved from within the rows to a place before it, and with the exponent 0 all
 -- rows stay where they are.
 use Prim.Native.Nat.{ℕ, ◌<◌, ◌^◌, ◌/◌, ◌%◌}
 use mathlib.Core.Path.{◌≡◌, sym, ◌∙◌, ap}
@@ -16,7 +16,7 @@ use Rattle.reduction.proofs.Compaction.{
   one-stays,
   power-fits,
   shifted_one,
-  kept-times,
+  left-times,
 }
 use Rattle.reduction.proofs.Moves.{moved-within}
 use Rattle.reduction.proofs.compact_output_rows.Goals as goal
@@ -28,8 +28,8 @@ shift_fits shift rows some even f = power-fits shift rows some f.fits even
 pub overflow_shl-step : goal.overflow_shl-step
 overflow_shl-step c = shift_fits c.args.shift c.args.rows c.requires.some c.requires.divides c.ranges.rows
 
-pub overflow_shr-kept : goal.overflow_shr-kept
-overflow_shr-kept c = shift_fits c.args.shift c.args.rows c.requires.some c.requires.divides c.ranges.rows
+pub overflow_shr-left : goal.overflow_shr-left
+overflow_shr-left c = shift_fits c.args.shift c.args.rows c.requires.some c.requires.divides c.ranges.rows
 
 pub loop-row-init : goal.loop-row-init
 loop-row-init c =
@@ -37,7 +37,7 @@ loop-row-init c =
       e,
       moved-start _ _ _ _ _ _
           (rw e (omega (arith, below_power c.args.shift, c.if-shift-eq0.false)))
-          (kept-times c.args.rows c.args.shift _ e c.requires.divides)
+          (left-times c.args.rows c.args.shift _ e c.requires.divides)
           c.requires.some
           c.requires.in_text,
     )

@@ -4,4 +4,7 @@ use Rattle.stored.proofs.Joined.{first_part}
 use Rattle.stored.proofs.figures.Goals as goal
 
 pub returns-clause-value : goal.returns-clause-value
-returns-clause-value c = (first_part _ _ _ 256 c.in_ok-figures.ensures.cases.0 c.in_ok-figures.ensures.cases.1, ap length c.in_ok-figures.ensures.cases.0 ∙ length-take-le 256 _ (search rules))
+returns-clause-value c = first_part _ _ _ 256 c.in_ok-figures.ensures.cases.0 c.in_ok-figures.ensures.cases.1
+
+pub returns-clause-size : goal.returns-clause-size
+returns-clause-size c = ap length c.in_ok-figures.ensures.cases.0 ∙ length-take-le 256 _ (search rules)

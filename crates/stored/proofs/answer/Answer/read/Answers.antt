@@ -10,50 +10,50 @@ returns-in_err-figures-clause-variant c = grind arith
 
 pub returns-in_err-text-clause-variant : goal.returns-in_err-text-clause-variant
 unfolding answer_length
-returns-in_err-text-clause-variant c = grind (arith, c.in_ok-figures.ensures.value.1, length-parts c.in_ok-figures.ensures.value.0)
+returns-in_err-text-clause-variant c = grind (arith, c.in_ok-figures.ensures.size, length-parts c.in_ok-figures.ensures.value)
 
 pub returns-in_err-measures-clause-variant : goal.returns-in_err-measures-clause-variant
 unfolding answer_length
-returns-in_err-measures-clause-variant c = grind (arith, c.in_ok-figures.ensures.value.1, length-parts c.in_ok-figures.ensures.value.0, length-parts c.in_ok-text.ensures.value, length-number_bytes c.in_ok-text.text)
+returns-in_err-measures-clause-variant c = grind (arith, c.in_ok-figures.ensures.size, length-parts c.in_ok-figures.ensures.value, length-parts c.in_ok-text.ensures.value, length-number_bytes c.in_ok-text.text)
 
 pub returns-in_err-beats-clause-variant : goal.returns-in_err-beats-clause-variant
 unfolding answer_length
-returns-in_err-beats-clause-variant c = grind (arith, c.in_ok-figures.ensures.value.1, length-parts c.in_ok-figures.ensures.value.0, length-parts c.in_ok-text.ensures.value, length-number_bytes c.in_ok-text.text, length-parts c.in_ok-measures.ensures.value, length-number_bytes c.in_ok-measures.measures)
+returns-in_err-beats-clause-variant c = grind (arith, c.in_ok-figures.ensures.size, length-parts c.in_ok-figures.ensures.value, length-parts c.in_ok-text.ensures.value, length-number_bytes c.in_ok-text.text, length-parts c.in_ok-measures.ensures.value, length-number_bytes c.in_ok-measures.measures)
 
 pub returns-in_err-notes-clause-variant : goal.returns-in_err-notes-clause-variant
 unfolding answer_length
-returns-in_err-notes-clause-variant c = grind (arith, c.in_ok-figures.ensures.value.1, length-parts c.in_ok-figures.ensures.value.0, length-parts c.in_ok-text.ensures.value, length-number_bytes c.in_ok-text.text, length-parts c.in_ok-measures.ensures.value, length-number_bytes c.in_ok-measures.measures, length-parts c.in_ok-beats.ensures.value, length-number_bytes c.in_ok-beats.beats)
+returns-in_err-notes-clause-variant c = grind (arith, c.in_ok-figures.ensures.size, length-parts c.in_ok-figures.ensures.value, length-parts c.in_ok-text.ensures.value, length-number_bytes c.in_ok-text.text, length-parts c.in_ok-measures.ensures.value, length-number_bytes c.in_ok-measures.measures, length-parts c.in_ok-beats.ensures.value, length-number_bytes c.in_ok-beats.beats)
 
 pub returns-in_err-bytes-clause-variant : goal.returns-in_err-bytes-clause-variant
 returns-in_err-bytes-clause-variant c =
-    let head = head_of_answer c.in_ok-figures.ensures.value.0 c.in_ok-figures.ensures.value.1 c.in_ok-text.ensures.value c.in_ok-text.ensures.number c.in_ok-measures.ensures.value c.in_ok-measures.ensures.number c.in_ok-beats.ensures.value c.in_ok-beats.ensures.number c.in_ok-notes.ensures.value c.in_ok-notes.ensures.number in
+    let head = head_of_answer c.in_ok-figures.ensures.value c.in_ok-figures.ensures.size c.in_ok-text.ensures.value c.in_ok-text.ensures.number c.in_ok-measures.ensures.value c.in_ok-measures.ensures.number c.in_ok-beats.ensures.value c.in_ok-beats.ensures.number c.in_ok-notes.ensures.value c.in_ok-notes.ensures.number in
     grind (arith, head.0, head.1)
 
 pub returns-in_err-bytes-2-clause-variant : goal.returns-in_err-bytes-2-clause-variant
 returns-in_err-bytes-2-clause-variant c =
-    let head = head_of_answer c.in_ok-figures.ensures.value.0 c.in_ok-figures.ensures.value.1 c.in_ok-text.ensures.value c.in_ok-text.ensures.number c.in_ok-measures.ensures.value c.in_ok-measures.ensures.number c.in_ok-beats.ensures.value c.in_ok-beats.ensures.number c.in_ok-notes.ensures.value c.in_ok-notes.ensures.number in
-    grind (arith, head.0, head.1, length-parts c.in_ok-bytes.ensures.value.0, c.in_ok-bytes.ensures.value.1)
+    let head = head_of_answer c.in_ok-figures.ensures.value c.in_ok-figures.ensures.size c.in_ok-text.ensures.value c.in_ok-text.ensures.number c.in_ok-measures.ensures.value c.in_ok-measures.ensures.number c.in_ok-beats.ensures.value c.in_ok-beats.ensures.number c.in_ok-notes.ensures.value c.in_ok-notes.ensures.number in
+    grind (arith, head.0, head.1, length-parts c.in_ok-bytes.ensures.value, c.in_ok-bytes.ensures.size)
 
 pub returns-in_err-bytes-3-clause-variant : goal.returns-in_err-bytes-3-clause-variant
 returns-in_err-bytes-3-clause-variant c =
-    let head = head_of_answer c.in_ok-figures.ensures.value.0 c.in_ok-figures.ensures.value.1 c.in_ok-text.ensures.value c.in_ok-text.ensures.number c.in_ok-measures.ensures.value c.in_ok-measures.ensures.number c.in_ok-beats.ensures.value c.in_ok-beats.ensures.number c.in_ok-notes.ensures.value c.in_ok-notes.ensures.number in
-    grind (arith, head.0, head.1, length-parts c.in_ok-bytes.ensures.value.0, c.in_ok-bytes.ensures.value.1, length-parts c.in_ok-bytes-2.ensures.value.0, c.in_ok-bytes-2.ensures.value.1)
+    let head = head_of_answer c.in_ok-figures.ensures.value c.in_ok-figures.ensures.size c.in_ok-text.ensures.value c.in_ok-text.ensures.number c.in_ok-measures.ensures.value c.in_ok-measures.ensures.number c.in_ok-beats.ensures.value c.in_ok-beats.ensures.number c.in_ok-notes.ensures.value c.in_ok-notes.ensures.number in
+    grind (arith, head.0, head.1, length-parts c.in_ok-bytes.ensures.value, c.in_ok-bytes.ensures.size, length-parts c.in_ok-bytes-2.ensures.value, c.in_ok-bytes-2.ensures.size)
 
 pub returns-in_err-bytes-4-clause-variant : goal.returns-in_err-bytes-4-clause-variant
 returns-in_err-bytes-4-clause-variant c =
-    let head = head_of_answer c.in_ok-figures.ensures.value.0 c.in_ok-figures.ensures.value.1 c.in_ok-text.ensures.value c.in_ok-text.ensures.number c.in_ok-measures.ensures.value c.in_ok-measures.ensures.number c.in_ok-beats.ensures.value c.in_ok-beats.ensures.number c.in_ok-notes.ensures.value c.in_ok-notes.ensures.number in
-    grind (arith, head.0, head.1, length-parts c.in_ok-bytes.ensures.value.0, c.in_ok-bytes.ensures.value.1, length-parts c.in_ok-bytes-2.ensures.value.0, c.in_ok-bytes-2.ensures.value.1, length-parts c.in_ok-bytes-3.ensures.value.0, c.in_ok-bytes-3.ensures.value.1)
+    let head = head_of_answer c.in_ok-figures.ensures.value c.in_ok-figures.ensures.size c.in_ok-text.ensures.value c.in_ok-text.ensures.number c.in_ok-measures.ensures.value c.in_ok-measures.ensures.number c.in_ok-beats.ensures.value c.in_ok-beats.ensures.number c.in_ok-notes.ensures.value c.in_ok-notes.ensures.number in
+    grind (arith, head.0, head.1, length-parts c.in_ok-bytes.ensures.value, c.in_ok-bytes.ensures.size, length-parts c.in_ok-bytes-2.ensures.value, c.in_ok-bytes-2.ensures.size, length-parts c.in_ok-bytes-3.ensures.value, c.in_ok-bytes-3.ensures.size)
 
 pub returns-clause-after : goal.returns-clause-after
 returns-clause-after c =
-    let head = head_of_answer c.in_ok-figures.ensures.value.0 c.in_ok-figures.ensures.value.1 c.in_ok-text.ensures.value c.in_ok-text.ensures.number c.in_ok-measures.ensures.value c.in_ok-measures.ensures.number c.in_ok-beats.ensures.value c.in_ok-beats.ensures.number c.in_ok-notes.ensures.value c.in_ok-notes.ensures.number in
-    rest-parts _ (and_then (and_then (and_then (and_then (and_then (and_then (and_then (and_then c.in_ok-figures.ensures.value.0 c.in_ok-text.ensures.value) c.in_ok-measures.ensures.value) c.in_ok-beats.ensures.value) c.in_ok-notes.ensures.value) c.in_ok-bytes.ensures.value.0) c.in_ok-bytes-2.ensures.value.0) c.in_ok-bytes-3.ensures.value.0) c.in_ok-bytes-4.ensures.value.0) (omega (arith, head.0, head.1, length-parts c.in_ok-bytes.ensures.value.0, c.in_ok-bytes.ensures.value.1, length-parts c.in_ok-bytes-2.ensures.value.0, c.in_ok-bytes-2.ensures.value.1, length-parts c.in_ok-bytes-3.ensures.value.0, c.in_ok-bytes-3.ensures.value.1, length-parts c.in_ok-bytes-4.ensures.value.0, c.in_ok-bytes-4.ensures.value.1))
+    let head = head_of_answer c.in_ok-figures.ensures.value c.in_ok-figures.ensures.size c.in_ok-text.ensures.value c.in_ok-text.ensures.number c.in_ok-measures.ensures.value c.in_ok-measures.ensures.number c.in_ok-beats.ensures.value c.in_ok-beats.ensures.number c.in_ok-notes.ensures.value c.in_ok-notes.ensures.number in
+    rest-parts _ (and_then (and_then (and_then (and_then (and_then (and_then (and_then (and_then c.in_ok-figures.ensures.value c.in_ok-text.ensures.value) c.in_ok-measures.ensures.value) c.in_ok-beats.ensures.value) c.in_ok-notes.ensures.value) c.in_ok-bytes.ensures.value) c.in_ok-bytes-2.ensures.value) c.in_ok-bytes-3.ensures.value) c.in_ok-bytes-4.ensures.value) (omega (arith, head.0, head.1, length-parts c.in_ok-bytes.ensures.value, c.in_ok-bytes.ensures.size, length-parts c.in_ok-bytes-2.ensures.value, c.in_ok-bytes-2.ensures.size, length-parts c.in_ok-bytes-3.ensures.value, c.in_ok-bytes-3.ensures.size, length-parts c.in_ok-bytes-4.ensures.value, c.in_ok-bytes-4.ensures.size))
 
 pub returns-clause-variant : goal.returns-clause-variant
 returns-clause-variant c =
-    let head = head_of_answer c.in_ok-figures.ensures.value.0 c.in_ok-figures.ensures.value.1 c.in_ok-text.ensures.value c.in_ok-text.ensures.number c.in_ok-measures.ensures.value c.in_ok-measures.ensures.number c.in_ok-beats.ensures.value c.in_ok-beats.ensures.number c.in_ok-notes.ensures.value c.in_ok-notes.ensures.number in
-    grind (arith, head.0, head.1, length-parts c.in_ok-bytes.ensures.value.0, c.in_ok-bytes.ensures.value.1, length-parts c.in_ok-bytes-2.ensures.value.0, c.in_ok-bytes-2.ensures.value.1, length-parts c.in_ok-bytes-3.ensures.value.0, c.in_ok-bytes-3.ensures.value.1, length-parts c.in_ok-bytes-4.ensures.value.0, c.in_ok-bytes-4.ensures.value.1)
+    let head = head_of_answer c.in_ok-figures.ensures.value c.in_ok-figures.ensures.size c.in_ok-text.ensures.value c.in_ok-text.ensures.number c.in_ok-measures.ensures.value c.in_ok-measures.ensures.number c.in_ok-beats.ensures.value c.in_ok-beats.ensures.number c.in_ok-notes.ensures.value c.in_ok-notes.ensures.number in
+    grind (arith, head.0, head.1, length-parts c.in_ok-bytes.ensures.value, c.in_ok-bytes.ensures.size, length-parts c.in_ok-bytes-2.ensures.value, c.in_ok-bytes-2.ensures.size, length-parts c.in_ok-bytes-3.ensures.value, c.in_ok-bytes-3.ensures.size, length-parts c.in_ok-bytes-4.ensures.value, c.in_ok-bytes-4.ensures.size)
 
 pub returns-clause-value : goal.returns-clause-value
 unfolding answer_bytes
-returns-clause-value c = rw (c.in_ok-bytes.ensures.value.1, c.in_ok-bytes-2.ensures.value.1, c.in_ok-bytes-3.ensures.value.1, c.in_ok-bytes-4.ensures.value.1) (and_then (and_then (and_then (and_then (and_then (and_then (and_then (and_then c.in_ok-figures.ensures.value.0 c.in_ok-text.ensures.value) c.in_ok-measures.ensures.value) c.in_ok-beats.ensures.value) c.in_ok-notes.ensures.value) c.in_ok-bytes.ensures.value.0) c.in_ok-bytes-2.ensures.value.0) c.in_ok-bytes-3.ensures.value.0) c.in_ok-bytes-4.ensures.value.0)
+returns-clause-value c = rw (c.in_ok-bytes.ensures.size, c.in_ok-bytes-2.ensures.size, c.in_ok-bytes-3.ensures.size, c.in_ok-bytes-4.ensures.size) (and_then (and_then (and_then (and_then (and_then (and_then (and_then (and_then c.in_ok-figures.ensures.value c.in_ok-text.ensures.value) c.in_ok-measures.ensures.value) c.in_ok-beats.ensures.value) c.in_ok-notes.ensures.value) c.in_ok-bytes.ensures.value) c.in_ok-bytes-2.ensures.value) c.in_ok-bytes-3.ensures.value) c.in_ok-bytes-4.ensures.value)
