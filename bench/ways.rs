@@ -165,9 +165,14 @@ fn past<T>(slice: &[T], place: usize) -> &[T] {
     slice.get(place..).unwrap_or_default()
 }
 
-/// Whether all of a slice is 0, asked to its end whatever is met, as the entries ask.
+/// Whether all of a slice is 0, asked as the entries ask: in parts, both halves of each in turns, to its end whatever is met.
 fn are_zero<T>(slice: &[T], is_zero: impl Fn(&T) -> bool) -> bool {
-    slice.iter().fold(true, |all, x| all & is_zero(x))
+    const PART: usize = 16_384;
+    slice.chunks(PART).fold(true, |all, part| {
+        let after = part.len() / 2;
+        let halves = part[..part.len() - after].iter().zip(&part[after..]);
+        halves.fold(all, |all, (x, y)| all & is_zero(x) & is_zero(y))
+    })
 }
 
 /// Whether an entry answers every text of a load as the Rust does, zeros and figures included.
