@@ -101,7 +101,8 @@ fn tally_timing_rows(data: &[u8], lanes: Lanes, work: &[u16]) -> ArrowStats
     requires text_length { length «data».now ≤ most_bytes }
     requires work_room { most_rows_in lanes.count (length «data».now) ≤ length work.now }
     requires entries { SomeWorkEntries (rows_read_back lanes.count «data».now) work.now }
-    ensures { (J : ℕ → Bool) → WorkEntries J (rows_read_back lanes.count «data».now) work.now
+    ensures { (J : ℕ → Bool)
+        → WorkEntries J (rows_read_back lanes.count «data».now) work.now
         → result ≡ judged_rows lanes.count J (rows_read_back lanes.count «data».now) }
 {
     let table = TapTable::for_lanes(lanes);

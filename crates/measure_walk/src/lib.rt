@@ -98,7 +98,8 @@ impl Walk {
     )
         requires in_text { start + rows * (table.now.lanes.count + 1) ≤ length text.now }
         requires ten { Ten self.old.columns }
-        requires walking { Walking table.now.lanes.count (counting self.old) (noting self.old) slots.old
+        requires walking { Walking table.now.lanes.count
+            (counting self.old) (noting self.old) slots.old
             (rows_of table.now.lanes.count rows text.now start) 0 }
         ensures ten { Ten self.new.columns }
         ensures counted { CountsAll table.now.lanes.count
