@@ -10,7 +10,7 @@ bench [--runs N] [--thread] [--ways LIST] [--lanes LIST] [--texts LIST] [--lines
 
 Times each call, or those of the given names, beside the Rust: both in one process, on the same texts, in turns, the best
 of N runs each (N is 7). A ratio is ours to the Rust's: over 1.00 ours is faster. It prints the cells under 1.00,
-the worst first, at most 10 of the entries, of them over resident slices and of the binding, with the speeds of both in
+the worst first, at most 5 of the entries, of them over resident slices and of the binding, with the speeds of both in
 MB of text a second (1 MB is 1,000,000 bytes); how many of the entries' their zeros alone keep there; the least and the
 greatest ratio of each call in each way, over all texts, line ends and lane counts; and the ratios of all cells. Where
 an entry is under its goal, 1.20 in the main call and 1.00 elsewhere, the ratio that it has less a look at the same

@@ -66,7 +66,7 @@ impl Cell {
 }
 
 /// How many cells under 1.00 are printed with their speeds of each of the three kinds.
-const WORST: usize = 10;
+const WORST: usize = 5;
 
 /// How many cells are under 1.00, the entries', those over resident slices and the binding's apart, and the worst of them first.
 pub fn print_worst(cells: &[Cell]) {
