@@ -65,12 +65,12 @@ fn table(options: &Options) -> Result<(), String> {
         let Cell {
             way, text, lines, ..
         } = *cell;
-        (way, text, lines, cell.call as usize, cell.lanes)
+        (way, cell.call as usize, text, lines, cell.lanes)
     });
     report::print_worst(&cells);
     report::print_under_by_zeros(&cells);
-    report::print_ranges(&cells, &options.lanes);
-    report::print_ratios(&cells, &options.lanes);
+    report::print_ranges(&cells, &options.calls, &options.ways);
+    report::print_ratios(&cells, &options.lines, &options.lanes);
     if options.speeds {
         report::print_speeds(cells.iter());
     }
@@ -108,15 +108,13 @@ fn cells_of(
     Ok(cells)
 }
 
-/// What a byte costs in texts of 1, 4 and 16 MB, and the largest of the three beside the smallest.
+/// What a byte costs in nanoseconds in a text of 16 MB, and in brackets the largest by the smallest of this and what it costs at 1 and 4 MB.
 fn growth(options: &Options) -> Result<(), String> {
-    println!(
-        "| call | lines | lanes | ns a byte at 1 MB | at 4 MB | at 16 MB | largest by smallest |"
-    );
-    println!("|---|---|---|---|---|---|---|");
+    report::print_head("| call | lines |", report::lane_names(&options.lanes));
     for &lines in &options.lines {
-        for &lanes in &options.lanes {
-            for &call in &options.calls {
+        for &call in &options.calls {
+            print!("| `{}` | {} |", call.name(), lines.name());
+            for &lanes in &options.lanes {
                 let mut costs = [0.0; 3];
                 for (cost, len) in costs.iter_mut().zip([1_000_000, 4_000_000, 16_000_000]) {
                     // As many texts as make 16 MB, each with slices of its own, so that no length is favoured by the processor's cache.
@@ -129,11 +127,9 @@ fn growth(options: &Options) -> Result<(), String> {
                 }
                 let [one, four, sixteen] = costs;
                 let most = one.max(four).max(sixteen) / one.min(four).min(sixteen);
-                let (name, lines) = (call.name(), lines.name());
-                println!(
-                    "| `{name}` | {lines} | {lanes} | {one:.3} | {four:.3} | {sixteen:.3} | {most:.2} |"
-                );
+                print!(" {sixteen:.2} ({most:.2}) |");
             }
+            println!();
         }
     }
     Ok(())

@@ -10,11 +10,11 @@ bench [--runs N] [--thread] [--ways LIST] [--lanes LIST] [--texts LIST] [--lines
 
 Times each call, or those of the given names, beside the Rust: both in one process, on the same texts, in turns, the best
 of N runs each (N is 7). A ratio is ours to the Rust's: over 1.00 ours is faster. It prints the cells under 1.00,
-the worst first, at most 30 of the entries, of them over resident slices and of the binding, with the speeds of both in MB of text a second (1 MB is
-1,000,000 bytes), and those of the entries that their zeros alone keep there; the least and the greatest ratio of each
-call at each lane count, over all texts and line ends; and the ratios of all cells. Where an entry is under its goal,
-1.20 in the main call and 1.00 elsewhere, the ratio that it has less a look at the same bytes as its zeros stands
-beside it.
+the worst first, at most 5 of the entries, of them over resident slices and of the binding, with the speeds of both in
+MB of text a second (1 MB is 1,000,000 bytes); how many of the entries' their zeros alone keep there; the least and the
+greatest ratio of each call in each way, over all texts, line ends and lane counts; and the ratios of all cells. Where
+an entry is under its goal, 1.20 in the main call and 1.00 elsewhere, the ratio that it has less a look at the same
+bytes as its zeros stands beside it.
 
 A LIST has its words parted by commas, and leaves out the others:
   --ways   entry     an exported entry, its slices (at first with no page resident) and the Rust's buffers reused
@@ -30,8 +30,9 @@ A LIST has its words parted by commas, and leaves out the others:
            unclosed  the long text and a head that nothing closes, so that the tally is counted anew
   --lines  lf crlf
   --speeds also prints, at the end, the speeds of every cell, of the Rust, and of a look at an entry's zeros
-  --growth prints instead what a byte costs an entry in texts of 1, 4 and 16 MB, as many as make 16 MB, each with slices
-           of its own, all of them resident
+  --growth prints instead how many nanoseconds a byte costs an entry in a text of 16 MB, and in brackets the largest by
+           the smallest of this and what it costs at 1 and 4 MB: as many texts as make 16 MB, each with slices of its own,
+           all of them resident
   --memory prints instead how many bytes an entry is lent for the longest text
   --files  times instead sm_chart beside its plain reference in the oracle, which the Rust does not have: files of 16 MB with
            one chart, a pack of charts of 20,000 bytes, charts of one line, and none, asked for the first block, the last and

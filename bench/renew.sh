@@ -20,9 +20,10 @@ table() { awk -v head="$1" 'index($0, head) == 1 { on = 1 } on && !/^\|/ { exit 
 between() { awk -v from="$1" -v to="$2" 'index($0, from) == 1 { on = 1 } index($0, to) == 1 { exit } on' "$tables" | sed '$d'; }
 
 between 'Under 1.00, ' 'Under 1.00 by the zeros' >"$parts/worst"
-between 'Under 1.00 by the zeros' '| way | call | 4 lanes |' >"$parts/zeros"
-table '| way | call | 4 lanes |' >"$parts/ranges"
-table '| way | call | text | lines | 4 lanes |' | sed -n '1,2p; /^| entry |/p' >"$parts/ratios"
+sed -n '/^Under 1.00 by the zeros/p' "$tables" >"$parts/zeros"
+table '| call | entry |' >"$parts/ranges"
+# Of the entries alone, without the first column.
+table '| way | call | text | LF 4 |' | sed -n '1s/^| way |/|/p; 2s/^|---|/|/p; s/^| entry |/|/p' >"$parts/ratios"
 cp "$growth" "$parts/growth"
 target/bench/bench --memory >"$parts/memory"
 

@@ -56,21 +56,17 @@ impl Cell {
     }
 
     fn has_line_of(&self, other: &Self) -> bool {
-        self.way == other.way
-            && self.call == other.call
-            && self.text == other.text
-            && self.lines == other.lines
+        self.way == other.way && self.call == other.call && self.text == other.text
     }
 
     fn line_name(&self) -> String {
-        let (way, call) = (self.way.name(), self.call.name());
-        let (text, lines) = (self.text.name(), self.lines.name());
-        format!("| {way} | `{call}` | {text} | {lines} |")
+        let (way, call, text) = (self.way.name(), self.call.name(), self.text.name());
+        format!("| {way} | `{call}` | {text} |")
     }
 }
 
 /// How many cells under 1.00 are printed with their speeds of each of the three kinds.
-const WORST: usize = 30;
+const WORST: usize = 5;
 
 /// How many cells are under 1.00, the entries', those over resident slices and the binding's apart, and the worst of them first.
 pub fn print_worst(cells: &[Cell]) {
@@ -100,45 +96,48 @@ fn kind(way: Way) -> &'static str {
     }
 }
 
-/// The entries' cells that are under 1.00 and would not be less their zeros, the worst first.
+/// How many cells of the entries are under 1.00 and would not be less their zeros, and the ratios that these have less them.
 pub fn print_under_by_zeros(cells: &[Cell]) {
-    let is_by_zeros = |cell: &&Cell| cell.is_under() && cell.less_zeros() >= Some(ROUNDED_ONE);
-    let mut worst: Vec<&Cell> = cells.iter().filter(is_by_zeros).collect();
-    worst.sort_by(|a, b| a.ratio().total_cmp(&b.ratio()));
-    println!("Under 1.00 by the zeros alone: {} cells.\n", worst.len());
-    if !worst.is_empty() {
-        print_speeds(worst.into_iter());
+    let less = cells
+        .iter()
+        .filter(|cell| cell.is_under())
+        .filter_map(Cell::less_zeros)
+        .filter(|&less| less >= ROUNDED_ONE);
+    let count = less.clone().count();
+    print!("Under 1.00 by the zeros alone: {count} cells");
+    if let Some(range) = range(less) {
+        print!("; less a look at them {range}");
     }
+    println!(".\n");
 }
 
-/// The least and the greatest ratio of each call at each lane count, over all texts and line ends.
-pub fn print_ranges(cells: &[Cell], lanes: &[usize]) {
-    print_head("| way | call |", lanes);
-    for (place, first) in cells.iter().enumerate() {
-        let is_alike = |cell: &&Cell| cell.way == first.way && cell.call == first.call;
-        if cells[..place].iter().any(|cell| is_alike(&cell)) {
-            continue;
-        }
-        print!("| {} | `{}` |", first.way.name(), first.call.name());
-        for &lanes in lanes {
+/// The least and the greatest ratio of each call made in each way, over all texts, line ends and lane counts.
+pub fn print_ranges(cells: &[Cell], calls: &[Call], ways: &[Way]) {
+    print_head("| call |", ways.iter().map(|way| way.name().to_owned()));
+    for &call in calls {
+        print!("| `{}` |", call.name());
+        for &way in ways {
             let here = cells
                 .iter()
-                .filter(|cell| is_alike(cell) && cell.lanes == lanes);
-            let (mut least, mut most) = (f64::MAX, f64::MIN);
-            for cell in here {
-                least = least.min(cell.ratio());
-                most = most.max(cell.ratio());
-            }
-            print!(" {least:.2} to {most:.2} |");
+                .filter(|cell| cell.way == way && cell.call == call);
+            print!(" {} |", range(here.map(Cell::ratio)).unwrap_or_default());
         }
         println!();
     }
     println!();
 }
 
+/// The least and the greatest of some ratios, in words; none where there are none.
+fn range(ratios: impl Iterator<Item = f64>) -> Option<String> {
+    let (least, most) = ratios.fold((f64::MAX, f64::MIN), |(least, most), ratio| {
+        (least.min(ratio), most.max(ratio))
+    });
+    (least <= most).then(|| format!("{least:.2} to {most:.2}"))
+}
+
 /// How many bytes the slices have that an entry is lent for the longest text.
 pub fn print_memory(calls: &[Call], lanes: &[usize]) {
-    print_head("| call |", lanes);
+    print_head("| call |", lane_names(lanes));
     for &call in calls {
         print!("| `{}` |", call.name());
         for &lanes in lanes {
@@ -159,12 +158,15 @@ fn grouped(number: usize) -> String {
     }
 }
 
-/// A table's head, with a column for each lane count.
-fn print_head(columns: &str, lanes: &[usize]) {
-    print!("{columns}");
-    lanes.iter().for_each(|lanes| print!(" {lanes} lanes |"));
-    let count = columns.matches('|').count() - 1 + lanes.len();
-    println!("\n|{}", "---|".repeat(count));
+/// A table's head: some columns, and more of these names.
+pub fn print_head(columns: &str, names: impl Iterator<Item = String>) {
+    let head = names.fold(columns.to_owned(), |head, name| format!("{head} {name} |"));
+    println!("{head}\n|{}", "---|".repeat(head.matches('|').count() - 1));
+}
+
+/// The names of columns, one for each lane count.
+pub fn lane_names(lanes: &[usize]) -> impl Iterator<Item = String> {
+    lanes.iter().map(|lanes| format!("{lanes} lanes"))
 }
 
 /// The speeds of cells, one a line.
@@ -177,8 +179,9 @@ pub fn print_speeds<'a>(cells: impl Iterator<Item = &'a Cell>) {
         let optional = |number: Option<String>| number.unwrap_or_default();
         let zeros = cell.zeros.map(|zeros| cell.speed(zeros));
         println!(
-            "{} {} | {:.0} | {:.0} | {:.2} | {} | {} |",
+            "{} {} | {} | {:.0} | {:.0} | {:.2} | {} | {} |",
             cell.line_name(),
+            cell.lines.name(),
             cell.lanes,
             cell.speed(cell.ours),
             cell.speed(cell.rust),
@@ -190,16 +193,25 @@ pub fn print_speeds<'a>(cells: impl Iterator<Item = &'a Cell>) {
     println!();
 }
 
-/// The ratios of all cells, one line for the lane counts of a call on a text; those under 1.00 are bold.
-pub fn print_ratios(cells: &[Cell], lanes: &[usize]) {
-    print_head("| way | call | text | lines |", lanes);
+/// The ratios of all cells, one line for the line ends and lane counts of a call on a text; those under 1.00 are bold.
+pub fn print_ratios(cells: &[Cell], lines: &[Lines], lanes: &[usize]) {
+    let columns: Vec<(Lines, usize)> = lines
+        .iter()
+        .flat_map(|&lines| lanes.iter().map(move |&lanes| (lines, lanes)))
+        .collect();
+    let names = columns
+        .iter()
+        .map(|(lines, lanes)| format!("{} {lanes}", lines.name()));
+    print_head("| way | call | text |", names);
     for (place, first) in cells.iter().enumerate() {
         if cells[..place].iter().any(|cell| cell.has_line_of(first)) {
             continue;
         }
         print!("{}", first.line_name());
-        for &lanes in lanes {
-            let is_here = |cell: &&Cell| cell.lanes == lanes && cell.has_line_of(first);
+        for &(lines, lanes) in &columns {
+            let is_here = |cell: &&Cell| {
+                cell.lines == lines && cell.lanes == lanes && cell.has_line_of(first)
+            };
             let cell = cells.iter().find(is_here);
             print!(" {} |", cell.map(ratio_words).unwrap_or_default());
         }
