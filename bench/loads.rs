@@ -3,7 +3,7 @@
 use crate::chart::{self, Kind};
 use oracle::entry::MAX_LEN;
 
-/// The lane counts of document 01.
+/// The lane counts (Specification, Lanes).
 pub const LANES: [usize; 4] = [4, 5, 8, 10];
 
 /// How many charts a pack has, and their bytes.

@@ -30,7 +30,7 @@ _Static_assert(PADCHECK_LAST_BEAT_48THS == 6, "last");
 _Static_assert(PADCHECK_SHEET_BYTES == 7, "bytes of the sheet");
 _Static_assert(PADCHECK_FIGURES == 32, "the figures");
 
-/* "A note record is 10 bytes", its kinds, and `noteFigures` in Entries.antt. */
+/* "A note record has 10 bytes", its kinds, and `noteFigures` in Entries.antt. */
 _Static_assert(PADCHECK_NOTE_BYTES == 10, "a note record");
 _Static_assert(PADCHECK_NO_TAIL == 4294967295, "no tail");
 _Static_assert(PADCHECK_NOTE_ROW == 0, "row");

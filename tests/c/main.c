@@ -1,4 +1,4 @@
-/* Every entry of padcheck.h from C: the header's names, document 01's example and its sheets, its limits, note records,
+/* Every entry of padcheck.h from C: the header's names, the specification's example and its sheets, its limits, note records,
    SM files, and the stored sample. */
 #include "calls.h"
 #include "checks.h"
@@ -32,7 +32,7 @@ static void set_contents(struct answer *answer, enum lent lent, const void *at, 
     answer->contents[lent].bytes = bytes;
 }
 
-/* Document 01's example: two of four rows stay, with a tap each. */
+/* The specification's example: two of four rows stay, with a tap each. */
 static const char text[] = "1000\n0000\n0100\n0000\n;\n", minimised[] = "1000\n0100\n", rows[] = "10000100";
 static const uint32_t density = 2;
 static const uint8_t spaced = 1;

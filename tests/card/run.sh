@@ -1,5 +1,5 @@
 #!/bin/sh
-# Runs the program card (target/bin/card, built by tools/build.sh) beside the oracle's card: document 01's example, an empty input, 4,095 and
+# Runs the program card (target/bin/card, built by tools/build.sh) beside the oracle's card: the specification's example, an empty input, 4,095 and
 # 4,096 bytes, holds with tails, a chart of several measures. The last line is 'N passed, 0 failed'.
 set -eu
 cd "$(dirname "$0")/../.."
@@ -33,7 +33,7 @@ repeated() {
 }
 
 cp crates/card/stdin "$out/text"
-same "document 01's example" "measures 1"
+same "the specification's example" "measures 1"
 : >"$out/text"
 same "an empty input" "measures 1"
 repeated 1111 4095

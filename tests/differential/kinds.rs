@@ -237,7 +237,7 @@ impl Facts {
     }
 }
 
-/// The cases of document 01's test of the correction, of rows that need not be minimised: those that minimising drops are all zero.
+/// The cases of the correction's test (Specification, Correction), of rows that need not be minimised: those that minimising drops are all zero.
 fn pairing(counted: &Counted) -> Pairing {
     let is_left_over = counted.phantom_depths.iter().any(|&depth| depth > 0);
     match (counted.holds, counted.ends) {

@@ -45,7 +45,7 @@ fn word(letters: &[u8], len: u32, number: usize) -> Vec<u8> {
         .collect()
 }
 
-/// A column's cells for each case of document 01's correction, in the order of its conditions: no head, heads that all pair, heads other
+/// A column's cells for each case of the correction, in the order of its conditions: no head, heads that all pair, heads other
 /// than tails, a 1, M, L or F at a phantom depth, a phantom depth left over.
 const COLUMNS: [&[u8]; 12] = [
     b"3", b"0", b"23", b"43", b"2", b"233", b"223", b"213", b"2M3", b"2L3", b"2F3", b"32",

@@ -1,4 +1,4 @@
-//! What the program card prints: document 01's sheet of a text read with 4 lanes.
+//! What the program card prints: the card of a text read with 4 lanes.
 
 use crate::sheet::{ChartFigures, Form};
 

@@ -1,4 +1,4 @@
-//! Self-check of the oracle: document 01's examples, refusals, leaves, sheets, the charts inside an SM file, and the stored samples.
+//! Self-check of the oracle: the specification's examples, refusals, leaves, sheets, the charts inside an SM file, and the stored samples.
 //! Ends with `N passed, M failed`; the exit status is not 0 if anything failed.
 
 mod check_examples;
@@ -133,7 +133,7 @@ fn lengths([text, measure, beat, work, note]: [usize; 5]) -> Lengths {
 }
 
 fn refusals(checks: &mut Checks) {
-    // Text length, lane number, and the shortest slices by document 01's rules.
+    // Text length, lane number, and the shortest slices (Specification, Refusals).
     for (len, lanes, enough) in [
         (9, 4, [10, 6, 2, 2, 80]),
         (8, 4, [9, 5, 1, 1, 40]),

@@ -1,5 +1,5 @@
-//! Document 01's examples P1 to P11 and its card, the blunders it names, and deep nests.
-//! As in the document, `|` stands for byte 10.
+//! The specification's examples P1 to P11 and its card, the wrong readings it names, and deep nests.
+//! As there, `|` stands for byte 10.
 
 use crate::Checks;
 use oracle::calls::{self, Answer};

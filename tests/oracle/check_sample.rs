@@ -106,7 +106,7 @@ fn coverage(checks: &mut Checks, samples: &[Sample]) {
     checks.same("main and kept tally apart", kept_apart.count() > 3, true);
 }
 
-/// Document 01 has one definition of each figure: whichever call answers it, it is the same.
+/// There is one definition of each figure: whichever call answers it, it is the same.
 fn agreement(checks: &mut Checks, samples: &[Sample]) {
     for (i, sample) in samples.iter().enumerate() {
         let (text, lanes) = (&sample.text[..], sample.lanes);

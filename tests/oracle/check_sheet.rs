@@ -86,7 +86,7 @@ fn line(text: &str, begins: &str) -> Option<String> {
         .map(String::from)
 }
 
-/// Document 01's P8 and P9, where the three tallies differ.
+/// P8 and P9, where the three tallies differ.
 fn tallies_apart(checks: &mut Checks) {
     let nest = ["2000\n".repeat(9), "3000\n".repeat(9)].concat();
     let holds = "holds               9        9        8";

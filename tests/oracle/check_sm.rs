@@ -1,4 +1,4 @@
-//! The charts inside an SM file, each sentence of document 02's E1 by files whose answers are written by hand.
+//! The charts inside an SM file, each sentence of Specification, SM files, by files whose answers are written by hand.
 
 use crate::Checks;
 use oracle::sm::{SmChart, blocks, charts, sm_chart};

@@ -1,7 +1,7 @@
-//! Texts that one rule of document 01 decides each: with that rule left out the answer is another.
+//! Texts that one rule of the specification decides each: with that rule left out the answer is another.
 //! `tests/vectors/README.md` lists them with their rules, `tests/vectors/mutants.sh` leaves the rules out.
 
-/// A text with its lane number and flags; in the text `|` stands for byte 10, as in document 01.
+/// A text with its lane number and flags; in the text `|` stands for byte 10, as in the specification.
 pub struct Deciding {
     pub name: &'static str,
     pub lanes: usize,

@@ -1,4 +1,4 @@
-//! The calls as they are met from outside: the refusals of document 01, what an accepted call
+//! The calls as they are met from outside: the refusals, what an accepted call
 //! leaves in the slices it was lent, and the reading back of a note record.
 
 use crate::calls::{Answer, Call, Figures, NO_TAIL, NOTE_BYTES, answer, lanes_in_force};

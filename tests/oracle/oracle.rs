@@ -3,7 +3,7 @@
 //! - `calls`: the eight chart calls, each with its figures and the contents of its slices.
 //! - `leaves`: the functions below them.
 //! - `timed`: the calls with nothing around them.
-//! - `entry`: the calls as they are met from outside, with the refusals of document 01.
+//! - `entry`: the calls as they are met from outside, with their refusals.
 //! - `sm`: the charts inside an SM file, which the Rust does not know.
 //! - `sheet`: the sheet of a chart in its three forms; `sheet_entry`: its call as it is met from outside.
 //! - `card`: what the program card prints.

@@ -49,7 +49,7 @@ impl ChartFigures {
         self.main.figures[place]
     }
 
-    /// Document 01's lines.
+    /// The card's lines.
     fn card(&self) -> String {
         let heads = [
             ("measures", MEASURES),

@@ -1,4 +1,4 @@
-//! The charts inside an SM file, plainly, from document 02, E1. The Rust has no such function: this is the reference for it.
+//! The charts inside an SM file, plainly, from Specification, SM files. The Rust has no such function: this is the reference for it.
 
 use crate::entry::MAX_LEN;
 

@@ -1,4 +1,4 @@
-//! SM files that one sentence of document 02, E1, decides each: with that sentence left out an answer is another.
+//! SM files that one sentence of the specification decides each: with that sentence left out an answer is another.
 //! `tests/vectors/README.md` lists them with their sentences, `tests/vectors/mutants.sh` leaves the sentences out.
 
 /// A file; in its text `|` stands for byte 10.

@@ -3,7 +3,7 @@
 
 pub const ROWS_PER_BEAT: i32 = 48;
 
-/// Document 01 says ties go to even; the file that holds the original is not at hand.
+/// The specification says ties go to even; the file that holds the original is not at hand.
 /// Its result type makes no difference below 2^31, and no accepted text reaches that.
 fn lrint_f64(value: f64) -> f64 {
     value.round_ties_even()
@@ -30,7 +30,7 @@ pub(crate) fn beat_to_note_row_f32(beat: f32) -> i32 {
     lrint_f32(beat * ROWS_PER_BEAT as f32)
 }
 
-/// Timing data without a warp or a fake; the flags of document 01 stand in its place.
+/// Timing data without a warp or a fake; flags stand in its place.
 pub struct TimingData;
 
 #[must_use]

@@ -1,4 +1,4 @@
-"""A plain model of the figures, written from the specification (document 01) and not from the definitions or the code, a rule a line where that
+"""A plain model of the figures, written from the specification and not from the definitions or the code, a rule a line where that
 can be. `run.py` changes one line of it at a time and asks which example notices."""
 
 import struct
@@ -14,7 +14,7 @@ def lanes_of(number):
     return number if number in (5, 8, 10) else 4
 
 
-# What a call can be told
+# Refusals, Slices
 
 
 def told_length(length):

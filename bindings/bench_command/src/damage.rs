@@ -78,7 +78,7 @@ impl Damage<'_> {
         self.others(|measure| self.old.spacing(measure) == self.new.spacing(measure))
     }
 
-    /// "The same in number, order and every field, but for the one shift added to rows and tails."
+    /// "their number, order and fields, but for one shift of rows and tail rows"
     fn later_notes(&self) -> Found {
         let [old, new] = [self.old, self.new].map(|figures| {
             let end = figures.range(self.d).end;

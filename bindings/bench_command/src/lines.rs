@@ -1,4 +1,4 @@
-//! The lines of note data, by document 01: for doubt and for the comparison of two files. Figures are not made from these.
+//! The lines of note data (Specification, Lines): for doubt and for the comparison of two files. Figures are not made from these.
 
 use crate::memory::{NoMemory, push};
 use std::ops::Range;

@@ -31,7 +31,7 @@ same_card() {
 }
 
 cp crates/card/stdin "$out/text"
-same_card "document 01's example"
+same_card "the specification's example"
 : >"$out/text"
 same_card "an empty text"
 yes 1111 | head -c 4095 >"$out/text"

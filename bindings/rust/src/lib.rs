@@ -1,8 +1,8 @@
 //! The chart figures of StepMania charts, proved: safe Rust over libpadcheck.a.
 //!
-//! Every answer is proved equal to definitions written from a specification, documents 01 and 02; this side lends slices,
-//! hands on what is in them, takes the four numbers of a note out of the ten bytes of its record, and goes on in an SM
-//! file behind each chart it has shown ([`sm_charts`]). Four ways to call, from the least to the most control:
+//! Every answer is proved equal to definitions written from a specification, `docs/SPECIFICATION.md` of the repository; this side lends
+//! slices, hands on what is in them, takes the four numbers of a note out of the ten bytes of its record, and goes on in an SM file
+//! behind each chart it has shown ([`sm_charts`]). Four ways to call, from the least to the most control:
 //!
 //! - [`stats`] has items of rssp's `stats.rs` under their own names and signatures, for a loader that changes one `use`
 //!   line; it says which.

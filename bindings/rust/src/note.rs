@@ -131,7 +131,7 @@ fn kind_of(number: u64) -> ChartNoteType {
 mod tests {
     use super::*;
 
-    /// A record by document 01's layout.
+    /// A record by its layout.
     fn record(row: u32, tail: u32, column: u8, kind: u8) -> [u8; NOTE_BYTES] {
         let mut record = [0; NOTE_BYTES];
         record[..4].copy_from_slice(&row.to_le_bytes());

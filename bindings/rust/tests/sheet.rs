@@ -5,7 +5,7 @@ mod loan;
 use loan::{Lent, Loan};
 use padcheck::{Buffers, MAX_LEN, Refusal, SheetForm, chart_sheet, lent, place};
 
-/// Document 01's example.
+/// The specification's example.
 const DATA: &[u8] = b"1000\n0000\n0100\n0000\n;\n";
 
 const FIRST_STEPS: &[u8] = include_bytes!("../../../examples/first-steps.txt");
@@ -109,7 +109,7 @@ fn the_json_of_each_example() {
     assert_eq!(sheet(FIRST_STEPS, 4, SheetForm::Json), object);
 }
 
-/// Document 01's P8 and P9: the three tallies are not the same there.
+/// P8 and P9: the three tallies are not the same there.
 #[test]
 fn each_tally_stands_in_its_column() {
     let nest = ["2000\n".repeat(9), "3000\n".repeat(9)].concat();

@@ -145,7 +145,7 @@ fn main_charts() {
     });
 }
 
-/// The notes of stored records, read by the layout of document 01.
+/// The notes of stored records, read by their layout.
 fn stored_notes(records: &[u8]) -> Vec<ParsedChartNote> {
     const KINDS: [ChartNoteType; 6] = [
         ChartNoteType::Tap,

@@ -1,4 +1,4 @@
-// Row beats and the last beat (document 01, "Row beat" and "Last beat"). `mul_add` and `round_ties_even` are worked out here by
+// Row beats and the last beat (Specification, Row beats and Last beat). `mul_add` and `round_ties_even` are worked out here by
 // whole numbers and by float operations that are exact but for the last.
 #![tactic(auto)]
 

@@ -1,4 +1,5 @@
-// Document 01's program card: reads standard input, 4 lanes, at most 4,095 bytes, and prints the sheet; for more it prints `refused 1`.
+// The program card (Specification, Program card): reads standard input, 4 lanes, at most 4,095 bytes, and prints the sheet; for more it prints
+// `refused 1`.
 #![tactic(auto)]
 
 ghost use Rattle.std.specs.Prelude.{◌≡◌, ◌≤◌, length, take, codes};

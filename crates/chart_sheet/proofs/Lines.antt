@@ -1,4 +1,4 @@
--- The card's lines of what the main call and the spacing scan left are document 01's lines of the text.
+-- The card's lines of what the main call and the spacing scan left are the specification's lines of the text.
 use mathlib.Core.Path.{◌≡◌, refl, ap, ◌∙◌}
 use mathlib.Core.List.{List, [], ◌∷◌, ◌++◌, map, append-nil}
 use Rattle.std.specs.Prelude.{Some}

@@ -1,5 +1,5 @@
--- The call that writes a chart's sheet: for every input what it answers, a refusal or the 32 figures. Refusals 1 to 6 are document 01's, 19 and 20
--- are this call's.
+-- The call that writes a chart's sheet: for every input what it answers, a refusal or the 32 figures. Refusals 1 to 6 are those of other calls, 19
+-- and 20 are this call's.
 use Rattle.std.specs.Prelude.{List, [], ◌∷◌, ℕ, ◌+◌, ◌*◌, nat_lt, Float, length, set, Result}
 use Rattle.definitions.specs.Lanes.{lanes_of}
 use Rattle.definitions.specs.Refusals.{refused_if, long_text, short_text, short_measures, short_beats, short_work, short_notes, answered}

@@ -22,6 +22,6 @@ printed L text = print_of (sheet_figures L text) (densities L text) (spacings L 
 unfoldable pub json_object : ℕ → List ℕ → List ℕ
 json_object L text = json_of (sheet_figures L text) (densities L text) (spacings L text) (records (notes L text))
 
--- the sheet of a text: document 01's lines, or one of the fuller forms
+-- the sheet of a text: the card's lines, or one of the fuller forms
 unfoldable pub sheet_in_form : ℕ → ℕ → List ℕ → List ℕ
 sheet_in_form form L text = if form == 0 then sheet L text else (if form == 1 then printed L text else json_object L text)

@@ -1,4 +1,4 @@
--- Demand 3, "damage in one measure stays there": `Stays.damage-stays`.
+-- Specification, Damage: damage in one measure stays there, `Stays.damage-stays`.
 pub mod Bytes
 pub mod But
 pub mod Notes

@@ -66,7 +66,7 @@ tail-small r Mine (Row j) m = absurd m
 tail-small r Lift (Row j) m = absurd m
 tail-small r Fake (Row j) m = absurd m
 
--- "A note record is 10 bytes, back to back, no header"
+-- "A note record has 10 bytes, and records stand back to back without a header."
 pub ten : (n : Note) → length (encode n) ≡ 10
 unfolding encode fields
 ten n = refl

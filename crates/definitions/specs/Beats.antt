@@ -1,4 +1,4 @@
--- Document 01, "Row beat" and "Last beat", on the library's account of IEEE 754. `num x / den x` is the size of the float x as a fraction.
+-- Specification, Row beats and Last beat, on the library's account of IEEE 754. `num x / den x` is the size of the float x as a fraction.
 use Rattle.std.specs.Prelude.{false, List, [], ◌∷◌, ℕ, zero, suc, ◌+◌, ◌*◌, pos, Float, length}
 use Rattle.std.specs.Float.{binary32, binary64}
 use Rattle.std.specs.Float.Ieee.{of_int, round, add, mul, div}
@@ -16,15 +16,16 @@ f32 n = of_int binary32 (pos n)
 abbrev pub f64 : ℕ → Float
 f64 n = of_int binary64 (pos n)
 
--- "step is 4 / n as a 32-bit float"
+-- "The step is 4 / n as a 32-bit float."
 unfoldable pub step : ℕ → Float
 step n = div binary32 (f32 4) (f32 n)
 
--- r × x + a "worked out exactly and rounded once to the nearest, ties to even (`mul_add`)", for a float x that is finite and not negative
+-- r × x + a "worked out exactly and then rounded once, to the nearest 32-bit float, ties to even" (`mul_add`), for a float x that is finite and not
+-- negative
 unfoldable pub fused : ℕ → Float → ℕ → Float
 fused r x a = round binary32 false (r * num x + a * den x) (den x)
 
--- "Row beat, r of n rows in measure m: [..] the beat is r × step + 4 × m"
+-- "The beat is r × step + 4 × m"
 unfoldable pub beat_of_row : ℕ → ℕ → ℕ → Float
 beat_of_row m r n = fused r (step n) (4 * m)
 
@@ -46,7 +47,7 @@ measure_beats L text = beats_from 0 (minimised L text)
 unfoldable pub beats : ℕ → List ℕ → List Float
 beats L text = joined (measure_beats L text)
 
--- "m, r, n give 4 × m + 4 × r / n in 64-bit floats, each step rounded once"
+-- "the beat is 4 × m + 4 × r / n in 64-bit floats, each operation rounded"
 unfoldable pub beat : ℕ → ℕ → ℕ → Float
 beat m r n = add binary64 (mul binary64 (f64 m) (f64 4)) (div binary64 (mul binary64 (f64 4) (f64 r)) (f64 n))
 
@@ -54,10 +55,10 @@ beat m r n = add binary64 (mul binary64 (f64 m) (f64 4)) (div binary64 (mul bina
 unfoldable pub whole : Float → ℕ
 whole x = closest (num x) (den x)
 
--- "that times 48 is rounded to a whole number, ties to even": the last beat in 48ths
+-- "That beat times 48, a 64-bit float, is rounded to a whole number, ties to even": the last beat in 48ths
 unfoldable pub last_row : ℕ → ℕ → ℕ → ℕ
 last_row m r n = whole (mul binary64 (beat m r n) (f64 48))
 
--- "and divided by 48" (`note_row_to_beat`)
+-- "The last beat is this number divided by 48, a 64-bit float." (`note_row_to_beat`)
 unfoldable pub row_to_beat : ℕ → Float
 row_to_beat k = div binary64 (f64 k) (f64 48)

@@ -1,5 +1,5 @@
--- Document 01, "Cells": what a byte of a row stands for, and what cells do. "cell letters from the StepMania SM and SSC format pages. Where they
--- differ the Rust decides and the difference is recorded": docs/DIFFERENCES.md, "The format pages and the Rust".
+-- Specification, Cells: what a byte of a row stands for, and what cells do. "The letters of the cells are those of the StepMania pages on the SM and
+-- SSC formats. Where the pages and the Rust differ the Rust decides": docs/DIFFERENCES.md, "The format pages and the Rust".
 use Rattle.std.specs.Prelude.{Bool, true, false, if◌then◌else◌, ℕ, ◌==◌, slice_index_or}
 use Rattle.definitions.specs.Lines.{Row}
 use Rattle.definitions.specs.declared.Cell.{Cell}
@@ -10,8 +10,7 @@ use Rattle.definitions.specs.declared.NoteEffect.TheVariants as note
 use Rattle.definitions.specs.declared.DepthEffect.{DepthEffect}
 use Rattle.definitions.specs.declared.DepthEffect.TheVariants.{Nothing, Blocks, Opens, Closes}
 
--- "0 empty, 1 tap, 2 hold head, 3 tail, 4 roll head, M mine, L lift, F fake, K keysound. The Rust also reads m, l, f as mine, lift, fake
--- [..] Any other byte is empty for counting"
+-- the twelve cells of the table; "A byte that is not in the table is an empty cell"
 unfoldable pub cell_of : ℕ → Cell
 cell_of b =
     if b == 49 then Tap
@@ -48,9 +47,10 @@ pub record Effects : Type 0 where
 abbrev row : Bool → Bool → Bool → CountKind → DepthEffect → DepthEffect → NoteEffect → Effects
 row a j u k h o n = record { arrow = a; judged_arrow = j; unjudged_fake = u; counted = k; hold = h; object = o; note = n }
 
--- "The arrows are the cells 1, 2 and 4." "On a judged row the arrows are 1, L, l and tracker-paired heads" "On an unjudged row each 1, L, l, M, m,
--- F, f and paired head is one fake." For the tracker 2 and 4 open, 3 closes, and 1, M, L, F block; for the last beat K blocks too. "Any of 1 2 4 M
--- L F m l f drops an open head's note; 3 closes it. [..] K touches no note."
+-- "The arrows are the cells 1, 2 and 4." "On a judged row the arrows are 1, L, l and the paired heads" "On an unjudged row each 1, L, l, M, m, F,
+-- f and paired head is one fake, and nothing else is counted." For the tracker 2 and 4 open, 3 closes, and 1, M, L, F block; for the last beat K
+-- blocks too. "A 3 closes the open head of its column" "Any of 1 2 4 M L F m l f drops the open head's note in its column." "K and the empty cells
+-- touch no note."
 --                      arrow judged unjudged  counted  tracker  last beat  notes
 abbrev pub effects_of : Cell → Effects
 effects_of Empty = row false false false nothing Nothing Nothing note.Nothing

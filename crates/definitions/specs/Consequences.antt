@@ -15,7 +15,7 @@ use Rattle.definitions.specs.Entries.{figures_of_note, row_count, bits_of_last_b
 use Rattle.definitions.specs.WriterMakes.{Made}
 use Rattle.definitions.specs.SmFile.{Tag, block_end, blocks, sm_tag, sm_data, sm_start, sm_number}
 use Rattle.definitions.specs.Damage.{rows_above, rows_of, earlier, later, all_later, byte_in, head_kind, open_in, HoldObject}
-use Rattle.definitions.specs.Examples as papers
+use Rattle.definitions.specs.Examples as texts
 use Rattle.definitions.specs.RequestExamples as requests
 use Rattle.definitions.specs.declared.Tail.{Tail}
 use Rattle.definitions.specs.declared.Tail.TheVariants.{Without, Row as to_row}
@@ -166,5 +166,5 @@ ElevenSays =
 
 unfoldable pub ExamplesCounted : Type 0
 ExamplesCounted =
-    (map (λ (e : papers.Example). length e.says) papers.table ≡ 5 ∷ 4 ∷ 1 ∷ 5 ∷ 3 ∷ 4 ∷ 2 ∷ 3 ∷ 4 ∷ 1 ∷ 2 ∷ [])
+    (map (λ (e : texts.Example). length e.says) texts.table ≡ 5 ∷ 4 ∷ 1 ∷ 5 ∷ 3 ∷ 4 ∷ 2 ∷ 3 ∷ 4 ∷ 1 ∷ 2 ∷ [])
     × (length requests.table ≡ 16)

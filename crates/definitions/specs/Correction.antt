@@ -1,4 +1,4 @@
--- Document 01, "Correction": the phantom depths, when a tally is counted anew, and with which heads.
+-- Specification, Correction: the phantom depths, when a tally is counted anew, and with which heads.
 use Rattle.std.specs.Prelude.{Bool, true, false, if◌then◌else◌, ◌&&◌, ◌||◌, not, List, [], ◌∷◌, ℕ, suc, ◌-◌, ◌==◌, nat_lt, count_by}
 use Rattle.definitions.specs.Lists.{joined, some_column}
 use Rattle.definitions.specs.Lines.{Row}
@@ -9,7 +9,7 @@ use Rattle.definitions.specs.declared.DepthEffect.{DepthEffect}
 use Rattle.definitions.specs.declared.DepthEffect.TheVariants.{Nothing, Blocks, Opens, Closes}
 use Rattle.definitions.specs.declared.ArrowStats.{ArrowStats}
 
--- "Phantom depth rises at 2 and 4, falls at 3 to no less than 0, and is never reset."
+-- "The phantom depth rises by one at 2 and 4, falls by one at 3 but not below 0, and changes at nothing else."
 abbrev pub phantom_step : DepthEffect → ℕ → ℕ
 phantom_step Nothing d = d
 phantom_step Blocks d = d
@@ -21,7 +21,7 @@ abbrev pub phantom_after : ℕ → ℕ → List Row → ℕ
 phantom_after c d [] = d
 phantom_after c d (r ∷ rs) = phantom_after c (phantom_step (hold_at (byte_at c r)) d) rs
 
--- "a 1, M, L or F met in a column whose phantom depth is not 0"
+-- "a 1, M, L or F stands in a column whose phantom depth before it is over 0"
 abbrev pub meets_phantom : DepthEffect → ℕ → Bool
 meets_phantom Nothing d = false
 meets_phantom Blocks d = nat_lt 0 d
@@ -55,8 +55,8 @@ head_count rows = count_by (λ b. is_opening (hold_at b)) (joined rows)
 abbrev pub tail_count : List Row → ℕ
 tail_count rows = count_by (λ b. is_closing (hold_at b)) (joined rows)
 
--- "if there is a head, and besides one of these holds (heads ≠ tails; a 1, M, L or F met in a column whose phantom depth is not 0; a phantom
--- depth left over)", of rows of L bytes
+-- "A tally is counted anew if its rows have a head and one of these holds besides": "heads and tails are not equal in number", "a 1, M, L or F stands
+-- in a column whose phantom depth before it is over 0" or "a phantom depth is over 0 after the last row", of rows of L bytes
 unfoldable pub corrects : ℕ → List Row → Bool
 corrects L rows =
     nat_lt 0 (head_count rows)
@@ -80,11 +80,11 @@ abbrev pub keep_from : (ℕ → List Pair) → ℕ → List Row → List Row
 keep_from ps i [] = []
 keep_from ps i (r ∷ rs) = keep_row ps i 0 r ∷ keep_from ps (suc i) rs
 
--- the rows "with only tracker-paired heads"
+-- the rows in which "a head that the hold tracker does not pair, over the rows that are counted anew, is an empty cell"
 unfoldable pub paired_only : List Row → List Row
 paired_only rows = keep_from (pairs rows) 0 rows
 
--- t "keeping `total_steps`", which is n
+-- t where "`total_steps` keeps what was counted first", which is n
 abbrev pub tally_with_steps : ℕ → ArrowStats → ArrowStats
 tally_with_steps n t = record t { total_steps = n }
 

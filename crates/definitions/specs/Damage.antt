@@ -1,4 +1,4 @@
--- Document 01's section "Damage": when two texts differ only in lines of one measure, and what is then the same in both.
+-- Specification, Damage: when two texts differ only in lines of one measure, and what is then the same in both.
 use Rattle.std.specs.Prelude.{◌≡◌, ◌≢◌, ◌⊎◌, Bool, true, false, if◌then◌else◌, ◌&&◌, not, List, [], ◌∷◌, ℕ, suc, ◌+◌, ◌≤◌, ◌<◌, ◌==◌, nat_lt, nat_le, length, take, drop, slice_get, slice_index_or, filter}
 use Rattle.std.specs.List.{AllZip}
 use Rattle.definitions.specs.Lists.{among, joined}
@@ -39,7 +39,7 @@ ends line.Comma = true
 ends line.Semi = true
 ends line.Row = false
 
--- "A line is in measure d if before it d measures have ended and the reading has not, and it ends neither itself."
+-- "A line is in measure d if before it d measures have ended and the reading has not, and if it ends neither a measure nor the reading."
 pub record InMeasure (L d : ℕ) (p : Standing) (l : List ℕ) : Type 0 where
   pub standing : p ≡ ended d
   pub inside : ends (line_kind L l) ≡ false
@@ -51,8 +51,8 @@ pub data Struck (L d : ℕ) : Standing → List (List ℕ) → List (List ℕ) �
       → Struck L d (after p (line_kind L l)) xs ys → Struck L d p (l ∷ xs) (l ∷ ys)
   out : {p : Standing} {l : List ℕ} {xs ys : List (List ℕ)} → InMeasure L d p l → Struck L d p xs ys → Struck L d p (l ∷ xs) ys
 
--- "Two texts, one called old and the other new, differ only in lines of d if striking out some lines of d from each, the old and the new
--- lines, leaves the same list of lines."
+-- "Two texts, the old and the new, differ only in lines of measure d if some lines of d can be struck out of each so that the same lines are left of
+-- both."
 pub record Differ (L d : ℕ) (old new : List ℕ) : Type 0 where
   pub left : List (List ℕ)
   pub from_old : Struck L d (ended 0) (cut old) left
@@ -79,7 +79,7 @@ rows_later L d text = joined (drop (suc d) (minimised L text))
 abbrev pub all_later : ℕ → ℕ → List ℕ → List Row
 all_later L d text = joined (drop (suc d) (chart L text))
 
--- The notes headed in measures before d, and in measures after d. "A note is headed in its row's measure."
+-- The notes headed in measures before d, and in measures after d. "A note is headed in the measure of its row."
 abbrev pub earlier : ℕ → ℕ → List ℕ → List Note
 earlier L d text = filter (λ x. nat_lt x.row (length (rows_above L d text))) (notes L text)
 
@@ -87,7 +87,7 @@ earlier L d text = filter (λ x. nat_lt x.row (length (rows_above L d text))) (n
 abbrev pub later : ℕ → ℕ → List ℕ → List Note
 later L d text = filter (λ x. nat_le (length (rows_above L (suc d) text)) x.row) (notes L text)
 
--- "The shift, from old to new, is d's minimised row count in the new text less that in the old; a note without a tail stays without one."
+-- "The shift, from old to new, is the new text's number of minimised rows in d less the old text's; a note without a tail stays without one."
 -- With a rows in the old text and b in the new, x moves to y where y + a = x + b.
 abbrev pub ShiftedTail : ℕ → ℕ → Tail → Tail → Type 0
 ShiftedTail a b tail.Without tail.Without = Unit {0}
@@ -123,7 +123,7 @@ untouched c (r ∷ rs) = not (stops (byte_at c r)) && untouched c rs
 abbrev pub byte_in : List Row → ℕ → ℕ → ℕ
 byte_in rows i c = byte_at c (slice_index_or rows i [])
 
--- "A 2 or 4 before d is open where d begins if no 1 2 3 4 M L F m l f follows it in its column before d": rows are those before d
+-- "A head before d is open where d begins if no 1 2 3 4 M L F m l f follows it in its column before d": rows are those before d
 abbrev pub open_in : List Row → ℕ → ℕ → Bool
 open_in rows i c = is_head (byte_in rows i c) && untouched c (drop (suc i) rows)
 
@@ -131,14 +131,14 @@ open_in rows i c = is_head (byte_in rows i c) && untouched c (drop (suc i) rows)
 abbrev pub open_at : ℕ → ℕ → List ℕ → Note → Bool
 open_at L d text x = open_in (rows_above L d text) x.row x.column
 
--- "Its note may differ between the texts: in each it is missing or has that row, column and kind and a tail in d or later": in row s or later,
+-- "in each text it is missing, or has the head's row, column and kind, and its tail row is in d or later and in that text": in row s or later,
 -- where d begins at row s, and in one of the text's n minimised rows
 unfoldable pub MissingOrLate : ℕ → ℕ → ℕ → ℕ → Kind → List Note → Type 0
 MissingOrLate s n i c k ns =
     let here = filter (λ x. x.row == i && x.column == c) ns in
     (here ≡ []) ⊎ ((j : ℕ) × (s ≤ j) × (j < n) × (here ≡ record { row = i; tail = tail.Row j; column = c; kind = k } ∷ []))
 
--- a byte 1, M, L, F or K: "For the last beat only the capitals M, L, F count."
+-- a byte 1, M, L, F or K: "What is said of the last beat goes by 1, M, L, F and K alone, and not by m, l and f."
 unfoldable pub object : ℕ → Bool
 object b = among b (49 ∷ 77 ∷ 76 ∷ 70 ∷ 75 ∷ [])
 
@@ -150,7 +150,7 @@ HoldObject rows = (c : ℕ) × ((i : ℕ) × (object (byte_in rows i c) ≡ true
 unfoldable pub ObjectFirst : List Row → Type 0
 ObjectFirst rows = (c i : ℕ) → byte_in rows i c ≡ 51 → (j : ℕ) × (j < i) × (object (byte_in rows j c) ≡ true)
 
--- Demand 3. Damage in one measure stays there.
+-- "they have these figures in common": damage in one measure stays there.
 pub record DamageStays (L d : ℕ) (old new : List ℕ) : Type 0 where
   -- Both have the same number of measures, and every other measure has the same minimised rows, row beats, density and spacing in both.
   pub same_rows : SameBut d (minimised L old) (minimised L new)

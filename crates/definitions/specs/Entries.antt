@@ -1,6 +1,6 @@
--- The calls: for every input what each answers, a refusal or its value, and what it leaves in each lent slice. The entries callable from outside
--- return the number told, 0 for accepted, and put the value in the 32 figures. `lanes` is the caller's lane number; the lists named after slices are what those held before the call.
--- The entry that is lent a file is in SmFile.antt.
+-- Specification, Calls, Slices and Figures: for every input what each call answers, a refusal or its value, and what it leaves in each lent slice.
+-- The entries callable from outside return the number told, 0 for accepted, and put the value in the 32 figures. `lanes` is the caller's lane number;
+-- the lists named after slices are what those held before the call. The entry that is lent a file is in SmFile.antt.
 use Rattle.std.specs.Prelude.{List, [], ◌∷◌, ◌++◌, ℕ, Float, length, replicate, Result}
 use Rattle.std.specs.Float.{binary64}
 use Rattle.std.specs.Float.Ieee.{to_bits}
@@ -89,7 +89,7 @@ module _ (lanes : ℕ) (text out densities₀ : List ℕ) (beats₀ : List Float
   abbrev pub main_beats : List Float
   main_beats = leaves (f32 0) main_answer (beats (lanes_of lanes) text) beats₀
 
-  -- "the work slice is 0 throughout"
+  -- "0 throughout"
   abbrev pub main_work : List ℕ
   main_work = leaves 0 main_answer [] work
 
@@ -219,6 +219,6 @@ module _ (lanes : ℕ) (text work : List ℕ) where
   abbrev pub judged_work : List ℕ
   judged_work = leaves 0 judged_answer [] work
 
--- read_note: the four places of a note, "row, tail (4294967295 for none), column, kind". What it answers is in Records.antt.
+-- read_note: the four places of a note, "row, tail row or 4,294,967,295, column, kind". What it answers is in Records.antt.
 abbrev pub figures_of_note : Note → List ℕ
 figures_of_note n = n.row ∷ number_of_tail n.tail ∷ n.column ∷ number_of_kind n.kind ∷ []

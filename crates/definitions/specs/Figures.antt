@@ -1,16 +1,16 @@
--- Document 01: minimised text, density and spacing. Each is a function of the measures' minimised rows.
+-- Specification, Minimised text and Density and spacing. Each is a function of the measures' minimised rows.
 use Rattle.std.specs.Prelude.{Bool, true, false, ◌&&◌, ◌||◌, List, [], ◌∷◌, ◌++◌, map, ℕ, count_by}
 use Rattle.definitions.specs.Lists.{number_of_bool}
 use Rattle.definitions.specs.Lines.{Row}
 use Rattle.definitions.specs.Cells.{cell_of, is_arrow}
 use Rattle.definitions.specs.Reduction.{minimised}
 
--- "each row and byte 10"
+-- "Each minimised row is written, and byte 10 after it."
 abbrev pub row_text : List Row → List ℕ
 row_text [] = []
 row_text (r ∷ rs) = r ++ (10 ∷ row_text rs)
 
--- "after each `,` line the two bytes `,` and 10. The `;` is not written." "A measure without rows writes nothing."
+-- "Between two measures stand the bytes `,` and 10." "A measure without rows writes no row, and the `;` is never written."
 abbrev pub text_of : List (List Row) → List ℕ
 text_of [] = []
 text_of (m ∷ []) = row_text m
@@ -20,16 +20,16 @@ text_of (m ∷ m' ∷ ms) = row_text m ++ (44 ∷ 10 ∷ text_of (m' ∷ ms))
 unfoldable pub minimised_text : ℕ → List ℕ → List ℕ
 minimised_text L text = text_of (minimised L text)
 
--- a row "with a 1, 2 or 4"
+-- "A step is a row with an arrow."
 unfoldable pub is_step : Row → Bool
 is_step [] = false
 is_step (b ∷ r) = is_arrow (cell_of b) || is_step r
 
--- "Density: minimised rows with a 1, 2 or 4."
+-- "The density of a measure is how many of its minimised rows are steps."
 abbrev pub density : List Row → ℕ
 density rs = count_by is_step rs
 
--- "Spacing: true where the measure has no rows or each minimised row has a 1, 2 or 4."
+-- "The spacing of a measure is true where each of its minimised rows is a step, so also where it has none."
 abbrev pub spacing : List Row → Bool
 spacing [] = true
 spacing (r ∷ rs) = is_step r && spacing rs
@@ -38,6 +38,6 @@ spacing (r ∷ rs) = is_step r && spacing rs
 unfoldable pub densities : ℕ → List ℕ → List ℕ
 densities L text = map density (minimised L text)
 
--- "1 true and 0 false"
+-- "1 for each measure whose spacing is true, else 0"
 unfoldable pub spacings : ℕ → List ℕ → List ℕ
 spacings L text = map (λ (m : List Row). number_of_bool (spacing m)) (minimised L text)

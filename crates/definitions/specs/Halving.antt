@@ -1,5 +1,5 @@
--- Document 01, "Minimising", in the handier form: halving while it goes. `reduce-halved` in proofs/Reduction.antt proves that it gives the rows that
--- the stride gives.
+-- Specification, Minimising, in the handier form: "The same rows are left by halving". `reduce-halved` in proofs/Reduction.antt proves that it gives
+-- the rows that the stride gives.
 use Rattle.std.specs.Prelude.{◌≡◌, Bool, true, false, ◌&&◌, if◌then◌else◌, List, [], ◌∷◌, ℕ, zero, suc, length}
 use Rattle.definitions.specs.Lines.{Row}
 use Rattle.definitions.specs.Reduction.{all_zero, reduce}

@@ -1,4 +1,4 @@
--- Document 01, "Judged tally".
+-- Specification, Judged tally.
 use Rattle.std.specs.Prelude.{Bool, true, false, ◌&&◌, not, List, [], ◌∷◌, ℕ, suc, ◌+◌, ◌==◌, nat_lt, nat_le, slice_index_or, count_by}
 use Rattle.definitions.specs.Lists.{sum_columns}
 use Rattle.definitions.specs.Lines.{Row}
@@ -11,7 +11,7 @@ use Rattle.definitions.specs.declared.Cell.{Cell}
 use Rattle.definitions.specs.declared.RowSum.{RowSum}
 use Rattle.definitions.specs.declared.ArrowStats.{ArrowStats}
 
--- "one flag byte a row (0 unjudged, else judged). A row past the flags is judged."
+-- "0 is unjudged, any other is judged. A row past the flags is judged, and flags are counted as the rows are."
 unfoldable pub judged_at : List ℕ → ℕ → Bool
 judged_at flags i = not (slice_index_or flags i 1 == 0)
 
@@ -30,13 +30,13 @@ unfoldable pub judged_sum : Bool → Row → RowSum
 judged_sum true r = row_sum_by is_judged_arrow r
 judged_sum false r = sum_of_fakes (count_by (λ b. is_unjudged_fake (cell_of b)) r)
 
--- "It is a hand if it has an arrow, mine or fake and its arrows plus the holds open before it make 3 or more." "`holding` stays 0."
+-- "A judged row is a hand if it has an arrow, mine or fake, and its arrows and the holds open before it make 3 or more." "`holding` stays 0."
 unfoldable pub judge_row : ArrowStats → Bool → ℕ → RowSum → ArrowStats
 judge_row t judged held s =
     tally_with_sum t s (judged && (nat_le 1 (s.arrows + s.mines + s.fakes) && nat_le 3 (s.arrows + held))) 0
 
--- The holds of a column's pairs that are open before row i, where J says which rows are judged. "Only heads on judged rows open holds, each
--- through its tail's row."
+-- The holds of a column's pairs that are open before row i, where J says which rows are judged. "A paired head on a judged row opens a hold, which is
+-- open before each later row through its tail's row. A head on an unjudged row opens none."
 abbrev pub open_of : (ℕ → Bool) → ℕ → List Pair → ℕ
 open_of J i ps = count_by (λ (p : Pair). J p.head && (nat_lt p.head i && nat_le i p.tail)) ps
 
@@ -54,10 +54,10 @@ judge_from L J ps t i (r ∷ rs) =
 unfoldable pub judged_rows : ℕ → (ℕ → Bool) → List Row → ArrowStats
 judged_rows L J rows = judge_from L J (pairs rows) empty_stats 0 rows
 
--- "rows from `parse_minimized_rows`, then `process_rows_judgable`": every row is judged
+-- "`process_rows_judgable` judges every row."
 unfoldable pub judged_tally : ℕ → List ℕ → ArrowStats
 judged_tally L text = judged_rows L (λ i. true) (rows_read_back L text)
 
--- "or `process_timing_rows` with one flag byte a row"
+-- "`process_timing_rows` goes by flags, one byte a row"
 unfoldable pub flagged_tally : ℕ → List ℕ → List ℕ → ArrowStats
 flagged_tally L flags text = judged_rows L (judged_at flags) (rows_read_back L text)

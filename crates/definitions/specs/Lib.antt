@@ -1,4 +1,5 @@
--- Documents 01 and 02 written down, in document 01's order: a reader who believes these files, and the examples at their end, needs no other.
+-- The specification (docs/SPECIFICATION.md) written down, in its order: a reader who believes these files, and the examples at their end, needs no
+-- other.
 pub mod Lists
 pub mod Sizes
 pub mod Lanes

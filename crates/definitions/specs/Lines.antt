@@ -1,4 +1,4 @@
--- Document 01, "Lines, cells, measures": the lines of a text, and what a line is.
+-- Specification, Lines: the lines of a text, and what a line is.
 use Rattle.std.specs.Prelude.{Bool, if◌then◌else◌, List, [], ◌∷◌, ℕ, ◌==◌, nat_le, length, take}
 use Rattle.std.specs.List.{slice_split}
 use Rattle.definitions.specs.Lists.{among}
@@ -9,11 +9,11 @@ use Rattle.definitions.specs.declared.LineKind.TheVariants as kind
 abbrev pub Row : Type 0
 Row = List ℕ
 
--- The lines of a text: "The text is cut at byte 10. An empty text is one empty line."
+-- The lines of a text: "A text is cut at each byte 10, which belongs to no line. An empty text has one line, which is empty."
 abbrev pub cut : List ℕ → List (List ℕ)
 cut text = slice_split (λ b. b == 10) text
 
--- "leading blanks (9, 10, 12, 13, 32) taken off by `skip_ws`"
+-- "The blanks are the bytes 9, 10, 12, 13 and 32."
 unfoldable pub is_blank_byte : ℕ → Bool
 is_blank_byte b = among b (9 ∷ 10 ∷ 12 ∷ 13 ∷ 32 ∷ [])
 
@@ -22,13 +22,14 @@ abbrev pub trim : List ℕ → List ℕ
 trim [] = []
 trim (b ∷ s) = if is_blank_byte b then trim s else b ∷ s
 
--- "a line of at least L bytes is a row, its first L bytes": the row test, of a line that is nothing else
+-- "has at least L bytes": the row test, of a line that is nothing else
 unfoldable pub is_row_line : ℕ → List ℕ → Bool
 is_row_line L l = nat_le L (length l)
 
--- What a line is whose leading blanks are off. "An empty line, or one starting with `/`, is passed over. One starting with `,` ends a
--- measure, and the rest of that line is ignored. One starting with `;` ends the last measure and the reading. Otherwise a line of at least
--- L bytes is a row, its first L bytes; a shorter one is passed over." (47 is `/`, 44 `,` and 59 `;`.)
+-- What a line is whose leading blanks are off. "What a line is goes by what is left of it, by the first of these that fits." Nothing is left, or it
+-- "begins with `/`": it "is passed over"; it "begins with `,`": it "ends a measure, and what follows the `,` is ignored"; it "begins with `;`": it
+-- "ends the last measure and the reading"; it "has at least L bytes": it "is a row, its first L bytes"; it "has fewer": it "is passed over" (47 is
+-- `/`, 44 `,` and 59 `;`.)
 unfoldable pub kind_of : ℕ → List ℕ → LineKind
 kind_of L [] = kind.Passed
 kind_of L (b ∷ s) =

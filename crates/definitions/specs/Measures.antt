@@ -1,4 +1,4 @@
--- Document 01, "Lines, cells, measures": the measures of a text, each a list of rows.
+-- Specification, Measures: the measures of a text, each a list of rows.
 use Rattle.std.specs.Prelude.{List, [], ◌∷◌, ℕ}
 use Rattle.std.specs.List.{onto_first}
 use Rattle.definitions.specs.Lines.{Row, cut, line_kind, line_row}
@@ -12,7 +12,7 @@ add_line kind.Comma r ms = [] ∷ ms
 add_line kind.Semi r ms = [] ∷ []
 add_line kind.Row r ms = onto_first r ms
 
--- The measures of some lines. "Text without `;` ends its last measure at its end."
+-- The measures of some lines. "A text without a `;` line ends its last measure at its end."
 abbrev pub measures : ℕ → List (List ℕ) → List (List Row)
 measures L [] = [] ∷ []
 measures L (l ∷ ls) = add_line (line_kind L l) (line_row L l) (measures L ls)

@@ -1,4 +1,4 @@
--- Document 01, "Typed notes", read forward: what is headed at a cell depends only on that cell and on the rows after its row.
+-- Specification, Typed notes, read forward: what is headed at a cell depends only on that cell and on the rows after its row.
 use Rattle.std.specs.Prelude.{List, [], ◌∷◌, ◌++◌, ℕ, zero, suc}
 use Rattle.std.specs.Prelude.{Option, None, Some}
 use Rattle.definitions.specs.Lists.{joined}
@@ -12,7 +12,8 @@ use Rattle.definitions.specs.declared.Note.{Note}
 use Rattle.definitions.specs.declared.NoteEffect.{NoteEffect}
 use Rattle.definitions.specs.declared.NoteEffect.TheVariants.{Nothing, Closes, Single, Head}
 
--- What a cell does to the notes. "Any of 1 2 4 M L F m l f drops an open head's note; 3 closes it. [..] K touches no note."
+-- What a cell does to the notes. "A 3 closes the open head of its column" "Any of 1 2 4 M L F m l f drops the open head's note in its column." "K and
+-- the empty cells touch no note."
 abbrev pub effect_of : Cell → NoteEffect
 effect_of x = (effects_of x).note
 
@@ -27,7 +28,7 @@ meets Closes i later = Some i
 meets (Single k) i later = None
 meets (Head k) i later = None
 
--- the tail row of a head in column c, with these rows after it, numbered from i. "Heads open at the end are dropped."
+-- the tail row of a head in column c, with these rows after it, numbered from i. "Heads that are open at the chart's end are dropped."
 abbrev pub tail_row_of : ℕ → ℕ → List Row → Option ℕ
 tail_row_of c i [] = None
 tail_row_of c i (r ∷ rs) = meets (effect_at (byte_at c r)) i (tail_row_of c (suc i) rs)
@@ -53,11 +54,11 @@ abbrev pub row_notes : ℕ → ℕ → Row → List Row → List Note
 row_notes i c [] rs = []
 row_notes i c (b ∷ bs) rs = cell_notes (effect_at b) i c (tail_row_of c (suc i) rs) ++ row_notes i (suc c) bs rs
 
--- the notes of rows numbered from i. "Notes stand in rising row, then column."
+-- the notes of rows numbered from i. "Notes stand in rising row, and in a row in rising column."
 abbrev pub notes_from : ℕ → List Row → List Note
 notes_from i [] = []
 notes_from i (r ∷ rs) = row_notes i zero r rs ++ notes_from (suc i) rs
 
--- the notes of a text: "rows numbered through all minimised rows of the chart"
+-- the notes of a text: "Rows are numbered through all minimised rows of the chart."
 unfoldable pub notes : ℕ → List ℕ → List Note
 notes L text = notes_from 0 (joined (minimised L text))

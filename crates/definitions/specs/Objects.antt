@@ -1,4 +1,4 @@
--- Document 01, "Last beat": the object rows, the last of them, and its beat.
+-- Specification, Last beat: the object rows, the last of them, and its beat.
 use Rattle.std.specs.Prelude.{Bool, true, false, ◌||◌, List, [], ◌∷◌, ◌++◌, ℕ, suc, ◌-◌, nat_lt, length, Float}
 use Rattle.std.specs.Prelude.{Option, None, Some}
 use Rattle.definitions.specs.Lists.{only_if}
@@ -9,14 +9,14 @@ use Rattle.definitions.specs.Beats.{last_row, row_to_beat}
 use Rattle.definitions.specs.declared.DepthEffect.{DepthEffect}
 use Rattle.definitions.specs.declared.DepthEffect.TheVariants.{Nothing, Blocks, Opens, Closes}
 
--- "Depth rises at 2 and 4, falls at 3 but not below 0, and becomes 0 at 1, M, L, F, K."
+-- "The depth rises by one at 2 and 4, falls by one at 3 but not below 0, and becomes 0 at 1, M, L, F and K."
 abbrev pub deeper : DepthEffect → ℕ → ℕ
 deeper Nothing d = d
 deeper Blocks d = 0
 deeper Opens d = suc d
 deeper Closes d = d - 1
 
--- "it has 1, M, L, F or K, or a 3 in a column whose depth is over 0"
+-- "it has a 1, M, L, F or K, or a 3 in a column whose depth before it is over 0"
 abbrev pub is_object : DepthEffect → ℕ → Bool
 is_object Nothing d = false
 is_object Blocks d = true
@@ -76,7 +76,7 @@ last_of (p ∷ q ∷ ps) = last_of (q ∷ ps)
 unfoldable pub last_object : ℕ → List ℕ → Option Place
 last_object L text = last_of (objects_from (λ c. 0) 0 (minimised L text))
 
--- The last beat in 48ths. "With no object row it is 0."
+-- The last beat in 48ths. "Without an object row both are 0, and the float is +0."
 abbrev pub place48 : Option Place → ℕ
 place48 None = 0
 place48 (Some p) = last_row p.m p.r p.n

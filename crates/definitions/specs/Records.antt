@@ -1,4 +1,4 @@
--- Document 01's note records: ten bytes each, and reading one back with the refusals 7 and 8.
+-- Specification, Note records: ten bytes each, and reading one back with the refusals 7 and 8.
 use Rattle.std.specs.Prelude.{if◌then◌else◌, List, [], ◌∷◌, ◌++◌, map, ℕ, ◌+◌, ◌*◌, ◌/◌, ◌%◌, ◌==◌, nat_lt, nat_le, length, slice_index, Result, Ok, Err}
 use Rattle.definitions.specs.Sizes.{row_numbers_bound}
 use Rattle.definitions.specs.Lists.{joined}
@@ -27,12 +27,12 @@ number_of_kind Mine = 3
 number_of_kind Lift = 4
 number_of_kind Fake = 5
 
--- "Tail is 4,294,967,295 for none."
+-- "or 4,294,967,295 where there is none"
 abbrev pub number_of_tail : Tail → ℕ
 number_of_tail Without = 4294967295
 number_of_tail (Row j) = j
 
--- "row u32, tail u32 [..], column u8, kind u8"
+-- "the row, low byte first", "the tail row, low byte first, or 4,294,967,295 where there is none", "the column", "the kind"
 unfoldable pub fields : ℕ → ℕ → ℕ → ℕ → List ℕ
 fields row tail column kind = bytes4 row ++ (bytes4 tail ++ (column ∷ kind ∷ []))
 
@@ -40,12 +40,12 @@ fields row tail column kind = bytes4 row ++ (bytes4 tail ++ (column ∷ kind ∷
 unfoldable pub encode : Note → List ℕ
 encode n = fields n.row (number_of_tail n.tail) n.column (number_of_kind n.kind)
 
--- "back to back, no header"
+-- "records stand back to back without a header"
 unfoldable pub records : List Note → List ℕ
 records ns = joined (map encode ns)
 
--- What the fields of a record give. "The writer makes only: column below 10, kind below 6, row and tail row below 16,777,216, a tail above
--- its row for kinds 1 and 2, none for the others." "8: that record breaks one of the limits"
+-- What the fields of a record give. "The writer makes only records with a column below 10, a kind below 6, and a row and a tail row below 16,777,216.
+-- Of these kinds 1 and 2 have a tail row above their row, and the others have none." "the record breaks a limit of the writer"
 abbrev pub plain_of : ℕ → ℕ → ℕ → Kind → Result Note Refusal
 plain_of row tail column kind =
     if tail == 4294967295 then Ok (record { row = row; tail = Without; column = column; kind = kind }) else Err BadRecord
@@ -69,7 +69,7 @@ note_of row tail column kind =
     else if kind == 5 then plain_of row tail column Fake
     else Err BadRecord
 
--- "7: the records' length is not a multiple of 10, or the asked record's number is not below length div 10."
+-- 7: "the records' length is not a multiple of 10, or the record's number is not below length div 10"
 unfoldable pub note_of_record : List ℕ → ℕ → Result Note Refusal
 note_of_record s k =
     if length s % 10 == 0 then

@@ -1,4 +1,4 @@
--- Document 01, "What a call can be told": the refusals by their numbers, the conditions of 1 to 6, their order, and what a call leaves in what it
+-- Specification, Refusals and Slices: the refusals by their numbers, the conditions of 1 to 6, their order, and what a call leaves in what it
 -- was lent. 7 and 8 are in Records.antt, 9 to 11 in SmFile.antt.
 use Rattle.std.specs.Prelude.{Bool, if◌then◌else◌, List, [], ◌∷◌, ℕ, ◌+◌, ◌*◌, ◌/◌, ◌++◌, nat_lt, length, codes, Result, Ok, Err}
 use Rattle.definitions.specs.Sizes.{most_bytes}
@@ -7,7 +7,7 @@ use Rattle.definitions.specs.Lanes.{most_rows_in}
 use Rattle.definitions.specs.declared.Refusal.{Refusal}
 use Rattle.definitions.specs.declared.Refusal.TheVariants.{LongText, ShortText, ShortMeasures, ShortBeats, ShortWork, ShortNotes, NoRecord, BadRecord, FewFields, OtherType, NoChart, ShortSheet, OtherForm}
 
--- the papers' number of a refusal
+-- a refusal's number
 abbrev pub number_of : Refusal → ℕ
 number_of LongText = 1
 number_of ShortText = 2
@@ -23,7 +23,7 @@ number_of NoChart = 11
 number_of ShortSheet = 19
 number_of OtherForm = 20
 
--- Whose mistake it is. "Caused by whoever wires up the call: [1 to 6]. Caused by whoever stores note records: [7 and 8]"
+-- Whose mistake it is, as the table says it.
 abbrev pub cause_of : Refusal → List ℕ
 cause_of LongText = codes "whoever wires up the call"
 cause_of ShortText = codes "whoever wires up the call"
@@ -63,31 +63,32 @@ refusal_text r = words_of r ++ (codes ", by " ++ cause_of r)
 abbrev pub refused_if : Bool → Refusal → Result Unit Refusal
 refused_if t r = if t then Err r else Ok tt
 
--- "1: len is over 16,777,215."
+-- 1: "len is over 16,777,215"
 unfoldable pub long_text : ℕ → Result Unit Refusal
 long_text len = refused_if (nat_lt most_bytes len) LongText
 
--- "2: the text slice (bytes) is shorter than len + 1."
+-- 2: "the text slice is shorter than len + 1"
 unfoldable pub short_text : ℕ → ℕ → Result Unit Refusal
 short_text len room = refused_if (nat_lt room (len + 1)) ShortText
 
--- "3: the measure slice (u32 densities, or bytes for spacing, 1 true and 0 false) is shorter than (len + 1) div 2 + 1."
+-- 3: "the measure slice, for densities or for spacing, is shorter than (len + 1) div 2 + 1"
 unfoldable pub short_measures : ℕ → ℕ → Result Unit Refusal
 short_measures len room = refused_if (nat_lt room ((len + 1) / 2 + 1)) ShortMeasures
 
--- "4: the beat slice (f32) is shorter than R."
+-- 4: "the beat slice is shorter than R"
 unfoldable pub short_beats : ℕ → ℕ → ℕ → Result Unit Refusal
 short_beats L len room = refused_if (nat_lt room (most_rows_in L len)) ShortBeats
 
--- "5: the work slice (u16) is shorter than R."
+-- 5: "the work slice is shorter than R"
 unfoldable pub short_work : ℕ → ℕ → ℕ → Result Unit Refusal
 short_work L len room = refused_if (nat_lt room (most_rows_in L len)) ShortWork
 
--- "6: the note slice (bytes) is shorter than 10 × L × R."
+-- 6: "the note slice is shorter than 10 × L × R"
 unfoldable pub short_notes : ℕ → ℕ → ℕ → Result Unit Refusal
 short_notes L len room = refused_if (nat_lt room (10 * L * most_rows_in L len)) ShortNotes
 
--- "Checked in rising order": the first check that refuses refuses the call; where none does, it is accepted and answers x.
+-- "the number of the first of its refusals whose condition holds": the first check that refuses refuses the call; where none does, it is accepted and
+-- answers x.
 abbrev pub answered : {T : Type 0} → List (Result Unit Refusal) → T → Result T Refusal
 answered [] x = Ok x
 answered (Ok u ∷ checks) x = answered checks x
@@ -98,7 +99,7 @@ abbrev pub number_told : {T : Type 0} → Result T Refusal → ℕ
 number_told (Ok x) = 0
 number_told (Err r) = number_of r
 
--- What a call leaves in a slice lent for writing that held `old`. "A refusal returns its number alone and writes nothing."
+-- What a call leaves in a slice lent for writing that held `old`. "A refused call writes nothing."
 -- "After an accepted call every entry past the answer in a slice lent for writing is 0"
 abbrev pub leaves : {A T : Type 0} → A → Result T Refusal → List A → List A → List A
 leaves z (Ok x) answer old = padded z (length old) answer

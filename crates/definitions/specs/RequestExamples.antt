@@ -1,4 +1,4 @@
--- Examples of document 02's requests as one table with a single claim, `request-examples-hold`. In a file `|` is byte 10 and `^` is byte 13.
+-- Examples of what was asked for later as one table with a single claim, `request-examples-hold`. In a file `|` is byte 10 and `^` is byte 13.
 use Rattle.std.specs.Prelude.{◌≡◌, refl, List, [], ◌∷◌, map, ℕ, Result, Ok, Err}
 use Prim.Native.String.{String}
 use Rattle.definitions.specs.Lists.{up_to, through, after}
@@ -36,14 +36,14 @@ unfoldable pub table : List Example
 table =
     -- an empty file has no block
     refused "" 0 11
-    -- "its `;` included if there is one"
+    -- "its `;` included where there is one"
     ∷ chart "#NOTES:dance-single:a:b:1:0,0:|1000|0100|;|" 0 4 30 "|1000|0100|;"
     ∷ chart "#NOTES:pump-double:::::|1" 0 10 23 "|1"
-    -- "after blanks", and "without blanks at its ends": byte 10 is one of them, in the type's field alone
+    -- "past its blanks", and "without the blanks at its start and end": byte 10 is one of them, in the type's field alone
     ∷ chart "#TITLE:x;^| ^#NOTES:^|     pump-single ^:|:|:|:|:;" 0 5 49 ";"
     ∷ chart "#NOTES:|dance-single:::::" 0 4 25 ""
     ∷ refused "x #NOTES:dance-single:::::;" 0 11
-    -- "lies outside an earlier block": a line that begins inside a block starts none, also where the block ends on it
+    -- "unless that byte stands in an earlier block": a line that begins inside a block starts none, also where the block ends on it
     ∷ refused "#NOTES:a;#NOTES:b" 0 9
     ∷ refused "#NOTES:a;#NOTES:b" 1 11
     ∷ refused "#NOTES:a|#NOTES:b; #NOTES:c" 1 11

@@ -1,11 +1,11 @@
 -- The bounds that contracts speak of, each with what it bounds. Those that code tests are constants there too (src/lib.rt).
 use Rattle.std.specs.Prelude.{ℕ}
 
--- "1: len is over 16,777,215": the longest text that is accepted
+-- 1: "len is over 16,777,215": the longest text that is accepted
 abbrev pub most_bytes : ℕ
 most_bytes = 16777215
 
--- "row and tail row below 16,777,216": every text that is accepted has fewer rows, minimised or not
+-- "a row and a tail row below 16,777,216": every text that is accepted has fewer rows, minimised or not
 abbrev pub row_numbers_bound : ℕ
 row_numbers_bound = 16777216
 

@@ -1,10 +1,10 @@
--- Document 02, E1: four claims on the charts inside an SM file. `data-in-file`, `semicolon-last`, `blocks-apart` and `least-refused` in
+-- Specification, SM files: four claims on the charts inside one. `data-in-file`, `semicolon-last`, `blocks-apart` and `least-refused` in
 -- proofs/SmBlocks.antt prove them.
 use Rattle.std.specs.Prelude.{◌≡◌, List, ◌++◌, ℕ, ◌+◌, ◌≤◌, ◌<◌, length, take, drop, slice_index}
 use Rattle.definitions.specs.Sizes.{most_bytes}
 use Rattle.definitions.specs.SmFile.{block_end, blocks, sm_tag, sm_data, sm_start, sm_number}
 
--- "the file is what stands before the data, the data, and what follows it", and the data ends within the file
+-- "the file is what stands before a block's data, the data, and what follows it", and the data ends within the file
 pub record DataPart (file : List ℕ) (k : ℕ) : Type 0 where
   pub parts : file ≡ take (sm_start file k) file ++ (sm_data file k ++ drop (sm_start file k + length (sm_data file k)) file)
   pub within : sm_start file k + length (sm_data file k) ≤ length file
@@ -17,7 +17,7 @@ DataInFile = (file : List ℕ) (k : ℕ) → DataPart file k
 unfoldable pub SemicolonLast : Type 0
 SemicolonLast = (file : List ℕ) (k i : ℕ) → i + 1 < length (sm_data file k) → slice_index (sm_data file k) i ≡ 59 → ⊥
 
--- "blocks stand apart and in rising order": each starts before it ends, ends within the file, and ends before any later one starts
+-- "blocks stand apart, in rising order, and within the file": each starts before it ends, ends within the file, and ends before any later one starts
 pub record Apart (file : List ℕ) : Type 0 where
   pub nonempty : (i : ℕ) → i < length (blocks file) → (sm_tag file i).line < block_end file (sm_tag file i)
   pub within : (i : ℕ) → i < length (blocks file) → block_end file (sm_tag file i) ≤ length file

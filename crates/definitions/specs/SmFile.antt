@@ -1,4 +1,4 @@
--- Document 02, E1: the charts inside an SM file. What is answered for block k of a file: a refusal's number, or the lane count and the data as a
+-- Specification, SM files. What is answered for block k of a file: a refusal's number, or the lane count and the data as a
 -- part of the file. 58 is `:` and 59 `;`.
 use Rattle.std.specs.Prelude.{Bool, if◌then◌else◌, ◌&&◌, List, [], ◌∷◌, ◌++◌, ℕ, ◌+◌, ◌-◌, ◌==◌, nat_eq, nat_le, nat_lt, length, drop, slice_index_or, codes, bytes_eq, Option, Some, None, is_none, unwrap_or, Result, count_by}
 use Rattle.std.specs.List.{starts_with}
@@ -29,7 +29,7 @@ abbrev pub without_end_blanks : List ℕ → List ℕ
 without_end_blanks [] = []
 without_end_blanks (b ∷ s) = before_trimmed b (without_end_blanks s)
 
--- "a line that begins, after blanks, with" a tag
+-- whether a line begins with a tag: "A tag is a word with which a line begins, past its blanks"
 unfoldable pub is_tagged : List ℕ → List ℕ → Bool
 is_tagged word line = starts_with nat_eq (trim line) word
 
@@ -41,7 +41,7 @@ tag_of word at line = record { line = at; end = at + (length line - length (trim
 unfoldable pub notes_tag : List ℕ
 notes_tag = codes "#NOTES:"
 
--- What stands after a block's tag in the block. "It runs to the first `;` or to the end of the text."
+-- What stands after a block's tag in the block. "A block runs through the first `;` after its tag, or to the end of the file where none follows."
 unfoldable pub block_text : List ℕ → Tag → List ℕ
 block_text file t = through 59 (drop t.end file)
 
@@ -49,8 +49,9 @@ block_text file t = through 59 (drop t.end file)
 unfoldable pub block_end : List ℕ → Tag → ℕ
 block_end file t = t.end + length (block_text file t)
 
--- "A block starts at a line that begins, after blanks, with `#NOTES:` and lies outside an earlier block": whether one starts at the line that
--- begins at `at`, where the blocks before it end at `past`. A line that begins inside a block starts none, also where the block ends on it.
+-- "A block starts at the first byte of a line that begins with the tag `#NOTES:`, unless that byte stands in an earlier block": whether one starts at
+-- the line that begins at `at`, where the blocks before it end at `past`. A line that begins inside a block starts none, also where the block ends on
+-- it.
 unfoldable pub starts_block : ℕ → ℕ → List ℕ → Bool
 starts_block past at line = nat_le past at && is_tagged notes_tag line
 
@@ -69,15 +70,15 @@ blocks file = blocks_from file 0 0 (cut file)
 unfoldable pub colons : List ℕ → ℕ
 colons text = count_by (λ b. b == 58) text
 
--- "After that tag five fields each ended by `:` stand before the note data": the data, "its `;` included if there is one"
+-- "Five fields follow the tag, each ended by a `:` of the block"; the data is what follows them, "its `;` included where there is one"
 unfoldable pub data_of : List ℕ → List ℕ
 data_of text = after_each 58 5 text
 
--- "the first, without blanks at its ends, is the type"
+-- "The type is the first field without the blanks at its start and end."
 unfoldable pub type_of : List ℕ → List ℕ
 type_of text = without_end_blanks (trim (up_to 58 text))
 
--- "dance-single is 4 lanes, pump-single 5, dance-double 8, pump-double 10"; none for another type name
+-- the table of types; "Every other name, told byte by byte, is another type" and has none
 unfoldable pub lanes_of_type : List ℕ → Option ℕ
 lanes_of_type name =
     if bytes_eq name (codes "dance-single") then Some 4
@@ -86,7 +87,7 @@ lanes_of_type name =
     else if bytes_eq name (codes "pump-double") then Some 10
     else None
 
--- "Asked for block k, counted from 0, the answer is the lane count and the data as a part of the caller's file"
+-- "Asked for block k, the answer is its lane count and its data, a part of the caller's file."
 module _ (file : List ℕ) (k : ℕ) where
   -- the block's tag
   unfoldable pub sm_tag : Tag
@@ -108,8 +109,8 @@ module _ (file : List ℕ) (k : ℕ) where
   unfoldable pub sm_start : ℕ
   sm_start = sm_tag.end + (length sm_text - length sm_data)
 
-  -- The checks. "9 where that block has fewer than five `:` after its tag; 10 for another type name; 11 where k is not below the number of blocks;
-  -- the order is 1, 11, 9, 10."
+  -- The checks. "the block has fewer than five `:` after its tag" (9), "the block's type is not in the table of types" (10), "k is not below the
+  -- number of blocks" (11). "The refusals are looked at in the order 1, 11, 9, 10."
   abbrev pub sm_checks : List (Result Unit Refusal)
   sm_checks =
       long_text (length file)

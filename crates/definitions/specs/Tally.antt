@@ -1,4 +1,4 @@
--- Document 01, "Tally": what one row adds up to, and the plain tally of rows.
+-- Specification, Tally: what one row adds up to, and the plain tally of rows.
 use Rattle.std.specs.Prelude.{Bool, ◌&&◌, List, [], ◌∷◌, ℕ, suc, ◌+◌, ◌-◌, ◌%◌, ◌==◌, nat_le, count_by, length, codes, map}
 use Rattle.definitions.specs.Lists.{number_of_bool}
 use Rattle.definitions.specs.Lines.{Row}
@@ -29,7 +29,7 @@ abbrev pub count_from : (ℕ → Cell → Bool) → ℕ → Row → ℕ
 count_from p c [] = 0
 count_from p c (b ∷ r) = number_of_bool (p c (cell_of b)) + count_from p (suc c) r
 
--- The direction of a column in a layout of L columns. "Column mod 4 gives left, down, up, right": 0, 1, 2, 3, in each layout so far.
+-- The direction of a column in a layout of L columns. "The direction of an arrow is its column mod 4": 0, 1, 2, 3, in each layout so far.
 abbrev pub direction : ℕ → ℕ → ℕ
 direction L c = c % 4
 
@@ -124,8 +124,8 @@ tally_fields t =
 abbrev pub tally_figures : ArrowStats → List ℕ
 tally_figures t = map (λ (f : List ℕ × ℕ). f.1) (tally_fields t)
 
--- A tally with one row more, where `hand` says whether it is a hand and `holding` what is held after it. "A step is a row with" an arrow;
--- "a jump has at least 2 such cells".
+-- A tally with one row more, where `hand` says whether it is a hand and `holding` what is held after it. "A step is a row with an arrow", and jumps
+-- are "rows with at least two arrows".
 abbrev pub tally_with_sum : ArrowStats → RowSum → Bool → ℕ → ArrowStats
 tally_with_sum t s hand holding =
     record {
@@ -145,8 +145,8 @@ tally_with_sum t s hand holding =
       holding = holding;
     }
 
--- "a hand is a step whose such cells plus `holding` before the row make 3 or more. Then holding becomes the larger of 0 and holding + heads
--- − tails" (a difference of ℕ stops at 0)
+-- "A hand is a step whose arrows and the `holding` before it make 3 or more together. After a row `holding` is the larger of 0 and `holding` + the
+-- row's heads − the row's tails." (a difference of ℕ stops at 0)
 unfoldable pub tally_with_row : ArrowStats → RowSum → ArrowStats
 tally_with_row t s =
     tally_with_sum t s

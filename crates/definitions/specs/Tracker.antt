@@ -1,4 +1,4 @@
--- Document 01, "Hold tracker (`track_holds_core`)": column by column, the open heads and the pairs.
+-- Specification, Hold tracker: column by column, the open heads and the pairs.
 use Rattle.std.specs.Prelude.{Bool, false, if◌then◌else◌, ◌||◌, List, [], ◌∷◌, ◌++◌, ℕ, suc, ◌==◌, nat_lt, length}
 use Rattle.definitions.specs.Lines.{Row}
 use Rattle.definitions.specs.Cells.{cell_of, byte_at, hold_effect}
@@ -10,8 +10,8 @@ pub record Pair : Type 0 where
   pub head : ℕ
   pub tail : ℕ
 
--- The open heads of a column, newest first, after what a cell at row i does. "a stack of at most 8 open heads. A ninth is not pushed.
--- 1, M, L, F empty it; 3 pairs with the newest."
+-- The open heads of a column, newest first, after what a cell at row i does. "A 2 or 4 goes on the stack of its column as its newest head, but not
+-- where 8 are open." "A 1, M, L or F empties the stack of its column, and any other cell leaves it as it is."
 abbrev pub next_stack : DepthEffect → ℕ → List ℕ → List ℕ
 next_stack Nothing i st = st
 next_stack Blocks i st = []

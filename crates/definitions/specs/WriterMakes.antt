@@ -1,4 +1,4 @@
--- Document 01, "The writer makes only": the limits of a note that the writer makes, and the claim that every record of an accepted text keeps
+-- Specification, Note records: the limits of a note that the writer makes, and the claim that every record of an accepted text keeps
 -- them and is read back as its note. `writer-makes` in proofs/WriterMakes.antt proves it.
 use Rattle.std.specs.Prelude.{◌≡◌, List, ℕ, ◌≤◌, ◌<◌, length, slice_get, Some, Ok}
 use Rattle.definitions.specs.Sizes.{most_bytes, row_numbers_bound}
@@ -11,7 +11,7 @@ use Rattle.definitions.specs.declared.Tail.{Tail}
 use Rattle.definitions.specs.declared.Tail.TheVariants.{Without, Row}
 use Rattle.definitions.specs.declared.Note.{Note}
 
--- "tail row below 16,777,216, a tail above its row for kinds 1 and 2, none for the others"
+-- "a tail row below 16,777,216. Of these kinds 1 and 2 have a tail row above their row, and the others have none."
 abbrev pub TailMade : ℕ → Kind → Tail → Type 0
 TailMade r Tap Without = Unit {0}
 TailMade r Tap (Row j) = ⊥
@@ -26,8 +26,8 @@ TailMade r Lift (Row j) = ⊥
 TailMade r Fake Without = Unit {0}
 TailMade r Fake (Row j) = ⊥
 
--- "The writer makes only: column below 10, kind below 6, row and tail row below 16,777,216, a tail above its row for kinds 1 and 2, none for
--- the others."
+-- "The writer makes only records with a column below 10, a kind below 6, and a row and a tail row below 16,777,216. Of these kinds 1 and 2 have a
+-- tail row above their row, and the others have none."
 pub record Made (n : Note) : Type 0 where
   pub column : n.column < 10
   pub kind : number_of_kind n.kind < 6

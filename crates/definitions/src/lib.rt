@@ -1,4 +1,4 @@
-// The types that documents 01 and 02 speak of. The definitions over them are in specs/, in document 01's order, and their laws in proofs/.
+// The types that the specification speaks of. The definitions over them are in specs/, in its order, and their laws in proofs/.
 #![tactic(auto)]
 
 mod lane_count;
@@ -31,7 +31,7 @@ pub enum LineKind {
     Row,
 }
 
-/// What a byte of a row stands for. The Rust also reads m, l and f, which count as M, L and F only where document 01 says so.
+/// What a byte of a row stands for. The Rust also reads m, l and f, which count as M, L and F only where the specification says so (Cells).
 #[derive(Clone, Copy)]
 pub enum Cell {
     Empty,
@@ -128,7 +128,7 @@ pub struct ArrowStats {
     pub holding: u32,
 }
 
-/// Why a call is refused, by the papers' numbers. Printed, a refusal says what is wrong and who caused it.
+/// Why a call is refused (Specification, Refusals). Printed, a refusal says what is wrong and who caused it.
 #[derive(Clone, Copy, PartialEq, Eq, Debug)]
 pub enum Refusal {
     LongText = 1,

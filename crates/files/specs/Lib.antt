@@ -1,4 +1,4 @@
--- What the contracts of the file readers cite beside document 02's definitions.
+-- What the contracts of the file readers cite beside the definitions.
 pub mod Tags
 pub mod Sm
 pub mod Rest

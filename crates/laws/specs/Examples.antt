@@ -3,29 +3,31 @@ use Rattle.std.specs.Prelude.{◌≡◌, true, map}
 use Rattle.definitions.specs.Damage.{Differ, DamageStays, rows_above, open_in}
 use Rattle.definitions.specs.DamageExample.{old_text, new_text, parts, parts_of_old, parts_of_new}
 use Rattle.definitions.specs.Objects.{last_beat_of}
-use Rattle.definitions.specs.Examples as papers
+use Rattle.definitions.specs.Examples as texts
 use Rattle.definitions.specs.RuleExamples as rules
 use Rattle.definitions.specs.RequestExamples as requests
 use Rattle.beats.specs.Vectors.{all_right, results}
 use Rattle.sheet.specs.Card.{card}
 
--- of each example of the papers: the figures that the definitions give are those that the table says
+-- of each example of the specification: the figures that the definitions give are those that the table says
 abbrev pub ExamplesHold : Type 0
-ExamplesHold = map papers.given_by_definitions papers.table ≡ map papers.said papers.table
+ExamplesHold = map texts.given_by_definitions texts.table ≡ map texts.said texts.table
 
 -- of each example that pins a rule, too
 abbrev pub RuleExamplesHold : Type 0
-RuleExamplesHold = map papers.given_by_definitions rules.table ≡ map papers.said rules.table
+RuleExamplesHold = map texts.given_by_definitions rules.table ≡ map texts.said rules.table
 
 -- of each example of the requests: the answer that the definitions give is the one that the table says
 abbrev pub RequestExamplesHold : Type 0
-RequestExamplesHold = map (λ (e : requests.Example). requests.sm_told (papers.bytes e.file) e.k) requests.table ≡ map (λ (e : requests.Example). e.answer) requests.table
+RequestExamplesHold =
+    map (λ (e : requests.Example). requests.sm_told (texts.bytes e.file) e.k) requests.table
+    ≡ map (λ (e : requests.Example). e.answer) requests.table
 
 -- what the card prints for its example; `|` is byte 10
 abbrev pub CardExample : Type 0
 CardExample =
-    card (papers.bytes "1000|0000|0100|0000|;|")
-    ≡ papers.bytes "measures 1|rows 2|arrows 2|steps 2|notes 2|last 96|m 0 2 1|n 0 0 0 -|n 1 1 0 -|"
+    card (texts.bytes "1000|0000|0100|0000|;|")
+    ≡ texts.bytes "measures 1|rows 2|arrows 2|steps 2|notes 2|last 96|m 0 2 1|n 0 0 0 -|n 1 1 0 -|"
 
 -- of each computed result: the row beat and the last beat that the definitions give have its bits
 abbrev pub BeatsRight : Type 0

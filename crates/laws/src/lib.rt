@@ -22,7 +22,7 @@ ghost use Rattle.chart_sheet.specs.Entry.{most_sheet_bytes, places_of_sheet};
 ghost use Rattle.laws.specs.Fits.{FitsForAll};
 ghost use Rattle.laws.specs.Examples.{ExamplesHold, RuleExamplesHold, RequestExamplesHold, CardExample, BeatsRight, DamageMet, LastBeatStays};
 
-/// The papers' examples are what the definitions give.
+/// The specification's examples are what the definitions give.
 pub fn examples_hold()
     ensures { ExamplesHold }
 {}

@@ -1,4 +1,4 @@
--- What the line reader's contracts cite beside document 01's definitions.
+-- What the line reader's contracts cite beside the definitions.
 pub mod Search
 pub mod Lines
 pub mod Words

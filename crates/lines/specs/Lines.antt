@@ -1,4 +1,4 @@
--- Document 01, "The text is cut at byte 10", as the line reader meets it: the line at a place of the text, and the lines from there on.
+-- Specification, Lines, "A text is cut at each byte 10", as the line reader meets it: the line at a place of the text, and the lines from there on.
 use Rattle.std.specs.Prelude.{ℕ, if◌then◌else◌, List, [], length, drop, nat_le}
 use Rattle.definitions.specs.Lists.{up_to}
 use Rattle.definitions.specs.Lines.{cut}

@@ -1,4 +1,4 @@
--- Rows as they stand in a text, where document 01's minimising reads and writes them in place.
+-- Rows as they stand in a text, where minimising reads and writes them in place.
 use Rattle.std.specs.Prelude.{◌≡◌, List, [], ◌∷◌, All, ℕ, zero, suc, ◌+◌, length, take, drop}
 use Rattle.std.specs.List.{splice}
 use Rattle.definitions.specs.Lists.{joined}

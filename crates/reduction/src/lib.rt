@@ -1,4 +1,4 @@
-// Document 01's minimising of a measure's rows in place: the names and the order are those of the Rust.
+// Minimising of a measure's rows in place (Specification, Minimising): the names and the order are those of the Rust.
 #![tactic(auto)]
 
 ghost use Rattle.std.specs.Prelude.{◌≡◌, ◌+◌, ◌*◌, ◌^◌, ◌/◌, ◌%◌, ◌≤◌, ◌<◌, length};

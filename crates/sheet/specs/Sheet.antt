@@ -1,4 +1,4 @@
--- Document 01, "The program card": the lines it prints.
+-- Specification, Sheets: the lines of the card.
 use Rattle.std.specs.Prelude.{List, [], ◌++◌, ℕ, slice_index_or, slice_index, codes, Result, Ok, Err}
 use Rattle.definitions.specs.Records.{number_of_kind, note_of_record}
 use Rattle.definitions.specs.Tally.{tally_fields}
@@ -26,16 +26,16 @@ field_at t i = slice_index_or (named_fields t) i ([], 0)
 unfoldable pub line_of_figure : List ℕ → ℕ → List ℕ
 line_of_figure name n = name ++ number_field n 10
 
--- "`m`: measure, density, spacing (1 or 0)."
+-- "`m`, measure, density, and spacing as 1 or 0"
 unfoldable pub line_of_measure : ℕ → ℕ → ℕ → List ℕ
 line_of_measure m density spaced = codes "m " ++ number_field m 32 ++ number_field density 32 ++ number_field spaced 10
 
--- "tail or `-`"
+-- "tail row or `-`"
 abbrev pub field_of_tail : Tail → List ℕ
 field_of_tail Without = codes "-\n"
 field_of_tail (Row j) = number_field j 10
 
--- "`n`: row, column, kind, tail or `-`."
+-- "`n`, row, column, kind, and tail row or `-`"
 unfoldable pub line_of_note : Note → List ℕ
 line_of_note n = codes "n " ++ number_field n.row 32 ++ number_field n.column 32 ++ number_field (number_of_kind n.kind) 32 ++ field_of_tail n.tail
 
@@ -44,7 +44,7 @@ abbrev pub line_of_record : Result Note Refusal → List ℕ
 line_of_record (Ok n) = line_of_note n
 line_of_record (Err k) = []
 
--- "All `m` lines stand before the `n` lines, each in rising order": those of the first measures, by their densities and spacings
+-- "Then comes a line for each measure, in rising order": those of the first measures, by their densities and spacings
 abbrev pub lines_of_measures : List ℕ → List ℕ → ℕ → List ℕ
 lines_of_measures densities spacings n = listed (λ (k : ℕ). line_of_measure k (slice_index densities k) (slice_index spacings k)) n
 

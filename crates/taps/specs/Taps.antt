@@ -1,4 +1,4 @@
--- Document 01, `TAP_MASK_COUNTS`: the mask of a row of `0` and `1` alone, and the counts that the table has for it.
+-- Specification, Tap masks: the mask of a row of `0` and `1` alone, and the counts that the table has for it.
 use Rattle.std.specs.Prelude.{Bool, ◌||◌, not, ◌≡◌, List, [], ◌∷◌, ℕ, zero, suc, ◌+◌, ◌*◌, ◌/◌, ◌%◌, ◌^◌, ◌<◌, ◌≤◌, ◌==◌, length, slice_index, if◌then◌else◌, replicate}
 use Rattle.std.specs.Int.Bits.{bit_and}
 use Rattle.definitions.specs.Lists.{sum_columns, number_of_bool}
@@ -39,7 +39,7 @@ has_mask n = n == 4 || n == 8 || n == 5 || n == 10
 unfoldable pub mask_of_line : Row → Taps
 mask_of_line r = if has_mask (length r) then tap_mask r else Other
 
--- "Only 4 and 8 lanes use it.": rows of other widths are counted without it.
+-- "Rows of 4 and 8 lanes alone use it.": rows of other widths are counted without it.
 abbrev pub wide_row : ℕ → Bool
 wide_row n = not (n == 4 || n == 8)
 
@@ -92,7 +92,7 @@ unlike_mask n l = unlike_from n l 0 10
 abbrev pub towards : ℕ → ℕ → ℕ
 towards d m = bit d m + bit (d + 4) m + bit (d + 8) m
 
--- "ones of the mask in bits 0 to 3, then 2 bits for each direction from bit 4", of up to ten columns
+-- "in bits 0 to 3 how many bits the mask has, from bit 4 on two bits for each direction, in their order", of up to ten columns
 unfoldable pub mask_counts : ℕ → ℕ
 mask_counts m =
     sum_columns 10 (λ c. bit c m)

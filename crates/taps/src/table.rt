@@ -5,7 +5,7 @@ use crate::counts::TAP_MASK_COUNTS;
 use crate::five_counts::FIVE_COUNTS;
 use definitions::{Lanes, RowSum};
 
-// Whether rows of so many cells are counted without `TAP_MASK_COUNTS`: "Only 4 and 8 lanes use it."
+// Whether rows of so many cells are counted without `TAP_MASK_COUNTS`: "Rows of 4 and 8 lanes alone use it."
 fn is_wide(columns: usize) -> bool
     ensures { result ≡ wide_row columns }
 {

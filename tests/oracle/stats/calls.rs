@@ -1,5 +1,5 @@
 //! The eight chart calls of the outside interface, each as the Rust answers it.
-//! A text that document 01 would refuse is answered here all the same; `entry` has the refusals.
+//! A text that a call would refuse is answered here all the same; `entry` has the refusals.
 
 use super::*;
 
@@ -203,7 +203,7 @@ fn timing_rows<const L: usize>(data: &[u8]) -> Answer {
 }
 
 /// The Rust's `measure_densities` reserves room by a quotient that divides by zero at the lane numbers that are 2^62 - 1 modulo 2^62.
-/// There it is called with 4 lanes, which document 01 has in force.
+/// There it is called with 4 lanes, which are in force.
 #[must_use]
 pub fn measure_densities(data: &[u8], lanes: usize) -> Answer {
     let divisor = lanes.wrapping_add(1).wrapping_mul(4);
@@ -290,7 +290,7 @@ pub(super) fn in_48ths(last: f64) -> u64 {
     beat_to_note_row(last) as u64
 }
 
-/// A note as document 01 stores it: row, tail, column, kind.
+/// A note as a record stores it: row, tail, column, kind.
 pub(super) fn note_record(note: ParsedChartNote) -> [u8; NOTE_BYTES] {
     let tail = note.tail_row_index.map_or(NO_TAIL, |row| row as u32);
     let mut record = [0; NOTE_BYTES];

@@ -1,9 +1,9 @@
 -- How many examples there are, and how much each says.
 use mathlib.Core.Path.{refl}
-use Rattle.definitions.specs.Examples as papers
+use Rattle.definitions.specs.Examples as texts
 use Rattle.definitions.specs.RequestExamples as requests
 use Rattle.definitions.specs.Consequences.{ExamplesCounted}
 
 pub examples-counted : ExamplesCounted
-unfolding ExamplesCounted papers.table requests.table
+unfolding ExamplesCounted texts.table requests.table
 examples-counted = (refl, refl)

@@ -1,4 +1,4 @@
--- The bytes that document 01's section "Damage" names, and what the definitions make of them.
+-- The bytes that the specification's section Damage names, and what the definitions make of them.
 use mathlib.Core.Path.{◌≡◌, refl, ap, sym, ◌∙◌}
 use mathlib.Core.Bool.{Bool, true, false, false≢true}
 use Prim.Native.Nat.{ℕ}

@@ -1,4 +1,4 @@
--- Demand 3 at the two texts of specs/DamageExample.antt: all its hypotheses are met there.
+-- The damage theorem at the two texts of specs/DamageExample.antt: all its hypotheses are met there.
 use mathlib.Core.Path.{◌≡◌, refl}
 use mathlib.Core.Bool.{Bool, true, false, ◌||◌, true≢false}
 use mathlib.Core.List.{[], ◌∷◌}

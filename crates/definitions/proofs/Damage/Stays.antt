@@ -1,4 +1,4 @@
--- Demand 3: damage in one measure stays there. Assumes nothing.
+-- Specification, Damage: damage in one measure stays there. Assumes nothing.
 use mathlib.Core.Path.{◌≡◌, refl, ap, sym, ◌∙◌, subst, subst₂}
 use mathlib.Core.Bool.{true, not}
 use mathlib.Core.List.{List, [], ◌∷◌, ◌++◌, map, append_assoc}
