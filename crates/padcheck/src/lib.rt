@@ -95,7 +95,8 @@ pub extern "C" fn padcheck_minimize_timing_rows(
     ensures beats_after { beats.new
         ≡ leaves_by (f32 0) result (beats_of (lanes_of lanes) «data».now) beats.old }
     ensures figures_after { figures.new
-        ≡ replaces (timing_answer lanes «data».now text.old beats.old) places_of_timing figures.old }
+        ≡ replaces (timing_answer lanes «data».now text.old beats.old)
+        places_of_timing figures.old }
 {
     let answer = timing::minimize_timing_rows(data, lanes, text, beats);
     tell(answer, figures)
