@@ -22,8 +22,9 @@ between() { awk -v from="$1" -v to="$2" 'index($0, from) == 1 { on = 1 } index($
 between 'Under 1.00, ' 'Under 1.00 by the zeros' >"$parts/worst"
 sed -n '/^Under 1.00 by the zeros/p' "$tables" >"$parts/zeros"
 table '| call | entry |' >"$parts/ranges"
-# Of the entries alone, without the first column.
-table '| way | call | text | LF 4 |' | sed -n '1s/^| way |/|/p; 2s/^|---|/|/p; s/^| entry |/|/p' >"$parts/ratios"
+# Of the entries alone, without the first column, and a call's name once.
+table '| way | call | text | LF 4 |' | sed -n '1s/^| way |/|/p; 2s/^|---|/|/p; s/^| entry |/|/p' |
+    awk -F'|' '$2 == call { sub(/`[a-z_]*` /, "") } { if ($2 ~ /`/) call = $2; print }' >"$parts/ratios"
 cp "$growth" "$parts/growth"
 target/bench/bench --memory >"$parts/memory"
 
