@@ -15,7 +15,7 @@ ghost use Rattle.taps.specs.Taps.{mask_of_line, masks};
 ghost use Rattle.taps.specs.declared.Taps.TheVariants.{Mask};
 ghost use Rattle.row_tally.specs.Bounds.{Below};
 ghost use Rattle.holds.specs.Entry.{ends_of};
-ghost use Rattle.judged.specs.Timing.{judged_by, tally_by, new_holds, empty_timing, timing_row, timing_taps, WorkEntries, SomeWorkEntries};
+ghost use Rattle.judged.specs.Timing.{judged_by, tally_by, new_holds, empty_timing, timing_row, timing_taps, WorkEntries, EntriesWritten};
 
 use definitions::{ArrowStats, Lanes, Refusal};
 use holds::{Tracker, entry};
@@ -100,7 +100,7 @@ fn track_timing_rows(data: &[u8], lanes: Lanes, flags: Option<&[u8]>, work: &mut
 fn tally_timing_rows(data: &[u8], lanes: Lanes, work: &[u16]) -> ArrowStats
     requires text_length { length «data».now ≤ most_bytes }
     requires work_room { most_rows_in lanes.count (length «data».now) ≤ length work.now }
-    requires entries { SomeWorkEntries (rows_read_back lanes.count «data».now) work.now }
+    requires entries { EntriesWritten (rows_read_back lanes.count «data».now) work.now }
     ensures { (J : ℕ → Bool)
         → WorkEntries J (rows_read_back lanes.count «data».now) work.now
         → result ≡ judged_rows lanes.count J (rows_read_back lanes.count «data».now) }
