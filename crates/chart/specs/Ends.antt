@@ -14,7 +14,7 @@ use Rattle.chart_pass.specs.declared.ChartPass.{ChartPass}
 use Rattle.chart_pass.specs.ChartPass.{ChartAll}
 
 -- The pass has read a whole text, this one, and the slices have the room that the call asks for it.
-pub record SomeChart (p : ChartPass) (text densities : List ℕ) (beats : List Float) (slots : List ℕ) : Type 0 where
+pub record ChartRead (p : ChartPass) (text densities : List ℕ) (beats : List Float) (slots : List ℕ) : Type 0 where
   pub lanes : ℕ
   pub chart-text : List ℕ
   pub read : ChartAll lanes chart-text p text densities beats slots
@@ -32,5 +32,5 @@ pub record Answers (L : ℕ) (chart-text : List ℕ) (texts measures rows bytes 
 -- Whichever text the pass has read, the call ends with the answers to it, where the tally is that of this text.
 abbrev pub ChartEnds : ChartPass → ArrowStats → List ℕ → List ℕ → List Float → List ℕ → ChartFigures → List ℕ → List ℕ → List Float → List ℕ → Type 0
 ChartEnds p stats text densities beats slots figures text' densities' beats' slots' =
-    (c : SomeChart p text densities beats slots) → stats ≡ main_tally c.lanes c.chart-text
+    (c : ChartRead p text densities beats slots) → stats ≡ main_tally c.lanes c.chart-text
     → Answers c.lanes c.chart-text (length text) (length densities) (length beats) (length slots) figures text' densities' beats' slots'

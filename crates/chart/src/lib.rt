@@ -11,7 +11,7 @@ ghost use Rattle.definitions.specs.Beats.{f32, beats as beats_of};
 ghost use Rattle.definitions.specs.Notes.{notes as notes_of};
 ghost use Rattle.definitions.specs.Records.{records};
 ghost use Rattle.definitions.specs.Entries.{figures_of_chart, main_answer};
-ghost use Rattle.chart.specs.Ends.{SomeChart, ChartEnds};
+ghost use Rattle.chart.specs.Ends.{ChartRead, ChartEnds};
 
 use chart_pass::ChartPass;
 use definitions::{ArrowStats, ChartFigures, Lanes, Refusal};
@@ -25,7 +25,7 @@ pub fn end_chart(
     beats: &mut [f32],
     slots: &mut [u8],
 ) -> ChartFigures
-    requires { SomeChart pass.now text.old densities.old beats.old slots.old }
+    requires { ChartRead pass.now text.old densities.old beats.old slots.old }
     ensures { ChartEnds pass.now stats
         text.old densities.old beats.old slots.old
         result text.new densities.new beats.new slots.new }

@@ -9,7 +9,7 @@ use lib.ListN.{length, get_or, length-append}
 use Rattle.definitions.specs.Lines.{Row}
 use Rattle.holds.specs.declared.Tracker.{Tracker}
 use Rattle.holds.specs.Stacks.{stack_of}
-use Rattle.holds.specs.Tracks.{Tracks, Reached, RowTracked}
+use Rattle.holds.specs.Tracks.{Tracks, LeftByRows, RowTracked}
 use Rattle.holds.proofs.Bits.{low_bit}
 use Rattle.holds.proofs.Rows.{tracks-start}
 use Rattle.corrected_tally.specs.Heads.{Heads}
@@ -21,7 +21,7 @@ pub record Marking (rows : List Row) (row : ℕ) (t : Tracker) (work : List ℕ)
 pub marking-start : (t : Tracker) (work : List ℕ) → ((c : ℕ) → c < 10 → stack_of t c ≡ []) → ((i : ℕ) → get_or work i 0 ≡ 0) → Marking [] 0 t work
 marking-start t work n z = record { size = refl; tracks = tracks-start (λ i. false) t work n z }
 
-pub marking-reached : (rows : List Row) (row : ℕ) (t : Tracker) (work : List ℕ) → Marking rows row t work → Reached row t work
+pub marking-reached : (rows : List Row) (row : ℕ) (t : Tracker) (work : List ℕ) → Marking rows row t work → LeftByRows row t work
 marking-reached rows row t work m = record { judging = λ i. false; rows = rows; size = m.size; tracks = m.tracks }
 
 pub marking-row : (rows : List Row) (row : ℕ) (t : Tracker) (work : List ℕ) → Marking rows row t work → (t' : Tracker) (work' : List ℕ) (cells : Row)

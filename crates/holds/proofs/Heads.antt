@@ -1,4 +1,4 @@
--- The paired heads of a row are heads of that row: so they are what a tally of its kept cells counts.
+-- The paired heads of a row are heads of that row: so they are what a tally counts as holds and rolls of the row that is counted anew.
 use mathlib.Core.Path.{◌≡◌, refl, ap, ◌∙◌}
 use mathlib.Core.Bool.{Bool, true, false, cond, false≢true}
 use mathlib.Core.List.{List, [], ◌∷◌}
@@ -71,7 +71,7 @@ head-opens rows c i h =
     (heads-from c (λ k. get_or rows k []) 0 [] rows (λ k l. ap (λ n. get_or rows n []) (zero-add k)) none)
     h
 
--- ---- A row's kept heads
+-- ---- A row's paired heads
 -- 1 where a byte is a head, 0 where it is none
 abbrev heads_of : ℕ → ℕ
 heads_of b = number_of_bool (eqb (place (counted_as (cell_of b))) (place hold)) + number_of_bool (eqb (place (counted_as (cell_of b))) (place roll))
@@ -99,10 +99,10 @@ empty-none : heads_of 48 ≡ 0
 unfolding cell_of
 empty-none = refl
 
--- a head that is kept is counted, and one that is not kept is not
-kept-cell : (b : ℕ) (p : Bool) → (p ≡ true → hold_at b ≡ Opens) → heads_of (head_if_paired (hold_at b) p b) ≡ number_of_bool p
-kept-cell b true h = rw (h refl) (effect-heads b ∙ ap (λ e. number_of_bool (is_opening e)) (h refl))
-kept-cell b false h = go (hold_at b) (effect-heads b)
+-- a paired head is counted, and any other is not
+paired-cell : (b : ℕ) (p : Bool) → (p ≡ true → hold_at b ≡ Opens) → heads_of (head_if_paired (hold_at b) p b) ≡ number_of_bool p
+paired-cell b true h = rw (h refl) (effect-heads b ∙ ap (λ e. number_of_bool (is_opening e)) (h refl))
+paired-cell b false h = go (hold_at b) (effect-heads b)
   where
     go : (e : DepthEffect) → heads_of b ≡ number_of_bool (is_opening e) → heads_of (head_if_paired e false b) ≡ 0
     go Nothing q = q
@@ -114,32 +114,32 @@ sum-front : (n : ℕ) (f : ℕ → ℕ) → sum_columns (suc n) f ≡ f 0 + sum_
 sum-front zero f = omega arith
 sum-front (suc n) f = let e = sum-front n f in omega arith
 
-heads-kept : (ps : ℕ → List Pair) (i c : ℕ) (r : Row) → ((k : ℕ) → is_head_of i (ps (c + k)) ≡ true → hold_at (byte_at k r) ≡ Opens)
+paired-from : (ps : ℕ → List Pair) (i c : ℕ) (r : Row) → ((k : ℕ) → is_head_of i (ps (c + k)) ≡ true → hold_at (byte_at k r) ≡ Opens)
     → counted hold (keep_row ps i c r) + counted roll (keep_row ps i c r) ≡ sum_columns (length r) (λ k. number_of_bool (is_head_of i (ps (c + k))))
-heads-kept ps i c [] h = refl
-heads-kept ps i c (b ∷ r) h =
+paired-from ps i c [] h = refl
+paired-from ps i c (b ∷ r) h =
     let first : c + 0 ≡ c = omega arith in
-    let here = kept-cell b (is_head_of i (ps c)) (λ e. h 0 (rw first e)) in
-    let rest = heads-kept ps i (suc c) r (λ k e. h (suc k) (rw (further k) e)) in
+    let here = paired-cell b (is_head_of i (ps c)) (λ e. h 0 (rw first e)) in
+    let rest = paired-from ps i (suc c) r (λ k e. h (suc k) (rw (further k) e)) in
     let start : number_of_bool (is_head_of i (ps (c + 0))) ≡ number_of_bool (is_head_of i (ps c)) = rw first in
     let front = sum-front (length r) (λ k. number_of_bool (is_head_of i (ps (c + k)))) in
     let same =
     sum_same (length r) (λ k. number_of_bool (is_head_of i (ps (c + suc k)))) (λ k. number_of_bool (is_head_of i (ps (suc c + k))))
     (λ k l. ap (λ n. number_of_bool (is_head_of i (ps n))) (further k)) in
-    let kept : ℕ = head_if_paired (hold_at b) (is_head_of i (ps c)) b in
+    let byte : ℕ = head_if_paired (hold_at b) (is_head_of i (ps c)) b in
     omega (
       arith,
-      count-cons (λ x. eqb (place (counted_as (cell_of x))) 1) kept (keep_row ps i (suc c) r),
-      count-cons (λ x. eqb (place (counted_as (cell_of x))) 2) kept (keep_row ps i (suc c) r),
+      count-cons (λ x. eqb (place (counted_as (cell_of x))) 1) byte (keep_row ps i (suc c) r),
+      count-cons (λ x. eqb (place (counted_as (cell_of x))) 2) byte (keep_row ps i (suc c) r),
     )
   where
     further : (k : ℕ) → c + suc k ≡ suc c + k
     further k = omega arith
 
--- What a tally of the row's kept cells counts as holds and rolls is its paired heads.
-pub kept-heads : (rows : List Row) (i : ℕ) (r : Row) → get_or rows i [] ≡ r
+-- What a tally counts as holds and rolls of the row that is counted anew is its paired heads.
+pub counted-heads : (rows : List Row) (i : ℕ) (r : Row) → get_or rows i [] ≡ r
     → counted hold (keep_row (pairs rows) i 0 r) + counted roll (keep_row (pairs rows) i 0 r) ≡ paired_heads (length r) (pairs rows) i
-kept-heads rows i r e =
-    heads-kept (pairs rows) i 0 r (λ k h. rw (← e) (head-opens rows k i (rw zero-add at h)))
+counted-heads rows i r e =
+    paired-from (pairs rows) i 0 r (λ k h. rw (← e) (head-opens rows k i (rw zero-add at h)))
     ∙ sum_same (length r) (λ k. number_of_bool (is_head_of i (pairs rows (0 + k)))) (λ k. number_of_bool (is_head_of i (pairs rows k)))
     (λ k l. ap (λ n. number_of_bool (is_head_of i (pairs rows n))) (zero-add k))

@@ -63,10 +63,10 @@ module _ (work : List ℕ) (k : ℕ) (i : ℕ) where
       or-true false = refl
 
   -- whatever an or with bit k leaves is that of the entry
-  kept : {A : Type 0} (f : ℕ → A) → ((w : ℕ) → f (bit_or w (2 ^ k)) ≡ f w) → (ended : Option ℕ) → Below (length work) ended
+  same-at : {A : Type 0} (f : ℕ → A) → ((w : ℕ) → f (bit_or w (2 ^ k)) ≡ f w) → (ended : Option ℕ) → Below (length work) ended
       → f (get_or (marked ended k work) i 0) ≡ f (get_or work i 0)
-  kept f same None b = refl
-  kept f same (Some h) b =
+  same-at f same None b = refl
+  same-at f same (Some h) b =
       elim (ℕ_discrete i h) [
         | yes e ↦ rw e (ap f (get_or-set_same work h (bit_or (get_or work h 0) (2 ^ k)) 0 (b h refl)) ∙ same (get_or work h 0))
         | no n ↦ ap f (get_or-set_other work h i (bit_or (get_or work h 0) (2 ^ k)) 0 n)
@@ -74,10 +74,10 @@ module _ (work : List ℕ) (k : ℕ) (i : ℕ) where
 
   pub marked_other : (d : ℕ) → (d ≡ k → ⊥) → (ended : Option ℕ) → Below (length work) ended
       → bit d (get_or (marked ended k work) i 0) ≡ bit d (get_or work i 0)
-  marked_other d n = kept (bit d) (λ w. or-other w k d n)
+  marked_other d n = same-at (bit d) (λ w. or-other w k d n)
 
   pub marked-high : k < 10 → (ended : Option ℕ) → Below (length work) ended → get_or (marked ended k work) i 0 / 1024 ≡ get_or work i 0 / 1024
-  marked-high h = kept (λ w. w / 1024) (λ w. or-high w k h)
+  marked-high h = same-at (λ w. w / 1024) (λ w. or-high w k h)
 
   -- past the head nothing changes
   pub marked-later : (n : ℕ) → n ≤ i → (ended : Option ℕ) → Below n ended → get_or (marked ended k work) i 0 ≡ get_or work i 0

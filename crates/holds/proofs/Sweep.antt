@@ -16,7 +16,7 @@ use Rattle.definitions.specs.Cells.{byte_at}
 use Rattle.definitions.specs.Tracker.{next_stack, paired, hold_at, pairs, is_head_of}
 use Rattle.taps.specs.Taps.{FreeAre}
 use Rattle.holds.specs.Stacks.{stack_of, Sized, TrackReady, TrackStepped, ended_at}
-use Rattle.holds.specs.Tracks.{stack_after, ends_in, ends_at, Column, Tracks, Reached, CellsDone, marked, judged_head}
+use Rattle.holds.specs.Tracks.{stack_after, ends_in, ends_at, Column, Tracks, LeftByRows, CellsDone, marked, judged_head}
 use Rattle.holds.specs.declared.Tracker.{Tracker}
 use Rattle.holds.proofs.Stacks.{stack-length}
 use Rattle.holds.proofs.Pairs.{stack_snoc, pairs-snoc, stack-beyond, pairs-beyond, heads-append, stacked}
@@ -201,7 +201,7 @@ module _
     (work : List ℕ)
     (n k : ℕ)
     (s : Sweeping row cells work₀ t₀ t work n k)
-    (from : Reached row t₀ work₀)
+    (from : LeftByRows row t₀ work₀)
     (short : length cells ≤ 10)
   where
     swept : Swept from.judging from.rows cells k work₀ t work n

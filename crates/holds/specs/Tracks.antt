@@ -44,7 +44,7 @@ pub record Tracks (J : ℕ → Bool) (rows : List Row) (t : Tracker) (work : Lis
   pub later : (i : ℕ) → length rows ≤ i → slice_index work i ≡ 0
 
 -- The tracker and the work slice are what some rows have left, this many: no head is past them, and no column has more than eight.
-pub record Reached (row : ℕ) (t : Tracker) (work : List ℕ) : Type 0 where
+pub record LeftByRows (row : ℕ) (t : Tracker) (work : List ℕ) : Type 0 where
   pub judging : ℕ → Bool
   pub rows : List Row
   pub size : length rows ≡ row

@@ -7,7 +7,7 @@ ghost use Rattle.std.specs.Prelude.{◌≡◌, [], ℕ, ◌≤◌, ◌<◌, leng
 ghost use Rattle.definitions.specs.Tracker.{hold_at};
 ghost use Rattle.definitions.specs.declared.DepthEffect;
 ghost use Rattle.holds.specs.Stacks.{stack_of, Sized, TrackReady, TrackStepped, ended_at};
-ghost use Rattle.holds.specs.Tracks.{marked, judged_head, Reached, CellsTracked, RowTracked};
+ghost use Rattle.holds.specs.Tracks.{marked, judged_head, LeftByRows, CellsTracked, RowTracked};
 
 use definitions::DepthEffect;
 use taps::Taps;
@@ -90,7 +90,7 @@ impl Tracker {
         requires narrow { length cells.now ≤ 10 }
         requires entry_room { row < length work.old }
         requires sized { Sized self.old }
-        requires reached { Reached row self.old work.old }
+        requires reached { LeftByRows row self.old work.old }
         ensures { CellsTracked row cells.now self.old work.old self.new work.new result }
     {
         let mut ends = 0;
@@ -108,7 +108,7 @@ impl Tracker {
     pub fn track_row(&mut self, row: u32, cells: &[u8], judged: bool, work: &mut [u16])
         requires narrow { length cells.now ≤ 10 }
         requires entry_room { row < length work.old }
-        requires reached { Reached row self.old work.old }
+        requires reached { LeftByRows row self.old work.old }
         ensures { RowTracked row cells.now judged self.old work.old self.new work.new }
     {
         let ends = match taps::free_taps(cells, self.busy) {

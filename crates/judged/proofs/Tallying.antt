@@ -19,7 +19,7 @@ use Rattle.holds.specs.Entry.{heads_of, ends_of, is_judged}
 use Rattle.holds.specs.Tracks.{paired_heads}
 use Rattle.holds.proofs.Bits.{low_bit, judged-told}
 use Rattle.holds.proofs.Opens.{opens, opens-start, opens-most}
-use Rattle.holds.proofs.Heads.{kept-heads}
+use Rattle.holds.proofs.Heads.{counted-heads}
 use Rattle.holds.proofs.Tails.{none-ends}
 use Rattle.holds.proofs.Passed.{free-keeps}
 use Rattle.row_tally.proofs.Taps.{taps-heads}
@@ -66,8 +66,8 @@ module _ (J : ℕ → Bool) (L : ℕ) (all rows : List Row) (row : ℕ) (t : Tim
     judged-is : is_judged entry ≡ J row
     judged-is = judged-told entry (J row) (w.tracks.judged row (rw (← x.size) inside))
 
-    kept-is : row_by_mask (heads_of entry) 0 cells ≡ keep_row (pairs all) row 0 cells
-    kept-is =
+    row-is : row_by_mask (heads_of entry) 0 cells ≡ keep_row (pairs all) row 0 cells
+    row-is =
         keep_mask (pairs all) row (heads_of entry) cells
         (λ c k.
         let i : c < 10 = omega (arith, wide) in
@@ -75,12 +75,12 @@ module _ (J : ℕ → Bool) (L : ℕ) (all rows : List Row) (row : ℕ) (t : Tim
 
     sum_is : timing_sum entry cells ≡ judged_sum (J row) (keep_row (pairs all) row 0 cells)
     unfolding timing_sum
-    sum_is = rw (judged-is, kept-is)
+    sum_is = rw (judged-is, row-is)
 
     -- the holds that it opens
     opened : (b : Bool) → (judged_sum b (keep_row (pairs all) row 0 cells)).holds + (judged_sum b (keep_row (pairs all) row 0 cells)).rolls ≡ cond b (paired_heads L (pairs all) row) 0
     unfolding judged_sum row_sum_by
-    opened true = kept-heads all row cells at-row ∙ ap (λ n. paired_heads n (pairs all) row) wide
+    opened true = counted-heads all row cells at-row ∙ ap (λ n. paired_heads n (pairs all) row) wide
     opened false = refl
 
     heads-are : new_holds entry cells ≡ cond (J row) (paired_heads L (pairs all) row) 0
@@ -118,8 +118,8 @@ module _ (J : ℕ → Bool) (L : ℕ) (all rows : List Row) (row : ℕ) (t : Tim
     unfolding timing_row new_holds
     tallying-taps m f t' q =
         let keeps = free-keeps 0 m cells f in
-        let kept = keep-whole (pairs all) row 0 cells (λ k l o. absurd (true≢false (rw o at (keeps k)))) in
-        let sum = sum_is ∙ ap₂ judged_sum (sym judged-is) kept in
+        let whole = keep-whole (pairs all) row 0 cells (λ k l o. absurd (true≢false (rw o at (keeps k)))) in
+        let sum = sum_is ∙ ap₂ judged_sum (sym judged-is) whole in
         let none =
         w.tracks.ends row
         ∙ none-ends J all row (λ c o. true≢false (rw (ap (λ (x : Row). hold_at (byte_at c x)) (sym at-row) ∙ o) at (keeps c))) in

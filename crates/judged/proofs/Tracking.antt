@@ -8,7 +8,7 @@ use lib.ListN.{length, get_or, length-append}
 use Rattle.slices.proofs.Zeroed.{zeros-none}
 use Rattle.definitions.specs.Lines.{Row}
 use Rattle.holds.specs.Stacks.{stack_of}
-use Rattle.holds.specs.Tracks.{Tracks, Reached, RowTracked}
+use Rattle.holds.specs.Tracks.{Tracks, LeftByRows, RowTracked}
 use Rattle.holds.specs.declared.Tracker.{Tracker}
 use Rattle.holds.proofs.Rows.{tracks-start}
 use Rattle.slices.specs.Zeroed.{zeroed}
@@ -23,7 +23,7 @@ pub tracking-start : (J : ℕ → Bool) (t : Tracker) (old work : List ℕ) → 
 tracking-start J t old work h z = record { size = refl; tracks = tracks-start J t work h (λ i. ap (λ l. get_or l i 0) z ∙ zeros-none (length old - 0) i) }
 
 module _ (J : ℕ → Bool) (rows : List Row) (row : ℕ) (t : Tracker) (work : List ℕ) (x : Tracking J rows row t work) where
-  pub tracking-reached : Reached row t work
+  pub tracking-reached : LeftByRows row t work
   tracking-reached = record { judging = J; rows = rows; size = x.size; tracks = x.tracks }
 
   pub tracking-end : (all : List Row) → all ≡ rows → WorkEntries J all work

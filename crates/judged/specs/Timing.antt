@@ -53,7 +53,7 @@ pub record WorkEntries (J : ℕ → Bool) (rows : List Row) (work : List ℕ) : 
   pub tracker : Tracker
   pub tracks : Tracks J rows tracker work
 
--- whichever rows are judged
-pub record SomeWorkEntries (rows : List Row) (work : List ℕ) : Type 0 where
+-- The work slice has the entries of these rows, whichever of them are judged.
+pub record EntriesWritten (rows : List Row) (work : List ℕ) : Type 0 where
   pub judging : ℕ → Bool
   pub timed : WorkEntries judging rows work

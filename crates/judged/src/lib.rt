@@ -7,15 +7,16 @@ ghost use Rattle.std.specs.Prelude.{◌≡◌, Bool, [], ℕ, ◌+◌, ◌≤◌
 ghost use Rattle.definitions.specs.Sizes.{count_bound, most_bytes};
 ghost use Rattle.definitions.specs.Lists.{padded};
 ghost use Rattle.definitions.specs.Lanes.{lanes_of, most_rows_in};
+ghost use Rattle.definitions.specs.Refusals.{leaves};
 ghost use Rattle.definitions.specs.ReadBack.{rows_read_back};
 ghost use Rattle.definitions.specs.Judged.{judged_rows};
-ghost use Rattle.definitions.specs.Entries.{judged_checked, judged_answer, flagged_answer, judged_work};
+ghost use Rattle.definitions.specs.Entries.{judged_checked, judged_answer, flagged_answer};
 ghost use Rattle.definitions.specs.Lines.{Row};
 ghost use Rattle.taps.specs.Taps.{mask_of_line, masks};
 ghost use Rattle.taps.specs.declared.Taps.TheVariants.{Mask};
 ghost use Rattle.row_tally.specs.Bounds.{Below};
 ghost use Rattle.holds.specs.Entry.{ends_of};
-ghost use Rattle.judged.specs.Timing.{judged_by, tally_by, new_holds, empty_timing, timing_row, timing_taps, WorkEntries, SomeWorkEntries};
+ghost use Rattle.judged.specs.Timing.{judged_by, tally_by, new_holds, empty_timing, timing_row, timing_taps, WorkEntries, EntriesWritten};
 
 use definitions::{ArrowStats, Lanes, Refusal};
 use holds::{Tracker, entry};
@@ -100,7 +101,7 @@ fn track_timing_rows(data: &[u8], lanes: Lanes, flags: Option<&[u8]>, work: &mut
 fn tally_timing_rows(data: &[u8], lanes: Lanes, work: &[u16]) -> ArrowStats
     requires text_length { length «data».now ≤ most_bytes }
     requires work_room { most_rows_in lanes.count (length «data».now) ≤ length work.now }
-    requires entries { SomeWorkEntries (rows_read_back lanes.count «data».now) work.now }
+    requires entries { EntriesWritten (rows_read_back lanes.count «data».now) work.now }
     ensures { (J : ℕ → Bool)
         → WorkEntries J (rows_read_back lanes.count «data».now) work.now
         → result ≡ judged_rows lanes.count J (rows_read_back lanes.count «data».now) }
@@ -165,7 +166,7 @@ fn judge(
 ) -> Result<ArrowStats, Refusal>
     ensures value { result
         ≡ judged_checked lanes «data».now work.old (tally_by flags.entry (lanes_of lanes) «data».now) }
-    ensures work_after { work.new ≡ judged_work lanes «data».now work.old }
+    ensures work_after { work.new ≡ leaves 0 result [] work.old }
 {
     let len = data.len();
     refusals::text_fits(len)?;
@@ -182,7 +183,7 @@ pub fn process_rows_judgable(
     work: &mut [u16],
 ) -> Result<ArrowStats, Refusal>
     ensures value { result ≡ judged_answer lanes «data».now work.old }
-    ensures work_after { work.new ≡ judged_work lanes «data».now work.old }
+    ensures work_after { work.new ≡ leaves 0 result [] work.old }
 {
     judge(data, lanes, None, work)
 }
@@ -197,7 +198,7 @@ pub fn process_timing_rows(
     work: &mut [u16],
 ) -> Result<ArrowStats, Refusal>
     ensures value { result ≡ flagged_answer lanes «data».now work.old flags.now }
-    ensures work_after { work.new ≡ judged_work lanes «data».now work.old }
+    ensures work_after { work.new ≡ leaves 0 result [] work.old }
 {
     judge(data, lanes, Some(flags), work)
 }

@@ -11,7 +11,7 @@ ghost use Rattle.definitions.specs.Beats.{f32, beats as beats_of};
 ghost use Rattle.definitions.specs.Notes.{notes as notes_of};
 ghost use Rattle.definitions.specs.Records.{records as records_of, note_of_record};
 ghost use Rattle.definitions.specs.TimingRows.{timing_rows};
-ghost use Rattle.definitions.specs.Entries.{measures_answer, places_of_measures, last_answer, places_of_last, main_answer, places_of_chart, judged_answer, judged_work, places_of_judged, flagged_answer, kept_answer, places_of_kept, timing_answer, places_of_timing, figures_of_note};
+ghost use Rattle.definitions.specs.Entries.{measures_answer, places_of_measures, last_answer, places_of_last, main_answer, places_of_chart, judged_answer, places_of_judged, flagged_answer, kept_answer, places_of_kept, timing_answer, places_of_timing, figures_of_note};
 ghost use Rattle.definitions.specs.SmFile.{sm_number, places_of_sm};
 ghost use Rattle.chart_sheet.specs.Forms.{sheet_in_form};
 ghost use Rattle.chart_sheet.specs.Entry.{sheet_answer};
@@ -162,7 +162,7 @@ pub extern "C" fn padcheck_process_rows_judgable(
     figures: &mut [u64; 32],
 ) -> u32
     ensures value { result ≡ number_told (judged_answer lanes «data».now work.old) }
-    ensures work_after { work.new ≡ judged_work lanes «data».now work.old }
+    ensures work_after { work.new ≡ leaves_by 0 result [] work.old }
     ensures figures_after { figures.new
         ≡ replaces (judged_answer lanes «data».now work.old) places_of_judged figures.old }
 {
@@ -181,7 +181,7 @@ pub extern "C" fn padcheck_process_timing_rows(
     figures: &mut [u64; 32],
 ) -> u32
     ensures value { result ≡ number_told (flagged_answer lanes «data».now work.old flags.now) }
-    ensures work_after { work.new ≡ judged_work lanes «data».now work.old }
+    ensures work_after { work.new ≡ leaves_by 0 result [] work.old }
     ensures figures_after { figures.new
         ≡ replaces (flagged_answer lanes «data».now work.old flags.now)
         places_of_judged figures.old }

@@ -32,22 +32,22 @@ module _ (busy m : ℕ) (row : Row) (p : Phantoms) (x : FreeTaps busy m row) (fr
       here : (phantom_step (hold_at (byte_at c row)) (phantom_after c 0 rows) ≡ phantom_after c 0 rows) × (meets_phantom (hold_at (byte_at c row)) (phantom_after c 0 rows) ≡ false)
       here = step (byte_at c row) (free-cell busy m row x c)
 
-      met-kept : phantom_met c 0 rows ≡ phantom_met c 0 (rows ++ (row ∷ []))
-      met-kept = sym (met-snoc c 0 rows row ∙ rw here.1 (or-false (phantom_met c 0 rows)))
+      met-same : phantom_met c 0 rows ≡ phantom_met c 0 (rows ++ (row ∷ []))
+      met-same = sym (met-snoc c 0 rows row ∙ rw here.1 (or-false (phantom_met c 0 rows)))
 
-    kept : Counts L (rows ++ (row ∷ [])) p
+    counts-row : Counts L (rows ++ (row ∷ [])) p
     unfolding hold_at cell_of
-    kept =
+    counts-row =
         let taps = line-taps row m x.mask in
         record {
           depths = λ c k. counts.depths c k ∙ sym (after-snoc c 0 rows row ∙ (here c k).0);
           heads = counts.heads ∙ sym (heads-snoc rows row ∙ rw (taps-count (λ b. is_opening (hold_at b)) refl refl row m taps) (add-zero _));
           tails = counts.tails ∙ sym (tails-snoc rows row ∙ rw (taps-count (λ b. is_closing (hold_at b)) refl refl row m taps) (add-zero _));
-          met = counts.met ∙ column-same L _ _ met-kept;
+          met = counts.met ∙ column-same L _ _ met-same;
           low =
               let n = length-append rows (row ∷ []) in
               low-more (10 * length rows) (10 * length (rows ++ (row ∷ []))) p (omega arith) counts.low;
         }
 
   pub free-row : RowCounted row p p
-  free-row L rows wide narrow counts = kept L rows narrow counts
+  free-row L rows wide narrow counts = counts-row L rows narrow counts

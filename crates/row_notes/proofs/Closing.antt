@@ -10,8 +10,8 @@ use lib.Dec.{eqb}
 use lib.ListN.{length, get_or, set, length-append}
 use lib.Seq.{get_or-set_same, get_or-set_other}
 use Rattle.definitions.specs.Lists.{joined}
-use Rattle.row_notes.specs.Drafts.{State, plain, waiting, ended, Draft, settle_state, settled, settle, note_by, keep, notes_left}
-use Rattle.row_notes.specs.Writer.{no_head, dropped, draft_bytes, blank, Stored, DraftsHeld, HeadThere, HoldEnded, invalid_after, SomeDrafts, HeadsEnded}
+use Rattle.row_notes.specs.Drafts.{State, plain, waiting, ended, NoteDraft, settle_state, settled, settle, note_by, keep, notes_left}
+use Rattle.row_notes.specs.Writer.{no_head, dropped, draft_bytes, blank, Stored, DraftsHeld, HeadThere, HoldEnded, invalid_after, HoldsDrafts, HeadsEnded}
 use Rattle.row_notes.specs.declared.ChartNotesScratch.{ChartNotesScratch}
 use Rattle.row_notes.proofs.Model.{gather-map}
 use Rattle.definitions.proofs.Blocks.{blocks-length}
@@ -19,7 +19,7 @@ use Rattle.row_notes.proofs.Stored.{ten-bytes}
 use Rattle.row_notes.proofs.Steps.{dropped-there}
 
 -- a head that still waits is no note, and dropped it is none either
-keep-settle : (c : ℕ) (d : Draft) → keep (settle c None d) ≡ keep d
+keep-settle : (c : ℕ) (d : NoteDraft) → keep (settle c None d) ≡ keep d
 keep-settle c d = go (eqb d.column c)
   where
     state : (s : State) → note_by d.row d.column d.kind (settle_state None s) None ≡ note_by d.row d.column d.kind s None
@@ -31,11 +31,11 @@ keep-settle c d = go (eqb d.column c)
     go true = state d.state
     go false = refl
 
-left-settle : (c : ℕ) (ds : List Draft) → notes_left (map (settle c None) ds) ≡ notes_left ds
+left-settle : (c : ℕ) (ds : List NoteDraft) → notes_left (map (settle c None) ds) ≡ notes_left ds
 left-settle c ds = gather-map keep (settle c None) keep (keep-settle c) ds
 
 -- the drafts lie in the slice
-pub stored-length : {l hs : List ℕ} {n : ℕ} {invalid : Bool} {ds : List Draft} → Stored l hs n invalid ds → n * 10 ≤ length l
+pub stored-length : {l hs : List ℕ} {n : ℕ} {invalid : Bool} {ds : List NoteDraft} → Stored l hs n invalid ds → n * 10 ≤ length l
 stored-length {l} {n = n} {ds = ds} S =
     let m : n ≡ length ds = S.count in
     let e : length l ≡ length (joined (map draft_bytes ds)) + length S.rest = ap length S.bytes ∙ length-append (joined (map draft_bytes ds)) S.rest in
@@ -48,9 +48,9 @@ pub record Closing (l : List ℕ) (s : ChartNotesScratch) (l' : List ℕ) (r : C
   pub same : length l' ≡ length l
   pub count : r.count ≡ s.count
   pub free : (i : ℕ) → i < c → get_or r.hold_heads i 0 ≡ no_head
-  pub part : (ds : List Draft) → DraftsHeld l s ds → (es : List Draft) × DraftsHeld l' r es × (notes_left es ≡ notes_left ds)
+  pub part : (ds : List NoteDraft) → DraftsHeld l s ds → (es : List NoteDraft) × DraftsHeld l' r es × (notes_left es ≡ notes_left ds)
 
-module _ (l : List ℕ) (s : ChartNotesScratch) (l' : List ℕ) (r : ChartNotesScratch) (c : ℕ) (K : Closing l s l' r c) (D : SomeDrafts l s) where
+module _ (l : List ℕ) (s : ChartNotesScratch) (l' : List ℕ) (r : ChartNotesScratch) (c : ℕ) (K : Closing l s l' r c) (D : HoldsDrafts l s) where
   pub closing-ready : c < 10 → HeadThere l' r c
   closing-ready h =
       let S : DraftsHeld l' r (K.part D.drafts D.stored).0 = (K.part D.drafts D.stored).1 in

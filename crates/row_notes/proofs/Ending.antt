@@ -11,14 +11,14 @@ use Rattle.definitions.specs.declared.Note.{Note}
 use Rattle.slices.specs.Zeroed.{zeroed}
 use Rattle.row_notes.specs.Drafts.{drafts, notes_left}
 use Rattle.row_notes.specs.Writer.{HeadsEnded, Compacted}
-use Rattle.row_notes.specs.Written.{Written, SomeRows, Finished}
+use Rattle.row_notes.specs.Written.{Written, RowsWritten, Finished}
 use Rattle.row_notes.specs.declared.ChartNotesScratch.{ChartNotesScratch}
 use Rattle.row_notes.proofs.Model.{model}
 use Rattle.definitions.proofs.ReadBack.{records-length}
 use Rattle.row_notes.proofs.Closing.{stored-length}
 
 -- the records lie in the slice
-pub rows-length : (l : List ℕ) (s : ChartNotesScratch) → SomeRows s l → s.count * 10 ≤ length l
+pub rows-length : (l : List ℕ) (s : ChartNotesScratch) → RowsWritten s l → s.count * 10 ≤ length l
 rows-length l s R = stored-length R.written.holds
 
 pub finished : (l : List ℕ) (s : ChartNotesScratch) (l₁ : List ℕ) (t : ChartNotesScratch) (l₂ z : List ℕ) (r : ℕ)

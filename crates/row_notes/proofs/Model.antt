@@ -15,7 +15,7 @@ use Rattle.definitions.specs.declared.Kind.{Kind}
 use Rattle.definitions.specs.declared.Note.{Note}
 use Rattle.definitions.specs.declared.NoteEffect.{NoteEffect}
 use Rattle.definitions.specs.declared.NoteEffect.TheVariants.{Nothing, Closes, Single, Head}
-use Rattle.row_notes.specs.Drafts.{State, plain, waiting, ended, Draft, settle_state, settled, settle, step_cell, step_row, step_rows, drafts, gather, note_by, notes_left}
+use Rattle.row_notes.specs.Drafts.{State, plain, waiting, ended, NoteDraft, settle_state, settled, settle, step_cell, step_row, step_rows, drafts, gather, note_by, notes_left}
 
 -- ---- gather
 
@@ -33,7 +33,7 @@ gather-same f h e [] = refl
 gather-same f h e (x ∷ xs) = ap₂ (λ (a b : List _). a ++ b) (e x) (gather-same f h e xs)
 
 -- the notes of a draft, with these rows from row j on still to come
-ahead : ℕ → List Row → Draft → List Note
+ahead : ℕ → List Row → NoteDraft → List Note
 ahead j ts d = note_by d.row d.column d.kind d.state (tail_row_of d.column j ts)
 
 module _ (i : ℕ) (rs : List Row) where
@@ -58,7 +58,7 @@ module _ (i : ℕ) (rs : List Row) where
       rw (ne_eqb (c + suc j) c (λ e. omega arith))
       (subst (λ k. mid_tail k (suc c) bs ≡ meets (effect_at (byte_at j bs)) i (tail_row_of k (suc i) rs)) e (mid-all j (suc c) bs))
 
-  mid : ℕ → Row → Draft → List Note
+  mid : ℕ → Row → NoteDraft → List Note
   mid c bs d = note_by d.row d.column d.kind d.state (mid_tail d.column c bs)
 
   -- a head that waits ends with o
@@ -68,7 +68,7 @@ module _ (i : ℕ) (rs : List Row) where
   settle-note r c k (ended x) o t = refl
 
   -- a cell that ends the heads of its column with o
-  settle-mid : (c b : ℕ) (bs : Row) (o : Option ℕ) → ((t : Option ℕ) → meets (effect_at b) i t ≡ o) → (d : Draft)
+  settle-mid : (c b : ℕ) (bs : Row) (o : Option ℕ) → ((t : Option ℕ) → meets (effect_at b) i t ≡ o) → (d : NoteDraft)
       → mid (suc c) bs (settle c o d) ≡ mid c (b ∷ bs) d
   unfolding mid mid_tail
   settle-mid c b bs o e d = go (eqb d.column c)
@@ -81,7 +81,7 @@ module _ (i : ℕ) (rs : List Row) where
       go false = refl
 
   -- a cell that says nothing of a head
-  pass-mid : (c b : ℕ) (bs : Row) → ((t : Option ℕ) → meets (effect_at b) i t ≡ t) → (d : Draft) → mid (suc c) bs d ≡ mid c (b ∷ bs) d
+  pass-mid : (c b : ℕ) (bs : Row) → ((t : Option ℕ) → meets (effect_at b) i t ≡ t) → (d : NoteDraft) → mid (suc c) bs d ≡ mid c (b ∷ bs) d
   unfolding mid mid_tail
   pass-mid c b bs e d = ap (note_by d.row d.column d.kind d.state) (go (eqb d.column c) refl)
     where
@@ -90,13 +90,13 @@ module _ (i : ℕ) (rs : List Row) where
       go true q = let h : d.column ≡ c = eqb-true _ _ q in mid-past d.column (suc c) bs (omega arith) ∙ sym (e (tail_row_of d.column (suc i) rs))
       go false q = refl
 
-  step-settle : (c b : ℕ) (bs : Row) (o : Option ℕ) → ((t : Option ℕ) → meets (effect_at b) i t ≡ o) → (ds n : List Draft) (m : List Note)
+  step-settle : (c b : ℕ) (bs : Row) (o : Option ℕ) → ((t : Option ℕ) → meets (effect_at b) i t ≡ o) → (ds n : List NoteDraft) (m : List Note)
       → gather (mid (suc c) bs) n ≡ m → gather (mid (suc c) bs) (map (settle c o) ds ++ n) ≡ gather (mid c (b ∷ bs)) ds ++ m
   step-settle c b bs o e ds n m q =
       gather_append (mid (suc c) bs) (map (settle c o) ds) n
       ∙ ap₂ (λ (x y : List Note). x ++ y) (gather-map (mid (suc c) bs) (settle c o) (mid c (b ∷ bs)) (settle-mid c b bs o e) ds) q
 
-  step-pass : (c b : ℕ) (bs : Row) → ((t : Option ℕ) → meets (effect_at b) i t ≡ t) → (ds : List Draft)
+  step-pass : (c b : ℕ) (bs : Row) → ((t : Option ℕ) → meets (effect_at b) i t ≡ t) → (ds : List NoteDraft)
       → gather (mid (suc c) bs) (ds ++ []) ≡ gather (mid c (b ∷ bs)) ds ++ []
   step-pass c b bs e ds = simp append-nil (gather-same (mid (suc c) bs) (mid c (b ∷ bs)) (pass-mid c b bs e) ds)
 
@@ -104,7 +104,7 @@ module _ (i : ℕ) (rs : List Row) where
   head-mid : (c : ℕ) (bs : Row) (k : Kind) → held_note i c k (mid_tail c (suc c) bs) ++ [] ≡ held_note i c k (tail_row_of c (suc i) rs)
   head-mid c bs k = append-nil _ ∙ ap (held_note i c k) (mid-past c (suc c) bs (omega arith))
 
-  cell-step : (c b : ℕ) (bs : Row) (x : NoteEffect) → effect_at b ≡ x → (ds : List Draft)
+  cell-step : (c b : ℕ) (bs : Row) (x : NoteEffect) → effect_at b ≡ x → (ds : List NoteDraft)
       → gather (mid (suc c) bs) (step_cell i c x ds) ≡ gather (mid c (b ∷ bs)) ds ++ cell_notes x i c (tail_row_of c (suc i) rs)
   unfolding mid
   cell-step c b bs Nothing q ds = step-pass c b bs (λ t. ap (λ (y : NoteEffect). meets y i t) q) ds
@@ -112,7 +112,7 @@ module _ (i : ℕ) (rs : List Row) where
   cell-step c b bs (Single k) q ds = step-settle c b bs None (λ t. ap (λ (y : NoteEffect). meets y i t) q) ds _ _ refl
   cell-step c b bs (Head k) q ds = step-settle c b bs None (λ t. ap (λ (y : NoteEffect). meets y i t) q) ds _ _ (head-mid c bs k)
 
-  cells-step : (c : ℕ) (bs : Row) (ds : List Draft)
+  cells-step : (c : ℕ) (bs : Row) (ds : List NoteDraft)
       → gather (ahead (suc i) rs) (step_row i c bs ds) ≡ gather (mid c bs) ds ++ row_notes i c bs rs
   unfolding mid mid_tail ahead step_row
   cells-step c [] ds = sym (append-nil _)
@@ -121,7 +121,7 @@ module _ (i : ℕ) (rs : List Row) where
       ∙ ap (λ (l : List Note). l ++ row_notes i (suc c) bs rs) (cell-step c b bs (effect_at b) refl ds)
       ∙ append_assoc (gather (mid c (b ∷ bs)) ds) (cell_notes (effect_at b) i c (tail_row_of c (suc i) rs)) (row_notes i (suc c) bs rs)
 
-  row_step : (r : Row) (ds : List Draft)
+  row_step : (r : Row) (ds : List NoteDraft)
       → gather (ahead (suc i) rs) (step_row i zero r ds) ≡ gather (ahead i (r ∷ rs)) ds ++ row_notes i zero r rs
   unfolding mid ahead
   row_step r ds =
@@ -130,7 +130,7 @@ module _ (i : ℕ) (rs : List Row) where
       (gather-same (mid zero r) (ahead i (r ∷ rs))
       (λ d. ap (note_by d.row d.column d.kind d.state) (rw zero-add at (mid-all d.column zero r))) ds)
 
-rows_step : (i : ℕ) (rs : List Row) (ds : List Draft) → notes_left (step_rows i rs ds) ≡ gather (ahead i rs) ds ++ notes_from i rs
+rows_step : (i : ℕ) (rs : List Row) (ds : List NoteDraft) → notes_left (step_rows i rs ds) ≡ gather (ahead i rs) ds ++ notes_from i rs
 unfolding ahead step_rows
 rows_step i [] ds = sym (append-nil (gather (ahead i []) ds))
 rows_step i (r ∷ rs) ds =

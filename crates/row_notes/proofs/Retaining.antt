@@ -16,7 +16,7 @@ use Rattle.definitions.specs.declared.Kind.{Kind}
 use Rattle.definitions.specs.declared.Tail.TheVariants.{Without, Row}
 use Rattle.definitions.specs.declared.Note.{Note}
 use Rattle.note_records.specs.Fields.{fields_at}
-use Rattle.row_notes.specs.Drafts.{State, plain, waiting, ended, Draft, note_by, keep, notes_left}
+use Rattle.row_notes.specs.Drafts.{State, plain, waiting, ended, NoteDraft, note_by, keep, notes_left}
 use Rattle.row_notes.specs.Writer.{dropped, state_number, draft_bytes, FineState, Fine, blank, DraftsEnded, Compacted}
 use Rattle.row_notes.proofs.Model.{gather_append}
 use Rattle.definitions.proofs.Blocks.{blocks-get, blocks-length}
@@ -47,7 +47,7 @@ state-small waiting f = omega arith
 state-small (ended None) f = omega arith
 state-small (ended (Some j)) f = omega arith
 
-left_more : (ds : List Draft) (k : ℕ) → k < length ds → notes_left (take (k + 1) ds) ≡ notes_left (take k ds) ++ keep (get_or ds k blank)
+left_more : (ds : List NoteDraft) (k : ℕ) → k < length ds → notes_left (take (k + 1) ds) ≡ notes_left (take k ds) ++ keep (get_or ds k blank)
 left_more ds k h =
     rw (add-one, take-suc ds k blank h)
     (gather_append keep (take k ds) (get_or ds k blank ∷ []) ∙ ap (λ (x : List Note). notes_left (take k ds) ++ x) (append-nil (keep (get_or ds k blank))))
@@ -70,8 +70,8 @@ pub record Retaining (l₀ : List ℕ) (n : ℕ) (invalid : Bool) (l : List ℕ)
   pub short : w ≤ k
   pub same : length l ≡ length l₀
   pub after : drop (k * 10) l ≡ drop (k * 10) l₀
-  pub count : (ds : List Draft) → DraftsEnded l₀ n invalid ds → w ≡ length (notes_left (take k ds))
-  pub part : (ds : List Draft) → DraftsEnded l₀ n invalid ds → (q : List ℕ) × (l ≡ records (notes_left (take k ds)) ++ q)
+  pub count : (ds : List NoteDraft) → DraftsEnded l₀ n invalid ds → w ≡ length (notes_left (take k ds))
+  pub part : (ds : List NoteDraft) → DraftsEnded l₀ n invalid ds → (q : List ℕ) × (l ≡ records (notes_left (take k ds)) ++ q)
 
 pub retain-start : (l : List ℕ) (n : ℕ) (invalid : Bool) → Retaining l n invalid l 0 0
 unfolding records
@@ -85,7 +85,7 @@ retain-start l n invalid = record {
 }
 
 module _ (l₀ : List ℕ) (n : ℕ) (invalid : Bool) (fits : n * 10 ≤ length l₀) (l : List ℕ) (w k : ℕ) (C : Retaining l₀ n invalid l w k) where
-  module _ (h : k < n) (ds : List Draft) (E : DraftsEnded l₀ n invalid ds) where
+  module _ (h : k < n) (ds : List NoteDraft) (E : DraftsEnded l₀ n invalid ds) where
     below : k < length ds
     below = let m : n ≡ length ds = E.count in omega arith
 
@@ -133,7 +133,7 @@ module _ (l₀ : List ℕ) (n : ℕ) (invalid : Bool) (fits : n * 10 ≤ length 
         → (x : Note) × (notes_left (take (k + 1) ds) ≡ notes_left (take k ds) ++ (x ∷ []))
         × (fields_at l (k * 10) ≡ encode x)
     one_more ne =
-        let d : Draft = get_or ds k blank in
+        let d : NoteDraft = get_or ds k blank in
         let s : (x : Note) × (keep d ≡ x ∷ []) × (encode x ≡ fields d.row (state_number d.state) d.column (number_of_kind d.kind)) =
         stays d.row d.column d.kind d.state (E.done k h) (λ e. ne (at_tail ∙ e)) in (
           s.0,
@@ -177,7 +177,7 @@ module _ (l₀ : List ℕ) (n : ℕ) (invalid : Bool) (fits : n * 10 ≤ length 
         part = λ ds E. more ds E (C.part ds E) (one_more h ds E ne);
       }
     where
-      more : (ds : List Draft) → DraftsEnded l₀ n invalid ds → (q : List ℕ) × (l ≡ joined (map encode (notes_left (take k ds))) ++ q)
+      more : (ds : List NoteDraft) → DraftsEnded l₀ n invalid ds → (q : List ℕ) × (l ≡ joined (map encode (notes_left (take k ds))) ++ q)
           → (x : Note) × (notes_left (take (k + 1) ds) ≡ notes_left (take k ds) ++ (x ∷ []))
           × (fields_at l (k * 10) ≡ encode x)
           → (q : List ℕ) × (l' ≡ joined (map encode (notes_left (take (k + 1) ds))) ++ q)
@@ -202,13 +202,13 @@ module _ (l₀ : List ℕ) (n : ℕ) (invalid : Bool) (fits : n * 10 ≤ length 
   pub retain_end : n ≤ k → Compacted l₀ n invalid l w
   retain_end h = record {
     bound = let s : w ≤ k = C.short in let u : k ≤ n = C.upto in omega arith;
-    count = λ ds E. C.count ds E ∙ ap (λ (x : List Draft). length (notes_left x)) (all ds E);
+    count = λ ds E. C.count ds E ∙ ap (λ (x : List NoteDraft). length (notes_left x)) (all ds E);
     bytes = λ ds E.
         let P : (q : List ℕ) × (l ≡ records (notes_left (take k ds)) ++ q) = C.part ds E in
-        (P.0, P.1 ∙ ap (λ (x : List Draft). records (notes_left x) ++ P.0) (all ds E));
+        (P.0, P.1 ∙ ap (λ (x : List NoteDraft). records (notes_left x) ++ P.0) (all ds E));
   }
     where
-      all : (ds : List Draft) → DraftsEnded l₀ n invalid ds → take k ds ≡ ds
+      all : (ds : List NoteDraft) → DraftsEnded l₀ n invalid ds → take k ds ≡ ds
       all ds E = let m : n ≡ length ds = E.count in take_all k ds (omega arith)
 
 -- ---- nothing was dropped
@@ -220,13 +220,13 @@ not-dropped (ended None) f ne e = ne refl
 not-dropped (ended (Some j)) f ne e = omega arith
 
 -- a draft that neither waits nor was dropped
-pub record Stays (d : Draft) : Type 0 where
+pub record Stays (d : NoteDraft) : Type 0 where
   pub done : d.state ≡ waiting → ⊥
   pub there : d.state ≡ ended None → ⊥
   pub fine : Fine d
 
 -- such drafts are their notes
-all_stay : (ds : List Draft) → ((k : ℕ) → k < length ds → Stays (get_or ds k blank))
+all_stay : (ds : List NoteDraft) → ((k : ℕ) → k < length ds → Stays (get_or ds k blank))
     → (length (notes_left ds) ≡ length ds) × (joined (map encode (notes_left ds)) ≡ joined (map draft_bytes ds))
 unfolding draft_bytes
 all_stay [] h = (refl, refl)
@@ -245,7 +245,7 @@ retain-all l n invalid q = record {
   bytes = λ ds E. (E.rest, E.bytes ∙ ap (λ (x : List ℕ). x ++ E.rest) (sym (staying ds E).1));
 }
   where
-    staying : (ds : List Draft) → DraftsEnded l n invalid ds → (length (notes_left ds) ≡ length ds) × (joined (map encode (notes_left ds)) ≡ joined (map draft_bytes ds))
+    staying : (ds : List NoteDraft) → DraftsEnded l n invalid ds → (length (notes_left ds) ≡ length ds) × (joined (map encode (notes_left ds)) ≡ joined (map draft_bytes ds))
     staying ds E =
         let m : n ≡ length ds = E.count in
         all_stay ds (λ k h. record { done = E.done k (omega arith); there = E.clean q k h; fine = E.fine k (omega arith) })

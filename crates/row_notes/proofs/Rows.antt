@@ -14,7 +14,7 @@ use Rattle.definitions.specs.Lines.{Row}
 use Rattle.definitions.specs.Notes.{effect_at}
 use Rattle.definitions.specs.declared.NoteEffect.{NoteEffect}
 use Rattle.definitions.proofs.Lists.{All, none, one}
-use Rattle.row_notes.specs.Drafts.{Draft, step_cell, step_row, step_rows, drafts}
+use Rattle.row_notes.specs.Drafts.{NoteDraft, step_cell, step_row, step_rows, drafts}
 use Rattle.row_notes.specs.Writer.{no_head, Stored, DraftsHeld, NoteReady, NoteStepped}
 use Rattle.row_notes.specs.Written.{Written, RecordRoom}
 use Rattle.row_notes.specs.declared.ChartNotesScratch.{ChartNotesScratch}
@@ -39,8 +39,8 @@ pub record Midrow (l : List ℕ) (s : ChartNotesScratch) (l' : List ℕ) (r : Ch
   pub same : length l' ≡ length l
   pub bound : r.count ≤ s.count + c
   pub index : r.row_index ≡ s.row_index
-  pub part : (ds : List Draft) → DraftsHeld l s ds
-      → (es : List Draft) × DraftsHeld l' r es × (step_row s.row_index c (drop c row) es ≡ step_row s.row_index zero row ds)
+  pub part : (ds : List NoteDraft) → DraftsHeld l s ds
+      → (es : List NoteDraft) × DraftsHeld l' r es × (step_row s.row_index c (drop c row) es ≡ step_row s.row_index zero row ds)
 
 pub mid_start : (l : List ℕ) (s : ChartNotesScratch) (row : Row) → Midrow l s l s 0 row
 mid_start l s row = record { inside = omega arith; same = refl; bound = omega arith; index = refl; part = λ ds S. (ds, S, refl) }
@@ -80,15 +80,15 @@ module _ (l : List ℕ) (s : ChartNotesScratch) (l' : List ℕ) (r : ChartNotesS
   }
 
   -- the row is done
-  pub mid-end : length row ≤ c → (ds : List Draft) → DraftsHeld l s ds → DraftsHeld l' r (step_row s.row_index zero row ds)
+  pub mid-end : length row ≤ c → (ds : List NoteDraft) → DraftsHeld l s ds → DraftsHeld l' r (step_row s.row_index zero row ds)
   unfolding step_row
   mid-end h ds S =
       let P = M.part ds S in
-      subst (λ (x : List Draft). DraftsHeld l' r x) (ap (λ (x : Row). step_row s.row_index c x P.0) (sym (drop_of_length-le row h)) ∙ P.2) P.1
+      subst (λ (x : List NoteDraft). DraftsHeld l' r x) (ap (λ (x : Row). step_row s.row_index c x P.0) (sym (drop_of_length-le row h)) ∙ P.2) P.1
 
 -- ---- one row more
 
-steps-more : (i : ℕ) (rows : List Row) (row : Row) (ds : List Draft)
+steps-more : (i : ℕ) (rows : List Row) (row : Row) (ds : List NoteDraft)
     → step_rows i (rows ++ (row ∷ [])) ds ≡ step_row (i + length rows) zero row (step_rows i rows ds)
 unfolding step_rows
 steps-more i [] row ds = rw add-zero

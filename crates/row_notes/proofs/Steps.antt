@@ -15,7 +15,7 @@ use Rattle.definitions.specs.Records.{bytes4}
 use Rattle.definitions.specs.declared.Kind.{Kind}
 use Rattle.definitions.specs.declared.NoteEffect.{NoteEffect}
 use Rattle.definitions.specs.declared.NoteEffect.TheVariants.{Nothing, Closes, Single, Head}
-use Rattle.row_notes.specs.Drafts.{State, plain, waiting, Draft, settle, step_cell}
+use Rattle.row_notes.specs.Drafts.{State, plain, waiting, NoteDraft, settle, step_cell}
 use Rattle.row_notes.specs.Writer.{no_head, dropped, draft_bytes, FineState, Fine, DraftsHeld, Stored, NoteReady, HoldEnded, NotePushed, CellReady, CellNoted, after_cell, end_at, note_at, end_head, invalid_after, NoteStepped}
 use Rattle.row_notes.specs.declared.ChartNotesScratch.{ChartNotesScratch}
 use Rattle.row_notes.proofs.Stored.{stored-settle, stored-plain, stored-head}
@@ -39,7 +39,7 @@ invalid-keeps s c e =
     (p.0, eqb-true (get_or s.hold_heads c 0) no_head p.1)
 
 -- the head of a column is dropped
-pub dropped-there : (l : List ℕ) (s : ChartNotesScratch) (c : ℕ) → c < 10 → (ds : List Draft) → DraftsHeld l s ds
+pub dropped-there : (l : List ℕ) (s : ChartNotesScratch) (c : ℕ) → c < 10 → (ds : List NoteDraft) → DraftsHeld l s ds
     → Stored (end_head l s.hold_heads c dropped) (set s.hold_heads c no_head) s.count (invalid_after s c) (map (settle c None) ds)
 dropped-there l s c h ds S =
     stored-settle l s.hold_heads s.count s.has_invalid ds S c h None tt (invalid_after s c)
@@ -72,7 +72,7 @@ module _ (l : List ℕ) (s : ChartNotesScratch) (c : ℕ) (R : NoteReady l s c) 
   room : s.count * 10 + 10 ≤ length (end_head l s.hold_heads c dropped)
   room = rw length-end_at R.room
 
-  draft : Kind → State → Draft
+  draft : Kind → State → NoteDraft
   draft k t = record { row = s.row_index; column = c; kind = k; state = t }
 
   fine : (k : Kind) (t : State) → FineState t → Fine (draft k t)

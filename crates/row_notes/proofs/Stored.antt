@@ -12,12 +12,12 @@ use lib.Seq.{sets, ext_get_or, get_or-set_same, get_or-set_other, get_or_at}
 use borrow.Author.Tests.{eqb-true, eqb-false, eq-eqb}
 use Rattle.definitions.specs.Lists.{joined}
 use Rattle.definitions.specs.Records.{fields, bytes4, number_of_kind}
-use Rattle.row_notes.specs.Drafts.{State, plain, waiting, ended, Draft, settle_state, settled, settle}
+use Rattle.row_notes.specs.Drafts.{State, plain, waiting, ended, NoteDraft, settle_state, settled, settle}
 use Rattle.row_notes.specs.Writer.{no_head, end_number, state_number, draft_bytes, FineEnd, FineState, Fine, blank, Clean, Stored, end_head}
 use Rattle.definitions.proofs.Blocks.{blocks-length}
 use Rattle.note_records.proofs.Blocks.{blocks-sets, blocks_more}
 
-pub ten-bytes : (d : Draft) → length (draft_bytes d) ≡ 10
+pub ten-bytes : (d : NoteDraft) → length (draft_bytes d) ≡ 10
 unfolding draft_bytes fields
 ten-bytes d = refl
 
@@ -39,25 +39,25 @@ not-waiting o waiting e = let z : ◌≡◌ {A = ℕ} 0 1 = cc in omega arith
 not-waiting o (ended x) e = let z : ◌≡◌ {A = ℕ} 0 1 = cc in omega arith
 
 module _ (c : ℕ) (o : Option ℕ) where
-  settle-this : (d : Draft) → d.column ≡ c → settle c o d ≡ settled o d
+  settle-this : (d : NoteDraft) → d.column ≡ c → settle c o d ≡ settled o d
   settle-this d e = rw (eq-eqb d.column c e)
 
-  settle_other : (d : Draft) → (d.column ≡ c → d.state ≡ waiting → ⊥) → settle c o d ≡ d
+  settle_other : (d : NoteDraft) → (d.column ≡ c → d.state ≡ waiting → ⊥) → settle c o d ≡ d
   settle_other d h = go (eqb d.column c) refl
     where
       go : (t : Bool) → eqb d.column c ≡ t → cond t (settled o d) d ≡ d
-      go true q = ap {B = Draft} (λ (s : State). record { row = d.row; column = d.column; kind = d.kind; state = s }) (same-state o d.state (h (eqb-true _ _ q)))
+      go true q = ap {B = NoteDraft} (λ (s : State). record { row = d.row; column = d.column; kind = d.kind; state = s }) (same-state o d.state (h (eqb-true _ _ q)))
       go false q = refl
 
   -- the column stays
-  settle-column : (d : Draft) → (settle c o d).column ≡ d.column
+  settle-column : (d : NoteDraft) → (settle c o d).column ≡ d.column
   settle-column d = go (eqb d.column c)
     where
       go : (t : Bool) → (cond t (settled o d) d).column ≡ d.column
       go true = refl
       go false = refl
 
-  settle-fine : (d : Draft) → FineEnd o → Fine d → Fine (settle c o d)
+  settle-fine : (d : NoteDraft) → FineEnd o → Fine d → Fine (settle c o d)
   settle-fine d e f = go (eqb d.column c)
     where
       at-state : (s : State) → FineState s → FineState (settle_state o s)
@@ -70,7 +70,7 @@ module _ (c : ℕ) (o : Option ℕ) where
       go false = f
 
   -- a head that still waits is of another column, and was left as it was
-  settle-waits : (d : Draft) → (settle c o d).state ≡ waiting → (d.state ≡ waiting) × (d.column ≡ c → ⊥)
+  settle-waits : (d : NoteDraft) → (settle c o d).state ≡ waiting → (d.state ≡ waiting) × (d.column ≡ c → ⊥)
   settle-waits d = go (eqb d.column c) refl
     where
       go : (t : Bool) → eqb d.column c ≡ t → (cond t (settled o d) d).state ≡ waiting → (d.state ≡ waiting) × (d.column ≡ c → ⊥)
@@ -78,7 +78,7 @@ module _ (c : ℕ) (o : Option ℕ) where
       go false q e = (e, eqb-false _ _ q)
 
   -- a head that was not dropped before and is now
-  settle-drops : (d : Draft) → (d.state ≡ ended None → ⊥) → (settle c o d).state ≡ ended None → (d.column ≡ c) × (d.state ≡ waiting) × (o ≡ None)
+  settle-drops : (d : NoteDraft) → (d.state ≡ ended None → ⊥) → (settle c o d).state ≡ ended None → (d.column ≡ c) × (d.state ≡ waiting) × (o ≡ None)
   settle-drops d ne = go (eqb d.column c) refl
     where
       at-state : (s : State) → (s ≡ ended None → ⊥) → settle_state o s ≡ ended None → (s ≡ waiting) × (o ≡ None)
@@ -92,7 +92,7 @@ module _ (c : ℕ) (o : Option ℕ) where
 
   -- ---- all drafts
 
-  module _ (ds : List Draft) where
+  module _ (ds : List NoteDraft) where
     map-none : ((k : ℕ) → k < length ds → (get_or ds k blank).column ≡ c → (get_or ds k blank).state ≡ waiting → ⊥) → map (settle c o) ds ≡ ds
     map-none h =
         ext_get_or blank (map (settle c o) ds) ds (length-map ds (settle c o))
@@ -114,13 +114,13 @@ module _ (c : ℕ) (o : Option ℕ) where
         go k g (no q) = settle_other (get_or ds k blank) (λ a w. q (h k g a w)) ∙ sym (get_or-set_other ds j k _ blank q)
 
 -- the four bytes that end a head
-patch : (o : Option ℕ) (d : Draft) → d.state ≡ waiting → sets (draft_bytes d) 4 (bytes4 (end_number o)) ≡ draft_bytes (settled o d)
+patch : (o : Option ℕ) (d : NoteDraft) → d.state ≡ waiting → sets (draft_bytes d) 4 (bytes4 (end_number o)) ≡ draft_bytes (settled o d)
 unfolding draft_bytes fields
 patch o d w = ap (λ (s : State). fields d.row (state_number (settle_state o s)) d.column (number_of_kind d.kind)) (sym w)
 
 -- ---- an open head is ended
 
-module _ (l hs : List ℕ) (n : ℕ) (invalid : Bool) (ds : List Draft) (S : Stored l hs n invalid ds) where
+module _ (l hs : List ℕ) (n : ℕ) (invalid : Bool) (ds : List NoteDraft) (S : Stored l hs n invalid ds) where
   module _ (c : ℕ) (hc : c < 10) (o : Option ℕ) (fo : FineEnd o) where
     settle-bytes : (t : Bool) → eqb (get_or hs c 0) no_head ≡ t
         → cond t l (sets l (get_or hs c 0 * 10 + 4) (bytes4 (end_number o))) ≡ joined (map draft_bytes (map (settle c o) ds)) ++ S.rest
@@ -163,9 +163,9 @@ module _ (l hs : List ℕ) (n : ℕ) (invalid : Bool) (ds : List Draft) (S : Sto
           let m : n ≡ length ds = S.count in
           let f : n < no_head = S.few in
           let h' : k < length ds = rw length-map at h in
-          let d : Draft = get_or ds k blank in
+          let d : NoteDraft = get_or ds k blank in
           let p : (d.column ≡ c) × (d.state ≡ waiting) × (o ≡ None) =
-          settle-drops c o d (S.clean (keeps q).0 k h') (sym (ap (λ (x : Draft). x.state) (at_map k (omega arith))) ∙ e) in
+          settle-drops c o d (S.clean (keeps q).0 k h') (sym (ap (λ (x : NoteDraft). x.state) (at_map k (omega arith))) ∙ e) in
           let x : get_or hs c 0 ≡ k = subst (λ (i : ℕ). get_or hs i 0 ≡ k) p.0 (S.waits k (omega arith) p.1) in
           let y : get_or hs c 0 ≡ no_head = (keeps q).1 p.2 in
           omega arith
@@ -179,8 +179,8 @@ module _ (l hs : List ℕ) (n : ℕ) (invalid : Bool) (ds : List Draft) (S : Sto
         ten = length-set hs c no_head ∙ S.ten;
         waits = λ k h w.
             let p : ((get_or ds k blank).state ≡ waiting) × ((get_or ds k blank).column ≡ c → ⊥) =
-            settle-waits c o (get_or ds k blank) (sym (ap (λ (d : Draft). d.state) (at_map k h)) ∙ w) in
-            ap (λ (i : ℕ). get_or (set hs c no_head) i 0) (ap (λ (d : Draft). d.column) (at_map k h) ∙ settle-column c o (get_or ds k blank))
+            settle-waits c o (get_or ds k blank) (sym (ap (λ (d : NoteDraft). d.state) (at_map k h)) ∙ w) in
+            ap (λ (i : ℕ). get_or (set hs c no_head) i 0) (ap (λ (d : NoteDraft). d.column) (at_map k h) ∙ settle-column c o (get_or ds k blank))
             ∙ get_or-set_other hs c (get_or ds k blank).column no_head 0 p.1 ∙ S.waits k h p.0;
         heads = λ i h ne. settle-heads i h ne (ℕ_discrete i c);
         fine = λ k h. rw (at_map k h) (settle-fine c o (get_or ds k blank) fo (S.fine k h));
@@ -189,7 +189,7 @@ module _ (l hs : List ℕ) (n : ℕ) (invalid : Bool) (ds : List Draft) (S : Sto
 
   -- ---- a record is added
 
-  module _ (b : Draft) (f : Fine b) (room : n * 10 + 10 ≤ length l) (few : n + 1 < no_head) where
+  module _ (b : NoteDraft) (f : Fine b) (room : n * 10 + 10 ≤ length l) (few : n + 1 < no_head) where
     long : 10 ≤ length S.rest
     long =
         let m : n ≡ length ds = S.count in
@@ -248,7 +248,7 @@ module _ (l hs : List ℕ) (n : ℕ) (invalid : Bool) (ds : List Draft) (S : Sto
       ten = S.ten;
       waits = below (λ (k : ℕ). (get_or (ds ++ (b ∷ [])) k blank).state ≡ waiting → get_or hs (get_or (ds ++ (b ∷ [])) k blank).column 0 ≡ k)
           old-waits
-          (λ e. let p : plain ≡ waiting = sym w ∙ sym (ap (λ (d : Draft). d.state) at_new) ∙ e in let z : ◌≡◌ {A = ℕ} 0 1 = cc in absurd (omega arith));
+          (λ e. let p : plain ≡ waiting = sym w ∙ sym (ap (λ (d : NoteDraft). d.state) at_new) ∙ e in let z : ◌≡◌ {A = ℕ} 0 1 = cc in absurd (omega arith));
       heads = old-heads;
       fine = more-fine;
       clean = more-clean (λ e. let p : plain ≡ ended None = sym w ∙ e in let z : ◌≡◌ {A = ℕ} 0 1 = cc in omega arith);

@@ -19,14 +19,14 @@ use Rattle.taps.specs.Taps.{FreeAre}
 use Rattle.taps.proofs.Free.{Free, zero-cell, tap-there}
 use Rattle.definitions.proofs.Blocks.{blocks-length}
 use Rattle.note_records.proofs.Blocks.{sets-right}
-use Rattle.row_notes.specs.Drafts.{Draft, step_cell}
+use Rattle.row_notes.specs.Drafts.{NoteDraft, step_cell}
 use Rattle.row_notes.specs.Writer.{no_head, no_tail, draft_bytes, Stored, NoteReady, NotePushed, NoteStepped}
 use Rattle.row_notes.specs.declared.ChartNotesScratch.{ChartNotesScratch}
 use Rattle.row_notes.proofs.Stored.{ten-bytes}
 use Rattle.row_notes.proofs.Steps.{step-single, zero-nothing}
 
 -- a record behind the others is none of them
-pub stored_past : (l hs : List ℕ) (n : ℕ) (invalid : Bool) (ds : List Draft) (vs : List ℕ) → Stored l hs n invalid ds → Stored (sets l (n * 10) vs) hs n invalid ds
+pub stored_past : (l hs : List ℕ) (n : ℕ) (invalid : Bool) (ds : List NoteDraft) (vs : List ℕ) → Stored l hs n invalid ds → Stored (sets l (n * 10) vs) hs n invalid ds
 stored_past l hs n invalid ds vs S = record {
   count = S.count;
   few = S.few;

@@ -11,7 +11,7 @@ use Rattle.definitions.specs.declared.Kind.{Kind}
 use Rattle.definitions.specs.declared.Kind.TheVariants.{Tap}
 use Rattle.taps.specs.Taps.{FreeTaps, FreeAre}
 use Rattle.definitions.specs.declared.NoteEffect.{NoteEffect}
-use Rattle.row_notes.specs.Drafts.{State, plain, waiting, ended, Draft, notes_left, step_cell}
+use Rattle.row_notes.specs.Drafts.{State, plain, waiting, ended, NoteDraft, notes_left, step_cell}
 use Rattle.row_notes.specs.declared.ChartNotesScratch.{ChartNotesScratch}
 
 -- in place of an open head, and the tail fields of records without a tail and of dropped ones
@@ -42,7 +42,7 @@ state_number plain = no_tail
 state_number waiting = no_tail
 state_number (ended o) = end_number o
 
-unfoldable pub draft_bytes : Draft → List ℕ
+unfoldable pub draft_bytes : NoteDraft → List ℕ
 draft_bytes d = fields d.row (state_number d.state) d.column (number_of_kind d.kind)
 
 -- rows and tail rows are below 16,777,216, columns below 10
@@ -55,20 +55,20 @@ FineState plain = Unit {0}
 FineState waiting = Unit {0}
 FineState (ended o) = FineEnd o
 
-pub record Fine (d : Draft) : Type 0 where
+pub record Fine (d : NoteDraft) : Type 0 where
   pub row : d.row < row_numbers_bound
   pub column : d.column < 10
   pub state : FineState d.state
 
-abbrev pub blank : Draft
+abbrev pub blank : NoteDraft
 blank = record { row = 0; column = 0; kind = Tap; state = plain }
 
 -- where `invalid` is false no draft was dropped
-abbrev pub Clean : Bool → List Draft → Type 0
+abbrev pub Clean : Bool → List NoteDraft → Type 0
 Clean invalid ds = invalid ≡ false → (k : ℕ) → k < length ds → (slice_index_or ds k blank).state ≡ ended None → ⊥
 
 -- the slice l begins with the bytes of the n drafts; at c in hs is the number of the draft that waits in column c
-pub record Stored (l hs : List ℕ) (n : ℕ) (invalid : Bool) (ds : List Draft) : Type 0 where
+pub record Stored (l hs : List ℕ) (n : ℕ) (invalid : Bool) (ds : List NoteDraft) : Type 0 where
   pub count : n ≡ length ds
   pub few : n < no_head
   pub rest : List ℕ
@@ -80,7 +80,7 @@ pub record Stored (l hs : List ℕ) (n : ℕ) (invalid : Bool) (ds : List Draft)
   pub fine : (k : ℕ) → k < n → Fine (slice_index_or ds k blank)
   pub clean : Clean invalid ds
 
-abbrev pub DraftsHeld : List ℕ → ChartNotesScratch → List Draft → Type 0
+abbrev pub DraftsHeld : List ℕ → ChartNotesScratch → List NoteDraft → Type 0
 DraftsHeld l s ds = Stored l s.hold_heads s.count s.has_invalid ds
 
 -- ---- one cell
@@ -138,8 +138,8 @@ abbrev pub note_at : List ℕ → ℕ → ℕ → ℕ → ℕ → Kind → List 
 note_at l head count row column kind = sets (end_at l head dropped) (count * 10) (fields row no_tail column (number_of_kind kind))
 
 -- whatever drafts were there, f of them are, and at most m more
-pub record NoteStepped (l : List ℕ) (s : ChartNotesScratch) (l' : List ℕ) (r : ChartNotesScratch) (m : ℕ) (f : List Draft → List Draft) : Type 0 where
-  pub stored : (ds : List Draft) → DraftsHeld l s ds → DraftsHeld l' r (f ds)
+pub record NoteStepped (l : List ℕ) (s : ChartNotesScratch) (l' : List ℕ) (r : ChartNotesScratch) (m : ℕ) (f : List NoteDraft → List NoteDraft) : Type 0 where
+  pub stored : (ds : List NoteDraft) → DraftsHeld l s ds → DraftsHeld l' r (f ds)
   pub bound : r.count ≤ s.count + m
   pub row : r.row_index ≡ s.row_index
 
@@ -156,13 +156,13 @@ CellNoted l head count row column x l' head' count' invalid =
 
 -- ---- the end
 
--- some drafts are there
-pub record SomeDrafts (l : List ℕ) (s : ChartNotesScratch) : Type 0 where
-  pub drafts : List Draft
+-- the struct and the slice hold drafts, whichever they are
+pub record HoldsDrafts (l : List ℕ) (s : ChartNotesScratch) : Type 0 where
+  pub drafts : List NoteDraft
   pub stored : DraftsHeld l s drafts
 
 -- the slice l begins with the bytes of the n drafts, of which none waits
-pub record DraftsEnded (l : List ℕ) (n : ℕ) (invalid : Bool) (ds : List Draft) : Type 0 where
+pub record DraftsEnded (l : List ℕ) (n : ℕ) (invalid : Bool) (ds : List NoteDraft) : Type 0 where
   pub count : n ≡ length ds
   pub rest : List ℕ
   pub bytes : l ≡ joined (map draft_bytes ds) ++ rest
@@ -173,10 +173,10 @@ pub record DraftsEnded (l : List ℕ) (n : ℕ) (invalid : Bool) (ds : List Draf
 -- the heads have ended, and the same notes are left
 pub record HeadsEnded (l : List ℕ) (s : ChartNotesScratch) (l' : List ℕ) (r : ChartNotesScratch) : Type 0 where
   pub count : r.count ≡ s.count
-  pub ended : (ds : List Draft) → DraftsHeld l s ds → (es : List Draft) × DraftsEnded l' r.count r.has_invalid es × (notes_left es ≡ notes_left ds)
+  pub ended : (ds : List NoteDraft) → DraftsHeld l s ds → (es : List NoteDraft) × DraftsEnded l' r.count r.has_invalid es × (notes_left es ≡ notes_left ds)
 
 -- l' begins with the r records of the notes that are left
 pub record Compacted (l : List ℕ) (n : ℕ) (invalid : Bool) (l' : List ℕ) (r : ℕ) : Type 0 where
   pub bound : r ≤ n
-  pub count : (ds : List Draft) → DraftsEnded l n invalid ds → r ≡ length (notes_left ds)
-  pub bytes : (ds : List Draft) → DraftsEnded l n invalid ds → (q : List ℕ) × (l' ≡ records (notes_left ds) ++ q)
+  pub count : (ds : List NoteDraft) → DraftsEnded l n invalid ds → r ≡ length (notes_left ds)
+  pub bytes : (ds : List NoteDraft) → DraftsEnded l n invalid ds → (q : List ℕ) × (l' ≡ records (notes_left ds) ++ q)

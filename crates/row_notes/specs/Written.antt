@@ -34,7 +34,8 @@ pub record MaskFits (i n m : ℕ) (l : List ℕ) (s : ChartNotesScratch) (cells 
   pub heads : FreeHeads s.hold_heads cells
   pub mask : mask_of_line cells ≡ Mask m
 
-pub record SomeMask (i n m : ℕ) (l : List ℕ) : Type 0 where
+-- What a row of taps of this mask asks, whichever they are.
+pub record MaskReady (i n m : ℕ) (l : List ℕ) : Type 0 where
   pub scratch : ChartNotesScratch
   pub cells : Row
   pub fits : MaskFits i n m l scratch cells
@@ -44,7 +45,7 @@ abbrev pub after_taps : ChartNotesScratch → ℕ → ChartNotesScratch
 after_taps s n =
     record { hold_heads = s.hold_heads; count = n; row_index = s.row_index + 1; has_invalid = s.has_invalid }
 
-pub record SomeRows (s : ChartNotesScratch) (l : List ℕ) : Type 0 where
+pub record RowsWritten (s : ChartNotesScratch) (l : List ℕ) : Type 0 where
   pub rows : List Row
   pub written : Written rows s l
 

@@ -7,9 +7,9 @@ ghost use lib.Seq.{sets};
 ghost use Rattle.definitions.specs.Lists.{number_of_bool};
 ghost use Rattle.definitions.specs.Lines.{Row};
 ghost use Rattle.definitions.specs.Records.{fields};
-ghost use Rattle.row_notes.specs.Writer.{HeadThere, HoldEnded, invalid_after, no_head, no_tail, dropped, end_at, note_at, CellReady, HeadsEnded, Compacted, SomeDrafts};
+ghost use Rattle.row_notes.specs.Writer.{HeadThere, HoldEnded, invalid_after, no_head, no_tail, dropped, end_at, note_at, CellReady, HeadsEnded, Compacted, HoldsDrafts};
 ghost use Rattle.row_notes.specs.Masks.{LowOf};
-ghost use Rattle.row_notes.specs.Written.{Written, MaskFits, SomeMask, after_taps, SomeRows, Finished};
+ghost use Rattle.row_notes.specs.Written.{Written, MaskFits, MaskReady, after_taps, RowsWritten, Finished};
 ghost use Rattle.row_notes.specs.declared.ChartNotesScratch.{ChartNotesScratch};
 
 use definitions::Kind;
@@ -125,7 +125,7 @@ fn low_bit(mask: u32) -> LowBit
 /// The records of a row of taps alone in columns without an open head, by its mask, and the number of records with them. Two records are
 /// written whatever the mask is, and more only where it has more taps, so that few rows branch on theirs.
 pub fn push_mask(row: u32, number: usize, mask: u16, notes: &mut [u8]) -> usize
-    requires { SomeMask row number mask notes.old }
+    requires { MaskReady row number mask notes.old }
     ensures { (s : ChartNotesScratch) (cells : Row) → MaskFits row number mask notes.old s cells
         → (rows : List Row) → Written rows s notes.old
         → Written (rows ++ (cells ∷ [])) (after_taps s result) notes.new }
@@ -145,7 +145,7 @@ pub fn push_mask(row: u32, number: usize, mask: u16, notes: &mut [u8]) -> usize
 
 // Drops the heads that are still open.
 fn close_heads(mut s: ChartNotesScratch, notes: &mut [u8]) -> ChartNotesScratch
-    requires { SomeDrafts notes.old s }
+    requires { HoldsDrafts notes.old s }
     ensures { HeadsEnded notes.old s notes.new result }
 {
     for column in 0..10 {
@@ -184,7 +184,7 @@ fn retain(s: ChartNotesScratch, notes: &mut [u8]) -> usize
 
 /// The end: heads that are open are dropped, and zeros stand after the records. The answer is their number.
 pub fn finish(s: ChartNotesScratch, notes: &mut [u8]) -> usize
-    requires { SomeRows s notes.old }
+    requires { RowsWritten s notes.old }
     ensures { (rows : List Row) → Written rows s notes.old
         → Finished rows (length notes.old) notes.new result }
 {

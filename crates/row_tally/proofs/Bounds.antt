@@ -16,7 +16,7 @@ use Rattle.definitions.specs.declared.Cell.{Cell}
 use Rattle.definitions.specs.declared.RowSum.{RowSum}
 use Rattle.definitions.specs.declared.ArrowStats.{ArrowStats}
 use Rattle.row_tally.specs.Bounds.{Under, Below}
-use Rattle.row_tally.specs.Sums.{add_arrow, add_counted, sum_with_cell}
+use Rattle.row_tally.specs.Sums.{sum_with_cell}
 use Rattle.row_tally.proofs.Sums.{sum_from, sum-start, sum-end, sum-next}
 
 pub under_more : (j k : ℕ) (s : RowSum) → j ≤ k → Under j s → Under k s
@@ -37,7 +37,7 @@ heads-le fake = omega arith
 
 module _ (k : ℕ) (s : RowSum) (d : ℕ) (arrow : Bool) (u : Under k s) where
   pub under-cell : (x : Cell) → Under (k + 1) (sum_with_cell s d x arrow)
-  unfolding add_arrow add_counted
+  unfolding sum_with_cell
   under-cell x =
       let a = one-le arrow in
       let l = one-le (arrow && eqb d 0) in

@@ -14,24 +14,15 @@ use Rattle.definitions.specs.Tally.{counted_as, place, count_from, counted, dire
 use Rattle.definitions.specs.declared.Cell.{Cell}
 use Rattle.definitions.specs.declared.Cell.TheVariants.{Empty}
 use Rattle.definitions.specs.declared.RowSum.{RowSum}
-use Rattle.row_tally.specs.Sums.{add_arrow, add_counted, sum_with_cell}
+use Rattle.row_tally.specs.Sums.{add_counts, sum_with_cell}
 
 -- the sum s, with the cells of a row of L columns from column c on
 unfoldable pub sum_from : ℕ → (Cell → Bool) → RowSum → ℕ → Row → RowSum
 sum_from L arrow s c r =
-    record {
-      arrows = s.arrows + count_from (λ c x. arrow x) c r;
-      left = s.left + count_from (λ c x. arrow x && eqb (direction L c) 0) c r;
-      down = s.down + count_from (λ c x. arrow x && eqb (direction L c) 1) c r;
-      up = s.up + count_from (λ c x. arrow x && eqb (direction L c) 2) c r;
-      right = s.right + count_from (λ c x. arrow x && eqb (direction L c) 3) c r;
-      holds = s.holds + counted hold r;
-      rolls = s.rolls + counted roll r;
-      tails = s.tails + counted tail r;
-      mines = s.mines + counted mine r;
-      lifts = s.lifts + counted lift r;
-      fakes = s.fakes + counted fake r;
-    }
+    add_counts s
+    (count_from (λ c x. arrow x) c r)
+    (λ d. count_from (λ c x. arrow x && eqb (direction L c) d) c r)
+    (λ k. counted k r)
 
 pub sum-start : (arrow : Cell → Bool) (r : Row) → sum_from (length r) arrow empty_sum 0 r ≡ row_sum_by arrow r
 unfolding sum_from row_sum_by
@@ -46,11 +37,11 @@ counted-cons k b r = count-cons (λ x. eqb (place (counted_as (cell_of x))) (pla
 
 pub sum-next : (L : ℕ) (arrow : Cell → Bool) (s : RowSum) (c b : ℕ) (r : Row)
     → sum_from L arrow s c (b ∷ r) ≡ sum_from L arrow (sum_with_cell s (direction L c) (cell_of b) (arrow (cell_of b))) (suc c) r
-unfolding sum_from add_arrow add_counted
+unfolding sum_from sum_with_cell
 sum-next L arrow s c b r =
     rw (counted-cons hold b r, counted-cons roll b r, counted-cons tail b r, counted-cons mine b r, counted-cons lift b r, counted-cons fake b r)
     (simp add_assoc)
 
 pub no_cell : (s : RowSum) (d : ℕ) → sum_with_cell s d Empty false ≡ s
-unfolding add_arrow add_counted
+unfolding sum_with_cell
 no_cell s d = simp add-zero

@@ -7,35 +7,29 @@ use Rattle.definitions.specs.Judged.{is_judged_arrow}
 use Rattle.definitions.specs.declared.Cell.{Cell}
 use Rattle.definitions.specs.declared.RowSum.{RowSum}
 
--- with an arrow of direction d, where there is one
-unfoldable pub add_arrow : RowSum → ℕ → Bool → RowSum
-add_arrow s d arrow =
-    record s {
-      arrows = s.arrows + number_of_bool arrow;
-      left = s.left + number_of_bool (arrow && d == 0);
-      down = s.down + number_of_bool (arrow && d == 1);
-      up = s.up + number_of_bool (arrow && d == 2);
-      right = s.right + number_of_bool (arrow && d == 3);
+-- with so many arrows more, of each direction so many, and of each kind that is counted so many
+abbrev pub add_counts : RowSum → ℕ → (ℕ → ℕ) → (CountKind → ℕ) → RowSum
+add_counts s arrows towards of =
+    record {
+      arrows = s.arrows + arrows;
+      left = s.left + towards 0;
+      down = s.down + towards 1;
+      up = s.up + towards 2;
+      right = s.right + towards 3;
+      holds = s.holds + of hold;
+      rolls = s.rolls + of roll;
+      tails = s.tails + of tail;
+      mines = s.mines + of mine;
+      lifts = s.lifts + of lift;
+      fakes = s.fakes + of fake;
     }
 
 abbrev one_of : CountKind → Cell → ℕ
 one_of k x = number_of_bool (place (counted_as x) == place k)
 
--- with what a cell is counted as beside an arrow
-unfoldable pub add_counted : RowSum → Cell → RowSum
-add_counted s x =
-    record s {
-      holds = s.holds + one_of hold x;
-      rolls = s.rolls + one_of roll x;
-      tails = s.tails + one_of tail x;
-      mines = s.mines + one_of mine x;
-      lifts = s.lifts + one_of lift x;
-      fakes = s.fakes + one_of fake x;
-    }
-
 -- with a cell in a column of direction d, which is an arrow or not
-abbrev pub sum_with_cell : RowSum → ℕ → Cell → Bool → RowSum
-sum_with_cell s d x arrow = add_counted (add_arrow s d arrow) x
+unfoldable pub sum_with_cell : RowSum → ℕ → Cell → Bool → RowSum
+sum_with_cell s d x arrow = add_counts s (number_of_bool arrow) (λ e. number_of_bool (arrow && d == e)) (λ k. one_of k x)
 
 -- the arrows of a judged row, or of a plain one
 abbrev pub arrow_of : Bool → Cell → Bool

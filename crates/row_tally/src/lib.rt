@@ -9,10 +9,10 @@ ghost use Rattle.definitions.specs.Tally.{empty_stats, row_sum, row_sum_by, tall
 ghost use Rattle.definitions.specs.Correction.{head_if_paired, tally_with_steps};
 ghost use Rattle.definitions.specs.Judged.{is_judged_arrow, sum_of_fakes, judged_sum, judge_row};
 ghost use Rattle.taps.specs.Taps.{masks};
-ghost use Rattle.definitions.specs.declared.Cell.TheVariants.{Lift};
+ghost use Rattle.definitions.specs.declared.Cell.TheVariants.{Tap};
 ghost use Rattle.row_tally.specs.Bounds.{Under, Below};
 ghost use Rattle.row_tally.specs.Masked.{bit_is_set, cell_by_mask, row_by_mask};
-ghost use Rattle.row_tally.specs.Sums.{add_arrow, add_counted, sum_with_cell, arrow_of, add_by};
+ghost use Rattle.row_tally.specs.Sums.{sum_with_cell, arrow_of, add_by};
 ghost use Rattle.row_tally.specs.Taps.{TapsCounted, TapsSummed, TapsJudged};
 
 use definitions::{ArrowStats, Cell, DepthEffect, RowSum, direction};
@@ -25,11 +25,11 @@ pub fn no_sum() -> RowSum
     RowSum::default()
 }
 
-// With an arrow of a direction: left, down, up, right.
-#[tactic(auto, unfolding(crate::specs::Sums::add_arrow))]
+// With an arrow of a direction: left, down, up, right. A cell may have raised another count by one before.
+#[tactic(auto, unfolding(crate::specs::Sums::sum_with_cell))]
 fn bump_dir(mut s: RowSum, direction: usize) -> RowSum
-    requires { Under 10 s }
-    ensures { result ≡ add_arrow s direction true }
+    requires { Under 11 s }
+    ensures { result ≡ sum_with_cell s direction Tap true }
 {
     s.arrows += 1;
     match direction {
@@ -42,47 +42,38 @@ fn bump_dir(mut s: RowSum, direction: usize) -> RowSum
     s
 }
 
-// With a lift, which is an arrow of a judged row.
-#[tactic(auto, unfolding(crate::specs::Sums::add_arrow, crate::specs::Sums::add_counted))]
-fn add_lift(s: RowSum, direction: usize, judged: bool) -> RowSum
-    requires { Under 10 s }
-    ensures { result ≡ add_counted (add_arrow s direction judged) Lift }
-{
-    RowSum {
-        lifts: s.lifts + 1,
-        ..if judged { bump_dir(s, direction) } else { s }
-    }
-}
-
 // One cell of a row, in a column of a direction, by one match: an arrow, what else it is counted as, or both. On a judged row an L is an arrow too.
-#[tactic(auto, unfolding(crate::specs::Sums::add_arrow, crate::specs::Sums::add_counted))]
-fn add_cell(s: RowSum, direction: usize, b: u8, judged: bool) -> RowSum
+#[tactic(auto, unfolding(crate::specs::Sums::sum_with_cell))]
+fn add_cell(mut s: RowSum, direction: usize, b: u8, judged: bool) -> RowSum
     requires { Under 10 s }
     ensures { result ≡ add_by judged s direction (cell_of b) }
 {
     match cells::cell_of(b) {
         Cell::Tap => bump_dir(s, direction),
-        Cell::Hold => RowSum {
-            holds: s.holds + 1,
-            ..bump_dir(s, direction)
-        },
-        Cell::Roll => RowSum {
-            rolls: s.rolls + 1,
-            ..bump_dir(s, direction)
-        },
-        Cell::Tail => RowSum {
-            tails: s.tails + 1,
-            ..s
-        },
-        Cell::Mine | Cell::LowerMine => RowSum {
-            mines: s.mines + 1,
-            ..s
-        },
-        Cell::Lift | Cell::LowerLift => add_lift(s, direction, judged),
-        Cell::Fake | Cell::LowerFake => RowSum {
-            fakes: s.fakes + 1,
-            ..s
-        },
+        Cell::Hold => {
+            s.holds += 1;
+            bump_dir(s, direction)
+        }
+        Cell::Roll => {
+            s.rolls += 1;
+            bump_dir(s, direction)
+        }
+        Cell::Tail => {
+            s.tails += 1;
+            s
+        }
+        Cell::Mine | Cell::LowerMine => {
+            s.mines += 1;
+            s
+        }
+        Cell::Lift | Cell::LowerLift => {
+            s.lifts += 1;
+            if judged { bump_dir(s, direction) } else { s }
+        }
+        Cell::Fake | Cell::LowerFake => {
+            s.fakes += 1;
+            s
+        }
         Cell::Empty | Cell::KeySound => s,
     }
 }
@@ -111,27 +102,26 @@ pub fn no_stats() -> ArrowStats
 }
 
 // The tally with one row more, where `hand` says whether it is a hand and `holding` what is held after it.
-fn add_sum(t: ArrowStats, s: RowSum, hand: bool, holding: u32) -> ArrowStats
+fn add_sum(mut t: ArrowStats, s: RowSum, hand: bool, holding: u32) -> ArrowStats
     requires few { Below count_bound t }
     requires sum_few { Under 10 s }
     ensures { result ≡ tally_with_sum t s hand holding }
 {
-    ArrowStats {
-        total_arrows: t.total_arrows + s.arrows,
-        left: t.left + s.left,
-        down: t.down + s.down,
-        up: t.up + s.up,
-        right: t.right + s.right,
-        total_steps: t.total_steps + u32::from(1 <= s.arrows),
-        jumps: t.jumps + u32::from(2 <= s.arrows),
-        hands: t.hands + u32::from(hand),
-        mines: t.mines + s.mines,
-        holds: t.holds + s.holds,
-        rolls: t.rolls + s.rolls,
-        lifts: t.lifts + s.lifts,
-        fakes: t.fakes + s.fakes,
-        holding,
-    }
+    t.total_arrows += s.arrows;
+    t.left += s.left;
+    t.down += s.down;
+    t.up += s.up;
+    t.right += s.right;
+    t.total_steps += u32::from(1 <= s.arrows);
+    t.jumps += u32::from(2 <= s.arrows);
+    t.hands += u32::from(hand);
+    t.mines += s.mines;
+    t.holds += s.holds;
+    t.rolls += s.rolls;
+    t.lifts += s.lifts;
+    t.fakes += s.fakes;
+    t.holding = holding;
+    t
 }
 
 // What is held after a row: the larger of 0 and holding + heads − tails.

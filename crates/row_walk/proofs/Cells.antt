@@ -22,7 +22,7 @@ use Rattle.phantoms.specs.Phantoms.{phantom_at, CellCounted}
 use Rattle.phantoms.proofs.Loop.{Passed, passed_start, passed-next, passed-end}
 use Rattle.objects.proofs.Scan.{Scanned, scan-start, scan-next, scan-end}
 use Rattle.row_tally.proofs.Bounds.{under_more}
-use Rattle.row_tally.specs.Sums.{add_arrow, add_counted, sum_with_cell}
+use Rattle.row_tally.specs.Sums.{sum_with_cell}
 use Rattle.row_tally.proofs.Loops.{Summed, summed-start, summed-next, summed-end, drop-next}
 use Rattle.row_notes.specs.Writer.{no_head, after_cell}
 use Rattle.row_notes.proofs.Steps.{zero-nothing, step-nothing}
@@ -90,7 +90,7 @@ zero-scanned row l₀ l object i s h k e =
     rw (set-get_or l i 0, or-false) at (scan-next row l₀ l object i s false (get_or l i 0) h k (rw e refl) (rw e refl))
 
 zero-sum : (s : RowSum) (d b : ℕ) → b ≡ 48 → s ≡ sum_with_cell s d (cell_of b) (is_arrow (cell_of b))
-unfolding cell_of add_arrow add_counted
+unfolding cell_of sum_with_cell
 zero-sum s d b e = simp (e, add-zero)
 
 module _ (row : Row) (l₀ : List ℕ) (k₀ : Columns) (n a : ℕ) (m : Marks) (l : List ℕ) (k : Columns) (s : Seen) (i : ℕ)
@@ -109,7 +109,7 @@ module _ (row : Row) (l₀ : List ℕ) (k₀ : Columns) (n a : ℕ) (m : Marks) 
 
   -- one cell more
   pub cells-next : (l' : List ℕ) (w : WalkCell) → length l' ≡ length l → ByteWalked (get_or row i 0) (cell_at k i s.count a) l l' w
-      → (q : Columns) → ColumnPut k i w q → (t : Seen) → CellSeen s (direction (length row) i) w t → Cells row l₀ k₀ n a m l' q t (i + 1)
+      → (q : Columns) → ColumnPut k i w q → (t : Seen) → CellSeen s (direction (length row) i) (get_or row i 0) w t → Cells row l₀ k₀ n a m l' q t (i + 1)
   cells-next l' w el W q Q t T =
       let free = unused w.phantom.depth w.object.depth w.head no_head in
       let old = notes_of k.hold_heads s.count a s.marks in
@@ -117,7 +117,7 @@ module _ (row : Row) (l₀ : List ℕ) (k₀ : Columns) (n a : ℕ) (m : Marks) 
         passed = rw (Q.depths, T.heads, T.tails, T.met) (passed-next row (phantoms_of k₀.depths m) (phantoms_of k.depths s.marks) w.phantom i C.passed h u (counted-cell _ _ l l' w W));
         scanned = rw (Q.object_depths, T.object) (scan-next row k₀.object_depths k.object_depths s.object i C.scanned w.object.object w.object.depth h u W.object W.object_depth);
         mid = rw (Q.heads, T.count, T.invalid) (mid_step l₀ _ l old i row C.mid l' (after_cell old i w.head w.count w.invalid) (effect_at (get_or row i 0)) refl h el (W.noted old refl refl refl));
-        summed = summed-next (length row) is_arrow (drop i row) (drop (i + 1) row) (row_sum row) s.sum t.sum i (get_or row i 0) (drop-next row i h) (T.sum _ W.kind W.tails) C.summed;
+        summed = summed-next (length row) is_arrow (drop i row) (drop (i + 1) row) (row_sum row) s.sum t.sum i (get_or row i 0) (drop-next row i h) T.sum C.summed;
         depths = λ f. rw Q.depths
             (free-marked k.busy i q.busy (is_used w) 0 k.depths (set k.depths i w.phantom.depth) Q.busy
             (λ e. get_or-set_same k.depths i w.phantom.depth 0 (omega (arith, C.passed.size)) ∙ (free e).0) (λ c ne. get_or-set_other k.depths i c w.phantom.depth 0 ne) (C.depths f));

@@ -1,13 +1,10 @@
 -- What one cell does, by its effects on the phantom depth, the object depth and the notes of its column: cited by the walk's own contracts.
-use Rattle.std.specs.Prelude.{Bool, ◌≡◌, List, ℕ, ◌<◌, if◌then◌else◌}
+use Rattle.std.specs.Prelude.{◌≡◌, List, ℕ, ◌<◌}
 use Rattle.definitions.specs.Lists.{number_of_bool}
-use Rattle.definitions.specs.Cells.{cell_of, effects_of, CountKind, nothing, hold, roll, tail, mine, lift, fake}
 use Rattle.definitions.specs.Tracker.{hold_at}
 use Rattle.definitions.specs.Correction.{phantom_step, meets_phantom, is_opening, is_closing}
 use Rattle.definitions.specs.Objects.{object_at, is_object, deeper}
 use Rattle.definitions.specs.Notes.{effect_at}
-use Rattle.definitions.specs.Records.{number_of_kind}
-use Rattle.definitions.specs.declared.Cell.{Cell}
 use Rattle.definitions.specs.declared.Kind.{Kind}
 use Rattle.definitions.specs.declared.DepthEffect.{DepthEffect}
 use Rattle.definitions.specs.declared.DepthEffect as depth
@@ -18,27 +15,14 @@ use Rattle.row_notes.specs.Writer.{CellReady, CellNoted}
 use Rattle.row_walk.specs.declared.cell_walk.CellAt.{CellAt}
 use Rattle.row_walk.specs.declared.cell_walk.WalkCell.{WalkCell}
 
--- What a cell is counted as, by the number of a kind: a tap is an arrow alone, and 6 is none of the six.
-abbrev pub number_counted : CountKind → Bool → ℕ
-number_counted nothing arrow = if arrow then 0 else 6
-number_counted hold arrow = 1
-number_counted roll arrow = 2
-number_counted tail arrow = 6
-number_counted mine arrow = 3
-number_counted lift arrow = 4
-number_counted fake arrow = 5
-
-abbrev pub cell_number : Cell → ℕ
-cell_number x = number_counted (effects_of x).counted (effects_of x).arrow
-
 -- what a cell asks
 pub record CellFits (at : CellAt) (l : List ℕ) : Type 0 where
   pub depth : at.depth < 4294967295
   pub object_depth : at.object_depth < 4294967295
   pub ready : CellReady l at.head at.count at.row at.column
 
--- a cell with these effects, counted as k, has been walked
-pub record CellWalked (h o : DepthEffect) (n : NoteEffect) (k : ℕ) (at : CellAt) (l l' : List ℕ) (r : WalkCell) : Type 0 where
+-- a cell with these effects has been walked
+pub record CellWalked (h o : DepthEffect) (n : NoteEffect) (at : CellAt) (l l' : List ℕ) (r : WalkCell) : Type 0 where
   pub depth : r.phantom.depth ≡ phantom_step h at.depth
   pub heads : r.phantom.heads ≡ number_of_bool (is_opening h)
   pub tails : r.phantom.tails ≡ number_of_bool (is_closing h)
@@ -46,24 +30,23 @@ pub record CellWalked (h o : DepthEffect) (n : NoteEffect) (k : ℕ) (at : CellA
   pub object : r.object.object ≡ is_object o at.object_depth
   pub object_depth : r.object.depth ≡ deeper o at.object_depth
   pub noted : CellNoted l at.head at.count at.row at.column n l' r.head r.count r.invalid
-  pub kind : r.kind ≡ k
 
 abbrev pub Blocking : Kind → CellAt → List ℕ → List ℕ → WalkCell → Type 0
-Blocking k = CellWalked depth.TheVariants.Blocks depth.TheVariants.Blocks (Single k) (number_of_kind k)
+Blocking k = CellWalked depth.TheVariants.Blocks depth.TheVariants.Blocks (Single k)
 
 abbrev pub Lower : Kind → CellAt → List ℕ → List ℕ → WalkCell → Type 0
-Lower k = CellWalked depth.TheVariants.Nothing depth.TheVariants.Nothing (Single k) (number_of_kind k)
+Lower k = CellWalked depth.TheVariants.Nothing depth.TheVariants.Nothing (Single k)
 
 abbrev pub Opening : Kind → CellAt → List ℕ → List ℕ → WalkCell → Type 0
-Opening k = CellWalked depth.TheVariants.Opens depth.TheVariants.Opens (Head k) (number_of_kind k)
+Opening k = CellWalked depth.TheVariants.Opens depth.TheVariants.Opens (Head k)
 
 abbrev pub Closing : CellAt → List ℕ → List ℕ → WalkCell → Type 0
-Closing = CellWalked depth.TheVariants.Closes depth.TheVariants.Closes Closes 6
+Closing = CellWalked depth.TheVariants.Closes depth.TheVariants.Closes Closes
 
 abbrev pub Unnoted : CellAt → ObjectCell → WalkCell → Type 0
 Unnoted at x r =
     (o : DepthEffect) (l : List ℕ) → x.object ≡ is_object o at.object_depth → x.depth ≡ deeper o at.object_depth
-    → CellWalked depth.TheVariants.Nothing o Nothing 6 at l l r
+    → CellWalked depth.TheVariants.Nothing o Nothing at l l r
 
 abbrev pub ByteWalked : ℕ → CellAt → List ℕ → List ℕ → WalkCell → Type 0
-ByteWalked b = CellWalked (hold_at b) (object_at b) (effect_at b) (cell_number (cell_of b))
+ByteWalked b = CellWalked (hold_at b) (object_at b) (effect_at b)

@@ -4,8 +4,6 @@ use Rattle.definitions.specs.Sizes.{count_bound}
 use Rattle.definitions.specs.Lists.{number_of_bool}
 use Rattle.definitions.specs.Lines.{Row}
 use Rattle.definitions.specs.Cells.{cell_of, is_arrow}
-use Rattle.definitions.specs.Tracker.{hold_at}
-use Rattle.definitions.specs.Correction.{is_closing}
 use Rattle.definitions.specs.Tally.{row_sum}
 use Rattle.taps.specs.Taps.{bit, FreeAre}
 use Rattle.phantoms.specs.declared.Phantoms.{Phantoms}
@@ -17,7 +15,6 @@ use Rattle.row_tally.specs.Sums.{sum_with_cell}
 use Rattle.row_notes.specs.declared.ChartNotesScratch.{ChartNotesScratch}
 use Rattle.row_notes.specs.Writer.{no_head}
 use Rattle.row_notes.specs.Written.{Written, RecordRoom}
-use Rattle.row_walk.specs.Cells.{cell_number}
 use Rattle.row_walk.specs.declared.cell_walk.CellAt.{CellAt}
 use Rattle.row_walk.specs.declared.cell_walk.WalkCell.{WalkCell}
 use Rattle.row_walk.specs.declared.Columns.{Columns}
@@ -44,13 +41,13 @@ pub record ColumnPut (k : Columns) (c : ℕ) (w : WalkCell) (r : Columns) : Type
   pub heads : r.hold_heads ≡ set k.hold_heads c w.head
   pub busy : Marked k.busy c (is_used w) r.busy
 
--- a cell has been seen in a column of direction d
-pub record CellSeen (s : Seen) (d : ℕ) (w : WalkCell) (r : Seen) : Type 0 where
+-- the cell b has been seen in a column of direction d
+pub record CellSeen (s : Seen) (d b : ℕ) (w : WalkCell) (r : Seen) : Type 0 where
   pub heads : r.marks.heads ≡ s.marks.heads + w.phantom.heads
   pub tails : r.marks.tails ≡ s.marks.tails + w.phantom.tails
   pub met : r.marks.met ≡ (s.marks.met || w.phantom.met)
   pub invalid : r.marks.invalid ≡ (s.marks.invalid || w.invalid)
-  pub sum : (b : ℕ) → w.kind ≡ cell_number (cell_of b) → w.phantom.tails ≡ number_of_bool (is_closing (hold_at b)) → r.sum ≡ sum_with_cell s.sum d (cell_of b) (is_arrow (cell_of b))
+  pub sum : r.sum ≡ sum_with_cell s.sum d (cell_of b) (is_arrow (cell_of b))
   pub count : r.count ≡ w.count
   pub object : r.object ≡ (s.object || w.object.object)
 

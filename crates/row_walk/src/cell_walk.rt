@@ -1,15 +1,8 @@
 // One cell of a row that is not ordinary: what it does to the phantom depth, the object depth and the notes of its column, told by one match
 // over the letters.
-ghost use Rattle.std.specs.Prelude.{◌≡◌, ℕ, ◌≤◌};
-ghost use Rattle.definitions.specs.Lists.{number_of_bool};
-ghost use Rattle.definitions.specs.Cells.{cell_of, is_arrow};
-ghost use Rattle.definitions.specs.Tracker.{hold_at};
-ghost use Rattle.definitions.specs.Correction.{is_closing};
-ghost use Rattle.row_tally.specs.Bounds.{Under};
-ghost use Rattle.row_tally.specs.Sums.{sum_with_cell};
-ghost use Rattle.row_walk.specs.Cells.{cell_number, CellFits, Blocking, Lower, Opening, Closing, Unnoted, ByteWalked};
+ghost use Rattle.row_walk.specs.Cells.{CellFits, Blocking, Lower, Opening, Closing, Unnoted, ByteWalked};
 
-use definitions::{Cell, Kind, RowSum};
+use definitions::{Cell, Kind};
 use objects::ObjectCell;
 use phantoms::PhantomCell;
 
@@ -24,8 +17,7 @@ pub struct CellAt {
     pub column: usize,
 }
 
-/// What a cell leaves: its phantom and its object depth, the open head of its column, the number of records, whether it dropped one, and the
-/// number of the kind that it is counted as.
+/// What a cell leaves: its phantom and its object depth, the open head of its column, the number of records, and whether it dropped one.
 #[derive(Clone, Copy)]
 pub struct WalkCell {
     pub phantom: PhantomCell,
@@ -33,11 +25,7 @@ pub struct WalkCell {
     pub head: u32,
     pub count: usize,
     pub invalid: bool,
-    pub kind: u8,
 }
-
-// A kind's number where a cell is counted as none.
-const NO_KIND: u8 = 6;
 
 // A 1, M, L or F.
 fn walk_blocking(at: CellAt, kind: Kind, slots: &mut [u8]) -> WalkCell
@@ -59,7 +47,6 @@ fn walk_blocking(at: CellAt, kind: Kind, slots: &mut [u8]) -> WalkCell
         head: row_notes::NO_HEAD,
         count: at.count + 1,
         invalid: at.head != row_notes::NO_HEAD,
-        kind: note_records::kind_number(kind),
     }
 }
 
@@ -83,7 +70,6 @@ fn walk_lower(at: CellAt, kind: Kind, slots: &mut [u8]) -> WalkCell
         head: row_notes::NO_HEAD,
         count: at.count + 1,
         invalid: at.head != row_notes::NO_HEAD,
-        kind: note_records::kind_number(kind),
     }
 }
 
@@ -107,7 +93,6 @@ fn walk_opening(at: CellAt, kind: Kind, slots: &mut [u8]) -> WalkCell
         head: at.count as u32,
         count: at.count + 1,
         invalid: at.head != row_notes::NO_HEAD,
-        kind: note_records::kind_number(kind),
     }
 }
 
@@ -131,7 +116,6 @@ fn walk_closing(at: CellAt, slots: &mut [u8]) -> WalkCell
         head: row_notes::NO_HEAD,
         count: at.count,
         invalid: false,
-        kind: NO_KIND,
     }
 }
 
@@ -150,7 +134,6 @@ fn walk_unnoted(at: CellAt, object: ObjectCell) -> WalkCell
         head: at.head,
         count: at.count,
         invalid: false,
-        kind: NO_KIND,
     }
 }
 
@@ -188,29 +171,5 @@ pub fn walk_cell(b: u8, at: CellAt, slots: &mut [u8]) -> WalkCell
                 },
             )
         }
-    }
-}
-
-/// A row's sum with a cell of this kind more in a column of a direction, or so many tails.
-pub fn count_kind(s: RowSum, direction: usize, kind: u8, tails: u32) -> RowSum
-    requires row_sum { Under 10 s }
-    requires one_tail { tails ≤ 1 }
-    ensures { (b : ℕ) → kind ≡ cell_number (cell_of b)
-        → tails ≡ number_of_bool (is_closing (hold_at b))
-        → result ≡ sum_with_cell s direction (cell_of b) (is_arrow (cell_of b)) }
-{
-    let arrow = kind < 3;
-    RowSum {
-        arrows: s.arrows + u32::from(arrow),
-        left: s.left + u32::from(arrow & (direction == 0)),
-        down: s.down + u32::from(arrow & (direction == 1)),
-        up: s.up + u32::from(arrow & (direction == 2)),
-        right: s.right + u32::from(arrow & (direction == 3)),
-        holds: s.holds + u32::from(kind == 1),
-        rolls: s.rolls + u32::from(kind == 2),
-        tails: s.tails + tails,
-        mines: s.mines + u32::from(kind == 3),
-        lifts: s.lifts + u32::from(kind == 4),
-        fakes: s.fakes + u32::from(kind == 5),
     }
 }

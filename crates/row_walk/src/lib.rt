@@ -3,7 +3,7 @@
 
 pub mod cell_walk;
 
-ghost use Rattle.std.specs.Prelude.{◌≡◌, ◌+◌, ◌≤◌, ◌<◌};
+ghost use Rattle.std.specs.Prelude.{◌≡◌, ◌+◌, ◌<◌};
 ghost use Rattle.row_tally.specs.Bounds.{Under};
 ghost use Rattle.row_walk.specs.Rows.{Marked, cell_at, ColumnPut, CellSeen, CellsReady, RowWalked};
 
@@ -40,19 +40,18 @@ pub struct Seen {
 }
 
 impl Seen {
-    // One cell more, in a column of a direction.
-    fn add_cell(&mut self, direction: usize, w: WalkCell)
+    // One cell more, in a column of a direction, that was walked to this.
+    fn add_cell(&mut self, direction: usize, b: u8, w: WalkCell)
         requires row_sum { Under 10 self.old.sum }
-        requires one_tail { w.phantom.tails ≤ 1 }
         requires heads_bound { self.old.marks.heads + w.phantom.heads < 4294967296 }
         requires tails_bound { self.old.marks.tails + w.phantom.tails < 4294967296 }
-        ensures { CellSeen self.old direction w self.new }
+        ensures { CellSeen self.old direction b w self.new }
     {
         self.marks.heads += w.phantom.heads;
         self.marks.tails += w.phantom.tails;
         self.marks.met |= w.phantom.met;
         self.marks.invalid |= w.invalid;
-        self.sum = cell_walk::count_kind(self.sum, direction, w.kind, w.phantom.tails);
+        self.sum = row_tally::sum_cell(self.sum, direction, b);
         self.count = w.count;
         self.object |= w.object.object;
     }
@@ -124,7 +123,7 @@ impl Columns {
                 _ => {
                     let w = cell_walk::walk_cell(b, self.cell(i, s.count, number), slots);
                     self.put(i, w);
-                    s.add_cell(direction(row.len(), i), w);
+                    s.add_cell(direction(row.len(), i), b, w);
                 }
             }
             i += 1;

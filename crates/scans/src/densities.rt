@@ -2,8 +2,10 @@
 ghost use Rattle.std.specs.Prelude.{◌≡◌, ◌+◌, ◌/◌, ◌≤◌, length};
 ghost use Rattle.definitions.specs.Sizes.{most_bytes};
 ghost use Rattle.definitions.specs.Lists.{padded};
+ghost use Rattle.definitions.specs.Lanes.{lanes_of};
+ghost use Rattle.definitions.specs.Refusals.{leaves};
 ghost use Rattle.definitions.specs.Figures.{densities as densities_of};
-ghost use Rattle.definitions.specs.Entries.{measures_answer, densities_left};
+ghost use Rattle.definitions.specs.Entries.{measures_answer};
 
 use definitions::{Lanes, Refusal};
 use reader::charts::ChartLine;
@@ -39,7 +41,8 @@ fn fill_densities(data: &[u8], lanes: Lanes, densities: &mut [u32]) -> usize
 #[tactic(auto, using(crate::proofs::Raw::densities_count), unfolding(definitions::specs::Entries::measures_answer))]
 pub fn measure_densities(data: &[u8], lanes: usize, densities: &mut [u32]) -> Result<usize, Refusal>
     ensures value { result ≡ measures_answer lanes «data».now densities.old }
-    ensures densities_after { densities.new ≡ densities_left lanes «data».now densities.old }
+    ensures densities_after { densities.new
+        ≡ leaves 0 result (densities_of (lanes_of lanes) «data».now) densities.old }
 {
     let len = data.len();
     refusals::text_fits(len)?;

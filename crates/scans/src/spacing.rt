@@ -2,10 +2,12 @@
 ghost use Rattle.std.specs.Prelude.{◌≡◌, List, [], ◌∷◌, ◌++◌, ◌+◌, ◌/◌, ◌≤◌, ◌<◌, length};
 ghost use Rattle.definitions.specs.Sizes.{most_bytes, row_numbers_bound};
 ghost use Rattle.definitions.specs.Lists.{padded};
+ghost use Rattle.definitions.specs.Lanes.{lanes_of};
+ghost use Rattle.definitions.specs.Refusals.{leaves};
 ghost use Rattle.definitions.specs.Lines.{Row};
 ghost use Rattle.definitions.specs.Reduction.{reduce};
 ghost use Rattle.definitions.specs.Figures.{spacing as spacing_of, spacings};
-ghost use Rattle.definitions.specs.Entries.{measures_answer, spacings_left};
+ghost use Rattle.definitions.specs.Entries.{measures_answer};
 ghost use Rattle.scans.specs.Spaces.{Spaces};
 
 use definitions::{Lanes, Refusal};
@@ -96,7 +98,8 @@ pub fn fill_spacing(data: &[u8], lanes: Lanes, spacing: &mut [u8]) -> usize
 #[tactic(auto, using(crate::proofs::Raw::spacings_count), unfolding(definitions::specs::Entries::measures_answer))]
 pub fn equally_spaced_impl(data: &[u8], lanes: usize, spacing: &mut [u8]) -> Result<usize, Refusal>
     ensures value { result ≡ measures_answer lanes «data».now spacing.old }
-    ensures spacing_after { spacing.new ≡ spacings_left lanes «data».now spacing.old }
+    ensures spacing_after { spacing.new
+        ≡ leaves 0 result (spacings (lanes_of lanes) «data».now) spacing.old }
 {
     let len = data.len();
     refusals::text_fits(len)?;

@@ -8,7 +8,7 @@ use Rattle.taps.specs.Taps.{mask_of_line, masks}
 use Rattle.taps.specs.declared.Taps.TheVariants.{Mask}
 use Rattle.row_tally.specs.Bounds.{Below}
 use Rattle.row_notes.specs.declared.ChartNotesScratch.{ChartNotesScratch}
-use Rattle.row_notes.specs.Written.{Written, MaskFits, SomeMask, after_taps}
+use Rattle.row_notes.specs.Written.{Written, MaskFits, MaskReady, after_taps}
 use Rattle.row_walk.specs.declared.Columns.{Columns}
 use Rattle.measure_tally.specs.declared.Counting.{Counting}
 use Rattle.measure_tally.specs.Counted.{Counted, CountsOn}
@@ -21,7 +21,7 @@ pub record TapsReady (r : Run) (mask : ℕ) (wide : Bool) (l : List ℕ) : Type 
   pub few : Below count_bound r.stats
   pub rows : r.row < row_count_bound
   pub fits : mask < masks wide
-  pub some : SomeMask r.row r.count mask l
+  pub ready : MaskReady r.row r.count mask l
 
 pub record TapsAdded (r : Run) (mask : ℕ) (l l' : List ℕ) (t : Run) : Type 0 where
   pub marks : t.marks ≡ r.marks

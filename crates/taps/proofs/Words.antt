@@ -5,17 +5,26 @@ use mathlib.Core.List.{[], ◌∷◌, ◌++◌}
 use Prim.Native.Nat.{ℕ, zero, suc, ◌+◌, ◌*◌, ◌-◌, ◌/◌, ◌%◌, ◌^◌, ◌<◌, ◌≤◌}
 use native.Mathlib.Omega.{arith}
 use borrow.Author.Tests.{eqb-true, eq-eqb}
-use lib.Bits.{bit_and, and_block, and_le_l, and_le_r}
+use lib.Bits.{bit_and, and_block, and_le_r}
 use lib.Dec.{eqb, lit<}
-use lib.ListN.{length, get_or, take, drop, length-append, length-drop, take-append-drop}
+use lib.ListN.{length, get_or, take, drop, length-drop, take-append-drop, replicate}
 use lib.Seq.{get_or-drop, length-take-le}
 use Rattle.definitions.specs.Lines.{Row}
 use Rattle.lines.specs.Words.{half_word_at, word_of, Bytes}
-use Rattle.taps.specs.Taps.{number_of, Tells, with_bit, tap_mask, zero_cells, spread_bits, spread, BitsPlaced, mask_counts}
+use Rattle.taps.specs.Taps.{number_of, Tells, with_bit, tap_mask, mask_counts}
 use Rattle.taps.specs.declared.Taps.{Taps}
 use Rattle.taps.specs.declared.Taps.TheVariants.{Mask, Other}
 use Rattle.taps.proofs.Tables.{same_at}
-use Rattle.taps.proofs.Masks.{parts, mask_lt, mask-few, beside, mask_append, sides}
+use Rattle.taps.proofs.Masks.{parts, mask_lt, mask-few, beside, mask_append}
+
+-- n cells `0`
+abbrev zero_cells : ℕ → Row
+zero_cells n = replicate n 48
+
+-- the lowest k bits of a mask, each in a byte of its own
+abbrev spread_bits : ℕ → ℕ → ℕ
+spread_bits zero m = 0
+spread_bits (suc k) m = m % 2 + 256 * spread_bits k (m / 2)
 
 -- ---- a byte
 
@@ -108,83 +117,57 @@ word-bits (suc k) (b ∷ l) m n e =
     let rest = word-bits k l s.rest (omega arith) s.after in
     omega (arith, s.byte, low, rest, ap (spread_bits k) high)
 
--- ---- four cells and those after them
+-- ---- four cells and eight
 
-word-append : (a b : Row) → length a ≡ 4 → word_of (a ++ b) ≡ word_of a + word_of b * 4294967296
+zeros-four : word_of (zero_cells 4) ≡ 808464432
 unfolding word_of
-word-append [] b e = absurd (omega arith)
-word-append (p ∷ []) b e = absurd (omega arith)
-word-append (p ∷ q ∷ []) b e = absurd (omega arith)
-word-append (p ∷ q ∷ r ∷ []) b e = absurd (omega arith)
-word-append (p ∷ q ∷ r ∷ s ∷ []) b e = omega arith
-word-append (p ∷ q ∷ r ∷ s ∷ t ∷ a) b e = absurd (omega arith)
+zeros-four = refl
 
-zeros-append : (a b : Row) → length a ≡ 4 → word_of (zero_cells (length (a ++ b))) ≡ 808464432 + word_of (zero_cells (length b)) * 4294967296
+zeros-eight : word_of (zero_cells 8) ≡ 3472328296227680304
 unfolding word_of
-zeros-append [] b e = absurd (omega arith)
-zeros-append (p ∷ []) b e = absurd (omega arith)
-zeros-append (p ∷ q ∷ []) b e = absurd (omega arith)
-zeros-append (p ∷ q ∷ r ∷ []) b e = absurd (omega arith)
-zeros-append (p ∷ q ∷ r ∷ s ∷ []) b e = omega arith
-zeros-append (p ∷ q ∷ r ∷ s ∷ t ∷ a) b e = absurd (omega arith)
+zeros-eight = refl
 
-zeros-four : (l : Row) → length l ≡ 4 → word_of (zero_cells (length l)) ≡ 808464432
-unfolding word_of
-zeros-four l h = ap (λ n. word_of (zero_cells n)) h
+-- the bits of a mask of four, or of two masks of four, beside each other: tested for all
+gathered-four : (m : ℕ) → m < 16 → spread_bits 4 m * 16909320 / 16777216 % 256 ≡ m
+gathered-four m h = same_at (λ n. spread_bits 4 n * 16909320 / 16777216 % 256) (λ n. n) 16 refl m h
 
-bytes-append : (a b : Row) → Bytes a → Bytes b → Bytes (a ++ b)
-bytes-append [] b x y = y
-bytes-append (p ∷ a) b x y = (x.0, bytes-append a b x.1 y)
+gathered-eight : (m : ℕ) → m < 256 → (spread_bits 4 m + 16 * spread_bits 4 (m / 2 / 2 / 2 / 2)) * 16909320 / 16777216 % 256 ≡ m
+gathered-eight m h = same_at (λ n. (spread_bits 4 n + 16 * spread_bits 4 (n / 2 / 2 / 2 / 2)) * 16909320 / 16777216 % 256) (λ n. n) 256 refl m h
 
--- the bits of two masks of four, beside each other: tested for all
-pub gathered : (lo hi : ℕ) → lo < 16 → hi < 16 → (spread lo + 16 * spread hi) * 16909320 / 16777216 % 256 ≡ lo + 16 * hi
-unfolding spread
-gathered lo hi h k =
-    let m = lo + 16 * hi in
-    let low : m % 16 ≡ lo = omega arith in
-    let high : m / 16 ≡ hi = omega arith in
-    rw (low, high) at
-    (same_at (λ n. (spread (n % 16) + 16 * spread (n / 16)) * 16909320 / 16777216 % 256) (λ n. n) 256 refl (lo + 16 * hi) (omega arith))
+-- k cells by their word: where it passes, its bits are a mask
+record Bits (k w : ℕ) (l : Row) : Type 0 where
+  mask : ℕ
+  told : tap_mask l ≡ Mask mask
+  few : mask < 2 ^ k
+  bits : w ≡ word_of (zero_cells k) + spread_bits k mask
 
--- a word that passes is no less than that of the zeros
-pub halves-pass : (first second zeros : ℕ) → first < 4294967296
-    → bit_and (first + second * 4294967296) 18374403900871474942 ≡ 808464432 + zeros * 4294967296 → (808464432 ≤ first) × (zeros ≤ second)
-halves-pass first second zeros h e =
-    let turned : first + second * 4294967296 ≡ second * 2 ^ 32 + first = omega arith in
-    let parts = ap (λ w. bit_and w 18374403900871474942) turned ∙ and_block 32 second 4278124286 first 4278124286 h (lit< tt) in
-    let low = and_le_l first 4278124286 in
-    let high = and_le_l second 4278124286 in
-    (omega (arith, e, parts, low, high), omega (arith, e, parts, low, high))
+module _ (k : ℕ) (l : Row) (long : length l ≡ k) (w : ℕ) (word : word_of l ≡ w) where
+  zeros : word_of (zero_cells (length l)) ≡ word_of (zero_cells k)
+  zeros = ap (λ n. word_of (zero_cells n)) long
 
-module _ (a b : Row) (four : length a ≡ 4) (few : length b ≤ 4) where
-  short : length (a ++ b) ≤ 8
-  short = omega (arith, length-append a b)
+  cells-bits : Bytes l → bit_and w (evens k) ≡ word_of (zero_cells k) → Bits k w l
+  cells-bits small e =
+      let p = word-passed k l small (omega (arith, long)) (ap (λ v. bit_and v (evens k)) word ∙ e ∙ sym zeros) in
+      record {
+        mask = p.mask;
+        told = p.told;
+        few = mask-few k l p.mask (omega (arith, long)) p.told;
+        bits = sym word ∙ word-bits k l p.mask (omega (arith, long)) p.told ∙ ap (λ z. z + spread_bits k p.mask) zeros;
+      }
 
-  -- where the word passes, its bits are the mask
-  pub cells-mask : Bytes a → Bytes b
-      → bit_and (word_of a + word_of b * 4294967296) 18374403900871474942 ≡ 808464432 + word_of (zero_cells (length b)) * 4294967296
-      → (r : ℕ) → ((lo hi : ℕ) → lo < 16 → hi < 16 → word_of a - 808464432 + 16 * (word_of b - word_of (zero_cells (length b))) ≡ spread lo + 16 * spread hi → r ≡ lo + 16 * hi)
-      → Mask r ≡ tap_mask (a ++ b)
-  unfolding spread
-  cells-mask x y e r g =
-      let k = word-passed 8 (a ++ b) (bytes-append a b x y) short (ap (λ w. bit_and w 18374403900871474942) (word-append a b four) ∙ e ∙ sym (zeros-append a b four)) in
-      let s = sides 4 (tap_mask a) (tap_mask b) k.mask (sym (mask_append a b ∙ ap (λ n. beside n (tap_mask a) (tap_mask b)) four) ∙ k.told) in
-      let p = word-bits 4 a s.lo (omega arith) s.first in
-      let z = zeros-four a four in
-      let q = word-bits 4 b s.hi few s.second in
-      let same : r ≡ s.lo + 16 * s.hi = g s.lo s.hi (mask-few 4 a s.lo (omega arith) s.first) (mask-few 4 b s.hi few s.second) (omega (arith, p, z, q)) in
-      ap Mask (omega (arith, same, s.whole)) ∙ sym k.told
-
-  pub cells-other : (bit_and (word_of a + word_of b * 4294967296) 18374403900871474942 ≡ 808464432 + word_of (zero_cells (length b)) * 4294967296 → ⊥)
-      → Other ≡ tap_mask (a ++ b)
-  cells-other n = go (tap_mask (a ++ b)) refl
+  -- where it does not, there is none
+  cells-other : (bit_and w (evens k) ≡ word_of (zero_cells k) → ⊥) → 65536 ≡ number_of (tap_mask l)
+  cells-other fails = go (tap_mask l) refl
     where
-      go : (t : Taps) → tap_mask (a ++ b) ≡ t → Other ≡ t
+      go : (t : Taps) → tap_mask l ≡ t → 65536 ≡ number_of t
       go Other e = refl
-      go (Mask m) e =
-          absurd (n (ap (λ w. bit_and w 18374403900871474942) (sym (word-append a b four)) ∙ word-passes 8 (a ++ b) m short e ∙ zeros-append a b four))
+      go (Mask m) e = absurd (fails (ap (λ v. bit_and v (evens k)) (sym word) ∙ word-passes k l m (omega (arith, long)) e ∙ zeros))
 
 -- ---- one or two cells after others
+
+-- A product by `factor` sets the bits of k cells, of which `zeros` is the word where all are `0`, from place n on: `places` has these bits.
+abbrev pub BitsPlaced : ℕ → ℕ → ℕ → ℕ → ℕ → Type 0
+BitsPlaced zeros factor places n k = (m : ℕ) → m < 2 ^ k → bit_and ((zeros + spread_bits 2 m) * factor) places ≡ 2 ^ n * m
 
 module _ (a b : Row) (few : length b ≤ 2) (n zeros factor places : ℕ) (told : n ≡ number_of (tap_mask a)) (z : zeros ≡ word_of (zero_cells (length b))) where
   -- where their word passes, their bits stand after those of the others
@@ -221,7 +204,7 @@ bytes_drop zero l h = h
 bytes_drop (suc n) [] h = tt
 bytes_drop (suc n) (x ∷ l) h = bytes_drop n l h.1
 
-first-four : (l : Row) → 4 ≤ length l → word_of (take 4 l) ≡ get_or l 0 0 + get_or l 1 0 * 256 + get_or l 2 0 * 65536 + get_or l 3 0 * 16777216
+first-four : (l : Row) → 4 ≤ length l → word_of (take 4 l) ≡ half_word_at l 0
 unfolding word_of
 first-four [] h = absurd (omega arith)
 first-four (a ∷ []) h = absurd (omega arith)
@@ -229,12 +212,51 @@ first-four (a ∷ b ∷ []) h = absurd (omega arith)
 first-four (a ∷ b ∷ c ∷ []) h = absurd (omega arith)
 first-four (a ∷ b ∷ c ∷ d ∷ l) h = omega arith
 
--- the four bytes from i on
-pub half-word : (r : Row) (i : ℕ) → 4 ≤ length (drop i r) → half_word_at r i ≡ word_of (take 4 (drop i r))
-half-word r i h =
-    let here : i + 0 ≡ i = omega arith in
-    let p : get_or (drop i r) 0 0 ≡ get_or r i 0 = get_or-drop i r 0 0 ∙ ap (λ k. get_or r k 0) here in
-    omega (arith, first-four (drop i r) h, p, get_or-drop i r 1 0, get_or-drop i r 2 0, get_or-drop i r 3 0)
+eight-word : (l : Row) → 8 ≤ length l → word_of (take 8 l) ≡ half_word_at l 0 + half_word_at l 4 * 4294967296
+unfolding word_of
+eight-word [] h = absurd (omega arith)
+eight-word (a ∷ []) h = absurd (omega arith)
+eight-word (a ∷ b ∷ []) h = absurd (omega arith)
+eight-word (a ∷ b ∷ c ∷ []) h = absurd (omega arith)
+eight-word (a ∷ b ∷ c ∷ d ∷ []) h = absurd (omega arith)
+eight-word (a ∷ b ∷ c ∷ d ∷ p ∷ []) h = absurd (omega arith)
+eight-word (a ∷ b ∷ c ∷ d ∷ p ∷ q ∷ []) h = absurd (omega arith)
+eight-word (a ∷ b ∷ c ∷ d ∷ p ∷ q ∷ r ∷ []) h = absurd (omega arith)
+eight-word (a ∷ b ∷ c ∷ d ∷ p ∷ q ∷ r ∷ s ∷ l) h = omega arith
+
+-- a row's first four cells by their word
+module _ (r : Row) (h : 4 ≤ length r) (w : ℕ) (e : w ≡ half_word_at r 0) where
+  pub four-mask : Bytes r → bit_and w 4278124286 ≡ 808464432 → (w - 808464432) * 16909320 / 16777216 % 256 ≡ number_of (tap_mask (take 4 r))
+  four-mask small p =
+      let B = cells-bits 4 (take 4 r) (length-take-le 4 r h) w (first-four r h ∙ sym e) (bytes_take 4 r small) (p ∙ sym zeros-four) in
+      let bits : w - 808464432 ≡ spread_bits 4 B.mask = omega (arith, B.bits, zeros-four) in
+      ap (λ v. v * 16909320 / 16777216 % 256) bits ∙ gathered-four B.mask B.few ∙ ap number_of (sym B.told)
+
+  pub four-other : (bit_and w 4278124286 ≡ 808464432 → ⊥) → 65536 ≡ number_of (tap_mask (take 4 r))
+  four-other fails = cells-other 4 (take 4 r) (length-take-le 4 r h) w (first-four r h ∙ sym e) (λ p. fails (p ∙ zeros-four))
+
+-- and its first eight, by two words of four
+module _ (r : Row) (h : 8 ≤ length r) (small : Bytes r) (a b : ℕ) (ea : a ≡ half_word_at r 0) (eb : b ≡ half_word_at r 4) (low-a : a < 4294967296) (low-b : b < 4294967296) where
+  all-eight : length (take 8 r) ≡ 8
+  all-eight = length-take-le 8 r h
+
+  two-halves : word_of (take 8 r) ≡ a + b * 4294967296
+  two-halves = eight-word r h ∙ rw (ea, eb) refl
+
+  pub least-eight : bit_and (a + b * 4294967296) 18374403900871474942 ≡ 3472328296227680304 → (808464432 ≤ a) × (808464432 ≤ b)
+  least-eight p =
+      let B = cells-bits 8 (take 8 r) all-eight (a + b * 4294967296) two-halves (bytes_take 8 r small) (p ∙ sym zeros-eight) in
+      (omega (arith, B.bits, zeros-eight), omega (arith, B.bits, zeros-eight))
+
+  pub eight-mask : bit_and (a + b * 4294967296) 18374403900871474942 ≡ 3472328296227680304
+      → (a - 808464432 + 16 * (b - 808464432)) * 16909320 / 16777216 % 256 ≡ number_of (tap_mask (take 8 r))
+  eight-mask p =
+      let B = cells-bits 8 (take 8 r) all-eight (a + b * 4294967296) two-halves (bytes_take 8 r small) (p ∙ sym zeros-eight) in
+      let bits : a - 808464432 + 16 * (b - 808464432) ≡ spread_bits 4 B.mask + 16 * spread_bits 4 (B.mask / 2 / 2 / 2 / 2) = omega (arith, B.bits, zeros-eight) in
+      ap (λ v. v * 16909320 / 16777216 % 256) bits ∙ gathered-eight B.mask B.few ∙ ap number_of (sym B.told)
+
+  pub eight-other : (bit_and (a + b * 4294967296) 18374403900871474942 ≡ 3472328296227680304 → ⊥) → 65536 ≡ number_of (tap_mask (take 8 r))
+  eight-other fails = cells-other 8 (take 8 r) all-eight (a + b * 4294967296) two-halves (λ p. fails (p ∙ zeros-eight))
 
 -- a row's last byte, and its last two, from i on
 pub one_word : (r : Row) (i : ℕ) → length r ≡ i + 1 → get_or r i 0 ≡ word_of (drop i r)
@@ -261,24 +283,44 @@ two-word r i h =
     go (x ∷ y ∷ []) e = omega arith
     go (x ∷ y ∷ z ∷ l) e = absurd (omega arith)
 
--- a row as its first n cells and the k after them
-pub rest_of : (r : Row) (n k : ℕ) → length r ≡ n + k → k ≤ 2 → (factor places v : ℕ) → BitsPlaced (word_of (zero_cells k)) factor places n k
-    → (length (drop n r) ≤ 2 → BitsPlaced (word_of (zero_cells k)) factor places (length (take n r)) (length (drop n r)) → word_of (zero_cells k) ≡ word_of (zero_cells (length (drop n r))) → Tells v (tap_mask (take n r ++ drop n r)))
-    → Tells v (tap_mask r)
-rest_of r n k h few factor places v placed go =
-    let long : length (take n r) ≡ n = length-take-le n r (omega arith) in
-    let short : length (drop n r) ≡ k = omega (arith, length-drop n r) in
-    let after : BitsPlaced (word_of (zero_cells k)) factor places n (length (drop n r)) = subst (BitsPlaced (word_of (zero_cells k)) factor places n) (sym short) placed in
-    subst (λ l. Tells v (tap_mask l)) (take-append-drop n r)
-    (go (omega arith) (subst (λ i. BitsPlaced (word_of (zero_cells k)) factor places i (length (drop n r))) (sym long) after) (ap (λ l. word_of (zero_cells l)) (sym short)))
+-- a row as its first n cells, of which v tells the mask, and the k after them, whose word is w
+module _ (r : Row) (n k : ℕ) (h : length r ≡ n + k) (few : k ≤ 2) (v w : ℕ) (told : v ≡ number_of (tap_mask (take n r))) (word : w ≡ word_of (drop n r)) where
+  long : length (take n r) ≡ n
+  long = length-take-le n r (omega arith)
+
+  short : length (drop n r) ≡ k
+  short = omega (arith, length-drop n r)
+
+  zeros-there : word_of (zero_cells k) ≡ word_of (zero_cells (length (drop n r)))
+  zeros-there = ap (λ l. word_of (zero_cells l)) (sym short)
+
+  pub rest-told : Bytes r → (zeros factor places : ℕ) → zeros ≡ word_of (zero_cells k) → BitsPlaced zeros factor places n k → bit_and w 65278 ≡ zeros
+      → Tells (v + bit_and (w * factor) places) (tap_mask r)
+  rest-told small zeros factor places z placed e =
+      let after : BitsPlaced zeros factor places n (length (drop n r)) = subst (BitsPlaced zeros factor places n) (sym short) placed in
+      let there : BitsPlaced zeros factor places (length (take n r)) (length (drop n r)) = subst (λ i. BitsPlaced zeros factor places i (length (drop n r))) (sym long) after in
+      subst (λ l. Tells (v + bit_and (w * factor) places) (tap_mask l)) (take-append-drop n r)
+      (subst (λ x. Tells (v + bit_and (x * factor) places) (tap_mask (take n r ++ drop n r))) (sym word)
+      (rest-mask (take n r) (drop n r) (omega (arith, short)) v zeros factor places told (z ∙ zeros-there) (bytes_drop n r small) (ap (λ x. bit_and x 65278) (sym word) ∙ e) there))
+
+  pub rest-none : (zeros : ℕ) → zeros ≡ word_of (zero_cells k) → (bit_and w 65278 ≡ zeros → ⊥) → Tells 65536 (tap_mask r)
+  rest-none zeros z fails =
+      subst (λ l. Tells 65536 (tap_mask l)) (take-append-drop n r)
+      (rest-other (take n r) (drop n r) (omega (arith, short)) v zeros 0 0 told (z ∙ zeros-there) (λ e. fails (ap (λ x. bit_and x 65278) word ∙ e)))
 
 -- where the bits of one cell after four, and of two after eight, are put
-pub fifth-placed : BitsPlaced (word_of (zero_cells 1)) 16 16 4 1
+pub one-zero : 48 ≡ word_of (zero_cells 1)
 unfolding word_of
+one-zero = refl
+
+pub two-zeros : 12336 ≡ word_of (zero_cells 2)
+unfolding word_of
+two-zeros = refl
+
+pub fifth-placed : BitsPlaced 48 16 16 4 1
 fifth-placed m h = same_at (λ n. bit_and ((48 + spread_bits 2 n) * 16) 16) (λ n. 16 * n) 2 refl m h
 
-pub last-placed : BitsPlaced (word_of (zero_cells 2)) 258 768 8 2
-unfolding word_of
+pub last-placed : BitsPlaced 12336 258 768 8 2
 last-placed m h = same_at (λ n. bit_and ((12336 + spread_bits 2 n) * 258) 768) (λ n. 256 * n) 4 refl m h
 
 -- ---- the counts of five columns and five

@@ -1,5 +1,5 @@
 -- Specification, Tap masks: the mask of a row of `0` and `1` alone, and the counts that the table has for it.
-use Rattle.std.specs.Prelude.{Bool, ◌||◌, not, ◌≡◌, List, [], ◌∷◌, ℕ, zero, suc, ◌+◌, ◌*◌, ◌/◌, ◌%◌, ◌^◌, ◌<◌, ◌≤◌, ◌==◌, length, slice_index, if◌then◌else◌, replicate}
+use Rattle.std.specs.Prelude.{Bool, ◌||◌, not, ◌≡◌, List, [], ◌∷◌, ℕ, zero, suc, ◌+◌, ◌*◌, ◌/◌, ◌%◌, ◌^◌, ◌<◌, ◌≤◌, ◌==◌, length, slice_index, if◌then◌else◌}
 use Rattle.std.specs.Int.Bits.{bit_and}
 use Rattle.definitions.specs.Lists.{sum_columns, number_of_bool}
 use Rattle.definitions.specs.Lines.{Row}
@@ -43,24 +43,8 @@ mask_of_line r = if has_mask (length r) then tap_mask r else Other
 abbrev pub wide_row : ℕ → Bool
 wide_row n = not (n == 4 || n == 8)
 
--- n cells `0`
-abbrev pub zero_cells : ℕ → Row
-zero_cells n = replicate n 48
-
--- The lowest k bits of a mask, each in a byte of its own.
-abbrev pub spread_bits : ℕ → ℕ → ℕ
-spread_bits zero m = 0
-spread_bits (suc k) m = m % 2 + 256 * spread_bits k (m / 2)
-
-unfoldable pub spread : ℕ → ℕ
-spread m = spread_bits 4 m
-
 abbrev pub bit : ℕ → ℕ → ℕ
 bit c m = m / 2 ^ c % 2
-
--- A product by `factor` sets the bits of k cells, of which `zeros` is the word where all are `0`, from place n on: `places` has these bits.
-abbrev pub BitsPlaced : ℕ → ℕ → ℕ → ℕ → ℕ → Type 0
-BitsPlaced zeros factor places n k = (m : ℕ) → m < 2 ^ k → bit_and ((zeros + spread_bits 2 m) * factor) places ≡ 2 ^ n * m
 
 -- A row has this mask, and no tap of it stands in a column of `busy`.
 pub record FreeTaps (busy m : ℕ) (r : Row) : Type 0 where

@@ -5,10 +5,8 @@ mod counts;
 mod five_counts;
 mod table;
 
-ghost use Rattle.std.specs.Prelude.{◌≡◌, ◌++◌, ℕ, ◌+◌, ◌*◌, ◌≤◌, ◌<◌, length, take};
-ghost use Rattle.definitions.specs.Lines.{Row};
-ghost use Rattle.lines.specs.Words.{word_of, Bytes};
-ghost use Rattle.taps.specs.Taps.{number_of, Small, Tells, BitsPlaced, tap_mask, mask_of_line, taps_if_free, spread, zero_cells, unlike_mask};
+ghost use Rattle.std.specs.Prelude.{◌≡◌, ◌≤◌, length, take};
+ghost use Rattle.taps.specs.Taps.{number_of, Small, Tells, tap_mask, mask_of_line, taps_if_free, unlike_mask};
 ghost use Rattle.taps.specs.declared.Taps;
 
 use lines::words;
@@ -21,94 +19,65 @@ pub enum Taps {
     Other,
 }
 
-// Eight bits beside each other, out of four bytes with one of the first four in their lowest bit and one of the last four in their fifth: the
-// product has each of them in a place of its own.
-fn gather(x: u64) -> u16
-    requires { x < 137438953472 }
-    ensures value { (lo hi : ℕ) → lo < 16 → hi < 16
-        → x ≡ spread lo + 16 * spread hi → result ≡ lo + 16 * hi }
-    ensures small { result < 256 }
-{
-    (x * 0x0102_0408 / 0x100_0000 % 256) as u16
-}
-
 // The number of cells that have no mask. A mask's own number is below 1024, so one test tells the two, and no row is asked twice.
 const NO_MASK: u32 = 65536;
 
-// The mask of four cells and up to four after them, by one test of all: a byte but for its lowest bit is 48 where it is a `0` or a `1`. The
-// cells are handed over as words, and `zeros` is the second word where all its cells are `0`.
-fn tap_cells(first: u64, second: u64, zeros: u64) -> u32
-    requires first_half { first < 4294967296 }
-    requires second_half { second < 4294967296 }
-    requires zeros_half { zeros < 4294967296 }
-    ensures { (a b : Row) → Bytes a → Bytes b → length a ≡ 4 → length b ≤ 4
-        → first ≡ word_of a → second ≡ word_of b → zeros ≡ word_of (zero_cells (length b))
-        → result ≡ number_of (tap_mask (a ++ b)) }
-{
-    let word = first + second * 0x1_0000_0000;
-    if word & 0xfefe_fefe_fefe_fefe == 0x3030_3030 + zeros * 0x1_0000_0000 {
-        gather(first - 0x3030_3030 + 16 * (second - zeros)) as u32
-    } else {
-        NO_MASK
-    }
-}
-
-// The mask of the first four cells.
+// The mask of the first four cells, by one test of all: a byte but for its lowest bit is 48 where it is a `0` or a `1`. A product puts these bits
+// beside each other.
 fn number4(row: &[u8]) -> u32
     requires { 4 ≤ length row.now }
     ensures { result ≡ number_of (tap_mask (take 4 row.now)) }
 {
-    tap_cells(words::half_at(row, 0), 0, 0)
-}
-
-// The mask of the first eight cells.
-fn number8(row: &[u8]) -> u32
-    requires { 8 ≤ length row.now }
-    ensures { result ≡ number_of (tap_mask (take 8 row.now)) }
-{
-    tap_cells(words::half_at(row, 0), words::half_at(row, 4), 0x3030_3030)
-}
-
-// A mask with one or two cells more, handed over as a word; `zeros` is that word where they are all `0`. A product by `factor` has their bits in
-// the places of `bits`. A number past all masks stays past them.
-fn with_rest(number: u32, rest: u64, zeros: u64, factor: u64, bits: u64) -> u32
-    requires number_known { number ≤ 65536 }
-    requires rest_two { rest < 65536 }
-    requires factor_two { factor < 65536 }
-    requires bits_of_ten { bits < 1024 }
-    ensures { (a b : Row) → Bytes b → length b ≤ 2
-        → number ≡ number_of (tap_mask a) → rest ≡ word_of b → zeros ≡ word_of (zero_cells (length b))
-        → BitsPlaced zeros factor bits (length a) (length b) → Tells result (tap_mask (a ++ b)) }
-{
-    if rest & 0xfefe == zeros {
-        number + (rest * factor & bits) as u32
+    let word = words::half_at(row, 0);
+    if word & 0xfefe_fefe == 0x3030_3030 {
+        ((word - 0x3030_3030) * 0x0102_0408 / 0x100_0000 % 256) as u32
     } else {
         NO_MASK
     }
 }
 
-// The mask of five cells, by that of the first four.
+// The mask of the first eight cells, in the same way: the bits of the second four stand beside those of the first before the product.
+fn number8(row: &[u8]) -> u32
+    requires { 8 ≤ length row.now }
+    ensures { result ≡ number_of (tap_mask (take 8 row.now)) }
+{
+    let first = words::half_at(row, 0);
+    let second = words::half_at(row, 4);
+    let word = first + second * 0x1_0000_0000;
+    if word & 0xfefe_fefe_fefe_fefe == 0x3030_3030_3030_3030 {
+        let bits = first - 0x3030_3030 + 16 * (second - 0x3030_3030);
+        (bits * 0x0102_0408 / 0x100_0000 % 256) as u32
+    } else {
+        NO_MASK
+    }
+}
+
+// The mask of five cells, by that of the first four. A number past all masks stays past them.
 fn number5(row: &[u8], four: u32) -> u32
     requires five_cells { length row.now ≡ 5 }
     requires first_four { four ≡ number_of (tap_mask (take 4 row.now)) }
     ensures { Tells result (tap_mask row.now) }
 {
-    with_rest(four, u64::from(row[4]), 0x30, 16, 0x10)
+    let last = u64::from(row[4]);
+    if last & 0xfefe == 0x30 {
+        four + (last * 16 & 0x10) as u32
+    } else {
+        NO_MASK
+    }
 }
 
-// The mask of ten cells, by that of the first eight.
+// The mask of ten cells, by that of the first eight. A product puts the bits of the last two in their places.
 fn number10(row: &[u8]) -> u32
     requires { length row.now ≡ 10 }
     ensures { Tells result (tap_mask row.now) }
 {
     let eight = number8(row);
-    with_rest(
-        eight,
-        u64::from(row[8]) + u64::from(row[9]) * 0x100,
-        0x3030,
-        0x102,
-        0x300,
-    )
+    let last = u64::from(row[8]) + u64::from(row[9]) * 0x100;
+    if last & 0xfefe == 0x3030 {
+        eight + (last * 0x102 & 0x300) as u32
+    } else {
+        NO_MASK
+    }
 }
 
 // The mask of a row of four, five, eight or ten cells; no other width has masks.

@@ -19,12 +19,12 @@ finish-requires c = record {
 pub returns : goal.returns
 unfolding of_bits of_int
 returns c =
-    λ some told.
-    let x = some.read in
+    λ chart told.
+    let x = chart.read in
     let finished = rw c.scratch.ensures at c.finish-notes.ensures in record {
       value = all-figures _ _ _ _ _ _ _ x _ _ _ _ _ _ told c.finish.ensures.value (note-count _ _ _ _ _ _ _ x _ _ _ finished) (found-48 _ _ _ _ _ _ _ x) c.last_beat_bits.ensures c.last_note_row.ensures.value;
-      text_is = c.finish.ensures.text_after ∙ all-text _ _ _ _ _ x.kept (length c.args.text.now) refl some.text_room;
+      text_is = c.finish.ensures.text_after ∙ all-text _ _ _ _ _ x.kept (length c.args.text.now) refl chart.text_room;
       densities_are = c.finish.ensures.densities_after ∙ all-densities _ _ _ _ _ x.kept (length c.args.densities.now) refl;
-      beats_are = c.zero_past.ensures ∙ all-beats _ _ _ _ _ _ _ x (length c.args.beats.now) refl some.beats_room;
+      beats_are = c.zero_past.ensures ∙ all-beats _ _ _ _ _ _ _ x (length c.args.beats.now) refl chart.beats_room;
       slots_are = all-notes _ _ _ _ _ _ _ x _ _ _ finished;
     }

@@ -12,7 +12,7 @@ use Rattle.definitions.specs.Notes.{notes}
 use Rattle.definitions.specs.Records.{records}
 use Rattle.phantoms.specs.Phantoms.{Counts}
 use Rattle.kept_pass.proofs.Answering.{own-part, all-recount}
-use Rattle.chart.specs.Ends.{SomeChart}
+use Rattle.chart.specs.Ends.{ChartRead}
 use Rattle.chart.proofs.Answering as main
 use Rattle.kept.proofs.Answering as kept
 use Rattle.sheet_answers.proofs.Gathering.{rows-fewer, minimised-less, judged-part, kept-are, figures-are}
@@ -38,8 +38,8 @@ judge_minimised-judged-requires c =
     }
 
 -- what the pass has read
-abbrev some : (c : After-fill_spacing) → SomeChart c.read_chart-pass.result c.read_chart-pass.new.text c.read_chart-pass.new.densities c.read_chart-pass.new.beats c.read_chart-pass.new.slots
-some c = record {
+abbrev chart-read : (c : After-fill_spacing) → ChartRead c.read_chart-pass.result c.read_chart-pass.new.text c.read_chart-pass.new.densities c.read_chart-pass.new.beats c.read_chart-pass.new.slots
+chart-read c = record {
   lanes = c.args.lanes.count;
   chart-text = c.args.data.now;
   read = c.read_chart-pass.ensures;
@@ -48,7 +48,7 @@ some c = record {
 }
 
 pub end_chart-chart-requires : goal.end_chart-chart-requires
-end_chart-chart-requires c = some (goal.at.end_chart-chart-requires c).After-fill_spacing
+end_chart-chart-requires c = chart-read (goal.at.end_chart-chart-requires c).After-fill_spacing
 
 pub returns : goal.returns
 returns c =
@@ -58,7 +58,7 @@ returns c =
     let L = c.args.lanes.count in
     let text = c.args.data.now in
     let counts = subst (Counts L (joined (minimised L text))) (sym c.phantoms-phantoms.ensures) k.phantoms in
-    let a = c.end_chart-chart.ensures (some (goal.at.returns c).After-fill_spacing) (main.tally-told _ _ _ _ _ _ _ x _ (c.corrected_stats-main.ensures.value _ counts k.stats)) in
+    let a = c.end_chart-chart.ensures (chart-read (goal.at.returns c).After-fill_spacing) (main.tally-told _ _ _ _ _ _ _ x _ (c.corrected_stats-main.ensures.value _ counts k.stats)) in
     let wide : 1 ≤ L = omega (arith, c.args.lanes.within.0) in
     record {
       value =

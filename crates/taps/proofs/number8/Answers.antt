@@ -1,22 +1,19 @@
--- `taps::number8` meets its contract: the first four cells and the four after them.
-use mathlib.Core.Path.{◌≡◌, sym, ap, ◌∙◌}
-use Prim.Native.Nat.{◌≤◌}
-use native.Mathlib.Omega.{arith}
-use lib.ListN.{length, take, drop, length-drop}
-use lib.Seq.{length-take-le, take-add}
-use Rattle.lines.specs.Words.{word_of}
+-- `taps::number8` meets its contract: the word passes where every byte does, and then its bits are the mask.
 use Rattle.lines.proofs.RowWords.{bytes_of}
-use Rattle.taps.specs.Taps.{number_of, tap_mask, zero_cells}
-use Rattle.taps.proofs.Words.{bytes_take, bytes_drop, half-word}
+use Rattle.taps.proofs.Words.{least-eight, eight-mask, eight-other}
 use Rattle.taps.proofs.number8.Goals as goal
 
-pub returns : goal.returns
-unfolding word_of
-returns c =
-    let bytes = bytes_of c.args.row.now (λ k. (c.type_inv.row k).fits) in
-    let more : 4 ≤ length (drop 4 c.args.row.now) = omega (arith, length-drop 4 c.args.row.now) in
-    let four : length (take 4 (drop 4 c.args.row.now)) ≡ 4 = length-take-le 4 (drop 4 c.args.row.now) more in
-    c.tap_cells.ensures (take 4 c.args.row.now) (take 4 (drop 4 c.args.row.now)) (bytes_take 4 c.args.row.now bytes) (bytes_take 4 (drop 4 c.args.row.now) (bytes_drop 4 c.args.row.now bytes))
-    (length-take-le 4 c.args.row.now (omega arith)) (omega (arith, four)) (c.half_at.ensures.value ∙ half-word c.args.row.now 0 (omega arith))
-    (c.half_at-2.ensures.value ∙ half-word c.args.row.now 4 more) (ap (λ n. word_of (zero_cells n)) (sym four))
-    ∙ ap (λ l. number_of (tap_mask l)) (sym (take-add 4 4 c.args.row.now))
+pub overflow_sub-bits : goal.overflow_sub-bits
+overflow_sub-bits c =
+    (least-eight c.args.row.now c.requires (bytes_of c.args.row.now (λ k. (c.type_inv.row k).fits)) _ _ c.half_at-first.ensures.value c.half_at-second.ensures.value
+    c.half_at-first.ensures.below c.half_at-second.ensures.below c.if-word-eq3472328296227680304.true).0
+
+pub returns-then-word-eq3472328296227680304 : goal.returns-then-word-eq3472328296227680304
+returns-then-word-eq3472328296227680304 c =
+    eight-mask c.args.row.now c.requires (bytes_of c.args.row.now (λ k. (c.type_inv.row k).fits)) _ _ c.half_at-first.ensures.value c.half_at-second.ensures.value
+    c.half_at-first.ensures.below c.half_at-second.ensures.below c.if-word-eq3472328296227680304.true
+
+pub returns-else-word-eq3472328296227680304 : goal.returns-else-word-eq3472328296227680304
+returns-else-word-eq3472328296227680304 c =
+    eight-other c.args.row.now c.requires (bytes_of c.args.row.now (λ k. (c.type_inv.row k).fits)) _ _ c.half_at-first.ensures.value c.half_at-second.ensures.value
+    c.half_at-first.ensures.below c.half_at-second.ensures.below c.if-word-eq3472328296227680304.false

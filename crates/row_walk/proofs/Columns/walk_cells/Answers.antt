@@ -32,7 +32,6 @@ add_cell-requires c =
     let few = c.loop-i.invariant.passed.low count_bound c.requires.phantoms in
     record {
       row_sum = under_more c.loop-i.i 10 _ (omega (arith, m)) c.loop-i.invariant.summed.under;
-      one_tail = one-tail _ _ _ w;
       heads_bound = omega (arith, m, few.heads, one-head _ _ _ w);
       tails_bound = omega (arith, m, few.tails, one-tail _ _ _ w);
     }

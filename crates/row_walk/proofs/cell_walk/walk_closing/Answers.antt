@@ -12,5 +12,4 @@ returns c = record {
   object = refl;
   object_depth = c.saturating_sub-2.ensures;
   noted = noted-closes _ _ _ _ _ c.requires.ready _ _ refl c.end_note.ensures;
-  kind = refl;
 }

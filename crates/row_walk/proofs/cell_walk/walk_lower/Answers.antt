@@ -12,5 +12,4 @@ returns c = record {
   object = refl;
   object_depth = refl;
   noted = noted-single _ _ _ _ _ c.requires.ready _ _ _ refl c.put_note.ensures;
-  kind = c.kind_number.ensures;
 }

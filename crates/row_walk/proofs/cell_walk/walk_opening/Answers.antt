@@ -13,5 +13,4 @@ returns c = record {
   object = refl;
   object_depth = add-one c.args.at.object_depth;
   noted = noted-head _ _ _ _ _ c.requires.ready _ _ _ refl c.put_note.ensures;
-  kind = c.kind_number.ensures;
 }
