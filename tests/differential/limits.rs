@@ -1,5 +1,5 @@
-//! Texts that are not drawn: every short text over a few letters, texts for each case of the correction, a few texts for each lane number
-//! whose slices are lent too short, and texts of the greatest length and one byte more.
+//! Texts that are not drawn: every short text over a few letters, every byte at every place of a row's line, texts for each case of the correction,
+//! a few texts for each lane number whose slices are lent too short, and texts of the greatest length and one byte more.
 
 use crate::case::{Case, Check, LANE_COUNTS};
 use crate::kinds::Kinds;
@@ -43,6 +43,31 @@ fn word(letters: &[u8], len: u32, number: usize) -> Vec<u8> {
             letter
         })
         .collect()
+}
+
+/// Every byte at every place of the second of three rows' lines, and right after it, where lines end with byte 10 and with bytes 13 and 10: the readers
+/// tell most rows by a look of several bytes at once.
+pub fn bytes_in_rows(checks: &mut [Check], kinds: &mut Kinds) {
+    for lanes in LANE_COUNTS {
+        for newline in [&b"\n"[..], b"\r\n"] {
+            let rows = [&b"1000000000"[..], b"2100000001", b"0010000000"];
+            let text = rows.map(|row| [&row[..lanes], newline].concat()).concat();
+            let second = lanes + newline.len();
+            for place in second..=2 * second {
+                for byte in 0..=u8::MAX {
+                    let mut bytes = text.clone();
+                    bytes[place] = byte;
+                    let case = Case {
+                        bytes,
+                        lanes,
+                        seed: u64::from(byte),
+                    };
+                    kinds.note(&case);
+                    checks.iter_mut().for_each(|check| check.run(&case));
+                }
+            }
+        }
+    }
 }
 
 /// A column's cells for each case of the correction: no head, heads that all pair, and in the order of its conditions heads other than tails, a 1,

@@ -33,16 +33,17 @@ differential [--long | --cases N] [--at-least COUNT] [SEED..]
 
 Compares the exported entries and the leaves with the Rust. For each SEED (1 where none is given): N random
 texts, N random lists of rows, which are read as texts too, N beats, and random texts of 10,000 to 1,000,000
-bytes. Then every short text over a few letters, texts for each case of the correction, each entry with every
-combination of its slices one entry too short, and texts of the greatest length. The main and the kept tally are
-compared with each other too. Where a line has a byte 13 among its first L bytes, which is a row for the Rust alone,
-it is asked about a text in which that line is none; both sorts of text are counted. The sheet is compared with the
-reference in Rust, on half of the random texts and some of the long ones. SM files are compared with the
-reference in Rust, every block and the numbers past them: for each SEED N random files, then every short file over
-a few tokens, a file by hand with each byte struck or changed, and files of the greatest length; the calls are made
-on the data of each accepted block, the sheet's on one in four. N is 200000, or 10000000 with --long. A text or
-file that differs is shown as short as it can be made. An entry, a leaf, a number that an entry can return, a lane
-count or a kind of text or file that was not met is a failure, and so are fewer comparisons than COUNT.
+bytes. Then every short text over a few letters, every byte at every place of a row's line, texts for each
+case of the correction, each entry with every combination of its slices one entry too short, and texts of the
+greatest length. The main and the kept tally are compared with each other too. Where a line has a byte 13
+among its first L bytes, which is a row for the Rust alone, it is asked about a text in which that line is
+none; both sorts of text are counted. The sheet is compared with the reference in Rust, on half of the random
+texts and some of the long ones. SM files are compared with the reference in Rust, every block and the numbers
+past them: for each SEED N random files, then every short file over a few tokens, a file by hand with each
+byte struck or changed, and files of the greatest length; the calls are made on the data of each accepted
+block, the sheet's on one in four. N is 200000, or 10000000 with --long. A text or file that differs is shown
+as short as it can be made. An entry, a leaf, a number that an entry can return, a lane count or a kind of
+text or file that was not met is a failure, and so are fewer comparisons than COUNT.
 The last line is 'N passed, M failed', counted in comparisons.";
 
 struct Options {
@@ -133,6 +134,7 @@ fn run(options: &Options) -> ExitCode {
     }
     texts.push(sheet);
     limits::short_texts(&mut texts, &mut kinds);
+    limits::bytes_in_rows(&mut texts, &mut kinds);
     limits::corrections(&mut texts, &mut kinds);
     let mut shortages: Vec<_> = text_checks::shortages().collect();
     shortages.push(sheet_checks::shortages());
