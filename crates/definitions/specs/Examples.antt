@@ -1,5 +1,5 @@
--- Specification, Examples: P1 to P11 as one table with a single claim, `examples-hold`. In a text `|` is byte 10 and `^` is byte 13. The table of
--- RuleExamples.antt is of the same form.
+-- Specification, Examples: "P1 to P11 are proved of the definitions as one table with a single claim.", `examples-hold`. In a text `|` is byte 10 and
+-- `^` is byte 13. The table of RuleExamples.antt is of the same form.
 use Rattle.std.specs.Prelude.{◌≡◌, refl, if◌then◌else◌, List, [], ◌∷◌, map, ℕ, ◌==◌, length, replicate, Float}
 use Prim.Native.Char.{code}
 use Prim.Native.String.{String, [] as end, ◌∷◌ as ◌then◌}
