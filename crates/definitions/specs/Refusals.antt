@@ -100,8 +100,8 @@ abbrev pub number_told : {T : Type 0} → Result T Refusal → ℕ
 number_told (Ok x) = 0
 number_told (Err r) = number_of r
 
--- What a call leaves in a slice lent for writing that held `old`. "A refused call writes nothing."
--- "After an accepted call every entry past the answer in a slice lent for writing is 0"
+-- What a call leaves in a slice lent for writing that held `old`. "A refused call writes nothing." "After an accepted call every entry past the
+-- answer in a slice lent for writing is 0": so the work slice, in which nothing is answered, is "0 throughout".
 abbrev pub leaves : {A T : Type 0} → A → Result T Refusal → List A → List A → List A
 leaves z (Ok x) answer old = padded z (length old) answer
 leaves z (Err r) answer old = old
