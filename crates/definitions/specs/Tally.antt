@@ -7,6 +7,7 @@ use Rattle.definitions.specs.declared.Cell.{Cell}
 use Rattle.definitions.specs.declared.RowSum.{RowSum}
 use Rattle.definitions.specs.declared.ArrowStats.{ArrowStats}
 
+-- what a cell is counted as
 abbrev pub counted_as : Cell → CountKind
 counted_as x = (effects_of x).counted
 
@@ -55,6 +56,7 @@ sum_of_cells arrow r =
       fakes = counted fake r;
     }
 
+-- the same, as a word that is opened only where it is named
 unfoldable pub row_sum_by : (Cell → Bool) → Row → RowSum
 row_sum_by arrow r = sum_of_cells arrow r
 
