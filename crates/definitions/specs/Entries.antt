@@ -48,7 +48,8 @@ row_count L text = length (joined (minimised L text))
 abbrev pub bits_of_last_beat : ℕ → List ℕ → ℕ
 bits_of_last_beat L text = to_bits binary64 (last_beat_of L text)
 
--- minimize_chart_count_rows_notes, the main call: its value, for an accepted text at L lanes
+-- minimize_chart_count_rows_notes, the main call, of an accepted text at L lanes: "minimised text, densities, row beats, note records, main tally,
+-- last beat"; its value,
 unfoldable pub figures_of_chart : ℕ → List ℕ → ChartFigures
 figures_of_chart L text =
     record {
@@ -79,7 +80,7 @@ module _ (lanes : ℕ) (text out densities₀ : List ℕ) (beats₀ : List Float
       ∷ [])
       (figures_of_chart (lanes_of lanes) text)
 
--- process_chart_kept, the kept-row call: its value, and its places
+-- process_chart_kept, the kept-row call: "minimised text, densities, kept tally"; its value, and its places
 unfoldable pub figures_of_kept : ℕ → List ℕ → KeptFigures
 figures_of_kept L text =
     record {
@@ -104,7 +105,7 @@ module _ (lanes : ℕ) (text out densities₀ work : List ℕ) where
       ∷ [])
       (figures_of_kept (lanes_of lanes) text)
 
--- minimize_timing_rows: its value, and its places
+-- minimize_timing_rows: "timing rows, row beats, heads figure"; its value, and its places
 unfoldable pub figures_of_timing : ℕ → List ℕ → TimingFigures
 figures_of_timing L text =
     record {
@@ -161,11 +162,11 @@ module _ (lanes : ℕ) (text work : List ℕ) where
   unfoldable pub judged_checked : ArrowStats → Result ArrowStats Refusal
   judged_checked t = answered (long_text (length text) ∷ short_work (lanes_of lanes) (length text) (length work) ∷ []) t
 
-  -- what `process_rows_judgable` answers
+  -- what `process_rows_judgable` answers: "judged tally"
   abbrev pub judged_answer : Result ArrowStats Refusal
   judged_answer = judged_checked (judged_tally (lanes_of lanes) text)
 
-  -- what `process_timing_rows` answers, with these flags
+  -- what `process_timing_rows` answers, with these flags: "judged tally by flags"
   abbrev pub flagged_answer : List ℕ → Result ArrowStats Refusal
   flagged_answer flags = judged_checked (flagged_tally (lanes_of lanes) flags text)
 

@@ -39,7 +39,7 @@ direction L c = c % 4
 abbrev pub arrows_towards : ℕ → (Cell → Bool) → Row → ℕ
 arrows_towards d arrow r = count_from (λ c x. arrow x && direction (length r) c == d) 0 r
 
--- What the cells of a row add up to, where `arrow` says which of them are arrows.
+-- What the cells of a row add up to, where `arrow` says which of them are arrows; directions are "0 left, 1 down, 2 up, 3 right".
 abbrev pub sum_of_cells : (Cell → Bool) → Row → RowSum
 sum_of_cells arrow r =
     record {
@@ -84,7 +84,7 @@ sum_counts s =
     ∷ s.fakes
     ∷ []
 
--- the tally of no rows
+-- the tally of no rows: "a tally of zeros"
 abbrev pub empty_stats : ArrowStats
 empty_stats =
     record {
@@ -104,7 +104,7 @@ empty_stats =
       holding = 0;
     }
 
--- The fields of a tally in their order, each with its name: the one list of them.
+-- "the tally, its fields in their order", each with its name: the one list of them.
 abbrev pub tally_fields : ArrowStats → List (List ℕ × ℕ)
 tally_fields t =
     (codes "total_arrows", t.total_arrows)
