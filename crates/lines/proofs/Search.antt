@@ -7,7 +7,7 @@ use Rattle.lines.proofs.Trims.{part-all}
 use native.Mathlib.Nat.{sub-zero}
 use lib.ListN.{length-take}
 use Rattle.std.proofs.lemmas.Iterator.Adapters.{position_from-zero}
-use Rattle.std.specs.Prelude.{Option, Some, None, position, ◌==◌}
+use Rattle.std.specs.Prelude.{Option, Some, None, IfSome, is_some, position, ◌==◌}
 use Rattle.std.specs.List.{position_from}
 use Rattle.std.proofs.lemmas.List.Sums.{sum_by-append, count_by-le-length}
 use Rattle.lines.specs.Search.{count_of}
@@ -23,6 +23,23 @@ from b k (x ∷ xs) = ap (cond (eqb x b) (Some k)) (rw add-one (from b (suc k) x
 
 pub found-position : (b : ℕ) (xs : List ℕ) → position (λ x. x == b) xs ≡ find_from b 0 xs
 found-position b xs = position_from-zero (λ x. eqb x b) xs ∙ from b 0 xs
+
+-- std's search from a place on
+pub found_from : (b k : ℕ) (xs : List ℕ) → position_from (λ x. x == b) k xs ≡ find_from b k xs
+found_from b k xs = from b k xs
+
+-- what a search of a first part shows of the whole search `p`: its answer where it has one, else that of the rest, `q`
+pub first_part : (r p : Option ℕ) → IfSome r (λ n. p ≡ Some n) → is_some r ≡ true → r ≡ p
+first_part (Some n) p found e = sym found
+first_part None p found e = cc
+
+pub next_part : (r p q : Option ℕ) → (r ≡ None → p ≡ q) → is_some r ≡ false → p ≡ q
+next_part (Some n) p q none e = cc
+next_part None p q none e = none refl
+
+pub last_part : (r p q : Option ℕ) → IfSome r (λ n. p ≡ Some n) → (r ≡ None → p ≡ q) → q ≡ None → r ≡ p
+last_part (Some n) p q found none e = sym found
+last_part None p q found none e = sym (none refl ∙ e)
 
 -- b stands at i
 pub find-hit : (b : ℕ) (s : List ℕ) (i : ℕ) → i < length s → get_or s i 0 ≡ b → find_from b i (drop i s) ≡ Some i

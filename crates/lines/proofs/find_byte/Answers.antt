@@ -1,9 +1,9 @@
 -- `lines::find_byte` meets its contract: what the search of the rest finds is what the search of the whole finds. Assumes nothing.
-use Rattle.std.proofs.Common.{◌≡◌, ℕ, ◌+◌, ◌/◌, ◌<◌, ◌≤◌, take, drop, sym, ap, ◌∙◌, arith}
+use Rattle.std.proofs.Common.{◌≡◌, ℕ, ◌+◌, ◌/◌, ◌<◌, ◌≤◌, length, take, drop, sym, ap, ◌∙◌, arith}
 use lib.Count.{count_trailing_zeros, trailing_of_zero}
 use Rattle.lines.specs.Words.{first_in}
 use Rattle.std.specs.Prelude.{Some}
-use Rattle.lines.proofs.Search.{found-position, find-hit, find-miss, find-end}
+use Rattle.lines.proofs.Search.{found-position, found_from, first_part, next_part, last_part, find-end}
 use Rattle.lines.proofs.Hits.{trailing_lt}
 use Rattle.lines.proofs.SliceWords.{of_word, word_in, word_out}
 use Rattle.lines.proofs.find_byte.Goals as goal
@@ -14,6 +14,20 @@ first : (c : After-byte_hits-hits) → count_trailing_zeros 64 c.byte_hits-hits.
 first c =
     c.byte_hits-hits.ensures
     ∙ ap (first_in c.args.needle) (of_word c.args.needle c.args.slice.now c.loop-i.i c.loop-i-test.true c.word_at.result (λ k. (c.type_inv.slice k).fits) c.word_at.ensures)
+
+pub returns-then-is_some : goal.returns-then-is_some
+returns-then-is_some c =
+    first_part c.find_between-found.result _ c.find_between-found.ensures.found (sym c.is_some.ensures ∙ c.if-is_some.true)
+    ∙ found_from c.args.needle 0 c.args.slice.now
+    ∙ sym (found-position c.args.needle c.args.slice.now)
+
+pub loop-i-init : goal.loop-i-init
+loop-i-init c = (
+  omega (arith, c.min-near.ensures),
+  sym (found_from c.args.needle 0 c.args.slice.now)
+      ∙ next_part c.find_between-found.result _ _ c.find_between-found.ensures.none (sym c.is_some.ensures ∙ c.if-is_some.false)
+      ∙ found_from c.args.needle c.min-near.result _,
+)
 
 pub returns-then-hits-ne0 : goal.returns-then-hits-ne0
 returns-then-hits-ne0 c =
@@ -27,11 +41,8 @@ loop-i-preserved c =
     let h : 8 ≤ count_trailing_zeros 64 c.byte_hits-hits.result / 8 = rw (c.if-hits-ne0.false, trailing_of_zero) (omega arith) in
     (c.loop-i-test.true, c.loop-i.invariant.1 ∙ word_out _ _ _ c.loop-i-test.true (rw e at h))
 
-pub returns-then-slice-i : goal.returns-then-slice-i
-returns-then-slice-i c = sym (found-position c.args.needle c.args.slice.now ∙ c.loop-i-2.invariant.1 ∙ find-hit _ _ _ c.loop-i-2-test.true c.if-slice-i.true)
-
-pub loop-i-2-preserved : goal.loop-i-2-preserved
-loop-i-2-preserved c = (omega arith, c.loop-i-2.invariant.1 ∙ find-miss _ _ _ c.loop-i-2-test.true c.if-slice-i.false)
-
 pub returns : goal.returns
-returns c = sym (found-position c.args.needle c.args.slice.now ∙ c.loop-i-2.invariant.1 ∙ find-end _ _ _ c.loop-i-2-test.false)
+returns c =
+    last_part c.find_between.result _ _ c.find_between.ensures.found c.find_between.ensures.none (found_from c.args.needle (length c.args.slice.now) _ ∙ find-end c.args.needle c.args.slice.now _ (omega arith))
+    ∙ found_from c.args.needle c.loop-i.i _
+    ∙ sym (found-position c.args.needle c.args.slice.now ∙ c.loop-i.invariant.1)
