@@ -3,7 +3,7 @@
 
 pub mod words;
 
-ghost use Rattle.std.specs.Prelude.{◌≡◌, ◌==◌, ◌+◌, ◌≤◌, Some, None, IfSome, length, take, drop, position};
+ghost use Rattle.std.specs.Prelude.{◌≡◌, ◌==◌, ◌+◌, ◌≤◌, length, take, drop, position};
 ghost use Rattle.std.specs.List.{position_from};
 ghost use Rattle.definitions.specs.Lists.{after};
 ghost use Rattle.definitions.specs.Lines.{is_blank_byte, trim};
@@ -72,14 +72,11 @@ pub fn count_byte(slice: &[u8], needle: u8) -> usize
     n
 }
 
-/// The first place from `from` on and below `to` where `slice` has `needle`: byte by byte.
+/// The first place from `from` on and before `to` where `slice` has `needle`: one byte after the other.
 fn find_between(slice: &[u8], needle: u8, from: usize, to: usize) -> Option<usize>
     requires ordered { from ≤ to }
     requires inside { to ≤ length slice.now }
-    ensures found { IfSome result (λ n. position_from (λ x. x == needle) from (drop from slice.now) ≡ Some n) }
-    ensures none { result ≡ None →
-        position_from (λ x. x == needle) from (drop from slice.now)
-        ≡ position_from (λ x. x == needle) to (drop to slice.now) }
+    ensures { result ≡ position_from (λ x. x == needle) from (drop from (take to slice.now)) }
 {
     let mut i = from;
     while i < to {
