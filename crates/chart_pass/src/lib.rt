@@ -56,7 +56,7 @@ impl ChartPass {
         requires text_room { self.old.draft.out ≤ length text.old }
         requires densities_room { self.old.draft.midx < length densities.old }
         requires beats_room { rows_so_far self.old ≤ length beats.old }
-        requires slots_room { rows_so_far self.old * table.now.lanes.count * 10 ≤ length slots.old }
+        requires notes_room { rows_so_far self.old * table.now.lanes.count * 10 ≤ length slots.old }
         requires rows_few { rows_so_far self.old < row_count_bound }
         requires measures_few { self.old.draft.midx ≤ measures_bound }
         requires charted { Holding
@@ -92,7 +92,7 @@ impl ChartPass {
         requires text_room { self.old.draft.out + 2 ≤ length text.old }
         requires densities_room { self.old.draft.midx < length densities.old }
         requires beats_room { rows_so_far self.old ≤ length beats.old }
-        requires slots_room { rows_so_far self.old * table.now.lanes.count * 10 ≤ length slots.old }
+        requires notes_room { rows_so_far self.old * table.now.lanes.count * 10 ≤ length slots.old }
         requires rows_few { rows_so_far self.old < row_count_bound }
         requires measures_few { self.old.draft.midx ≤ measures_bound }
         requires charted { Holding

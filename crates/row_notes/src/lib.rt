@@ -86,7 +86,7 @@ fn invalidate_hold(s: ChartNotesScratch, column: usize, notes: &mut [u8]) -> Cha
 // A record of a tap at the end of the records, and their number with it; where there is no tap the next record is written over this one.
 fn push_tap(row: u32, count: usize, column: usize, tap: bool, notes: &mut [u8]) -> usize
     requires notes_room { count * 10 + 10 ≤ length notes.old }
-    requires column_bound { column < 10 }
+    requires column_narrow { column < 10 }
     requires notes_few { count < 4294967295 }
     ensures value { result ≡ count + number_of_bool tap }
     ensures notes_after { notes.new ≡ sets notes.old (count * 10) (fields row no_tail column 0) }

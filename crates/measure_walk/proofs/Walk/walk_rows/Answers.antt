@@ -117,8 +117,8 @@ add_cells-requires c =
     let h : number k < length (all k) = rw rows-length c.if-rows-i.false in
     let few = count-few _ _ _ _ _ _ (walked k) h in
     record {
-      tally_bound = stats-few (rest k.loop-run.self) c.loop-run.self.columns c.walk_taps.new.run few.0 few.1;
-      row_sum = c.walk_cells-s.ensures.under;
+      few = stats-few (rest k.loop-run.self) c.loop-run.self.columns c.walk_taps.new.run few.0 few.1;
+      sum_few = c.walk_cells-s.ensures.under;
       rows_few = few.0;
     }
 
