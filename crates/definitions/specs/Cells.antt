@@ -1,5 +1,6 @@
 -- Specification, Cells: what a byte of a row stands for, and what cells do. "The letters of the cells are those of the StepMania pages on the SM and
--- SSC formats. Where the pages and the Rust differ the Rust decides": docs/DIFFERENCES.md, "The format pages and the Rust".
+-- SSC formats. Where the pages and the Rust differ the Rust decides": docs/DIFFERENCES.md, "The format pages and the Rust". "The letters m, l and f
+-- are the Rust's, and the format pages lack them."
 use Rattle.std.specs.Prelude.{Bool, true, false, if◌then◌else◌, ℕ, ◌==◌, slice_index_or}
 use Rattle.definitions.specs.Lines.{Row}
 use Rattle.definitions.specs.declared.Cell.{Cell}
@@ -26,7 +27,7 @@ cell_of b =
     else if b == 102 then LowerFake
     else Empty
 
--- the byte of a row in a column, and a `0` past its end
+-- The byte of a row in a column, and a `0` past its end. "A cell is a byte of a row, and its place in the row is its column."
 abbrev pub byte_at : ℕ → Row → ℕ
 byte_at c r = slice_index_or r c 48
 
@@ -34,7 +35,8 @@ byte_at c r = slice_index_or r c 48
 pub data CountKind : Type 0 where
   nothing hold roll tail mine lift fake : CountKind
 
--- What a cell does, all in one place.
+-- What a cell does, all in one place. "In its column a cell opens, closes, blocks or does nothing; Last beat, Hold tracker and Correction say what
+-- that does to each of theirs. A cell that drops takes the note from the head that is open in its column."
 pub record Effects : Type 0 where
   pub arrow : Bool
   pub judged_arrow : Bool

@@ -49,7 +49,7 @@ object_from D c (b ∷ r) = is_object (object_at b) (D c) || object_from D (suc 
 abbrev pub object_row : Depths → Row → Bool
 object_row D r = object_from D 0 r
 
--- A row's place: row r of the n rows of measure m.
+-- A row's place: "row r of the n minimised rows of measure m".
 pub record Place : Type 0 where
   pub m : ℕ
   pub r : ℕ
@@ -72,7 +72,7 @@ last_of [] = None
 last_of (p ∷ []) = Some p
 last_of (p ∷ q ∷ ps) = last_of (q ∷ ps)
 
--- the last object row, if there is one
+-- "the last object row", if there is one. "Each column has a depth, 0 before the chart's first row, which goes on from measure to measure."
 unfoldable pub last_object : ℕ → List ℕ → Option Place
 last_object L text = last_of (objects_from (λ c. 0) 0 (minimised L text))
 

@@ -56,7 +56,7 @@ held_of row tail column kind =
     if nat_lt row tail then (if nat_lt tail row_numbers_bound then Ok (record { row = row; tail = Row tail; column = column; kind = kind }) else Err BadRecord)
     else Err BadRecord
 
--- of any fields
+-- Of any fields. "A note that is read back holds its row, column and kind, and either no tail or a tail row."
 unfoldable pub note_of : ℕ → ℕ → ℕ → ℕ → Result Note Refusal
 note_of row tail column kind =
     if nat_le 10 column then Err BadRecord

@@ -50,8 +50,8 @@ unfoldable pub block_end : List ℕ → Tag → ℕ
 block_end file t = t.end + length (block_text file t)
 
 -- "A block starts at the first byte of a line that begins with the tag `#NOTES:`, unless that byte stands in an earlier block": whether one starts at
--- the line that begins at `at`, where the blocks before it end at `past`. A line that begins inside a block starts none, also where the block ends on
--- it.
+-- the line that begins at `at`, where the blocks before it end at `past`. "So a line that begins inside a block starts none, even where the block
+-- ends on it."
 unfoldable pub starts_block : ℕ → ℕ → List ℕ → Bool
 starts_block past at line = nat_le past at && is_tagged notes_tag line
 
@@ -66,11 +66,12 @@ blocks_from file past at (line ∷ lines) =
 unfoldable pub blocks : List ℕ → List Tag
 blocks file = blocks_from file 0 0 (cut file)
 
--- how many `:` stand in a block after its tag
+-- How many `:` stand in a block after its tag. "Comments are not known here: `;` and `:` count wherever they stand after the tag."
 unfoldable pub colons : List ℕ → ℕ
 colons text = count_by (λ b. b == 58) text
 
--- "Five fields follow the tag, each ended by a `:` of the block"; the data is what follows them, "its `;` included where there is one"
+-- "Five fields follow the tag, each ended by a `:` of the block." "The data is what follows the fifth `:` in the block, its `;` included where there
+-- is one."
 unfoldable pub data_of : List ℕ → List ℕ
 data_of text = after_each 58 5 text
 
@@ -101,7 +102,8 @@ module _ (file : List ℕ) (k : ℕ) where
   unfoldable pub sm_lanes : Option ℕ
   sm_lanes = lanes_of_type (type_of sm_text)
 
-  -- the data
+  -- The data. "What a call makes of the data is what it makes of any text: a `;` ends the reading as the first byte of a line, blanks off, and
+  -- nowhere else."
   unfoldable pub sm_data : List ℕ
   sm_data = data_of sm_text
 
@@ -119,7 +121,7 @@ module _ (file : List ℕ) (k : ℕ) where
       ∷ refused_if (is_none sm_lanes) OtherType
       ∷ []
 
-  -- the lane count and the data
+  -- "the answer is its lane count and its data, a part of the caller's file"
   abbrev pub sm_part : SmPart
   sm_part = record { lanes = unwrap_or sm_lanes 0; start = sm_start; part = sm_data }
 
@@ -131,6 +133,6 @@ module _ (file : List ℕ) (k : ℕ) where
   abbrev pub sm_number : ℕ
   sm_number = number_told sm_answer
 
-  -- what it leaves in the three places of the chart, which held `old`: lane count, where the data begins, its length
+  -- what it leaves in the three places of the chart, which held `old`: "lane count, where the data begins in the file, its length"
   abbrev pub places_of_sm : List ℕ → List ℕ
   places_of_sm old = replaces sm_answer (λ c. c.lanes ∷ c.start ∷ length c.part ∷ []) old

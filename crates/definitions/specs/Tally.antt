@@ -20,7 +20,8 @@ place mine = 4
 place lift = 5
 place fake = 6
 
--- the cells of a row that are counted so
+-- The cells of a row that are counted so: of holds "cells 2", of rolls "cells 4", of mines "cells M and m", of lifts "cells L and l", of fakes "cells
+-- F and f".
 abbrev pub counted : CountKind → Row → ℕ
 counted k r = count_by (λ b. place (counted_as (cell_of b)) == place k) r
 
@@ -33,7 +34,7 @@ count_from p c (b ∷ r) = number_of_bool (p c (cell_of b)) + count_from p (suc 
 abbrev pub direction : ℕ → ℕ → ℕ
 direction L c = c % 4
 
--- the arrows of a row in the columns of direction d
+-- the arrows of a row in the columns of direction d: "arrows of that direction"
 abbrev pub arrows_towards : ℕ → (Cell → Bool) → Row → ℕ
 arrows_towards d arrow r = count_from (λ c x. arrow x && direction (length r) c == d) 0 r
 
@@ -158,6 +159,6 @@ abbrev pub tally_from : ArrowStats → List Row → ArrowStats
 tally_from t [] = t
 tally_from t (r ∷ rs) = tally_from (tally_with_row t (row_sum r)) rs
 
--- the plain tally of rows
+-- The plain tally of rows. "The rows are counted one after the other, from a tally of zeros."
 unfoldable pub tally : List Row → ArrowStats
 tally rows = tally_from empty_stats rows
