@@ -1,6 +1,6 @@
--- Examples that pin the rules of the specification one by one, as a second table with a single claim, `rule-examples-hold`: for every rule there is
--- an example that a wrong rule fails. The answers are the Rust's, but for R28, of byte 13 among a row's bytes, and R33 to R35, of records and refusals,
--- which the Rust has not. `tests/rules` has a list of wrong rules, and says which examples tell each. In a text `|` is byte 10 and `^` is byte 13.
+-- Specification, Examples: R1 to R35, the second table, with a single claim, `rule-examples-hold`. "A second table, R1 to R35, is proved in the same
+-- way: for each wrong rule of the list in `tests/rules` an example of the two tables fails." The answers are the Rust's, but for R28, of byte 13 among
+-- a row's bytes, and R33 to R35, of records and refusals, which the Rust has not. In a text `|` is byte 10 and `^` is byte 13.
 use Rattle.std.specs.Prelude.{◌≡◌, refl, List, [], ◌∷◌, ◌++◌, map, ℕ, replicate}
 use Rattle.std.specs.Float.Ieee.{to_bits, of_int, round, add, mul, div}
 use Rattle.definitions.specs.Lists.{joined}

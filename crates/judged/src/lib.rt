@@ -42,9 +42,9 @@ impl TimingStats {
 
     // One row more, by its entry. A tail's hold is open through the tail's row; an unjudged row's sum has no head.
     fn add_row(&mut self, cells: &[u8], entry: u16)
-        requires width { length cells.now ≤ 10 }
-        requires tally_bound { Below count_bound self.old.stats }
-        requires active_bound { self.old.active ≤ count_bound }
+        requires narrow { length cells.now ≤ 10 }
+        requires few { Below count_bound self.old.stats }
+        requires held_few { self.old.active ≤ count_bound }
         requires ends_open { ends_of entry ≤ self.old.active + new_holds entry cells.now }
         ensures { self.new ≡ timing_row self.old entry cells.now }
     {
@@ -57,9 +57,9 @@ impl TimingStats {
 
     // One row of taps alone more, by its entry: no hold begins or ends there.
     fn add_taps(&mut self, mask: u16, entry: u16, table: &TapTable)
-        requires mask_bound { mask < masks table.now.wide }
-        requires tally_bound { Below count_bound self.old.stats }
-        requires active_bound { self.old.active ≤ count_bound }
+        requires mask_known { mask < masks table.now.wide }
+        requires few { Below count_bound self.old.stats }
+        requires held_few { self.old.active ≤ count_bound }
         ensures { (row : Row) → mask_of_line row ≡ Mask mask
             → self.new ≡ timing_taps self.old entry row }
     {

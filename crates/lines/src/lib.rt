@@ -3,7 +3,8 @@
 
 pub mod words;
 
-ghost use Rattle.std.specs.Prelude.{◌≡◌, ◌==◌, ◌≤◌, nat_le, length, drop, position};
+ghost use Rattle.std.specs.Prelude.{◌≡◌, ◌==◌, ◌≤◌, nat_le, length, take, drop, position};
+ghost use Rattle.std.specs.List.{position_from};
 ghost use Rattle.definitions.specs.Lists.{after};
 ghost use Rattle.definitions.specs.Lines.{is_blank_byte, trim};
 ghost use Rattle.definitions.specs.ReadBack.{without_cr};
@@ -71,11 +72,33 @@ pub fn count_byte(slice: &[u8], needle: u8) -> usize
     n
 }
 
-/// The place of the first byte of `slice` that is `needle`: by words of eight, then the rest one by one.
+/// The first place from `from` on and before `to` where `slice` has `needle`: one byte after the other.
+fn find_between(slice: &[u8], needle: u8, from: usize, to: usize) -> Option<usize>
+    requires ordered { from ≤ to }
+    requires inside { to ≤ length slice.now }
+    ensures { result ≡ position_from (λ x. x == needle) from (drop from (take to slice.now)) }
+{
+    let mut i = from;
+    while i < to {
+        if slice[i] == needle {
+            return Some(i);
+        }
+        i += 1;
+    }
+    None
+}
+
+/// The place of the first byte of `slice` that is `needle`: the first sixteen bytes one by one, since most lines end there, then by words of eight, then
+/// the rest one by one.
 pub fn find_byte(slice: &[u8], needle: u8) -> Option<usize>
     ensures { result ≡ position (λ x. x == needle) slice.now }
 {
-    let mut i = 0;
+    let near = usize::min(slice.len(), 16);
+    let found = find_between(slice, needle, 0, near);
+    if found.is_some() {
+        return found;
+    }
+    let mut i = near;
     while i + 8 <= slice.len() {
         let hits = words::byte_hits(words::word_at(slice, i), needle);
         if hits != 0 {
@@ -84,13 +107,7 @@ pub fn find_byte(slice: &[u8], needle: u8) -> Option<usize>
         }
         i += 8;
     }
-    while i < slice.len() {
-        if slice[i] == needle {
-            return Some(i);
-        }
-        i += 1;
-    }
-    None
+    find_between(slice, needle, i, slice.len())
 }
 
 /// Whether none of the first `n` bytes is below 16, as newlines and carriage returns are: by a word of the first eight bytes, and one that ends with the

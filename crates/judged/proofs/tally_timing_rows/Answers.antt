@@ -58,9 +58,9 @@ add_taps-requires c =
     let k = tallying-few _ _ _ _ _ _ (c.loop-cells.invariant.held _ c.requires.entries.timed) (few (goal.at.add_taps-requires c).In-Some) c.args.lanes.within.1 (short-back _ _) in
     let long = (row-here (goal.at.add_taps-requires c).In-Some).wide in
     record {
-      mask_bound = fits-table c.for_lanes-table.result _ (rw c.for_lanes-table.ensures (below-at _ _ _ long (free-told c.free_taps.ensures c.in-Mask.is).mask));
-      tally_bound = k.0;
-      active_bound = k.1;
+      mask_known = fits-table c.for_lanes-table.result _ (rw c.for_lanes-table.ensures (below-at _ _ _ long (free-told c.free_taps.ensures c.in-Mask.is).mask));
+      few = k.0;
+      held_few = k.1;
     }
 
 pub add_row-requires : goal.add_row-requires
@@ -69,9 +69,9 @@ add_row-requires c =
     let k = tallying-few _ _ _ _ _ _ tally (few (goal.at.add_row-requires c).In-Some) c.args.lanes.within.1 (short-back _ _) in
     let h = row-here (goal.at.add_row-requires c).In-Some in
     record {
-      width = omega (arith, h.wide, c.args.lanes.within.1);
-      tally_bound = k.0;
-      active_bound = k.1;
+      narrow = omega (arith, h.wide, c.args.lanes.within.1);
+      few = k.0;
+      held_few = k.1;
       ends_open = tallying-enough _ _ _ _ _ _ tally _ h.wide h.here h.inside _ c.args.lanes.within.1 (short-back _ _) c.requires.entries.timed;
     }
 

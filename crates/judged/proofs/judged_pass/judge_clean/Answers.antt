@@ -16,9 +16,9 @@ add_row-requires c =
     let x = c.loop-row.invariant.come in
     let wide = next-wide x c.in-Some.ensures.steps in
     record {
-      width = c.for_lanes-table.ensures ∙ sym wide;
+      wide = c.for_lanes-table.ensures ∙ sym wide;
       ready = c.loop-row.invariant.held.ready;
-      tally_bound = passes-few _ _ _ _ c.loop-row.invariant.held (omega (arith, x.few));
+      few = passes-few _ _ _ _ c.loop-row.invariant.held (omega (arith, x.few));
     }
 
 pub returns-in_err-add_row : goal.returns-in_err-add_row
