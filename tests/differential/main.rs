@@ -138,10 +138,12 @@ fn run(options: &Options) -> ExitCode {
     limits::corrections(&mut texts, &mut kinds);
     let mut shortages: Vec<_> = text_checks::shortages().collect();
     shortages.push(sheet_checks::shortages());
+    shortages.push(text_checks::tallies());
     limits::every_lane(&mut shortages);
     file_limits::short_files(&mut files);
     file_limits::written(&mut files);
     let mut longest: Vec<_> = text_checks::entries().collect();
+    longest.push(text_checks::tallies());
     let mut longest_sheet = sheet_checks::exact();
     if case::any_differs(&texts) || files.any_differs() {
         println!("the longest texts and files are left out: shorter ones differ already");
