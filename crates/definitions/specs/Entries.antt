@@ -13,6 +13,7 @@ use Rattle.definitions.specs.Beats.{f32, beats}
 use Rattle.definitions.specs.Objects.{last48, last_beat_of}
 use Rattle.definitions.specs.Notes.{notes}
 use Rattle.definitions.specs.Records.{records, number_of_tail, number_of_kind}
+use Rattle.definitions.specs.Dropped.{dropped_heads, dropped_records}
 use Rattle.definitions.specs.ReadBack.{main_tally, kept_tally}
 use Rattle.definitions.specs.Tally.{tally_figures}
 use Rattle.definitions.specs.Judged.{judged_tally, flagged_tally}
@@ -20,6 +21,7 @@ use Rattle.definitions.specs.TimingRows.{timing_rows, timing_heads}
 use Rattle.definitions.specs.declared.ArrowStats.{ArrowStats}
 use Rattle.definitions.specs.declared.ChartFigures.{ChartFigures}
 use Rattle.definitions.specs.declared.KeptFigures.{KeptFigures}
+use Rattle.definitions.specs.declared.DroppedFigures.{DroppedFigures}
 use Rattle.definitions.specs.declared.TimingFigures.{TimingFigures}
 use Rattle.definitions.specs.declared.LastBeat.{LastBeat}
 use Rattle.definitions.specs.declared.Refusal.{Refusal}
@@ -133,6 +135,38 @@ module _ (lanes : ℕ) (text out densities₀ work : List ℕ) where
   -- in the work slice
   abbrev pub kept_work : List ℕ
   kept_work = leaves 0 kept_answer [] work
+
+-- dropped_holds: its value, and its places
+unfoldable pub figures_of_dropped : ℕ → List ℕ → DroppedFigures
+figures_of_dropped L text =
+    record {
+      bytes = length (minimised_text L text);
+      measures = measure_count L text;
+      rows = row_count L text;
+      heads = length (dropped_heads L text);
+    }
+
+abbrev pub places_of_dropped : DroppedFigures → List ℕ
+places_of_dropped f = figures f.bytes f.measures f.rows f.heads 0 0 0 no_tally
+
+module _ (lanes : ℕ) (text out list : List ℕ) where
+  -- what the call answers; 6: "the note slice, for note records or for the list, is shorter than 10 × L × R"
+  unfoldable pub dropped_answer : Result DroppedFigures Refusal
+  dropped_answer =
+      answered
+      (long_text (length text)
+      ∷ short_text (length text) (length out)
+      ∷ short_notes (lanes_of lanes) (length text) (length list)
+      ∷ [])
+      (figures_of_dropped (lanes_of lanes) text)
+
+  -- what it leaves in the text slice
+  abbrev pub dropped_text : List ℕ
+  dropped_text = leaves 0 dropped_answer (minimised_text (lanes_of lanes) text) out
+
+  -- in the list
+  abbrev pub dropped_list : List ℕ
+  dropped_list = leaves 0 dropped_answer (dropped_records (dropped_heads (lanes_of lanes) text)) list
 
 -- minimize_timing_rows: its value, and its places
 unfoldable pub figures_of_timing : ℕ → List ℕ → TimingFigures

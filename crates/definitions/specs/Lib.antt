@@ -15,6 +15,7 @@ pub mod Objects
 pub mod Tracker
 pub mod Notes
 pub mod Records
+pub mod Dropped
 pub mod Tally
 pub mod Correction
 pub mod ReadBack
@@ -31,3 +32,6 @@ pub mod Damage
 pub mod DamageExample
 pub mod Consequences
 pub mod BeatsNear
+pub mod DroppedOrNoted
+pub mod DroppedStays
+pub mod DroppedExamples

@@ -10,6 +10,8 @@ ghost use Rattle.definitions.specs.Entries.{measure_count, figures_of_chart, pla
 ghost use Rattle.definitions.specs.Damage.{Differ, DamageStays};
 ghost use Rattle.definitions.specs.Halving.{ReduceHalved};
 ghost use Rattle.definitions.specs.WriterMakes.{WriterMakes};
+ghost use Rattle.definitions.specs.DroppedOrNoted.{DroppedOrNoted};
+ghost use Rattle.definitions.specs.DroppedStays.{DroppedStays};
 ghost use Rattle.definitions.specs.SmBlocks.{DataInFile, SemicolonLast, BlocksApart, LeastRefused};
 ghost use Rattle.definitions.specs.Beats.{last_row};
 ghost use Rattle.definitions.specs.BeatsNear.{SizeWithin, Nearest48, BeatsNear, BeatsToSpare, BeatsNearer, BeatsExact, LastNear, TextBeatsStand, TextLastNear};
@@ -20,7 +22,7 @@ ghost use Rattle.sheet_json.specs.Example.{JsonExample};
 ghost use Rattle.chart_sheet.specs.Forms.{sheet_in_form};
 ghost use Rattle.chart_sheet.specs.Entry.{most_sheet_bytes, places_of_sheet};
 ghost use Rattle.laws.specs.Fits.{FitsForAll};
-ghost use Rattle.laws.specs.Examples.{ExamplesHold, RuleExamplesHold, RequestExamplesHold, CardExample, BeatsRight, DamageMet, LastBeatStays};
+ghost use Rattle.laws.specs.Examples.{ExamplesHold, RuleExamplesHold, RequestExamplesHold, DroppedExamplesHold, CardExample, BeatsRight, DamageMet, LastBeatStays};
 
 /// The specification's examples are what the definitions give.
 pub fn examples_hold()
@@ -35,6 +37,11 @@ pub fn rule_examples_hold()
 /// The examples of the requests, too.
 pub fn request_examples_hold()
     ensures { RequestExamplesHold }
+{}
+
+/// Those of the list of dropped heads, too.
+pub fn dropped_examples_hold()
+    ensures { DroppedExamplesHold }
 {}
 
 /// The card's example, too.
@@ -80,6 +87,16 @@ pub fn last_beat_stays()
 /// A note record is what the writer makes of a note, and is read back as that note.
 pub fn writer_makes()
     ensures { WriterMakes }
+{}
+
+/// Each head is in the list of dropped heads or has a note record, and not both.
+pub fn dropped_or_noted()
+    ensures { (L : ℕ) (text : List ℕ) → DroppedOrNoted L text }
+{}
+
+/// Where two texts differ only in lines of one measure, the rest of the list is the same.
+pub fn dropped_stays()
+    ensures { (L d : ℕ) (old new : List ℕ) → Differ L d old new → DroppedStays L d old new }
 {}
 
 /// Every figure that a call answers of an accepted text is below 2 ^ 64, in its place among the 32.
