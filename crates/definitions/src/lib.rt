@@ -258,7 +258,7 @@ pub struct KeptFigures {
 pub struct DroppedFigures {
     pub bytes: usize,
     pub measures: usize,
-    pub rows: u32,
+    pub rows: usize,
     pub heads: usize,
 }
 
