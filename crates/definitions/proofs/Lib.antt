@@ -14,6 +14,7 @@ pub mod Fates
 pub mod Blocks
 pub mod ReadBack
 pub mod RowBounds
+pub mod OwnRows
 pub mod LastByte
 pub mod WriterMakes
 pub mod Damage
