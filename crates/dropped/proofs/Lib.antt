@@ -1,1 +1,1 @@
-
+pub mod Answering

@@ -26,12 +26,13 @@ fn list_chart(data: &[u8], lanes: Lanes, text: &mut [u8], list: &mut [u8]) -> Dr
 {
     let pass = text_pass::minimise_chart(data, lanes, text);
     let bytes = pass.draft.out;
-    let heads = dropped_list::list_heads(&text[0..bytes], pass.rows as u32, lanes, list);
+    let rows = pass.rows as u32;
+    let heads = dropped_list::list_heads(&text[0..bytes], rows, lanes, list);
     slices::zero_past(text, bytes, 0);
     DroppedFigures {
         bytes,
         measures: pass.draft.midx + 1,
-        rows: pass.rows,
+        rows,
         heads,
     }
 }

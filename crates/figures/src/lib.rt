@@ -132,7 +132,7 @@ impl Figures<32> for DroppedFigures {
         let places = Places {
             bytes: self.bytes,
             measures: self.measures,
-            rows: self.rows,
+            rows: self.rows as usize,
             records: self.heads,
             ..Places::default()
         };
