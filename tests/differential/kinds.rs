@@ -3,12 +3,13 @@
 use crate::case::{Case, LANE_COUNTS, lane_place};
 use crate::random;
 use oracle::calls::lanes_in_force;
+use oracle::dropped::{DroppedHead, NO_ROW, dropped_of};
 use oracle::leaves::{self, Counted};
 
 /// What a kind asks of a text.
 type Test = fn(&Facts) -> bool;
 
-const KINDS: [(&str, Test); 51] = [
+const KINDS: [(&str, Test); 56] = [
     ("an empty text", |f| f.len == 0),
     ("a text without rows", |f| f.len > 0 && f.rows == 0),
     ("no byte 10 at the end", |f| f.len > 0 && !f.ends_in_newline),
@@ -63,6 +64,13 @@ const KINDS: [(&str, Test); 51] = [
     ("tails and no head", |f| f.is_like(Pairing::TailsAlone)),
     ("tails, no head, and byte 13 as a row's last cell", |f| {
         f.is_like(Pairing::TailsAlone) && f.cr_in_row
+    }),
+    ("a head dropped by another head", |f| f.drops[0]),
+    ("a head dropped by another cell", |f| f.drops[1]),
+    ("a head dropped by the chart's end", |f| f.drops[2]),
+    ("two heads dropped by one row", |f| f.dropped_together),
+    ("a head dropped after one that stands below it", |f| {
+        f.dropped_out_of_turn
     }),
     ("fewer flags than rows", |f| f.flags.len() < f.rows),
     ("more flags than rows", |f| {
@@ -122,6 +130,10 @@ struct Facts {
     strides: [bool; 4],
     deepest: u32,
     pairing: Pairing,
+    /// Whether a head is dropped for each of the reasons.
+    drops: [bool; 3],
+    dropped_together: bool,
+    dropped_out_of_turn: bool,
 }
 
 impl Facts {
@@ -154,6 +166,9 @@ impl Facts {
             strides: [false; 4],
             deepest: 0,
             pairing: Pairing::None,
+            drops: [false; 3],
+            dropped_together: false,
+            dropped_out_of_turn: false,
         };
         let rows = facts.read(&case.bytes);
         facts.look_at_rows(&rows);
@@ -234,6 +249,18 @@ impl Facts {
         let judged = |row: &usize| self.flags.get(*row).is_none_or(|&flag| flag != 0);
         self.judged = (0..self.rows).filter(judged).count();
         self.pairing = pairing(&leaves::count_line(self.lanes, rows));
+        self.look_at_drops(&dropped_of(rows.chunks_exact(self.lanes), self.lanes));
+    }
+
+    fn look_at_drops(&mut self, heads: &[DroppedHead]) {
+        for head in heads {
+            self.drops[usize::from(head.reason)] = true;
+        }
+        for pair in heads.windows(2) {
+            let [first, second] = [0, 1].map(|place| pair[place].by.unwrap_or(NO_ROW));
+            self.dropped_together |= first == second && first != NO_ROW;
+            self.dropped_out_of_turn |= second < first && pair[0].row < pair[1].row;
+        }
     }
 }
 

@@ -69,9 +69,15 @@ pub fn text_rows(text: &[u8], lanes: usize) -> impl Iterator<Item = &[u8]> {
 /// The dropped heads of a minimised text with L lanes, in rising row, then column.
 #[must_use]
 pub fn dropped_heads(text: &[u8], lanes: usize) -> Vec<DroppedHead> {
+    dropped_of(text_rows(text, lanes), lanes)
+}
+
+/// The dropped heads of these rows.
+#[must_use]
+pub fn dropped_of<'a>(rows: impl Iterator<Item = &'a [u8]>, lanes: usize) -> Vec<DroppedHead> {
     let mut open: Vec<Option<u32>> = vec![None; lanes];
     let mut dropped = Vec::new();
-    for (number, row) in (0..).zip(text_rows(text, lanes)) {
+    for (number, row) in (0..).zip(rows) {
         for (column, (&cell, open)) in (0..).zip(row.iter().zip(&mut open)) {
             let reason = match cell {
                 b'3' => {
