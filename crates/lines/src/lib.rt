@@ -3,12 +3,13 @@
 
 pub mod words;
 
-ghost use Rattle.std.specs.Prelude.{◌≡◌, ◌==◌, ◌+◌, ◌≤◌, length, take, drop, position};
+ghost use Rattle.std.specs.Prelude.{◌≡◌, ◌==◌, ◌≤◌, nat_le, length, take, drop, position};
+ghost use Rattle.std.specs.List.{position_from};
 ghost use Rattle.definitions.specs.Lists.{after};
 ghost use Rattle.definitions.specs.Lines.{is_blank_byte, trim};
 ghost use Rattle.definitions.specs.ReadBack.{without_cr};
 ghost use Rattle.lines.specs.Search.{count_of};
-ghost use Rattle.lines.specs.Words.{first_in};
+ghost use Rattle.lines.specs.Words.{first_below};
 ghost use Rattle.lines.specs.Lines.{first_line};
 
 /// The line without one carriage return at its end.
@@ -71,20 +72,14 @@ pub fn count_byte(slice: &[u8], needle: u8) -> usize
     n
 }
 
-/// The place of the first byte of `slice` that is `needle`: by words of eight, then the rest one by one.
-pub fn find_byte(slice: &[u8], needle: u8) -> Option<usize>
-    ensures { result ≡ position (λ x. x == needle) slice.now }
+/// The first place from `from` on and before `to` where `slice` has `needle`: one byte after the other.
+fn find_between(slice: &[u8], needle: u8, from: usize, to: usize) -> Option<usize>
+    requires ordered { from ≤ to }
+    requires inside { to ≤ length slice.now }
+    ensures { result ≡ position_from (λ x. x == needle) from (drop from (take to slice.now)) }
 {
-    let mut i = 0;
-    while i + 8 <= slice.len() {
-        let hits = words::byte_hits(words::word_at(slice, i), needle);
-        if hits != 0 {
-            let at = (u64::trailing_zeros(hits) / 8) as usize;
-            return Some(i + at);
-        }
-        i += 8;
-    }
-    while i < slice.len() {
+    let mut i = from;
+    while i < to {
         if slice[i] == needle {
             return Some(i);
         }
@@ -93,12 +88,40 @@ pub fn find_byte(slice: &[u8], needle: u8) -> Option<usize>
     None
 }
 
-/// How many of the eight bytes from `start` on stand before the first newline among them: 8 where there is none.
-pub fn near_newline(data: &[u8], start: usize) -> usize
-    requires { start + 8 ≤ length «data».now }
-    ensures { result ≡ first_in 10 (take 8 (drop start «data».now)) }
+/// The place of the first byte of `slice` that is `needle`: the first sixteen bytes one by one, since most lines end there, then by words of eight, then
+/// the rest one by one.
+pub fn find_byte(slice: &[u8], needle: u8) -> Option<usize>
+    ensures { result ≡ position (λ x. x == needle) slice.now }
 {
-    (u64::trailing_zeros(words::byte_hits(words::halves_at(data, start), 10)) / 8) as usize
+    let near = usize::min(slice.len(), 16);
+    let found = find_between(slice, needle, 0, near);
+    if found.is_some() {
+        return found;
+    }
+    let mut i = near;
+    while i + 8 <= slice.len() {
+        let hits = words::byte_hits(words::word_at(slice, i), needle);
+        if hits != 0 {
+            let at = (u64::trailing_zeros(hits) / 8) as usize;
+            return Some(i + at);
+        }
+        i += 8;
+    }
+    find_between(slice, needle, i, slice.len())
+}
+
+/// Whether none of the first `n` bytes is below 16, as newlines and carriage returns are: by a word of the first eight bytes, and one that ends with the
+/// last of the `n` where they are more.
+pub fn starts_high(data: &[u8], n: usize) -> bool
+    requires some { 1 ≤ n }
+    requires few { n ≤ 16 }
+    requires within { n ≤ length «data».now }
+    requires wide { 8 ≤ length «data».now }
+    ensures { result ≡ nat_le n (first_below 16 «data».now) }
+{
+    let few = usize::min(n, 8);
+    words::starts_high(words::halves_at(data, 0), few)
+        & words::starts_high(words::halves_at(data, n - few), few)
 }
 
 /// The line that starts at `start`, without its newline, and what follows that newline: nothing where there is none, nor past the text's end.

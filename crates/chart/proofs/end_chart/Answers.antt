@@ -13,7 +13,7 @@ finish-notes-requires c = rw c.scratch.ensures (record { rows = _; written = c.r
 pub finish-requires : goal.finish-requires
 finish-requires c = record {
   text_room = omega (arith, c.requires.read.kept.short, c.requires.text_room);
-  density_room = omega (arith, all_room _ _ _ _ _ c.requires.read.kept);
+  densities_room = omega (arith, all_room _ _ _ _ _ c.requires.read.kept);
 }
 
 pub returns : goal.returns

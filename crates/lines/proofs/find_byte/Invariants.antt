@@ -8,9 +8,3 @@ invariant-loop-i l = (l.i ≤ length l.slice) × (find_from l.needle 0 l.slice �
 
 abbrev pub decreases-loop-i : goal.decreases-loop-i
 decreases-loop-i l = length l.slice - l.i
-
-abbrev pub invariant-loop-i-2 : goal.invariant-loop-i-2
-invariant-loop-i-2 l = (l.i ≤ length l.slice) × (find_from l.needle 0 l.slice ≡ find_from l.needle l.i (drop l.i l.slice))
-
-abbrev pub decreases-loop-i-2 : goal.decreases-loop-i-2
-decreases-loop-i-2 l = length l.slice - l.i
