@@ -70,12 +70,12 @@ pub fn reduce_halved()
     ensures { ReduceHalved }
 {}
 
-/// Read back, a chart's minimised text has the chart's minimised rows.
+/// The minimised text of a chart, read back, has the minimised rows of the chart.
 pub fn own_rows()
     ensures { OwnRows }
 {}
 
-/// So the main and the kept tally of a text are the same.
+/// The main and the kept tally of a text are the same.
 pub fn main_kept_agree()
     ensures { MainKeptAgree }
 {}
