@@ -104,7 +104,7 @@ impl Listing {
         }
     }
 
-    /// The row above those that were read, its cells from the last on.
+    /// The row above those that were read, its cells from the last on. Most of them are `0`, which tells nothing.
     pub fn list_row(&mut self, row: &[u8], number: u32, list: &mut [u8])
         requires width { length row.now ≤ 10 }
         requires some_room { length row.now ≤ self.old.first }
@@ -119,7 +119,10 @@ impl Listing {
         let mut column = row.len();
         while 0 < column {
             column -= 1;
-            self.list_cell(row[column], number, column, list);
+            match row[column] {
+                b'0' => {}
+                b => self.list_cell(b, number, column, list),
+            }
         }
     }
 }
