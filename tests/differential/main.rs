@@ -13,6 +13,7 @@ mod kinds;
 mod limits;
 mod long_texts;
 mod ours;
+mod places;
 mod random;
 mod row_checks;
 mod sheet_checks;
@@ -33,7 +34,8 @@ differential [--long | --cases N] [--at-least COUNT] [SEED..]
 Compares the exported entries and the leaves with the Rust. For each SEED (1 where none is given): N random
 texts, N random lists of rows, which are read as texts too, N beats, and random texts of 10,000 to 1,000,000
 bytes. Then every short text over a few letters, texts for each case of the correction, each entry with every
-combination of its slices one entry too short, and texts of the greatest length. The sheet is compared with the
+combination of its slices one entry too short, and texts of the greatest length. The search for a byte is made with
+it at every place of short slices, beside bytes that differ from it in one bit. The sheet is compared with the
 reference in Rust, on half of the random texts and some of the long ones. SM files are compared with the
 reference in Rust, every block and the numbers past them: for each SEED N random files, then every short file over
 a few tokens, a file by hand with each byte struck or changed, and files of the greatest length; the calls are made
@@ -128,6 +130,8 @@ fn run(options: &Options) -> ExitCode {
         };
         bytes.iter_mut().for_each(|check| check.run(&case));
     }
+    let mut places = [places::check()];
+    places.iter_mut().for_each(places::every_place);
     texts.push(sheet);
     limits::short_texts(&mut texts, &mut kinds);
     limits::corrections(&mut texts, &mut kinds);
@@ -146,11 +150,12 @@ fn run(options: &Options) -> ExitCode {
         file_limits::longest_files(&mut files);
     }
     longest.push(longest_sheet);
-    let groups: [(&str, &[Check]); 8] = [
+    let groups: [(&str, &[Check]); 9] = [
         ("texts", &texts),
         ("rows", &rows),
         ("beats", &beats),
         ("bytes", &bytes),
+        ("the places of a byte", &places),
         (
             "every combination of slices one entry too short",
             &shortages,
