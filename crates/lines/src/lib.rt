@@ -77,7 +77,8 @@ fn find_near(slice: &[u8], needle: u8, near: usize) -> usize
     requires { near ≤ length slice.now }
     ensures found { result < near → position (λ x. x == needle) slice.now ≡ Some result }
     ensures passed { near ≤ result →
-        position (λ x. x == needle) slice.now ≡ position_from (λ x. x == needle) near (drop near slice.now) }
+        position (λ x. x == needle) slice.now
+        ≡ position_from (λ x. x == needle) near (drop near slice.now) }
 {
     let mut i = 0;
     while i < near {
