@@ -5,6 +5,7 @@
 mod beat_checks;
 mod case;
 mod coverage;
+mod dropped_checks;
 mod entries;
 mod file_checks;
 mod file_kinds;
@@ -101,6 +102,7 @@ fn main() -> ExitCode {
 fn run(options: &Options) -> ExitCode {
     let mut kinds = Kinds::new();
     let mut texts = text_checks::checks();
+    texts.push(dropped_checks::listed_or_noted());
     let mut sheet = sheet_checks::drawn(1);
     let mut rows = row_checks::checks();
     let mut beats = beat_checks::drawn();
@@ -138,10 +140,12 @@ fn run(options: &Options) -> ExitCode {
     limits::corrections(&mut texts, &mut kinds);
     let mut shortages: Vec<_> = text_checks::shortages().collect();
     shortages.push(sheet_checks::shortages());
+    shortages.push(text_checks::tallies());
     limits::every_lane(&mut shortages);
     file_limits::short_files(&mut files);
     file_limits::written(&mut files);
     let mut longest: Vec<_> = text_checks::entries().collect();
+    longest.push(text_checks::tallies());
     let mut longest_sheet = sheet_checks::exact();
     if case::any_differs(&texts) || files.any_differs() {
         println!("the longest texts and files are left out: shorter ones differ already");
