@@ -5,6 +5,7 @@
 mod beat_checks;
 mod case;
 mod coverage;
+mod dropped_checks;
 mod entries;
 mod file_checks;
 mod file_kinds;
@@ -101,6 +102,7 @@ fn main() -> ExitCode {
 fn run(options: &Options) -> ExitCode {
     let mut kinds = Kinds::new();
     let mut texts = text_checks::checks();
+    texts.push(dropped_checks::listed_or_noted());
     let mut sheet = sheet_checks::drawn(1);
     let mut rows = row_checks::checks();
     let mut beats = beat_checks::drawn();

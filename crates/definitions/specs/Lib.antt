@@ -16,6 +16,8 @@ pub mod Tracker
 pub mod Notes
 pub mod Records
 pub mod WriterMakes
+pub mod Dropped
+pub mod DroppedOrNoted
 pub mod Tally
 pub mod Correction
 pub mod ReadBack
@@ -25,9 +27,11 @@ pub mod Entries
 pub mod Refusals
 pub mod Damage
 pub mod DamageExample
+pub mod DroppedStays
 pub mod SmFile
 pub mod SmBlocks
 pub mod Examples
 pub mod RuleExamples
 pub mod RequestExamples
+pub mod DroppedExamples
 pub mod Consequences

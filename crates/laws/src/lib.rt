@@ -6,11 +6,13 @@ ghost use Rattle.std.specs.Prelude.{ℕ, ◌≤◌, List, length};
 ghost use Rattle.definitions.specs.Sizes.{most_bytes};
 ghost use Rattle.definitions.specs.Lanes.{lanes_of};
 ghost use Rattle.definitions.specs.Judged.{judged_tally, flagged_tally};
-ghost use Rattle.definitions.specs.Entries.{measure_count, figures_of_chart, places_of_chart, figures_of_kept, places_of_kept, figures_of_timing, places_of_timing, places_of_measures, figures_of_last, places_of_last, places_of_judged};
+ghost use Rattle.definitions.specs.Entries.{measure_count, figures_of_chart, places_of_chart, figures_of_kept, places_of_kept, figures_of_dropped, places_of_dropped, figures_of_timing, places_of_timing, places_of_measures, figures_of_last, places_of_last, places_of_judged};
 ghost use Rattle.definitions.specs.Damage.{Differ, DamageStays};
 ghost use Rattle.definitions.specs.Halving.{ReduceHalved};
 ghost use Rattle.definitions.specs.ReadBack.{OwnRows, MainKeptAgree};
 ghost use Rattle.definitions.specs.WriterMakes.{WriterMakes};
+ghost use Rattle.definitions.specs.DroppedOrNoted.{DroppedOrNoted};
+ghost use Rattle.definitions.specs.DroppedStays.{DroppedStays};
 ghost use Rattle.definitions.specs.SmBlocks.{DataInFile, SemicolonLast, BlocksApart, LeastRefused};
 ghost use Rattle.definitions.specs.Beats.{last_row};
 ghost use Rattle.definitions.specs.BeatsNear.{SizeWithin, Nearest48, BeatsNear, BeatsToSpare, BeatsNearer, BeatsExact, LastNear, TextBeatsStand, TextLastNear};
@@ -21,7 +23,7 @@ ghost use Rattle.sheet_json.specs.Example.{JsonExample};
 ghost use Rattle.chart_sheet.specs.Forms.{sheet_in_form};
 ghost use Rattle.chart_sheet.specs.Entry.{most_sheet_bytes, places_of_sheet};
 ghost use Rattle.laws.specs.Fits.{FitsForAll};
-ghost use Rattle.laws.specs.Examples.{ExamplesHold, RuleExamplesHold, RequestExamplesHold, CardExample, BeatsRight, DamageMet, LastBeatStays};
+ghost use Rattle.laws.specs.Examples.{ExamplesHold, RuleExamplesHold, RequestExamplesHold, DroppedExamplesHold, CardExample, BeatsRight, DamageMet, LastBeatStays};
 
 /// What the specification's examples P1 to P11 say of their texts is what the definitions give.
 pub fn examples_hold()
@@ -36,6 +38,11 @@ pub fn rule_examples_hold()
 /// What the examples of SM files say is answered for a block is what the definitions answer.
 pub fn request_examples_hold()
     ensures { RequestExamplesHold }
+{}
+
+/// What the specification's examples of dropped heads say of their texts is what the definitions give.
+pub fn dropped_examples_hold()
+    ensures { DroppedExamplesHold }
 {}
 
 /// The card of the specification's example has the lines that are shown there.
@@ -63,12 +70,12 @@ pub fn reduce_halved()
     ensures { ReduceHalved }
 {}
 
-/// Read back, a chart's minimised text has the chart's minimised rows.
+/// The minimised text of a chart, read back, has the minimised rows of the chart.
 pub fn own_rows()
     ensures { OwnRows }
 {}
 
-/// So the main and the kept tally of a text are the same.
+/// The main and the kept tally of a text are the same.
 pub fn main_kept_agree()
     ensures { MainKeptAgree }
 {}
@@ -93,10 +100,21 @@ pub fn writer_makes()
     ensures { WriterMakes }
 {}
 
+/// Each head is in the list of dropped heads or has a note record, and not both.
+pub fn dropped_or_noted()
+    ensures { (L : ℕ) (text : List ℕ) → DroppedOrNoted L text }
+{}
+
+/// Where two texts differ only in lines of one measure, the rest of the list is the same.
+pub fn dropped_stays()
+    ensures { (L d : ℕ) (old new : List ℕ) → Differ L d old new → DroppedStays L d old new }
+{}
+
 /// Every figure that a call answers of an accepted text is below 2 ^ 64, in its place among the 32.
 pub fn figures_fit()
     ensures chart { FitsForAll (λ L text. places_of_chart (figures_of_chart L text)) }
     ensures kept { FitsForAll (λ L text. places_of_kept (figures_of_kept L text)) }
+    ensures dropped { FitsForAll (λ L text. places_of_dropped (figures_of_dropped L text)) }
     ensures timing { FitsForAll (λ L text. places_of_timing (figures_of_timing L text)) }
     ensures measures { FitsForAll (λ L text. places_of_measures (measure_count L text)) }
     ensures last { FitsForAll (λ L text. places_of_last (figures_of_last L text)) }
