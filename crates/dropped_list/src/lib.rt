@@ -14,6 +14,9 @@ ghost use Rattle.dropped_list.specs.TextOf.{TextOf, SomeText};
 use definitions::{Cell, DropCause, Fate, Lanes};
 use note_records::put_record;
 
+// In a record, in place of the row that dropped a head, where the chart's end did.
+const NO_ROW: u32 = 4294967295;
+
 /// Of each column, of up to ten, the fate of a head above the rows that were read; and the number of the list's first record.
 #[derive(Clone, Copy)]
 pub struct Listing {
@@ -27,7 +30,7 @@ fn dropper_number(cause: DropCause) -> u32
 {
     match cause {
         DropCause::OtherHead(row) | DropCause::OtherCell(row) => row,
-        DropCause::ChartEnd => 4294967295,
+        DropCause::ChartEnd => NO_ROW,
     }
 }
 
@@ -104,8 +107,8 @@ impl Listing {
         }
     }
 
-    /// The row above those that were read, its cells from the last on. Most of them are `0`, which tells nothing.
-    pub fn list_row(&mut self, row: &[u8], number: u32, list: &mut [u8])
+    // The row above those that were read, its cells from the last on. Most of them are `0`, which tells nothing.
+    fn list_row(&mut self, row: &[u8], number: u32, list: &mut [u8])
         requires narrow { length row.now ≤ 10 }
         requires some_room { length row.now ≤ self.old.first }
         requires list_room { self.old.first * 10 ≤ length list.old }
