@@ -197,7 +197,7 @@ fn report(
     }
     for (lanes, as_it_stands, another) in kinds.asked() {
         println!(
-            "{lanes} lanes: the Rust was asked about {as_it_stands} texts, and of {another} about another one"
+            "{lanes} lanes: {as_it_stands} texts that the Rust was asked about, {another} in whose place it was asked another"
         );
     }
     let checks: Vec<&Check> = groups.iter().flat_map(|(_, checks)| *checks).collect();
