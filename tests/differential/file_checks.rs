@@ -1,4 +1,4 @@
-//! Checks over SM files: the entry that finds a chart in a file beside the reference, and the nine entries of a text on each chart that it finds.
+//! Checks over SM files: the entry that finds a chart in a file beside the reference, and the ten entries of a text on each chart that it finds.
 
 use crate::case::{self, Case, Check, Compare};
 use crate::file_kinds::FileKinds;
@@ -27,7 +27,7 @@ impl Files {
         Self {
             entry: vec![Check::new("sm_chart", sm_chart)],
             charts: text_checks::entries()
-                .chain([sheet_checks::drawn(SHEET_ONE_IN)])
+                .chain([text_checks::tallies(), sheet_checks::drawn(SHEET_ONE_IN)])
                 .collect(),
             kinds: FileKinds::new(),
         }

@@ -1,6 +1,8 @@
 //! The oracle: what the Rust answers, as numbers and bytes, for any text, lane number and flags.
 //!
-//! - `calls`: the eight chart calls, each with its figures and the contents of its slices.
+//! - `asked`: the text that the Rust is asked about, which is another where a row would have a byte 13.
+//! - `calls`: the nine chart calls, each with its figures and the contents of its slices.
+//! - `dropped`: the heads that come to nothing, which the Rust does not list.
 //! - `leaves`: the functions below them.
 //! - `timed`: the calls with nothing around them.
 //! - `entry`: the calls as they are met from outside, with their refusals.
@@ -10,8 +12,10 @@
 //! - `vectors`: the stored sample of answers; `deciding`: those of its texts that one rule decides.
 //! - `sm_vectors`: the stored sample of SM files; `sm_deciding`: those of its files that one sentence decides.
 
+pub mod asked;
 pub mod card;
 pub mod deciding;
+pub mod dropped;
 pub mod entry;
 pub mod sheet;
 pub mod sheet_entry;

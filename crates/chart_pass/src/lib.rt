@@ -56,7 +56,7 @@ impl ChartPass {
         requires text_room { self.old.draft.out ≤ length text.old }
         requires densities_room { self.old.draft.midx < length densities.old }
         requires beats_room { rows_so_far self.old ≤ length beats.old }
-        requires slots_room { rows_so_far self.old * table.now.lanes.count * 10 ≤ length slots.old }
+        requires notes_room { rows_so_far self.old * table.now.lanes.count * 10 ≤ length slots.old }
         requires rows_few { rows_so_far self.old < row_count_bound }
         requires measures_few { self.old.draft.midx ≤ measures_bound }
         requires charted { Holding
@@ -92,14 +92,14 @@ impl ChartPass {
         requires text_room { self.old.draft.out + 2 ≤ length text.old }
         requires densities_room { self.old.draft.midx < length densities.old }
         requires beats_room { rows_so_far self.old ≤ length beats.old }
-        requires slots_room { rows_so_far self.old * table.now.lanes.count * 10 ≤ length slots.old }
+        requires notes_room { rows_so_far self.old * table.now.lanes.count * 10 ≤ length slots.old }
         requires rows_few { rows_so_far self.old < row_count_bound }
         requires measures_few { self.old.draft.midx ≤ measures_bound }
         requires charted { Holding
             (Charted table.now.lanes.count self.old text.old densities.old beats.old slots.old) }
-        ensures charted { EndsMinimised
-            (Charted table.now.lanes.count self.old text.old densities.old beats.old slots.old)
-            (Charted table.now.lanes.count self.new text.new densities.new beats.new slots.new) }
+        ensures charted { let L = table.now.lanes.count in EndsMinimised
+            (Charted L self.old text.old densities.old beats.old slots.old)
+            (Charted L self.new text.new densities.new beats.new slots.new) }
         ensures out_bound { self.new.draft.out ≤ self.old.draft.out + 2 }
     {
         self.end_measure(text, densities, beats, slots, table);

@@ -1,4 +1,4 @@
--- A chart's sheet in its three forms: 0 card, 1 print, 2 json.
+-- Specification, Sheets: "A sheet is one text's figures as bytes of ASCII, in a form: 0 card, 1 print, 2 JSON."
 use Rattle.std.specs.Prelude.{if◌then◌else◌, ◌==◌, List, ℕ}
 use Rattle.definitions.specs.Figures.{densities, spacings}
 use Rattle.definitions.specs.Notes.{notes}

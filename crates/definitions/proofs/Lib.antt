@@ -10,9 +10,11 @@ pub mod LaneBounds
 pub mod ChartRows
 pub mod Counts
 pub mod Tails
+pub mod Fates
 pub mod Blocks
 pub mod ReadBack
 pub mod RowBounds
+pub mod OwnRows
 pub mod LastByte
 pub mod WriterMakes
 pub mod Damage
@@ -21,3 +23,4 @@ pub mod SmBlocks
 pub mod BeatsNear
 pub mod Consequences
 pub mod Refusals
+pub mod DroppedOrNoted

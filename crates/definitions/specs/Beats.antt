@@ -29,7 +29,8 @@ fused r x a = round binary32 false (r * num x + a * den x) (den x)
 unfoldable pub beat_of_row : ℕ → ℕ → ℕ → Float
 beat_of_row m r n = fused r (step n) (4 * m)
 
--- the beats of k rows of n in measure m, from row r on
+-- The beats of k rows of n in measure m, from row r on. "Each minimised row has a beat, a 32-bit float: for row r of the n minimised rows of measure
+-- m it is worked out from m, r and n."
 abbrev pub row_beats : ℕ → ℕ → ℕ → ℕ → List Float
 row_beats m n r zero = []
 row_beats m n r (suc k) = beat_of_row m r n ∷ row_beats m n (suc r) k
@@ -43,7 +44,7 @@ beats_from m (x ∷ xs) = row_beats m (length x) 0 (length x) ∷ beats_from (su
 unfoldable pub measure_beats : ℕ → List ℕ → List (List Float)
 measure_beats L text = beats_from 0 (minimised L text)
 
--- the row beats of a text
+-- of a text, "the beat of each minimised row"
 unfoldable pub beats : ℕ → List ℕ → List Float
 beats L text = joined (measure_beats L text)
 

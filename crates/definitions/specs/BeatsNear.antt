@@ -1,7 +1,8 @@
--- Specification, "How near the beats are": row r of the n rows of measure m stands for beat 4 × m + 4 × r / n, its fraction, and row beat and last
--- beat are floats that are only near to it. How near is said on whole numbers, each inequality multiplied out: `num x / den x` is the size of the
--- float x as a fraction. First of places m, r and n, then of the texts that have them. Each `unfoldable` fact is the contract of a function of
--- `laws`, and so are places at which more is false (`claims_tight`).
+-- Specification, "How near the beats are": "Row r of the n minimised rows of measure m stands for beat 4 × m + 4 × r / n, its fraction, which in
+-- 48ths of a beat is 192 × m + 192 × r / n. Row beats and the last beat are floats that are only near to it; a finite float is a fraction itself, so
+-- how near is a matter of whole numbers." Each inequality is multiplied out: `num x / den x` is the size of the float x as a fraction. First of
+-- places m, r and n, then of the texts that have them. Each `unfoldable` fact is the contract of a function of `laws`, and so are places at which
+-- more is false (`claims_tight`).
 use Rattle.std.specs.Prelude.{◌≡◌, false, List, ℕ, ◌+◌, ◌*◌, ◌^◌, ◌%◌, ◌≤◌, ◌<◌, length, slice_get, Some}
 use Rattle.std.specs.Float.{binary32}
 use Rattle.std.specs.Float.Ieee.{mul}
@@ -34,7 +35,7 @@ pub record BeatWithin (e k m r n : ℕ) : Type 0 where
 abbrev pub BeatNear : ℕ → ℕ → ℕ → Type 0
 BeatNear m r n = m ≤ 1023 → BeatWithin 1 4096 m r n
 
--- of every row, where its measure has no more rows than an accepted text: 3,355,443, those of the longest one at 4 lanes
+-- of every row, where its measure has no more rows than an accepted text: "n at most 3,355,443", those of the longest one at 4 lanes
 unfoldable pub BeatsNear : Type 0
 BeatsNear = (m r n : ℕ) → r < n → n ≤ most_rows_in 4 most_bytes → BeatNear m r n
 
@@ -72,8 +73,9 @@ BeatsExact = (m r n : ℕ) → r < n → BeatExact m r n
 abbrev pub Nearest48 : ℕ → ℕ → ℕ → ℕ → Type 0
 Nearest48 k m r n = Within 1 2 k 1 (192 * m * n + 192 * r) n
 
--- "The whole number that is divided by 48 to give the last beat is" such a k at each place that an accepted text can have: "where measure m has n
--- rows, 5 × n + 2 × m is at most 16,777,216".
+-- "The whole number that is divided by 48 to give the last beat is" such a k at each place that an accepted text can have. "A row takes 5 bytes or
+-- more with its byte 10, which a text's last line may lack, and the end of a measure 2. So where measure m has n rows, 5 × n + 2 × m is at most
+-- 16,777,216".
 unfoldable pub LastNear : Type 0
 LastNear =
     (m r n : ℕ)
@@ -82,7 +84,8 @@ LastNear =
     → Nearest48 (last_row m r n) m r n
 
 -- ---- Texts
--- Beat i of a text is that of row r of the n minimised rows of measure m, and what is said of such a place holds of it.
+-- Beat i of a text is that of row r of the n minimised rows of measure m, and what is said of such a place holds of it. "every measure of an accepted
+-- text is below 2^23"
 pub record BeatStands (L : ℕ) (text : List ℕ) (i : ℕ) : Type 0 where
   pub m : ℕ
   pub r : ℕ
@@ -97,7 +100,7 @@ pub record BeatStands (L : ℕ) (text : List ℕ) (i : ℕ) : Type 0 where
   pub nearer : BeatNearer m r n
   pub exact : BeatExact m r n
 
--- each beat of each accepted text
+-- each beat of each accepted text: "What follows holds of every accepted text at every lane count."
 unfoldable pub TextBeatsStand : Type 0
 TextBeatsStand =
     (L : ℕ) (text : List ℕ)

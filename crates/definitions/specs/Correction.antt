@@ -33,21 +33,21 @@ abbrev pub phantom_met : ℕ → ℕ → List Row → Bool
 phantom_met c d [] = false
 phantom_met c d (r ∷ rs) = meets_phantom (hold_at (byte_at c r)) d || phantom_met c (phantom_step (hold_at (byte_at c r)) d) rs
 
--- a head, 2 or 4
+-- a head: "The heads are the cells 2 and 4, and the tails are the cells 3."
 abbrev pub is_opening : DepthEffect → Bool
 is_opening Nothing = false
 is_opening Blocks = false
 is_opening Opens = true
 is_opening Closes = false
 
--- a tail, 3
+-- a tail
 abbrev pub is_closing : DepthEffect → Bool
 is_closing Nothing = false
 is_closing Blocks = false
 is_closing Opens = false
 is_closing Closes = true
 
--- the heads and the tails of rows
+-- the heads of rows
 abbrev pub head_count : List Row → ℕ
 head_count rows = count_by (λ b. is_opening (hold_at b)) (joined rows)
 
@@ -56,7 +56,8 @@ abbrev pub tail_count : List Row → ℕ
 tail_count rows = count_by (λ b. is_closing (hold_at b)) (joined rows)
 
 -- "A tally is counted anew if its rows have a head and one of these holds besides": "heads and tails are not equal in number", "a 1, M, L or F stands
--- in a column whose phantom depth before it is over 0" or "a phantom depth is over 0 after the last row", of rows of L bytes
+-- in a column whose phantom depth before it is over 0" or "a phantom depth is over 0 after the last row", of rows of L bytes. "Each column has a
+-- phantom depth, 0 before the first row."
 unfoldable pub corrects : ℕ → List Row → Bool
 corrects L rows =
     nat_lt 0 (head_count rows)
@@ -80,15 +81,17 @@ abbrev pub keep_from : (ℕ → List Pair) → ℕ → List Row → List Row
 keep_from ps i [] = []
 keep_from ps i (r ∷ rs) = keep_row ps i 0 r ∷ keep_from ps (suc i) rs
 
--- the rows in which "a head that the hold tracker does not pair, over the rows that are counted anew, is an empty cell"
+-- The rows as they are counted anew. "In counting anew a head that the hold tracker does not pair, over the rows that are counted anew, is an empty
+-- cell, and all else counts as before."
 unfoldable pub paired_only : List Row → List Row
 paired_only rows = keep_from (pairs rows) 0 rows
 
--- t where "`total_steps` keeps what was counted first", which is n
+-- t with n steps: "`total_steps` keeps what was counted first."
 abbrev pub tally_with_steps : ℕ → ArrowStats → ArrowStats
 tally_with_steps n t = record t { total_steps = n }
 
--- the tally of rows, corrected over `back`, the rows as that pass reads them again
+-- The tally of rows, corrected over `back`, the rows as that pass reads them again. "The main and the kept tally count all minimised rows of a chart,
+-- and are each corrected so."
 unfoldable pub corrected : ℕ → List Row → List Row → ArrowStats
 corrected L rows back =
     if corrects L rows then tally_with_steps (tally rows).total_steps (tally (paired_only back)) else tally rows

@@ -1,4 +1,5 @@
--- Specification, Damage: when two texts differ only in lines of one measure, and what is then the same in both.
+-- Specification, Damage: when two texts differ only in lines of one measure, and what is then the same in both. "So it is of every call that answers
+-- minimised text, row beats, densities, spacing, typed notes or the last beat." "Damage speaks of the data alone, and not of files."
 use Rattle.std.specs.Prelude.{◌≡◌, ◌≢◌, ◌⊎◌, Bool, true, false, if◌then◌else◌, ◌&&◌, not, List, [], ◌∷◌, ℕ, suc, ◌+◌, ◌≤◌, ◌<◌, ◌==◌, nat_lt, nat_le, length, take, drop, slice_get, slice_index_or, filter}
 use Rattle.std.specs.List.{AllZip}
 use Rattle.definitions.specs.Lists.{among, joined}
@@ -44,7 +45,7 @@ pub record InMeasure (L d : ℕ) (p : Standing) (l : List ℕ) : Type 0 where
   pub standing : p ≡ ended d
   pub inside : ends (line_kind L l) ≡ false
 
--- Striking out some lines of measure d from the first list of lines leaves the second.
+-- "some lines of d can be struck out of each": striking out some lines of measure d from the first list of lines leaves the second.
 pub data Struck (L d : ℕ) : Standing → List (List ℕ) → List (List ℕ) → Type 0 where
   done : {p : Standing} → Struck L d p [] []
   stay : {p : Standing} {l : List ℕ} {xs ys : List (List ℕ)}
@@ -58,7 +59,7 @@ pub record Differ (L d : ℕ) (old new : List ℕ) : Type 0 where
   pub from_old : Struck L d (ended 0) (cut old) left
   pub from_new : Struck L d (ended 0) (cut new) left
 
--- As many, and at every place but d the same.
+-- "of each measure but d": as many, and at every place but d the same.
 pub record SameBut {A : Type 0} (d : ℕ) (s t : List A) : Type 0 where
   pub count : length s ≡ length t
   pub others : (i : ℕ) → i ≢ d → slice_get s i ≡ slice_get t i
@@ -79,11 +80,11 @@ rows_later L d text = joined (drop (suc d) (minimised L text))
 abbrev pub all_later : ℕ → ℕ → List ℕ → List Row
 all_later L d text = joined (drop (suc d) (chart L text))
 
--- The notes headed in measures before d, and in measures after d. "A note is headed in the measure of its row."
+-- "notes headed in earlier measures": those before d. "A note is headed in the measure of its row."
 abbrev pub earlier : ℕ → ℕ → List ℕ → List Note
 earlier L d text = filter (λ x. nat_lt x.row (length (rows_above L d text))) (notes L text)
 
--- the notes headed in measures after d
+-- "notes headed in later measures": those after d
 abbrev pub later : ℕ → ℕ → List ℕ → List Note
 later L d text = filter (λ x. nat_le (length (rows_above L (suc d) text)) x.row) (notes L text)
 
@@ -95,7 +96,7 @@ ShiftedTail a b tail.Without (tail.Row y) = ⊥
 ShiftedTail a b (tail.Row x) tail.Without = ⊥
 ShiftedTail a b (tail.Row x) (tail.Row y) = y + a ≡ x + b
 
--- x of the old text is y in the new: row and tail with the shift, column and kind the same
+-- "but for one shift of rows and tail rows": x of the old text is y in the new, row and tail with the shift, column and kind the same.
 pub record Shifted (a b : ℕ) (x y : Note) : Type 0 where
   pub row : y.row + a ≡ x.row + b
   pub tail : ShiftedTail a b x.tail y.tail
@@ -106,7 +107,7 @@ pub record Shifted (a b : ℕ) (x y : Note) : Type 0 where
 unfoldable pub stops : ℕ → Bool
 stops b = among b (49 ∷ 50 ∷ 51 ∷ 52 ∷ 77 ∷ 76 ∷ 70 ∷ 109 ∷ 108 ∷ 102 ∷ [])
 
--- a byte 2 or 4, and the kind of a note that it heads
+-- a byte 2 or 4
 unfoldable pub is_head : ℕ → Bool
 is_head b = among b (50 ∷ 52 ∷ [])
 
@@ -114,7 +115,7 @@ is_head b = among b (50 ∷ 52 ∷ [])
 unfoldable pub head_kind : ℕ → Kind
 head_kind b = if b == 50 then Hold else Roll
 
--- no 1 2 3 4 M L F m l f stands in column c of rows
+-- of a column c of rows: "no 1 2 3 4 M L F m l f follows it in its column before d"
 abbrev pub untouched : ℕ → List Row → Bool
 untouched c [] = true
 untouched c (r ∷ rs) = not (stops (byte_at c r)) && untouched c rs
@@ -142,32 +143,34 @@ MissingOrLate s n i c k ns =
 unfoldable pub object : ℕ → Bool
 object b = among b (49 ∷ 77 ∷ 76 ∷ 70 ∷ 75 ∷ [])
 
--- rows hold a 1, M, L, F or K
+-- "the later measures have a 1, M, L, F or K"
 unfoldable pub HoldObject : List Row → Type 0
 HoldObject rows = (c : ℕ) × ((i : ℕ) × (object (byte_in rows i c) ≡ true))
 
--- in each column with a 3 (51), such a cell stands before the first 3: before each 3
+-- "in each of their columns with a 3 such a cell stands before the first 3" (51): before each 3
 unfoldable pub ObjectFirst : List Row → Type 0
 ObjectFirst rows = (c i : ℕ) → byte_in rows i c ≡ 51 → (j : ℕ) × (j < i) × (object (byte_in rows j c) ≡ true)
 
 -- "they have these figures in common": damage in one measure stays there.
 pub record DamageStays (L d : ℕ) (old new : List ℕ) : Type 0 where
-  -- Both have the same number of measures, and every other measure has the same minimised rows, row beats, density and spacing in both.
+  -- measures: "their number, and the minimised rows of each but d"
   pub same_rows : SameBut d (minimised L old) (minimised L new)
+  -- row beats, densities, spacing: "those of each measure but d, the beats as floats"
   pub same_beats : SameBut d (measure_beats L old) (measure_beats L new)
   pub same_density : SameBut d (densities L old) (densities L new)
   pub same_spacing : SameBut d (spacings L old) (spacings L new)
-  -- The notes headed in later measures are the same in number, order and every field, but for the one shift added to rows and tails.
+  -- notes headed in later measures: "their number, order and fields, but for one shift of rows and tail rows"
   pub later_notes : AllZip (Shifted (length (rows_of L d old)) (length (rows_of L d new))) (later L d old) (later L d new)
-  -- The notes headed earlier are the same in number, order and every field, leaving out exactly those of the heads open where d begins,
-  -- which are heads of the rows before d, the same in both texts.
+  -- Notes headed in earlier measures: "their number, order and fields, those of the heads that are open where d begins left out in both". These are
+  -- heads of the rows before d, the same in both texts.
   pub same_before : rows_above L d old ≡ rows_above L d new
   pub earlier_notes : filter (λ x. not (open_at L d old x)) (earlier L d old) ≡ filter (λ x. not (open_at L d new x)) (earlier L d new)
-  -- The note of such a head is in each text missing or has that row, column and kind and a tail in d or later, which is a row of that text.
+  -- The note of such an open head: "in each text it is missing, or has the head's row, column and kind, and its tail row is in d or later and in that
+  -- text".
   pub open_heads : (i c : ℕ)
       → open_in (rows_above L d old) i c ≡ true
       → MissingOrLate (length (rows_above L d old)) (row_count L old) i c (head_kind (byte_in (rows_above L d old) i c)) (notes L old)
       × MissingOrLate (length (rows_above L d old)) (row_count L new) i c (head_kind (byte_in (rows_above L d old) i c)) (notes L new)
-  -- The last beat is the same too where later measures hold a 1, M, L, F or K, and in them, in each column with a 3, such a cell stands
-  -- before the first 3. "Equal floats have equal bits."
+  -- The last beat: "its bits, where the later measures have a 1, M, L, F or K, and in each of their columns with a 3 such a cell stands before the
+  -- first 3". "Equal floats have equal bits."
   pub same_last : HoldObject (all_later L d old) → ObjectFirst (all_later L d old) → last_beat_of L old ≡ last_beat_of L new

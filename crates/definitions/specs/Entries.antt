@@ -1,18 +1,19 @@
--- Specification, Calls, Slices and Figures: for every input what each call answers, a refusal or its value, and what it leaves in each lent slice.
--- The entries callable from outside return the number told, 0 for accepted, and put the value in the 32 figures. `lanes` is the caller's lane number;
--- the lists named after slices are what those held before the call. The entry that is lent a file is in SmFile.antt.
+-- Specification, Calls and Figures: for every input what each call answers, a refusal or its value, and the places of its value among the 32 figures.
+-- The entries callable from outside return the number told, 0 for accepted, and put the value in the figures. "`data` is the text and `lanes` the
+-- caller's lane number": here `text` and `lanes`; the lists named after slices are what those held before the call, and what a call leaves in each is
+-- `leaves` of its answer. The entry that is lent a file is in SmFile.antt.
 use Rattle.std.specs.Prelude.{List, [], ◌∷◌, ◌++◌, ℕ, Float, length, replicate, Result}
 use Rattle.std.specs.Float.{binary64}
 use Rattle.std.specs.Float.Ieee.{to_bits}
 use Rattle.definitions.specs.Lists.{number_of_bool, joined}
 use Rattle.definitions.specs.Lanes.{lanes_of}
-use Rattle.definitions.specs.Refusals.{long_text, short_text, short_measures, short_beats, short_work, short_notes, answered, leaves}
+use Rattle.definitions.specs.Refusals.{long_text, short_text, short_measures, short_beats, short_work, short_notes, answered}
 use Rattle.definitions.specs.Reduction.{minimised}
-use Rattle.definitions.specs.Figures.{minimised_text, densities, spacings}
-use Rattle.definitions.specs.Beats.{f32, beats}
+use Rattle.definitions.specs.Figures.{minimised_text}
 use Rattle.definitions.specs.Objects.{last48, last_beat_of}
 use Rattle.definitions.specs.Notes.{notes}
-use Rattle.definitions.specs.Records.{records, number_of_tail, number_of_kind}
+use Rattle.definitions.specs.Records.{number_of_tail, number_of_kind}
+use Rattle.definitions.specs.Dropped.{dropped_heads}
 use Rattle.definitions.specs.ReadBack.{main_tally, kept_tally}
 use Rattle.definitions.specs.Tally.{tally_figures}
 use Rattle.definitions.specs.Judged.{judged_tally, flagged_tally}
@@ -20,16 +21,19 @@ use Rattle.definitions.specs.TimingRows.{timing_rows, timing_heads}
 use Rattle.definitions.specs.declared.ArrowStats.{ArrowStats}
 use Rattle.definitions.specs.declared.ChartFigures.{ChartFigures}
 use Rattle.definitions.specs.declared.KeptFigures.{KeptFigures}
+use Rattle.definitions.specs.declared.DroppedFigures.{DroppedFigures}
 use Rattle.definitions.specs.declared.TimingFigures.{TimingFigures}
 use Rattle.definitions.specs.declared.LastBeat.{LastBeat}
 use Rattle.definitions.specs.declared.Refusal.{Refusal}
 use Rattle.definitions.specs.declared.Note.{Note}
 
--- the places of the tally in a call that answers none
+-- the places of the tally in a call that answers none: "An accepted call sets each place that it does not answer to 0."
 abbrev pub no_tally : List ℕ
 no_tally = replicate 14 0
 
--- The 32 figures: places 0 to 7, the tally from place 8 on, and zeros.
+-- The 32 figures. Places 0 to 7: "bytes in the text slice", "measures", "minimised rows", "note records", "the last beat, the bits of its float", "1
+-- where a timing row has a 2 or 4, else 0", "the last beat in 48ths" and "bytes of the sheet"; from place 8 on "the tally, its fields in their
+-- order", and zeros.
 abbrev pub figures : ℕ → ℕ → ℕ → ℕ → ℕ → ℕ → ℕ → List ℕ → List ℕ
 figures bytes measures rows records bits_of_last_beat heads last tally =
     bytes ∷ measures ∷ rows ∷ records ∷ bits_of_last_beat ∷ heads ∷ last ∷ 0 ∷ (tally ++ replicate 10 0)
@@ -46,7 +50,8 @@ row_count L text = length (joined (minimised L text))
 abbrev pub bits_of_last_beat : ℕ → List ℕ → ℕ
 bits_of_last_beat L text = to_bits binary64 (last_beat_of L text)
 
--- minimize_chart_count_rows_notes, the main call: its value, for an accepted text at L lanes
+-- minimize_chart_count_rows_notes, the main call, of an accepted text at L lanes: "minimised text, densities, row beats, note records, main tally,
+-- last beat"; its value,
 unfoldable pub figures_of_chart : ℕ → List ℕ → ChartFigures
 figures_of_chart L text =
     record {
@@ -64,7 +69,7 @@ abbrev pub places_of_chart : ChartFigures → List ℕ
 places_of_chart f = figures f.bytes f.measures f.rows f.notes f.last_bits 0 f.last_row (tally_figures f.stats)
 
 module _ (lanes : ℕ) (text out densities₀ : List ℕ) (beats₀ : List Float) (work notes₀ : List ℕ) where
-  -- what the call answers
+  -- what the call answers; its refusals, in their order: "1 2 3 4 5 6"
   unfoldable pub main_answer : Result ChartFigures Refusal
   main_answer =
       answered
@@ -77,27 +82,7 @@ module _ (lanes : ℕ) (text out densities₀ : List ℕ) (beats₀ : List Float
       ∷ [])
       (figures_of_chart (lanes_of lanes) text)
 
-  -- what it leaves in the text slice
-  abbrev pub main_text : List ℕ
-  main_text = leaves 0 main_answer (minimised_text (lanes_of lanes) text) out
-
-  -- in the measure slice
-  abbrev pub main_densities : List ℕ
-  main_densities = leaves 0 main_answer (densities (lanes_of lanes) text) densities₀
-
-  -- in the beat slice
-  abbrev pub main_beats : List Float
-  main_beats = leaves (f32 0) main_answer (beats (lanes_of lanes) text) beats₀
-
-  -- "0 throughout"
-  abbrev pub main_work : List ℕ
-  main_work = leaves 0 main_answer [] work
-
-  -- in the note slice
-  abbrev pub main_notes : List ℕ
-  main_notes = leaves 0 main_answer (records (notes (lanes_of lanes) text)) notes₀
-
--- process_chart_kept, the kept-row call: its value, and its places
+-- process_chart_kept, the kept-row call: "minimised text, densities, kept tally"; its value, and its places
 unfoldable pub figures_of_kept : ℕ → List ℕ → KeptFigures
 figures_of_kept L text =
     record {
@@ -111,7 +96,7 @@ abbrev pub places_of_kept : KeptFigures → List ℕ
 places_of_kept f = figures f.bytes f.measures f.rows 0 0 0 0 (tally_figures f.stats)
 
 module _ (lanes : ℕ) (text out densities₀ work : List ℕ) where
-  -- what the call answers
+  -- what the call answers; its refusals: "1 2 3 5"
   unfoldable pub kept_answer : Result KeptFigures Refusal
   kept_answer =
       answered
@@ -122,19 +107,31 @@ module _ (lanes : ℕ) (text out densities₀ work : List ℕ) where
       ∷ [])
       (figures_of_kept (lanes_of lanes) text)
 
-  -- what it leaves in the text slice
-  abbrev pub kept_text : List ℕ
-  kept_text = leaves 0 kept_answer (minimised_text (lanes_of lanes) text) out
+-- dropped_holds: its value, and its places
+unfoldable pub figures_of_dropped : ℕ → List ℕ → DroppedFigures
+figures_of_dropped L text =
+    record {
+      bytes = length (minimised_text L text);
+      measures = measure_count L text;
+      rows = row_count L text;
+      heads = length (dropped_heads L text);
+    }
 
-  -- in the measure slice
-  abbrev pub kept_densities : List ℕ
-  kept_densities = leaves 0 kept_answer (densities (lanes_of lanes) text) densities₀
+abbrev pub places_of_dropped : DroppedFigures → List ℕ
+places_of_dropped f = figures f.bytes f.measures f.rows f.heads 0 0 0 no_tally
 
-  -- in the work slice
-  abbrev pub kept_work : List ℕ
-  kept_work = leaves 0 kept_answer [] work
+module _ (lanes : ℕ) (text out list : List ℕ) where
+  -- what the call answers; 6: "the note slice, for note records or for the list, is shorter than 10 × L × R"
+  unfoldable pub dropped_answer : Result DroppedFigures Refusal
+  dropped_answer =
+      answered
+      (long_text (length text)
+      ∷ short_text (length text) (length out)
+      ∷ short_notes (lanes_of lanes) (length text) (length list)
+      ∷ [])
+      (figures_of_dropped (lanes_of lanes) text)
 
--- minimize_timing_rows: its value, and its places
+-- minimize_timing_rows: "timing rows, row beats, heads figure"; its value, and its places
 unfoldable pub figures_of_timing : ℕ → List ℕ → TimingFigures
 figures_of_timing L text =
     record {
@@ -147,7 +144,7 @@ abbrev pub places_of_timing : TimingFigures → List ℕ
 places_of_timing f = figures f.bytes 0 f.rows 0 0 (number_of_bool f.heads) 0 no_tally
 
 module _ (lanes : ℕ) (text out : List ℕ) (beats₀ : List Float) where
-  -- what the call answers
+  -- what the call answers; its refusals: "1 2 4"
   unfoldable pub timing_answer : Result TimingFigures Refusal
   timing_answer =
       answered
@@ -157,30 +154,14 @@ module _ (lanes : ℕ) (text out : List ℕ) (beats₀ : List Float) where
       ∷ [])
       (figures_of_timing (lanes_of lanes) text)
 
-  -- what it leaves in the text slice
-  abbrev pub timing_text : List ℕ
-  timing_text = leaves 0 timing_answer (timing_rows (lanes_of lanes) text) out
-
-  -- in the beat slice
-  abbrev pub timing_beats : List Float
-  timing_beats = leaves (f32 0) timing_answer (beats (lanes_of lanes) text) beats₀
-
 -- measure_densities and equally_spaced: how many measures there are, and its place
 abbrev pub places_of_measures : ℕ → List ℕ
 places_of_measures n = figures 0 n 0 0 0 0 0 no_tally
 
 module _ (lanes : ℕ) (text slice : List ℕ) where
-  -- what either call answers
+  -- what either call answers; its refusals: "1 3"
   unfoldable pub measures_answer : Result ℕ Refusal
   measures_answer = answered (long_text (length text) ∷ short_measures (length text) (length slice) ∷ []) (measure_count (lanes_of lanes) text)
-
-  -- what `measure_densities` leaves in the measure slice
-  abbrev pub densities_left : List ℕ
-  densities_left = leaves 0 measures_answer (densities (lanes_of lanes) text) slice
-
-  -- what `equally_spaced` leaves in the measure slice
-  abbrev pub spacings_left : List ℕ
-  spacings_left = leaves 0 measures_answer (spacings (lanes_of lanes) text) slice
 
 -- chart_last_beat: its value, and its places
 unfoldable pub figures_of_last : ℕ → List ℕ → LastBeat
@@ -194,7 +175,7 @@ figures_of_last L text =
 abbrev pub places_of_last : LastBeat → List ℕ
 places_of_last f = figures 0 0 0 0 f.bits 0 f.row no_tally
 
--- what the call answers
+-- what the call answers; its refusal: "1"
 unfoldable pub last_answer : ℕ → List ℕ → Result LastBeat Refusal
 last_answer lanes text = answered (long_text (length text) ∷ []) (figures_of_last (lanes_of lanes) text)
 
@@ -203,21 +184,17 @@ abbrev pub places_of_judged : ArrowStats → List ℕ
 places_of_judged t = figures 0 0 0 0 0 0 0 (tally_figures t)
 
 module _ (lanes : ℕ) (text work : List ℕ) where
-  -- what either answers, with this tally of an accepted text
+  -- What either answers, with this tally of an accepted text; its refusals: "1 5". "The judged tallies read `data` as it stands."
   unfoldable pub judged_checked : ArrowStats → Result ArrowStats Refusal
   judged_checked t = answered (long_text (length text) ∷ short_work (lanes_of lanes) (length text) (length work) ∷ []) t
 
-  -- what `process_rows_judgable` answers
+  -- what `process_rows_judgable` answers: "judged tally"
   abbrev pub judged_answer : Result ArrowStats Refusal
   judged_answer = judged_checked (judged_tally (lanes_of lanes) text)
 
-  -- what `process_timing_rows` answers, with these flags
+  -- what `process_timing_rows` answers, with these flags: "judged tally by flags"
   abbrev pub flagged_answer : List ℕ → Result ArrowStats Refusal
   flagged_answer flags = judged_checked (flagged_tally (lanes_of lanes) flags text)
-
-  -- what either leaves in the work slice
-  abbrev pub judged_work : List ℕ
-  judged_work = leaves 0 judged_answer [] work
 
 -- read_note: the four places of a note, "row, tail row or 4,294,967,295, column, kind". What it answers is in Records.antt.
 abbrev pub figures_of_note : Note → List ℕ

@@ -1,13 +1,13 @@
--- Specification, Examples: P1 to P11 as one table with a single claim, `examples-hold`. In a text `|` is byte 10 and `^` is byte 13. The table of
--- RuleExamples.antt is of the same form.
-use Rattle.std.specs.Prelude.{◌≡◌, refl, if◌then◌else◌, List, [], ◌∷◌, map, ℕ, ◌==◌, length, replicate, Float}
+-- Specification, Examples: "P1 to P11 are proved of the definitions as one table with a single claim.", `examples-hold`. In a text `|` is byte 10 and
+-- `^` is byte 13. The table of RuleExamples.antt is of the same form.
+use Rattle.std.specs.Prelude.{◌≡◌, refl, if◌then◌else◌, List, [], ◌∷◌, map, ℕ, ◌==◌, length, replicate, Result}
 use Prim.Native.Char.{code}
 use Prim.Native.String.{String, [] as end, ◌∷◌ as ◌then◌}
 use Rattle.std.specs.Float.{binary32, binary64}
 use Rattle.std.specs.Float.Ieee.{to_bits, of_int, round, add, mul, div}
 use Rattle.definitions.specs.Lists.{number_of_bool, joined}
 use Rattle.definitions.specs.Lanes.{lanes_of}
-use Rattle.definitions.specs.Refusals.{number_told, replaces, long_text}
+use Rattle.definitions.specs.Refusals.{number_told, leaves, replaces, long_text}
 use Rattle.definitions.specs.Lines.{Row, is_blank_byte, is_row_line, kind_of, line_kind}
 use Rattle.definitions.specs.Cells.{cell_of}
 use Rattle.definitions.specs.Measures.{chart}
@@ -23,8 +23,10 @@ use Rattle.definitions.specs.Correction.{corrects, paired_only, corrected}
 use Rattle.definitions.specs.ReadBack.{rows_read_back, main_tally, kept_tally}
 use Rattle.definitions.specs.Judged.{judged_sum, judge_row, open_before, judged_rows, judged_tally, flagged_tally}
 use Rattle.definitions.specs.TimingRows.{timing_rows, timing_heads}
-use Rattle.definitions.specs.Entries.{figures_of_note, main_answer, main_text, main_work}
+use Rattle.definitions.specs.Entries.{figures_of_note, main_answer}
 use Rattle.definitions.specs.declared.ArrowStats.{ArrowStats}
+use Rattle.definitions.specs.declared.ChartFigures.{ChartFigures}
+use Rattle.definitions.specs.declared.Refusal.{Refusal}
 
 -- the bytes of a text in ASCII, `|` (124) for byte 10 and `^` (94) for byte 13
 abbrev pub bytes : String → List ℕ
@@ -57,9 +59,9 @@ pub data Figure : Type 0 where
   record_read told_length : ℕ → Figure
   told left_text left_work : ℕ → ℕ → ℕ → ℕ → ℕ → Figure
 
--- what a call gives that is lent slices of these lengths, 7 throughout
-abbrev pub lent : {A : Type 0} → (List ℕ → List ℕ → List Float → List ℕ → List ℕ → A) → ℕ → ℕ → ℕ → ℕ → ℕ → A
-lent call t m b w n = call (replicate t 7) (replicate m 7) (replicate b (f32 7)) (replicate w 7) (replicate n 7)
+-- what the main call answers that is lent slices of these lengths, 7 throughout
+abbrev pub lent : ℕ → List ℕ → ℕ → ℕ → ℕ → ℕ → ℕ → Result ChartFigures Refusal
+lent L s t m b w n = main_answer L s (replicate t 7) (replicate m 7) (replicate b (f32 7)) (replicate w 7) (replicate n 7)
 
 -- that figure of a text at L lanes, in numbers; floats by their bits
 unfoldable pub figure : Figure → ℕ → List ℕ → List ℕ
@@ -79,9 +81,9 @@ figure (kept f) L s = field f (kept_tally L s)
 figure (judged f) L s = field f (judged_tally L s)
 figure (flagged flags f) L s = field f (flagged_tally L flags s)
 figure (record_read k) L s = number_told (note_of_record s k) ∷ replaces (note_of_record s k) figures_of_note []
-figure (told t m b w n) L s = number_told (lent (main_answer L s) t m b w n) ∷ []
-figure (left_text t m b w n) L s = lent (main_text L s) t m b w n
-figure (left_work t m b w n) L s = lent (main_work L s) t m b w n
+figure (told t m b w n) L s = number_told (lent L s t m b w n) ∷ []
+figure (left_text t m b w n) L s = leaves 0 (lent L s t m b w n) (minimised_text L s) (replicate t 7)
+figure (left_work t m b w n) L s = leaves 0 (lent L s t m b w n) [] (replicate w 7)
 figure (told_length len) L s = number_told (long_text len) ∷ []
 
 -- whole beats as the bits of 32-bit floats, and one as those of a 64-bit float
@@ -170,10 +172,12 @@ table =
     ∷ [])
     -- P9
     ∷ at4 "100^|2000"
-    ((main arrows is 0 ∷ [])
-    ∷ (kept arrows is 1 ∷ [])
-    ∷ (main steps is 2 ∷ [])
-    ∷ (kept steps is 2 ∷ [])
+    ((text is bytes "2000|")
+    ∷ (row_counts is 1 ∷ [])
+    ∷ (main arrows is 0 ∷ [])
+    ∷ (kept arrows is 0 ∷ [])
+    ∷ (main steps is 1 ∷ [])
+    ∷ (kept steps is 1 ∷ [])
     ∷ [])
     -- P10
     ∷ at4 "1000|,1111|0100" ((row_counts is 1 ∷ 1 ∷ []) ∷ [])

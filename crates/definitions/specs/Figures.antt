@@ -34,10 +34,10 @@ abbrev pub spacing : List Row → Bool
 spacing [] = true
 spacing (r ∷ rs) = is_step r && spacing rs
 
--- the density of each measure of a text
+-- of a text, "the density of each measure"
 unfoldable pub densities : ℕ → List ℕ → List ℕ
 densities L text = map density (minimised L text)
 
--- "1 for each measure whose spacing is true, else 0"
+-- of a text, "1 for each measure whose spacing is true, else 0"
 unfoldable pub spacings : ℕ → List ℕ → List ℕ
 spacings L text = map (λ (m : List Row). number_of_bool (spacing m)) (minimised L text)

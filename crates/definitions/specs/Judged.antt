@@ -15,9 +15,11 @@ use Rattle.definitions.specs.declared.ArrowStats.{ArrowStats}
 unfoldable pub judged_at : List ℕ → ℕ → Bool
 judged_at flags i = not (slice_index_or flags i 1 == 0)
 
+-- "On a judged row the arrows are 1, L, l and the paired heads."
 abbrev pub is_judged_arrow : Cell → Bool
 is_judged_arrow x = (effects_of x).judged_arrow
 
+-- "On an unjudged row each 1, L, l, M, m, F, f and paired head is one fake, and nothing else is counted."
 abbrev pub is_unjudged_fake : Cell → Bool
 is_unjudged_fake x = (effects_of x).unjudged_fake
 
@@ -25,12 +27,14 @@ is_unjudged_fake x = (effects_of x).unjudged_fake
 abbrev pub sum_of_fakes : ℕ → RowSum
 sum_of_fakes n = record empty_sum { fakes = n }
 
--- what a row adds up to, judged or not
+-- What a row adds up to, judged or not, where its paired heads alone are left. "Of a judged row directions are those of its arrows, holds and rolls
+-- its paired heads, and mines, lifts and fakes are counted as in a tally."
 unfoldable pub judged_sum : Bool → Row → RowSum
 judged_sum true r = row_sum_by is_judged_arrow r
 judged_sum false r = sum_of_fakes (count_by (λ b. is_unjudged_fake (cell_of b)) r)
 
--- "A judged row is a hand if it has an arrow, mine or fake, and its arrows and the holds open before it make 3 or more." "`holding` stays 0."
+-- "A judged row is a step with at least one arrow and a jump with at least two. A judged row is a hand if it has an arrow, mine or fake, and its
+-- arrows and the holds open before it make 3 or more." "`holding` stays 0."
 unfoldable pub judge_row : ArrowStats → Bool → ℕ → RowSum → ArrowStats
 judge_row t judged held s =
     tally_with_sum t s (judged && (nat_le 1 (s.arrows + s.mines + s.fakes) && nat_le 3 (s.arrows + held))) 0
@@ -50,11 +54,11 @@ judge_from L J ps t i [] = t
 judge_from L J ps t i (r ∷ rs) =
     judge_from L J ps (judge_row t (J i) (open_before L J ps i) (judged_sum (J i) (keep_row ps i 0 r))) (suc i) rs
 
--- the judged tally of rows
+-- the judged tally of rows, where J says which of them are judged
 unfoldable pub judged_rows : ℕ → (ℕ → Bool) → List Row → ArrowStats
 judged_rows L J rows = judge_from L J (pairs rows) empty_stats 0 rows
 
--- "`process_rows_judgable` judges every row."
+-- "A judged tally counts the rows of its text, read back. `process_rows_judgable` judges every row."
 unfoldable pub judged_tally : ℕ → List ℕ → ArrowStats
 judged_tally L text = judged_rows L (λ i. true) (rows_read_back L text)
 

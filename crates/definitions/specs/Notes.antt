@@ -21,7 +21,8 @@ effect_of x = (effects_of x).note
 unfoldable pub effect_at : ℕ → NoteEffect
 effect_at b = effect_of (cell_of b)
 
--- what a cell at row i says of the head open above it: its tail row, that it is dropped, or what the rows after it say
+-- What a cell at row i says of the head open above it: its tail row, that it is dropped, or what the rows after it say. "A 3 closes the open head of
+-- its column, where there is one, and its row is the tail row of the head's note." Another head drops it: "A column has at most one open head."
 abbrev pub meets : NoteEffect → ℕ → Option ℕ → Option ℕ
 meets Nothing i later = later
 meets Closes i later = Some i
@@ -33,11 +34,11 @@ abbrev pub tail_row_of : ℕ → ℕ → List Row → Option ℕ
 tail_row_of c i [] = None
 tail_row_of c i (r ∷ rs) = meets (effect_at (byte_at c r)) i (tail_row_of c (suc i) rs)
 
--- a note without a tail
+-- "A 1 is a tap, M and m are mines, L and l lifts, F and f fakes: each is a note at its row and column, without a tail."
 abbrev pub plain_note : ℕ → ℕ → Kind → List Note
 plain_note i c k = record { row = i; tail = tail.Without; column = c; kind = k } ∷ []
 
--- a note with the tail row that its head has; without one it is dropped
+-- "A 2 heads a hold and a 4 a roll, which is a note at the head's row and column if it gets a tail."
 abbrev pub held_note : ℕ → ℕ → Kind → Option ℕ → List Note
 held_note i c k None = []
 held_note i c k (Some j) = record { row = i; tail = tail.Row j; column = c; kind = k } ∷ []

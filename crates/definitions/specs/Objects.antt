@@ -45,11 +45,11 @@ abbrev pub object_from : Depths → ℕ → Row → Bool
 object_from D c [] = false
 object_from D c (b ∷ r) = is_object (object_at b) (D c) || object_from D (suc c) r
 
--- a row is an object row where the depths before it are D
+-- "A minimised row is an object row if" one of its cells is such, where the depths before it are D
 abbrev pub object_row : Depths → Row → Bool
 object_row D r = object_from D 0 r
 
--- A row's place: row r of the n rows of measure m.
+-- A row's place: "row r of the n minimised rows of measure m".
 pub record Place : Type 0 where
   pub m : ℕ
   pub r : ℕ
@@ -72,7 +72,7 @@ last_of [] = None
 last_of (p ∷ []) = Some p
 last_of (p ∷ q ∷ ps) = last_of (q ∷ ps)
 
--- the last object row, if there is one
+-- "the last object row", if there is one. "Each column has a depth, 0 before the chart's first row, which goes on from measure to measure."
 unfoldable pub last_object : ℕ → List ℕ → Option Place
 last_object L text = last_of (objects_from (λ c. 0) 0 (minimised L text))
 
@@ -81,7 +81,7 @@ abbrev pub place48 : Option Place → ℕ
 place48 None = 0
 place48 (Some p) = last_row p.m p.r p.n
 
--- a text's last beat in 48ths
+-- of a text, "the last beat in 48ths"
 unfoldable pub last48 : ℕ → List ℕ → ℕ
 last48 L text = place48 (last_object L text)
 

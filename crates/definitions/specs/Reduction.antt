@@ -23,7 +23,7 @@ abbrev pub at_multiples : ℕ → ℕ → List Row → List Row
 at_multiples s i [] = []
 at_multiples s i (r ∷ rs) = only_if (multiple s i) (r ∷ []) ++ at_multiples s (suc i) rs
 
--- it "divides its row count and off whose multiples every row is all zero"
+-- it "divides its row count and off whose multiples every row is all zero". "Rows are numbered from 0 in their measure."
 abbrev pub allows : List Row → ℕ → Bool
 allows rs s = multiple s (length rs) && off_zero s 0 rs
 
@@ -36,7 +36,7 @@ largest (suc k) rs = if allows rs (2 ^ suc k) then 2 ^ suc k else largest k rs
 unfoldable pub stride : List Row → ℕ
 stride rs = largest (length rs) rs
 
--- the rows of a measure that stay
+-- "The minimised rows are the rows at the multiples of the stride. A measure without rows has no minimised rows."
 unfoldable pub reduce : List Row → List Row
 reduce rs = at_multiples (stride rs) 0 rs
 

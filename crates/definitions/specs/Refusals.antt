@@ -1,5 +1,6 @@
--- Specification, Refusals and Slices: the refusals by their numbers, the conditions of 1 to 6, their order, and what a call leaves in what it
--- was lent. 7 and 8 are in Records.antt, 9 to 11 in SmFile.antt.
+-- Specification, Refusals and Slices: the refusals by their numbers, the conditions of 1 to 6, their order, and what a call leaves in what it was
+-- lent. "A refusal's condition is looked at in those calls alone that are lent what it speaks of. No text is refused for what stands in it." 7 and 8
+-- are in Records.antt, 9 to 11 in SmFile.antt, 19 and 20 in `chart_sheet`.
 use Rattle.std.specs.Prelude.{Bool, if◌then◌else◌, List, [], ◌∷◌, ℕ, ◌+◌, ◌*◌, ◌/◌, ◌++◌, nat_lt, length, codes, Result, Ok, Err}
 use Rattle.definitions.specs.Sizes.{most_bytes}
 use Rattle.definitions.specs.Lists.{padded}
@@ -7,7 +8,7 @@ use Rattle.definitions.specs.Lanes.{most_rows_in}
 use Rattle.definitions.specs.declared.Refusal.{Refusal}
 use Rattle.definitions.specs.declared.Refusal.TheVariants.{LongText, ShortText, ShortMeasures, ShortBeats, ShortWork, ShortNotes, NoRecord, BadRecord, FewFields, OtherType, NoChart, ShortSheet, OtherForm}
 
--- a refusal's number
+-- "A refusal is a value of one type, and a definition gives each its number"
 abbrev pub number_of : Refusal → ℕ
 number_of LongText = 1
 number_of ShortText = 2
@@ -23,7 +24,7 @@ number_of NoChart = 11
 number_of ShortSheet = 19
 number_of OtherForm = 20
 
--- Whose mistake it is, as the table says it.
+-- whose mistake a refusal is, as the table has it: "caused by"
 abbrev pub cause_of : Refusal → List ℕ
 cause_of LongText = codes "whoever wires up the call"
 cause_of ShortText = codes "whoever wires up the call"
@@ -39,7 +40,7 @@ cause_of NoChart = codes "whoever asks for the chart"
 cause_of ShortSheet = codes "whoever wires up the call"
 cause_of OtherForm = codes "whoever wires up the call"
 
--- what is wrong
+-- What is wrong. "The words in which a refusal is printed are those of `words_of` and `cause_of` of `Refusals`."
 abbrev pub words_of : Refusal → List ℕ
 words_of LongText = codes "len is over 16,777,215"
 words_of ShortText = codes "the text slice is shorter than len + 1"
@@ -83,24 +84,24 @@ short_beats L len room = refused_if (nat_lt room (most_rows_in L len)) ShortBeat
 unfoldable pub short_work : ℕ → ℕ → ℕ → Result Unit Refusal
 short_work L len room = refused_if (nat_lt room (most_rows_in L len)) ShortWork
 
--- 6: "the note slice is shorter than 10 × L × R"
+-- 6: "the note slice, for note records or for the list, is shorter than 10 × L × R"
 unfoldable pub short_notes : ℕ → ℕ → ℕ → Result Unit Refusal
 short_notes L len room = refused_if (nat_lt room (10 * L * most_rows_in L len)) ShortNotes
 
 -- "the number of the first of its refusals whose condition holds": the first check that refuses refuses the call; where none does, it is accepted and
--- answers x.
+-- answers x. So "a call's answer is such a refusal or its figures".
 abbrev pub answered : {T : Type 0} → List (Result Unit Refusal) → T → Result T Refusal
 answered [] x = Ok x
 answered (Ok u ∷ checks) x = answered checks x
 answered (Err r ∷ checks) x = Err r
 
--- the number that a call returns: 0 where it is accepted
+-- "A call returns 0 if it is accepted", else its refusal's number.
 abbrev pub number_told : {T : Type 0} → Result T Refusal → ℕ
 number_told (Ok x) = 0
 number_told (Err r) = number_of r
 
--- What a call leaves in a slice lent for writing that held `old`. "A refused call writes nothing."
--- "After an accepted call every entry past the answer in a slice lent for writing is 0"
+-- What a call leaves in a slice lent for writing that held `old`. "A refused call writes nothing." "After an accepted call every entry past the
+-- answer in a slice lent for writing is 0": so the work slice, in which nothing is answered, is "0 throughout".
 abbrev pub leaves : {A T : Type 0} → A → Result T Refusal → List A → List A → List A
 leaves z (Ok x) answer old = padded z (length old) answer
 leaves z (Err r) answer old = old

@@ -1,4 +1,5 @@
--- Examples of what was asked for later as one table with a single claim, `request-examples-hold`. In a file `|` is byte 10 and `^` is byte 13.
+-- Specification, SM files: examples of the blocks of a file, as one table with a single claim, `request-examples-hold`. In a file `|` is byte 10 and
+-- `^` is byte 13.
 use Rattle.std.specs.Prelude.{◌≡◌, refl, List, [], ◌∷◌, map, ℕ, Result, Ok, Err}
 use Prim.Native.String.{String}
 use Rattle.definitions.specs.Lists.{up_to, through, after}
@@ -19,7 +20,7 @@ abbrev pub places_told : Result SmPart Refusal → List ℕ
 places_told (Ok c) = 0 ∷ c.lanes ∷ c.start ∷ c.part
 places_told (Err r) = number_of r ∷ []
 
--- E1's answer for block k of a file
+-- what is answered for block k of a file
 unfoldable pub sm_told : List ℕ → ℕ → List ℕ
 sm_told file k = places_told (sm_answer file k)
 
@@ -31,7 +32,7 @@ chart file k lanes start text = record { file = file; k = k; answer = 0 ∷ lane
 abbrev pub refused : String → ℕ → ℕ → Example
 refused file k number = record { file = file; k = k; answer = number ∷ [] }
 
--- E1
+-- of SM files
 unfoldable pub table : List Example
 table =
     -- an empty file has no block

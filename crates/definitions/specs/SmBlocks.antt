@@ -27,11 +27,11 @@ pub record Apart (file : List ℕ) : Type 0 where
 unfoldable pub BlocksApart : Type 0
 BlocksApart = (file : List ℕ) → Apart file
 
--- "the number of blocks is the least k that is answered 11", and every greater k is answered 11 too
+-- "of a file that is not refused with 1, the number of blocks is the least k that is answered 11, and from there on every k is"
 pub record Least (file : List ℕ) : Type 0 where
   pub answered : (k : ℕ) → length (blocks file) ≤ k → sm_number file k ≡ 11
   pub least : (k : ℕ) → sm_number file k ≡ 11 → length (blocks file) ≤ k
 
--- for every file that is not refused for its length
+-- for every such file
 unfoldable pub LeastRefused : Type 0
 LeastRefused = (file : List ℕ) → length file ≤ most_bytes → Least file

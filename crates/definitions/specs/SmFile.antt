@@ -4,7 +4,7 @@ use Rattle.std.specs.Prelude.{Bool, if◌then◌else◌, ◌&&◌, List, [], ◌
 use Rattle.std.specs.List.{starts_with}
 use Rattle.definitions.specs.Lists.{only_if, up_to, through, after_each}
 use Rattle.definitions.specs.Lines.{cut, is_blank_byte, trim}
-use Rattle.definitions.specs.Refusals.{refused_if, long_text, answered, number_told, replaces}
+use Rattle.definitions.specs.Refusals.{refused_if, long_text, answered, number_told}
 use Rattle.definitions.specs.declared.Refusal.{Refusal}
 use Rattle.definitions.specs.declared.Refusal.TheVariants.{FewFields, OtherType, NoChart}
 
@@ -18,6 +18,10 @@ pub record SmPart : Type 0 where
   pub lanes : ℕ
   pub start : ℕ
   pub part : List ℕ
+
+-- its three places: "lane count, where the data begins in the file, its length"
+abbrev pub places_of_part : SmPart → List ℕ
+places_of_part c = c.lanes ∷ c.start ∷ length c.part ∷ []
 
 -- a byte in front of a list whose blanks at the end are off
 abbrev pub before_trimmed : ℕ → List ℕ → List ℕ
@@ -50,8 +54,8 @@ unfoldable pub block_end : List ℕ → Tag → ℕ
 block_end file t = t.end + length (block_text file t)
 
 -- "A block starts at the first byte of a line that begins with the tag `#NOTES:`, unless that byte stands in an earlier block": whether one starts at
--- the line that begins at `at`, where the blocks before it end at `past`. A line that begins inside a block starts none, also where the block ends on
--- it.
+-- the line that begins at `at`, where the blocks before it end at `past`. "So a line that begins inside a block starts none, even where the block
+-- ends on it."
 unfoldable pub starts_block : ℕ → ℕ → List ℕ → Bool
 starts_block past at line = nat_le past at && is_tagged notes_tag line
 
@@ -66,11 +70,12 @@ blocks_from file past at (line ∷ lines) =
 unfoldable pub blocks : List ℕ → List Tag
 blocks file = blocks_from file 0 0 (cut file)
 
--- how many `:` stand in a block after its tag
+-- How many `:` stand in a block after its tag. "Comments are not known here: `;` and `:` count wherever they stand after the tag."
 unfoldable pub colons : List ℕ → ℕ
 colons text = count_by (λ b. b == 58) text
 
--- "Five fields follow the tag, each ended by a `:` of the block"; the data is what follows them, "its `;` included where there is one"
+-- "Five fields follow the tag, each ended by a `:` of the block." "The data is what follows the fifth `:` in the block, its `;` included where there
+-- is one."
 unfoldable pub data_of : List ℕ → List ℕ
 data_of text = after_each 58 5 text
 
@@ -101,7 +106,8 @@ module _ (file : List ℕ) (k : ℕ) where
   unfoldable pub sm_lanes : Option ℕ
   sm_lanes = lanes_of_type (type_of sm_text)
 
-  -- the data
+  -- The data. "What a call makes of the data is what it makes of any text: a `;` ends the reading as the first byte of a line, blanks off, and
+  -- nowhere else."
   unfoldable pub sm_data : List ℕ
   sm_data = data_of sm_text
 
@@ -119,7 +125,7 @@ module _ (file : List ℕ) (k : ℕ) where
       ∷ refused_if (is_none sm_lanes) OtherType
       ∷ []
 
-  -- the lane count and the data
+  -- "the answer is its lane count and its data, a part of the caller's file"
   abbrev pub sm_part : SmPart
   sm_part = record { lanes = unwrap_or sm_lanes 0; start = sm_start; part = sm_data }
 
@@ -130,7 +136,3 @@ module _ (file : List ℕ) (k : ℕ) where
   -- the number that is returned outside
   abbrev pub sm_number : ℕ
   sm_number = number_told sm_answer
-
-  -- what it leaves in the three places of the chart, which held `old`: lane count, where the data begins, its length
-  abbrev pub places_of_sm : List ℕ → List ℕ
-  places_of_sm old = replaces sm_answer (λ c. c.lanes ∷ c.start ∷ length c.part ∷ []) old

@@ -7,6 +7,7 @@ use Rattle.definitions.specs.declared.Cell.{Cell}
 use Rattle.definitions.specs.declared.RowSum.{RowSum}
 use Rattle.definitions.specs.declared.ArrowStats.{ArrowStats}
 
+-- what a cell is counted as
 abbrev pub counted_as : Cell → CountKind
 counted_as x = (effects_of x).counted
 
@@ -20,7 +21,8 @@ place mine = 4
 place lift = 5
 place fake = 6
 
--- the cells of a row that are counted so
+-- The cells of a row that are counted so: of holds "cells 2", of rolls "cells 4", of mines "cells M and m", of lifts "cells L and l", of fakes "cells
+-- F and f".
 abbrev pub counted : CountKind → Row → ℕ
 counted k r = count_by (λ b. place (counted_as (cell_of b)) == place k) r
 
@@ -33,11 +35,11 @@ count_from p c (b ∷ r) = number_of_bool (p c (cell_of b)) + count_from p (suc 
 abbrev pub direction : ℕ → ℕ → ℕ
 direction L c = c % 4
 
--- the arrows of a row in the columns of direction d
+-- the arrows of a row in the columns of direction d: "arrows of that direction"
 abbrev pub arrows_towards : ℕ → (Cell → Bool) → Row → ℕ
 arrows_towards d arrow r = count_from (λ c x. arrow x && direction (length r) c == d) 0 r
 
--- What the cells of a row add up to, where `arrow` says which of them are arrows.
+-- What the cells of a row add up to, where `arrow` says which of them are arrows; directions are "0 left, 1 down, 2 up, 3 right".
 abbrev pub sum_of_cells : (Cell → Bool) → Row → RowSum
 sum_of_cells arrow r =
     record {
@@ -54,6 +56,7 @@ sum_of_cells arrow r =
       fakes = counted fake r;
     }
 
+-- the same, as a word that is opened only where it is named
 unfoldable pub row_sum_by : (Cell → Bool) → Row → RowSum
 row_sum_by arrow r = sum_of_cells arrow r
 
@@ -81,7 +84,7 @@ sum_counts s =
     ∷ s.fakes
     ∷ []
 
--- the tally of no rows
+-- the tally of no rows: "a tally of zeros"
 abbrev pub empty_stats : ArrowStats
 empty_stats =
     record {
@@ -101,7 +104,7 @@ empty_stats =
       holding = 0;
     }
 
--- The fields of a tally in their order, each with its name: the one list of them.
+-- "the tally, its fields in their order", each with its name: the one list of them.
 abbrev pub tally_fields : ArrowStats → List (List ℕ × ℕ)
 tally_fields t =
     (codes "total_arrows", t.total_arrows)
@@ -158,6 +161,6 @@ abbrev pub tally_from : ArrowStats → List Row → ArrowStats
 tally_from t [] = t
 tally_from t (r ∷ rs) = tally_from (tally_with_row t (row_sum r)) rs
 
--- the plain tally of rows
+-- The plain tally of rows. "The rows are counted one after the other, from a tally of zeros."
 unfoldable pub tally : List Row → ArrowStats
 tally rows = tally_from empty_stats rows

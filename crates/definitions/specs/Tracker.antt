@@ -19,7 +19,7 @@ next_stack Opens i st = if nat_lt (length st) 8 then i ∷ st else st
 next_stack Closes i [] = []
 next_stack Closes i (h ∷ st) = st
 
--- the pair that it makes
+-- The pair that it makes. "A 3 is paired with the newest head of its column, which leaves the stack; where none is open it is paired with none."
 abbrev pub paired : DepthEffect → ℕ → List ℕ → List Pair
 paired Nothing i st = []
 paired Blocks i st = []
@@ -37,11 +37,11 @@ pairs_from c i st [] = []
 pairs_from c i st (r ∷ rs) =
     paired (hold_at (byte_at c r)) i st ++ pairs_from c (suc i) (next_stack (hold_at (byte_at c r)) i st) rs
 
--- the pairs of each column
+-- The pairs of each column. "Each column has a stack of open heads, at most 8."
 unfoldable pub pairs : List Row → ℕ → List Pair
 pairs rows c = pairs_from c 0 [] rows
 
--- row i is the head of one of the pairs
+-- row i is the head of one of the pairs: "A paired head is one with which a 3 is paired."
 abbrev pub is_head_of : ℕ → List Pair → Bool
 is_head_of i [] = false
 is_head_of i (p ∷ ps) = i == p.head || is_head_of i ps

@@ -41,7 +41,8 @@ pub record ReadsBack (ns : List Note) (k : ℕ) : Type 0 where
   pub limits : Made note
   pub read : note_of_record (records ns) k ≡ Ok note
 
--- For every lane number and every text that no call refuses for its length, this holds of each record of its notes.
+-- "What the writer makes of an accepted text reads back as its notes, in their order." For every lane number and every text that no call refuses for
+-- its length, this holds of each record of its notes.
 unfoldable pub WriterMakes : Type 0
 WriterMakes =
     (lanes : ℕ) (text : List ℕ) → length text ≤ most_bytes → (k : ℕ) → k < length (notes (lanes_of lanes) text) → ReadsBack (notes (lanes_of lanes) text) k

@@ -121,7 +121,7 @@ impl Tracker {
 
 // Marks the head that a cell in this column paired with in its row's entry, and counts it where that row is judged.
 fn mark(work: &mut [u16], ended: Option<u32>, column: usize) -> u16
-    requires narrow { column < 10 }
+    requires column_narrow { column < 10 }
     requires entry_room { (head : ℕ) → ended ≡ Some head → head < length work.old }
     ensures counted { result ≡ judged_head ended work.old }
     ensures few { result ≤ 1 }

@@ -42,9 +42,9 @@ impl CleanRows {
 
     // One row more, cell by cell.
     fn add_cells(&mut self, row: &[u8]) -> Option<()>
-        requires width { length row.now ≤ 10 }
+        requires narrow { length row.now ≤ 10 }
         requires ready { Ready self.old }
-        requires tally_bound { Below count_bound self.old.stats }
+        requires few { Below count_bound self.old.stats }
         ensures clean { is_some result ≡ not (row_unpairs row.now self.old.depths) }
         ensures passed { OnSome result (RowPassed row.now self.old self.new) }
     {
@@ -58,9 +58,9 @@ impl CleanRows {
     // One row more of taps alone, none in a column with an open head: it leaves the depths as they are.
     #[tactic(auto, using(crate::proofs::Rows::active_few))]
     fn add_taps(&mut self, mask: u16, table: &TapTable)
-        requires mask_bound { mask < masks table.now.wide }
+        requires mask_known { mask < masks table.now.wide }
         requires ready { Ready self.old }
-        requires tally_bound { Below count_bound self.old.stats }
+        requires few { Below count_bound self.old.stats }
         ensures { (row : Row) → FreeTaps self.old.busy mask row
             → RowPassed row self.old self.new }
     {
@@ -69,9 +69,9 @@ impl CleanRows {
 
     // One row more, unless it leaves a head unpaired.
     fn add_row(&mut self, row: &[u8], table: &TapTable) -> Option<()>
-        requires width { table.now.lanes.count ≡ length row.now }
+        requires wide { table.now.lanes.count ≡ length row.now }
         requires ready { Ready self.old }
-        requires tally_bound { Below count_bound self.old.stats }
+        requires few { Below count_bound self.old.stats }
         ensures clean { is_some result ≡ not (row_unpairs row.now self.old.depths) }
         ensures passed { OnSome result (RowPassed row.now self.old self.new) }
     {
@@ -102,7 +102,7 @@ fn depth_after(b: u8, depth: u32) -> Option<u32>
 // The cells of a row, one column after the other: what they add up to on a judged row, unless one leaves a head unpaired. Most are empty, which
 // change nothing.
 fn clean_cells(depths: &mut [u32; 10], row: &[u8]) -> Option<RowSum>
-    requires width { length row.now ≤ 10 }
+    requires narrow { length row.now ≤ 10 }
     requires ten { length depths.old ≡ 10 }
     requires depths_bound { (c : ℕ) → c < 10 → slice_index depths.old c ≤ 8 }
     ensures clean { is_some result ≡ not (row_unpairs row.now depths.old) }
@@ -129,7 +129,7 @@ pub fn judge_clean(data: &[u8], lanes: Lanes) -> Option<ArrowStats>
 {
     let table = TapTable::for_lanes(lanes);
     let mut rows = CleanRows::new();
-    for row in reader::back::back_rows(data, lanes, true) {
+    for row in reader::back::back_rows(data, lanes) {
         rows.add_row(row, &table)?;
     }
     if rows.active != 0 {

@@ -42,9 +42,9 @@ impl TimingStats {
 
     // One row more, by its entry. A tail's hold is open through the tail's row; an unjudged row's sum has no head.
     fn add_row(&mut self, cells: &[u8], entry: u16)
-        requires width { length cells.now ≤ 10 }
-        requires tally_bound { Below count_bound self.old.stats }
-        requires active_bound { self.old.active ≤ count_bound }
+        requires narrow { length cells.now ≤ 10 }
+        requires few { Below count_bound self.old.stats }
+        requires held_few { self.old.active ≤ count_bound }
         requires ends_open { ends_of entry ≤ self.old.active + new_holds entry cells.now }
         ensures { self.new ≡ timing_row self.old entry cells.now }
     {
@@ -57,9 +57,9 @@ impl TimingStats {
 
     // One row of taps alone more, by its entry: no hold begins or ends there.
     fn add_taps(&mut self, mask: u16, entry: u16, table: &TapTable)
-        requires mask_bound { mask < masks table.now.wide }
-        requires tally_bound { Below count_bound self.old.stats }
-        requires active_bound { self.old.active ≤ count_bound }
+        requires mask_known { mask < masks table.now.wide }
+        requires few { Below count_bound self.old.stats }
+        requires held_few { self.old.active ≤ count_bound }
         ensures { (row : Row) → mask_of_line row ≡ Mask mask
             → self.new ≡ timing_taps self.old entry row }
     {
@@ -90,7 +90,7 @@ fn track_timing_rows(data: &[u8], lanes: Lanes, flags: Option<&[u8]>, work: &mut
     slices::zero_past(&mut *work, 0, 0);
     let mut tracker = Tracker::new();
     let mut row: u32 = 0;
-    for cells in reader::back::back_rows(data, lanes, true) {
+    for cells in reader::back::back_rows(data, lanes) {
         let judged = is_judged(flags, row as usize);
         tracker.track_row(row, cells, judged, &mut *work);
         row += 1;
@@ -109,7 +109,7 @@ fn tally_timing_rows(data: &[u8], lanes: Lanes, work: &[u16]) -> ArrowStats
     let table = TapTable::for_lanes(lanes);
     let mut tally = TimingStats::new();
     let mut row = 0;
-    for cells in reader::back::back_rows(data, lanes, true) {
+    for cells in reader::back::back_rows(data, lanes) {
         let entry = work[row];
         match taps::free_taps(cells, 0) {
             Taps::Mask(mask) => tally.add_taps(mask, entry, &table),
@@ -164,8 +164,8 @@ fn judge(
     flags: Option<&[u8]>,
     work: &mut [u16],
 ) -> Result<ArrowStats, Refusal>
-    ensures value { result
-        ≡ judged_checked lanes «data».now work.old (tally_by flags.entry (lanes_of lanes) «data».now) }
+    ensures value { result ≡ judged_checked lanes «data».now work.old
+        (tally_by flags.entry (lanes_of lanes) «data».now) }
     ensures work_after { work.new ≡ leaves 0 result [] work.old }
 {
     let len = data.len();

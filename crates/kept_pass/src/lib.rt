@@ -86,7 +86,7 @@ impl Draft {
     /// The end of a text: zeros stand past what is written and past the measures' densities. The answer counts the measures.
     pub fn finish(&self, text: &mut [u8], densities: &mut [u32]) -> usize
         requires text_room { self.now.out ≤ length text.old }
-        requires density_room { self.now.midx < length densities.old }
+        requires densities_room { self.now.midx < length densities.old }
         ensures value { result ≡ self.now.midx + 1 }
         ensures text_after { text.new ≡ zeroed 0 self.now.out text.old }
         ensures densities_after { densities.new ≡ zeroed 0 (self.now.midx + 1) densities.old }

@@ -3,6 +3,6 @@ use Rattle.std.specs.Prelude.{List, All, ℕ, ◌^◌, ◌≤◌, ◌<◌, lengt
 use Rattle.definitions.specs.Sizes.{most_bytes}
 use Rattle.definitions.specs.Lanes.{lanes_of}
 
--- With any lane number and any accepted text, each of these figures is below 2 ^ 64.
+-- "Every figure of an accepted text is below 2^64.": of some figures, with any lane number and any accepted text.
 abbrev pub FitsForAll : (ℕ → List ℕ → List ℕ) → Type 0
 FitsForAll places = (lanes : ℕ) (text : List ℕ) → length text ≤ most_bytes → All (λ (x : ℕ). x < 2 ^ 64) (places (lanes_of lanes) text)

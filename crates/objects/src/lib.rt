@@ -74,7 +74,7 @@ pub fn object_cell(b: u8, depth: u32) -> ObjectCell
 
 /// Whether the row is an object row where its columns have these depths, and the depths after it. Each grows by at most 1.
 pub fn row_has_object(row: &[u8], old: Depths) -> Objects
-    requires width { length row.now ≤ 10 }
+    requires narrow { length row.now ≤ 10 }
     requires depths_low { DepthsLow 4294967294 old }
     ensures { RowDone row.now old result }
 {
@@ -128,7 +128,7 @@ impl LastScan {
 
     // One row more, by its cells. One that is all zero is no object row and changes no depth.
     fn add_cells(&mut self, cells: &[u8])
-        requires width { length cells.now ≤ 10 }
+        requires narrow { length cells.now ≤ 10 }
         requires rows_few { self.old.rows < row_numbers_bound }
         requires depths_low { DepthsLow 4294967294 self.old.depths }
         ensures { AddsRow cells.now (LastHeld self.old) (LastHeld self.new) }
@@ -145,7 +145,7 @@ impl LastScan {
 
     /// One row more. One of taps alone, all in columns of the depth 0, is an object row where it has one, and leaves the depths.
     pub fn add_row(&mut self, cells: &[u8])
-        requires width { length cells.now ≤ 10 }
+        requires narrow { length cells.now ≤ 10 }
         requires rows_few { self.old.rows < row_numbers_bound }
         requires depths_low { DepthsLow 4294967294 self.old.depths }
         ensures { AddsRow cells.now (LastHeld self.old) (LastHeld self.new) }

@@ -204,7 +204,7 @@ fn masked_cell(
     heads: u16,
     judged: bool,
 ) -> RowSum
-    requires column_bound { column < 10 }
+    requires column_narrow { column < 10 }
     requires sum_few { Under 10 s }
     ensures { result ≡ add_by judged s direction (cell_by_mask heads column b) }
 {

@@ -42,7 +42,7 @@ pub struct Seen {
 impl Seen {
     // One cell more, in a column of a direction, that was walked to this.
     fn add_cell(&mut self, direction: usize, b: u8, w: WalkCell)
-        requires row_sum { Under 10 self.old.sum }
+        requires sum_few { Under 10 self.old.sum }
         requires heads_bound { self.old.marks.heads + w.phantom.heads < 4294967296 }
         requires tails_bound { self.old.marks.tails + w.phantom.tails < 4294967296 }
         ensures { CellSeen self.old direction b w self.new }

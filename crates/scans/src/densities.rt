@@ -13,7 +13,7 @@ use reader::charts::ChartLine;
 // The densities of an accepted text, with zeros after them.
 fn fill_densities(data: &[u8], lanes: Lanes, densities: &mut [u32]) -> usize
     requires text_length { length «data».now ≤ most_bytes }
-    requires data_in_bounds { (length «data».now + 1) / 2 + 1 ≤ length densities.old }
+    requires densities_room { (length «data».now + 1) / 2 + 1 ≤ length densities.old }
     ensures value { result ≡ length (densities_of lanes.count «data».now) }
     ensures densities_after { densities.new
         ≡ padded 0 (length densities.old) (densities_of lanes.count «data».now) }

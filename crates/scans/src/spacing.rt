@@ -70,7 +70,7 @@ impl MeasureSpacing {
 /// The spacing of an accepted text, with zeros after it.
 pub fn fill_spacing(data: &[u8], lanes: Lanes, spacing: &mut [u8]) -> usize
     requires text_length { length «data».now ≤ most_bytes }
-    requires data_in_bounds { (length «data».now + 1) / 2 + 1 ≤ length spacing.old }
+    requires spacing_room { (length «data».now + 1) / 2 + 1 ≤ length spacing.old }
     ensures value { result ≡ length (spacings lanes.count «data».now) }
     ensures spacing_after { spacing.new
         ≡ padded 0 (length spacing.old) (spacings lanes.count «data».now) }

@@ -21,7 +21,7 @@ use Rattle.definitions.specs.declared.Note.{Note}
 use Rattle.page.specs.Texts.{number_field}
 use Rattle.sheet.specs.Sheet.{line_of_figure, lines_of_head, line_of_measure, lines_of_measures, line_of_note}
 
--- a line for each note
+-- "a line for each note record, in rising order"
 unfoldable pub note_lines : List Note → List ℕ
 note_lines ns = joined (map line_of_note ns)
 

@@ -22,11 +22,11 @@ field_count = 14
 abbrev pub field_at : ArrowStats → ℕ → List ℕ × ℕ
 field_at t i = slice_index_or (named_fields t) i ([], 0)
 
--- "`measures` and `notes` count measures and note records", and so on: a name with its blank, and a number
+-- "the name, a blank, the number and byte 10": a name with its blank, and a number
 unfoldable pub line_of_figure : List ℕ → ℕ → List ℕ
 line_of_figure name n = name ++ number_field n 10
 
--- "`m`, measure, density, and spacing as 1 or 0"
+-- "`m`, measure, density, and spacing as 1 or 0". "What stands on a line is parted by one blank, and byte 10 ends it."
 unfoldable pub line_of_measure : ℕ → ℕ → ℕ → List ℕ
 line_of_measure m density spaced = codes "m " ++ number_field m 32 ++ number_field density 32 ++ number_field spaced 10
 
@@ -48,11 +48,11 @@ line_of_record (Err k) = []
 abbrev pub lines_of_measures : List ℕ → List ℕ → ℕ → List ℕ
 lines_of_measures densities spacings n = listed (λ (k : ℕ). line_of_measure k (slice_index densities k) (slice_index spacings k)) n
 
--- those of the first note records
+-- "Then comes a line for each note record, in rising order": those of the first note records
 abbrev pub lines_of_records : List ℕ → ℕ → List ℕ
 lines_of_records records n = listed (λ (k : ℕ). line_of_record (note_of_record records k)) n
 
--- the six figures at the head
+-- "The card has a line for each of `measures`, `rows`, `arrows`, `steps`, `notes` and `last`: the name, a blank, the number and byte 10."
 unfoldable pub lines_of_head : ChartFigures → List ℕ
 lines_of_head f =
     line_of_figure (codes "measures ") f.measures

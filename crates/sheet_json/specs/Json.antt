@@ -1,4 +1,4 @@
--- The form `json` of a sheet: one object with stable names, on one line.
+-- Specification, Sheets: the form `json`. "The form JSON is one object on one line, without a blank or byte 10, whose members stand in this order."
 use Rattle.std.specs.Prelude.{if◌then◌else◌, ◌==◌, List, [], ◌++◌, ℕ, ◌/◌, ◌%◌, length, slice_index, codes, decimal, Result, Ok, Err}
 use Rattle.definitions.specs.Records.{number_of_kind, note_of_record}
 use Rattle.definitions.specs.declared.Tail.{Tail}
@@ -42,7 +42,7 @@ member i name count = separator i ++ named name count
 abbrev pub first_members : ArrowStats → ℕ → List ℕ
 first_members t n = listed (λ (i : ℕ). member i (field_at t i).0 (field_at t i).1) n
 
--- all fields
+-- "The three tallies have all their fields, by their names and in their order."
 unfoldable pub members : ArrowStats → List ℕ
 members t = first_members t field_count
 
@@ -79,7 +79,7 @@ abbrev pub value_of_tail : Tail → List ℕ
 value_of_tail Without = codes "null"
 value_of_tail (Row j) = decimal j
 
--- row, column, kind and tail
+-- "A note record is its row, column, kind Q and tail row, or `null` where it has no tail."
 unfoldable pub value_of_note : Note → List ℕ
 value_of_note n = codes "[" ++ number_field n.row 44 ++ number_field n.column 44 ++ number_field (number_of_kind n.kind) 44 ++ value_of_tail n.tail ++ codes "]"
 

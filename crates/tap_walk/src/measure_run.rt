@@ -21,8 +21,8 @@ pub struct Run {
 impl Run {
     /// One row more, whose cells have come to this.
     pub fn add_cells(&mut self, s: Seen)
-        requires tally_bound { Below count_bound self.old.stats }
-        requires row_sum { Under 10 s.sum }
+        requires few { Below count_bound self.old.stats }
+        requires sum_few { Under 10 s.sum }
         requires rows_few { self.old.row < row_count_bound }
         ensures { self.new ≡ after_cells self.old s }
     {

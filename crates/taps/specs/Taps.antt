@@ -13,7 +13,7 @@ abbrev pub with_bit : ℕ → Taps → Taps
 with_bit b (Mask m) = if b == 48 then Mask (2 * m) else if b == 49 then Mask (1 + 2 * m) else Other
 with_bit b Other = Other
 
--- A row of `0` and `1` alone as a number, its first column in the lowest bit.
+-- "The mask of a row of `0` and `1` alone has a bit for each column, set where it has a 1, the first column the lowest."
 unfoldable pub tap_mask : Row → Taps
 tap_mask [] = Mask 0
 tap_mask (b ∷ r) = with_bit b (tap_mask r)

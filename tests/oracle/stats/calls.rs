@@ -1,7 +1,10 @@
-//! The eight chart calls of the outside interface, each as the Rust answers it.
+//! The nine chart calls of the outside interface, each as the Rust answers it, which is asked about the text that `asked` says; the list of
+//! dropped heads, which the Rust does not have, as a plain reference does (`dropped`).
 //! A text that a call would refuse is answered here all the same; `entry` has the refusals.
 
 use super::*;
+use crate::asked::{chart_text, read_back_text};
+use crate::dropped::{DroppedHead, dropped_heads};
 
 /// Places in `figures`; the tally takes the fourteen places from `TALLY` on.
 pub const TEXT_BYTES: usize = 0;
@@ -50,9 +53,10 @@ pub enum Call {
     ChartLastBeat,
     ProcessRowsJudgable,
     ProcessTimingRows,
+    DroppedHolds,
 }
 
-pub const CALLS: [Call; 8] = [
+pub const CALLS: [Call; 9] = [
     Call::MinimizeChartCountRowsNotes,
     Call::ProcessChartKept,
     Call::MinimizeTimingRows,
@@ -61,6 +65,7 @@ pub const CALLS: [Call; 8] = [
     Call::ChartLastBeat,
     Call::ProcessRowsJudgable,
     Call::ProcessTimingRows,
+    Call::DroppedHolds,
 ];
 
 impl Call {
@@ -76,6 +81,7 @@ impl Call {
             Self::ChartLastBeat => "chart_last_beat",
             Self::ProcessRowsJudgable => "process_rows_judgable",
             Self::ProcessTimingRows => "process_timing_rows",
+            Self::DroppedHolds => "dropped_holds",
         }
     }
 }
@@ -90,7 +96,7 @@ pub struct Answer {
     /// 1 true, 0 false.
     pub spacing: Vec<u8>,
     pub beats: Vec<f32>,
-    /// Note records back to back.
+    /// Note records back to back, or those of the dropped heads.
     pub notes: Vec<u8>,
 }
 
@@ -123,7 +129,7 @@ impl Answer {
     }
 }
 
-/// The answer of any of the eight calls. Only `process_timing_rows` looks at the flags.
+/// The answer of any of these calls. Only `process_timing_rows` looks at the flags.
 #[must_use]
 pub fn answer(call: Call, data: &[u8], lanes: usize, flags: &[u8]) -> Answer {
     match call {
@@ -135,6 +141,7 @@ pub fn answer(call: Call, data: &[u8], lanes: usize, flags: &[u8]) -> Answer {
         Call::ChartLastBeat => chart_last_beat(data, lanes),
         Call::ProcessRowsJudgable => process_rows_judgable(data, lanes),
         Call::ProcessTimingRows => process_timing_rows(data, lanes, flags),
+        Call::DroppedHolds => dropped_holds(data, lanes),
     }
 }
 
@@ -150,6 +157,7 @@ pub fn lanes_in_force(lanes: usize) -> usize {
 #[must_use]
 pub fn minimize_chart_count_rows_notes(data: &[u8], lanes: usize) -> Answer {
     let mut chart_notes = ChartNotesScratch::default();
+    let data = &chart_text(data, lanes_in_force(lanes));
     let (text, stats, densities, beats, last) =
         super::minimize_chart_count_rows_notes(data, lanes, &mut chart_notes);
     let mut answer = Answer::default();
@@ -167,6 +175,7 @@ pub fn minimize_chart_count_rows_notes(data: &[u8], lanes: usize) -> Answer {
 /// The kept-row call: `process_chart_in_impl` with KEEP.
 #[must_use]
 pub fn process_chart_kept(data: &[u8], lanes: usize) -> Answer {
+    let data = &chart_text(data, lanes_in_force(lanes));
     dispatch_lanes!(lanes, kept(data))
 }
 
@@ -189,6 +198,7 @@ fn kept<const L: usize>(data: &[u8]) -> Answer {
 
 #[must_use]
 pub fn minimize_timing_rows(data: &[u8], lanes: usize) -> Answer {
+    let data = &chart_text(data, lanes_in_force(lanes));
     dispatch_lanes!(lanes, timing_rows(data))
 }
 
@@ -208,6 +218,7 @@ fn timing_rows<const L: usize>(data: &[u8]) -> Answer {
 pub fn measure_densities(data: &[u8], lanes: usize) -> Answer {
     let divisor = lanes.wrapping_add(1).wrapping_mul(4);
     let lanes = if divisor == 0 { 4 } else { lanes };
+    let data = &chart_text(data, lanes_in_force(lanes));
     let mut answer = Answer::default();
     answer.set_densities(&measure_densities_unchanged(data, lanes));
     answer
@@ -221,6 +232,7 @@ pub fn measure_densities_unchanged(data: &[u8], lanes: usize) -> Vec<usize> {
 
 #[must_use]
 pub fn equally_spaced(data: &[u8], lanes: usize) -> Answer {
+    let data = &chart_text(data, lanes_in_force(lanes));
     let spacing = dispatch_lanes!(lanes, equally_spaced_impl(data));
     let mut answer = Answer::default();
     answer.figures[MEASURES] = spacing.len() as u64;
@@ -230,6 +242,7 @@ pub fn equally_spaced(data: &[u8], lanes: usize) -> Answer {
 
 #[must_use]
 pub fn chart_last_beat(data: &[u8], lanes: usize) -> Answer {
+    let data = &chart_text(data, lanes_in_force(lanes));
     let mut answer = Answer::default();
     answer.set_last_beat(dispatch_lanes!(lanes, chart_last_beat_impl(data)));
     answer
@@ -238,6 +251,7 @@ pub fn chart_last_beat(data: &[u8], lanes: usize) -> Answer {
 /// The judged tally without flags, over the rows that `parse_minimized_rows` reads.
 #[must_use]
 pub fn process_rows_judgable(data: &[u8], lanes: usize) -> Answer {
+    let data = &read_back_text(data, lanes_in_force(lanes));
     tally_alone(&dispatch_lanes!(lanes, judged_rows(data)))
 }
 
@@ -248,11 +262,27 @@ fn judged_rows<const L: usize>(data: &[u8]) -> ArrowStats {
 /// The judged tally with one flag a row: 0 unjudged, else judged, past the flags judged.
 #[must_use]
 pub fn process_timing_rows(data: &[u8], lanes: usize, flags: &[u8]) -> Answer {
+    let data = &read_back_text(data, lanes_in_force(lanes));
     tally_alone(&dispatch_lanes!(lanes, judged_by_flags(data, flags)))
 }
 
 fn judged_by_flags<const L: usize>(data: &[u8], flags: &[u8]) -> ArrowStats {
     super::process_timing_rows::<L>(&parse_minimized_rows(data), |row| is_judged(flags, row))
+}
+
+/// The minimised text, and the heads that come to nothing.
+#[must_use]
+pub fn dropped_holds(data: &[u8], lanes: usize) -> Answer {
+    let main = minimize_chart_count_rows_notes(data, lanes);
+    let heads = dropped_heads(&main.text, lanes_in_force(lanes));
+    let mut answer = Answer::default();
+    for place in [MEASURES, ROWS] {
+        answer.figures[place] = main.figures[place];
+    }
+    answer.figures[NOTES] = heads.len() as u64;
+    answer.set_text(main.text);
+    answer.notes = heads.iter().flat_map(DroppedHead::record).collect();
+    answer
 }
 
 fn tally_alone(stats: &ArrowStats) -> Answer {

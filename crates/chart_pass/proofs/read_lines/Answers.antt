@@ -27,7 +27,7 @@ comma-requires c =
       text_room = omega (arith, room);
       densities_room = omega (arith, w.midx);
       beats_room = omega (arith, w.most);
-      slots_room = slots-room _ _ _ _ w.most (omega (arith, c.requires.notes_room));
+      notes_room = slots-room _ _ _ _ w.most (omega (arith, c.requires.notes_room));
       rows_few = omega (arith, w.rows);
       measures_few = omega (arith, w.midx);
       charted = record { done = _; cur = _; held = c.loop-line.invariant.pass.held };
@@ -51,7 +51,7 @@ end_measure-requires c =
       text_room = omega arith;
       densities_room = omega (arith, w.midx);
       beats_room = omega (arith, w.most);
-      slots_room = slots-room _ _ _ _ w.most (omega (arith, c.requires.notes_room));
+      notes_room = slots-room _ _ _ _ w.most (omega (arith, c.requires.notes_room));
       rows_few = omega (arith, w.rows);
       measures_few = omega (arith, w.midx);
       charted = record { done = _; cur = _; held = c.loop-line.invariant.pass.held };

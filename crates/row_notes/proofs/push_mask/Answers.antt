@@ -14,7 +14,7 @@ push_tap-first-requires c =
     let t = mask_start _ _ _ _ _ _ F in
     record {
       notes_room = mask-early _ _ _ _ _ _ F _ _ _ t (omega arith);
-      column_bound = c.low_bit-one.ensures.inside;
+      column_narrow = c.low_bit-one.ensures.inside;
       notes_few = mask-few _ _ _ _ _ _ F _ _ _ t;
     }
 
@@ -25,7 +25,7 @@ push_tap-count-requires c =
     let t = mask_next _ _ _ _ _ _ F _ _ _ (mask_start _ _ _ _ _ _ F) _ _ _ (rw c.from.ensures at c.low_bit-one.ensures) _ _ first.notes_after first.value c.push_tap-first.auto.notes in
     record {
       notes_room = mask-early _ _ _ _ _ _ F _ _ _ t (omega (arith, one-le c.low_bit-one.result.tap));
-      column_bound = c.low_bit-two.ensures.inside;
+      column_narrow = c.low_bit-two.ensures.inside;
       notes_few = mask-few _ _ _ _ _ _ F _ _ _ t;
     }
 
@@ -45,7 +45,7 @@ push_tap-count-requires-in-loop-left c =
     let t = c.loop-left.invariant _ _ F in
     record {
       notes_room = mask-late _ _ _ _ _ _ F _ _ _ t _ _ _ c.low_bit-next.ensures c.loop-left-test.true;
-      column_bound = c.low_bit-next.ensures.inside;
+      column_narrow = c.low_bit-next.ensures.inside;
       notes_few = mask-few _ _ _ _ _ _ F _ _ _ t;
     }
 

@@ -21,7 +21,7 @@ walk_rows-requires c =
     let m = c.minimise.ensures in record {
       in_text = omega (arith, open-size _ _ _ _ _ (m.drafted s.done s.cur s.held.kept.drafted), m.no_more_bytes, c.requires.text_room, c.minimise.auto.text);
       ten = s.held.ten;
-      walking = walk-room _ _ _ _ _ _ s _ c.minimise.new.self.start c.minimise.new.text m.no_more_rows c.requires.rows_few c.requires.slots_room c.requires.measures_few;
+      walking = walk-room _ _ _ _ _ _ s _ c.minimise.new.self.start c.minimise.new.text m.no_more_rows c.requires.rows_few c.requires.notes_room c.requires.measures_few;
     }
 
 pub returns : goal.returns

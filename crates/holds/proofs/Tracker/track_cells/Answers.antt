@@ -16,7 +16,7 @@ pub mark-ends-requires : goal.mark-ends-requires
 mark-ends-requires c =
     let inside : c.loop-column.column < 10 = omega (arith, c.requires.narrow) in
     record {
-      narrow = inside;
+      column_narrow = inside;
       entry_room = sweeping-below _ _ _ _ _ _ _ _ c.loop-column.invariant c.requires.reached c.requires.narrow c.loop-column-test.true _ _ c.track_cell-ended.ensures c.requires.entry_room;
     }
 

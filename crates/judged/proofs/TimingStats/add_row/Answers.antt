@@ -14,14 +14,14 @@ unfolding timing_sum
 sum_is c = rw (← c.is_judged-judged.ensures, ← c.heads.ensures) c.judged_sum_masked-sum.ensures
 
 under : (c : After-judged_sum_masked-sum) → Under 10 c.judged_sum_masked-sum.result
-under c = rw c.judged_sum_masked-sum.ensures (under-judged 10 _ _ (rw keep-length c.requires.width))
+under c = rw c.judged_sum_masked-sum.ensures (under-judged 10 _ _ (rw keep-length c.requires.narrow))
 
 pub add_judged_row-requires : goal.add_judged_row-requires
 add_judged_row-requires c =
     record {
-      few = c.requires.tally_bound;
+      few = c.requires.few;
       sum_few = under (goal.at.add_judged_row-requires c).After-judged_sum_masked-sum;
-      held_few = c.requires.active_bound;
+      held_few = c.requires.held_few;
     }
 
 pub overflow_add-self : goal.overflow_add-self
@@ -29,7 +29,7 @@ overflow_add-self c = omega (arith, (under (goal.at.overflow_add-self c).After-j
 
 pub overflow_add-self-2 : goal.overflow_add-self-2
 overflow_add-self-2 c =
-    omega (arith, (under (goal.at.overflow_add-self-2 c).After-judged_sum_masked-sum).heads, c.requires.active_bound)
+    omega (arith, (under (goal.at.overflow_add-self-2 c).After-judged_sum_masked-sum).heads, c.requires.held_few)
 
 pub overflow_sub-self : goal.overflow_sub-self
 unfolding new_holds

@@ -11,7 +11,7 @@ loop-column-init c = passing-start _ _ _ c.requires.ten c.no_sum-sum.ensures
 
 pub returns-in_err-depths-in_default : goal.returns-in_err-depths-in_default
 returns-in_err-depths-in_default c =
-    let inside : c.loop-column.column < 10 = omega (arith, c.requires.width) in
+    let inside : c.loop-column.column < 10 = omega (arith, c.requires.narrow) in
     rw c.from_residual.ensures
     (record {
       clean = passing-none _ _ _ _ _ c.loop-column.invariant c.loop-column-test.true inside (sym c.in_err-depths-in_default.ensures);
@@ -21,7 +21,7 @@ returns-in_err-depths-in_default c =
 
 pub loop-column-preserved : goal.loop-column-preserved
 loop-column-preserved c =
-    let inside : c.loop-column.column < 10 = omega (arith, c.requires.width) in
+    let inside : c.loop-column.column < 10 = omega (arith, c.requires.narrow) in
     elim c.match-cell_of.branch [
       | in-Empty w ↦ passing-moved w.depths-is w.sum-is (passing-empty _ _ _ _ _ c.loop-column.invariant c.loop-column-test.true inside (sym w.in-Empty.ensures))
       | in_default+in_ok-depths-in_default w ↦
@@ -32,7 +32,7 @@ loop-column-preserved c =
 pub returns : goal.returns
 returns c =
     record {
-      clean = passing-clean _ _ _ _ _ c.loop-column.invariant c.loop-column-test.false c.requires.width;
+      clean = passing-clean _ _ _ _ _ c.loop-column.invariant c.loop-column-test.false c.requires.narrow;
       sum = passing-sum _ _ _ _ _ c.loop-column.invariant c.loop-column-test.false;
       depths_after = passing-end _ _ _ _ _ c.loop-column.invariant c.loop-column-test.false;
     }

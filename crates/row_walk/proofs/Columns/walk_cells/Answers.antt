@@ -31,7 +31,7 @@ add_cell-requires c =
     let w = counted-cell _ _ _ _ _ c.walk_cell-w.ensures in
     let few = c.loop-i.invariant.passed.low count_bound c.requires.phantoms in
     record {
-      row_sum = under_more c.loop-i.i 10 _ (omega (arith, m)) c.loop-i.invariant.summed.under;
+      sum_few = under_more c.loop-i.i 10 _ (omega (arith, m)) c.loop-i.invariant.summed.under;
       heads_bound = omega (arith, m, few.heads, one-head _ _ _ w);
       tails_bound = omega (arith, m, few.tails, one-tail _ _ _ w);
     }

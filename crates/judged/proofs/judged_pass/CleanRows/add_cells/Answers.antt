@@ -19,8 +19,8 @@ use Rattle.judged.proofs.judged_pass.CleanRows.add_cells.Goals as goal
 
 pub add_judged_row-requires : goal.add_judged_row-requires
 add_judged_row-requires c = record {
-  few = c.requires.tally_bound;
-  sum_few = rw c.in_ok-sum.ensures.sum (under-judged 10 true _ c.requires.width);
+  few = c.requires.few;
+  sum_few = rw c.in_ok-sum.ensures.sum (under-judged 10 true _ c.requires.narrow);
   held_few = le_trans (active_few _ c.requires.ready) (omega arith);
 }
 

@@ -7,7 +7,7 @@ use Rattle.judged.proofs.Rows.{free-whole}
 use Rattle.judged.proofs.judged_pass.CleanRows.add_row.Goals as goal
 
 pub add_taps-requires : goal.add_taps-requires
-add_taps-requires c = let below = fits-table c.args.table.now _ (below-at _ _ _ (sym c.requires.width) (free-told c.free_taps.ensures c.in-Mask.is).mask) in search rules
+add_taps-requires c = let below = fits-table c.args.table.now _ (below-at _ _ _ (sym c.requires.wide) (free-told c.free_taps.ensures c.in-Mask.is).mask) in search rules
 
 pub returns-in-Mask-clause-clean : goal.returns-in-Mask-clause-clean
 returns-in-Mask-clause-clean c = free-whole c.args.self.now _ _ c.requires.ready (free-told c.free_taps.ensures c.in-Mask.is)
