@@ -1,16 +1,16 @@
 -- The rows of a chart: what each has, and that they are few.
 use mathlib.Core.Path.{◌≡◌, refl, ◌∙◌}
-use mathlib.Core.Bool.{Bool, true, false, cond, ◌||◌}
+use mathlib.Core.Bool.{Bool, true, false, cond, ◌||◌, not}
 use mathlib.Core.List.{List, [], ◌∷◌, map, append-nil}
 use Prim.Native.Nat.{ℕ, zero, suc, ◌+◌, ◌-◌, ◌*◌, ◌≤◌, ◌<◌}
 use native.Mathlib.Nat.{mul-suc, mul-add, mul-zero, mul_comm, le_trans, le_of_eq, le-div_iff_mul-le}
 use native.Mathlib.Omega.{arith}
-use borrow.Author.Tests.{leb-true}
-use lib.Dec.{eqb}
+use borrow.Author.Tests.{leb-true, not-true}
+use lib.Dec.{eqb, leb}
 use lib.ListN.{length, take, length-append, length-take}
 use lib.Seq.{length-take-le}
 use Rattle.std.specs.List.{onto_first}
-use Rattle.definitions.specs.Lists.{joined}
+use Rattle.definitions.specs.Lists.{among, joined}
 use Rattle.definitions.specs.Lanes.{most_rows_in}
 use Rattle.definitions.specs.Lines.{Row, cut, is_blank_byte, trim, is_row_line, kind_of, line_kind, line_row}
 use Rattle.definitions.specs.Measures.{add_line, measures, chart}
@@ -19,6 +19,7 @@ use Rattle.definitions.specs.Figures.{row_text, text_of, minimised_text}
 use Rattle.definitions.specs.ReadBack.{begins_mark}
 use Rattle.definitions.specs.declared.LineKind.{LineKind}
 use Rattle.definitions.specs.declared.LineKind.TheVariants as line
+use Rattle.definitions.proofs.Bools.{and_left, and_right}
 use Rattle.definitions.proofs.Lists.{All, none, one, all_map}
 use Rattle.definitions.proofs.Thinned.{Thinned, none, keep, leave, reduce-thin, reduce-all}
 
@@ -39,19 +40,33 @@ kind-by-row false false true r e = let z : ◌≡◌ {A = ℕ} 0 1 = cc in absur
 kind-by-row false false false true e = refl
 kind-by-row false false false false e = let z : ◌≡◌ {A = ℕ} 0 1 = cc in absurd (omega arith)
 
+-- a row's line passes the row test
+row-test : (L : ℕ) (l : List ℕ) → kind_of L l ≡ line.Row → is_row_line L l ≡ true
+unfolding kind_of
+row-test L [] e = let z : ◌≡◌ {A = ℕ} 0 1 = cc in absurd (omega arith)
+row-test L (b ∷ s) e = kind-by-row (eqb b 47) (eqb b 44) (eqb b 59) (is_row_line L (b ∷ s)) e
+
+-- a line that passes it has at least L bytes, and no 13 among the first L
+pub test-length : (L : ℕ) (l : List ℕ) → is_row_line L l ≡ true → L ≤ length l
+unfolding is_row_line
+test-length L l e = leb-true L (length l) (and_left (leb L (length l)) (not (among 13 (take L l))) e)
+
+pub test-plain : (L : ℕ) (l : List ℕ) → is_row_line L l ≡ true → among 13 (take L l) ≡ false
+unfolding is_row_line
+test-plain L l e = not-true (among 13 (take L l)) (and_right (leb L (length l)) (not (among 13 (take L l))) e)
+
 -- a row's line has at least L bytes
 pub row-length : (L : ℕ) (l : List ℕ) → kind_of L l ≡ line.Row → L ≤ length l
-unfolding kind_of is_row_line
-row-length L [] e = let z : ◌≡◌ {A = ℕ} 0 1 = cc in absurd (omega arith)
-row-length L (b ∷ s) e = leb-true L (length (b ∷ s)) (kind-by-row (eqb b 47) (eqb b 44) (eqb b 59) (is_row_line L (b ∷ s)) e)
+row-length L l e = test-length L l (row-test L l e)
 
--- ---- What every row of a chart has: L bytes, none of them 10, and no `,` or `;` at its start.
+-- ---- What every row of a chart has: L bytes, none of them 10 or 13, and no `,` or `;` at its start.
 abbrev pub Clean : List ℕ → Type 0
 Clean l = All (λ b. eqb b 10 ≡ false) l
 
 pub record ChartRow (L : ℕ) (r : Row) : Type 0 where
   pub size : length r ≡ L
   pub clean : Clean r
+  pub plain : among 13 r ≡ false
   pub unmarked : begins_mark r ≡ false
 
 cut-clean : (text : List ℕ) → All Clean (cut text)
@@ -97,6 +112,7 @@ row_is L l w a e =
     record {
       size = length-take-le L (trim l) (row-length L (trim l) e);
       clean = take-clean L (trim l) (trim-clean l a);
+      plain = test-plain L (trim l) (row-test L (trim l) e);
       unmarked = row-unmarked L (trim l) w e;
     }
 

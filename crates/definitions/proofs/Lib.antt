@@ -13,6 +13,7 @@ pub mod Tails
 pub mod Blocks
 pub mod ReadBack
 pub mod RowBounds
+pub mod OwnRows
 pub mod LastByte
 pub mod WriterMakes
 pub mod Damage

@@ -166,5 +166,5 @@ ElevenSays =
 
 unfoldable pub ExamplesCounted : Type 0
 ExamplesCounted =
-    (map (λ (e : texts.Example). length e.says) texts.table ≡ 5 ∷ 4 ∷ 1 ∷ 5 ∷ 3 ∷ 4 ∷ 2 ∷ 3 ∷ 4 ∷ 1 ∷ 2 ∷ [])
+    (map (λ (e : texts.Example). length e.says) texts.table ≡ 5 ∷ 4 ∷ 1 ∷ 5 ∷ 3 ∷ 4 ∷ 2 ∷ 3 ∷ 6 ∷ 1 ∷ 2 ∷ [])
     × (length requests.table ≡ 16)

@@ -172,10 +172,12 @@ table =
     ∷ [])
     -- P9
     ∷ at4 "100^|2000"
-    ((main arrows is 0 ∷ [])
-    ∷ (kept arrows is 1 ∷ [])
-    ∷ (main steps is 2 ∷ [])
-    ∷ (kept steps is 2 ∷ [])
+    ((text is bytes "2000|")
+    ∷ (row_counts is 1 ∷ [])
+    ∷ (main arrows is 0 ∷ [])
+    ∷ (kept arrows is 0 ∷ [])
+    ∷ (main steps is 1 ∷ [])
+    ∷ (kept steps is 1 ∷ [])
     ∷ [])
     -- P10
     ∷ at4 "1000|,1111|0100" ((row_counts is 1 ∷ 1 ∷ []) ∷ [])

@@ -1,5 +1,5 @@
 -- Specification, Lines: the lines of a text, and what a line is.
-use Rattle.std.specs.Prelude.{Bool, if◌then◌else◌, List, [], ◌∷◌, ℕ, ◌==◌, nat_le, length, take}
+use Rattle.std.specs.Prelude.{Bool, if◌then◌else◌, ◌&&◌, not, List, [], ◌∷◌, ℕ, ◌==◌, nat_le, length, take}
 use Rattle.std.specs.List.{slice_split}
 use Rattle.definitions.specs.Lists.{among}
 use Rattle.definitions.specs.declared.LineKind.{LineKind}
@@ -22,14 +22,15 @@ abbrev pub trim : List ℕ → List ℕ
 trim [] = []
 trim (b ∷ s) = if is_blank_byte b then trim s else b ∷ s
 
--- "has at least L bytes": the row test, of a line that is nothing else
+-- "has at least L bytes, and no byte 13 among its first L": the row test, of a line that is nothing else
 unfoldable pub is_row_line : ℕ → List ℕ → Bool
-is_row_line L l = nat_le L (length l)
+is_row_line L l = nat_le L (length l) && not (among 13 (take L l))
 
 -- What a line is whose leading blanks are off. "What a line is goes by what is left of it, by the first of these that fits." Nothing is left, or it
 -- "begins with `/`": it "is passed over"; it "begins with `,`": it "ends a measure, and what follows the `,` is ignored"; it "begins with `;`": it
--- "ends the last measure and the reading"; it "has at least L bytes": it "is a row, its first L bytes"; it "has fewer": it "is passed over". "`/`,
--- `,` and `;` mean this as the first byte alone; elsewhere they are bytes of a row, or stand past its end." (47 is `/`, 44 `,` and 59 `;`.)
+-- "ends the last measure and the reading"; it "has at least L bytes, and no byte 13 among its first L": it "is a row, its first L bytes"; it "is any
+-- other": it "is passed over". "`/`, `,` and `;` mean this as the first byte alone; elsewhere they are bytes of a row, or stand past its end." (47 is
+-- `/`, 44 `,` and 59 `;`.)
 unfoldable pub kind_of : ℕ → List ℕ → LineKind
 kind_of L [] = kind.Passed
 kind_of L (b ∷ s) =

@@ -1,5 +1,5 @@
 -- Specification, Rows read back and Correction: the rows that `parse_minimized_rows` reads, and the tallies of the main and the kept-row pass.
-use Rattle.std.specs.Prelude.{Bool, false, if◌then◌else◌, ◌&&◌, not, List, [], ◌∷◌, ◌++◌, ℕ, ◌==◌, take}
+use Rattle.std.specs.Prelude.{◌≡◌, Bool, false, if◌then◌else◌, ◌&&◌, not, List, [], ◌∷◌, ◌++◌, ℕ, ◌==◌, ◌≤◌, take}
 use Rattle.definitions.specs.Lists.{among, joined, only_if}
 use Rattle.definitions.specs.Lines.{Row, cut, is_row_line}
 use Rattle.definitions.specs.Reduction.{minimised}
@@ -18,8 +18,8 @@ abbrev pub begins_mark : List ℕ → Bool
 begins_mark [] = false
 begins_mark (b ∷ s) = among b (44 ∷ 59 ∷ [])
 
--- "A line that then has at least L bytes and does not begin with `,` or `;` is a row, its first L bytes, and any other line is none. No blanks are
--- taken off, a `/` is a byte like others, and what follows a `;` line is read."
+-- "A line that then has at least L bytes, and no byte 13 among its first L, and does not begin with `,` or `;` is a row, its first L bytes, and any
+-- other line is none. No blanks are taken off, a `/` is a byte like others, and what follows a `;` line is read."
 abbrev pub back_row : ℕ → List ℕ → List Row
 back_row L l = only_if (is_row_line L l && not (begins_mark l)) (take L l ∷ [])
 
@@ -39,3 +39,11 @@ main_tally L text = corrected L (joined (minimised L text)) (rows_read_back L (m
 -- "The kept tally is counted anew over the minimised rows themselves."
 unfoldable pub kept_tally : ℕ → List ℕ → ArrowStats
 kept_tally L text = corrected L (joined (minimised L text)) (joined (minimised L text))
+
+-- "So the rows of a chart's minimised text, read back, are its minimised rows."
+unfoldable pub OwnRows : Type 0
+OwnRows = (L : ℕ) (text : List ℕ) → 1 ≤ L → rows_read_back L (minimised_text L text) ≡ joined (minimised L text)
+
+-- "The two are the same for every text."
+unfoldable pub MainKeptAgree : Type 0
+MainKeptAgree = (L : ℕ) (text : List ℕ) → main_tally L text ≡ kept_tally L text

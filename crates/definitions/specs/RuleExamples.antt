@@ -1,6 +1,6 @@
 -- Specification, Examples: R1 to R35, the second table, with a single claim, `rule-examples-hold`. "A second table, R1 to R35, is proved in the same
--- way: for each wrong rule of the list in `tests/rules` an example of the two tables fails." The answers are the Rust's, but for R33 to R35, of
--- records and refusals, which the Rust has not. In a text `|` is byte 10 and `^` is byte 13.
+-- way: for each wrong rule of the list in `tests/rules` an example of the two tables fails." The answers are the Rust's, but for R28, of byte 13 among
+-- a row's bytes, and R33 to R35, of records and refusals, which the Rust has not. In a text `|` is byte 10 and `^` is byte 13.
 use Rattle.std.specs.Prelude.{◌≡◌, refl, List, [], ◌∷◌, ◌++◌, map, ℕ, replicate}
 use Rattle.std.specs.Float.Ieee.{to_bits, of_int, round, add, mul, div}
 use Rattle.definitions.specs.Lists.{joined}
@@ -157,14 +157,14 @@ table =
     ∷ (main every is counts 10 9 1 0 0 9 1 7 0 9 0 0 0 0)
     ∷ (judged every is counts 9 8 1 0 0 9 0 7 0 8 0 0 0 0)
     ∷ [])
-    -- R17: K, m, l, f, 2 and 4 are not met, so nothing is corrected: else the main tally would lose the row with byte 13; they empty no stack;
-    -- m, l, f and 4 drop a note
-    ∷ at4 "2222|Kmlf|4000|3333|3000|100^"
-    ((density is 3 ∷ [])
-    ∷ (note_list is 1 ∷ none ∷ 1 ∷ 3 ∷ 1 ∷ none ∷ 2 ∷ 4 ∷ 1 ∷ none ∷ 3 ∷ 5 ∷ 2 ∷ 3 ∷ 0 ∷ 2 ∷ 5 ∷ none ∷ 0 ∷ 0 ∷ [])
-    ∷ (main every is counts 6 3 1 1 1 3 1 2 1 4 1 1 1 0)
-    ∷ (judged every is counts 6 2 1 2 1 3 1 3 1 4 1 1 1 0)
-    ∷ (flagged (1 ∷ 0 ∷ 1 ∷ []) every is counts 5 2 1 1 1 2 1 2 0 4 1 0 3 0)
+    -- R17: K, m, l, f, 2 and 4 are not met, so nothing is corrected: else the main tally would lose the ninth head of column 0; they empty no
+    -- stack; m, l, f and 4 drop a note
+    ∷ at4 "2222|Kmlf|2000|2000|2000|2000|2000|2000|2000|4000|3333|3000|3000|3000|3000|3000|3000|3000|3000"
+    ((density is 9 ∷ [])
+    ∷ (note_list is 1 ∷ none ∷ 1 ∷ 3 ∷ 1 ∷ none ∷ 2 ∷ 4 ∷ 1 ∷ none ∷ 3 ∷ 5 ∷ 9 ∷ 10 ∷ 0 ∷ 2 ∷ [])
+    ∷ (main every is counts 12 9 1 1 1 9 1 9 1 11 1 1 1 0)
+    ∷ (judged every is counts 12 8 1 2 1 9 1 9 1 11 0 1 1 0)
+    ∷ (flagged (1 ∷ 0 ∷ 1 ∷ []) every is counts 11 8 1 1 1 8 1 8 0 11 0 0 3 0)
     ∷ [])
     -- R18: M is met, and is an object
     ∷ at4 "2000|M000|3000"
@@ -210,22 +210,23 @@ table =
     ∷ (main holding is 0 ∷ [])
     ∷ (note_list is [])
     ∷ [])
-    -- R26: more tails than heads correct, in the main tally over the text read back, which drops a byte 13; a depth does not fall below 0
-    -- before a 4
-    ∷ at4 "3000|4000|3000|m00^"
-    ((last_48ths is 96 ∷ [])
-    ∷ (main every is counts 1 1 0 0 0 1 0 0 0 0 1 0 0 0)
-    ∷ (kept every is counts 1 1 0 0 0 1 0 0 1 0 1 0 0 0)
+    -- R26: more tails than heads correct, so a ninth head is lost in both tallies; a depth does not fall below 0 before a 4
+    ∷ at4 "3000|4000|4000|4000|4000|4000|4000|4000|4000|4000|3000|3000|3000|3000|3000|3000|3000|3000|3000"
+    ((last_48ths is 182 ∷ [])
+    ∷ (main every is counts 8 8 0 0 0 9 0 6 0 0 8 0 0 0)
+    ∷ (kept every is counts 8 8 0 0 0 9 0 6 0 0 8 0 0 0)
     ∷ [])
-    -- R27: without a head nothing is corrected; a 3 and a 1 are no heads of the timing rows
-    ∷ at4 "3000|100^"
-    ((main arrows is 1 ∷ [])
-    ∷ (timing_head is 0 ∷ [])
+    -- R27: a 3 and a 1 are no heads of the timing rows
+    ∷ at4 "3000|1000"
+    ((timing_head is 0 ∷ [])
     ∷ [])
-    -- R28: the main tally is counted anew over the minimised text; reading back strips no blanks and drops one byte 13
-    ∷ at4 "2000| 0100|00 ^|^^^^1|100^^"
-    ((main every is counts 1 0 1 0 0 3 0 0 0 0 0 0 0 0)
-    ∷ (judged every is counts 2 1 0 1 0 2 0 0 0 0 0 0 0 0)
+    -- R28: the main tally is counted anew over the minimised text; reading back strips no blanks; a line with byte 13 as any of its first L bytes is
+    -- no row
+    ∷ at4 "2000| 0100|1^00|^010|00 ^|^^^^1|100^^"
+    ((text is bytes "2000|0100|")
+    ∷ (main every is counts 1 0 1 0 0 2 0 0 0 0 0 0 0 0)
+    ∷ (judged every is counts 1 0 0 1 0 1 0 0 0 0 0 0 0 0)
+    ∷ (timing is bytes "20000100")
     ∷ [])
     -- R29: a judged hand by mines and fakes under three holds; a plain hand needs a step, and counts the holds before its row, of 2 and 4
     ∷ at4 "2440|000M|000m|000F|000f|000K|3331"

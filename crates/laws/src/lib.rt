@@ -9,6 +9,7 @@ ghost use Rattle.definitions.specs.Judged.{judged_tally, flagged_tally};
 ghost use Rattle.definitions.specs.Entries.{measure_count, figures_of_chart, places_of_chart, figures_of_kept, places_of_kept, figures_of_timing, places_of_timing, places_of_measures, figures_of_last, places_of_last, places_of_judged};
 ghost use Rattle.definitions.specs.Damage.{Differ, DamageStays};
 ghost use Rattle.definitions.specs.Halving.{ReduceHalved};
+ghost use Rattle.definitions.specs.ReadBack.{OwnRows, MainKeptAgree};
 ghost use Rattle.definitions.specs.WriterMakes.{WriterMakes};
 ghost use Rattle.definitions.specs.SmBlocks.{DataInFile, SemicolonLast, BlocksApart, LeastRefused};
 ghost use Rattle.definitions.specs.Beats.{last_row};
@@ -60,6 +61,16 @@ pub fn beats_right()
 /// Minimising by the stride is halving as long as it goes.
 pub fn reduce_halved()
     ensures { ReduceHalved }
+{}
+
+/// Read back, a chart's minimised text has the chart's minimised rows.
+pub fn own_rows()
+    ensures { OwnRows }
+{}
+
+/// So the main and the kept tally of a text are the same.
+pub fn main_kept_agree()
+    ensures { MainKeptAgree }
 {}
 
 /// Where two texts differ only in lines of one measure, the rest of every answer is the same.
