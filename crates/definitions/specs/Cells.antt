@@ -33,7 +33,7 @@ byte_at c r = slice_index_or r c 48
 
 -- What a cell is counted as, beside an arrow.
 pub data CountKind : Type 0 where
-  nothing hold roll tail mine lift fake : CountKind
+  nothing hold roll tail mine lift fake keysound : CountKind
 
 -- What a cell does, all in one place. "In its column a cell opens, closes, blocks or does nothing; Last beat, Hold tracker and Correction say what
 -- that does to each of theirs. A cell that drops takes the note from the head that is open in its column."
@@ -49,8 +49,8 @@ pub record Effects : Type 0 where
 abbrev row : Bool → Bool → Bool → CountKind → DepthEffect → DepthEffect → NoteEffect → Effects
 row a j u k h o n = record { arrow = a; judged_arrow = j; unjudged_fake = u; counted = k; hold = h; object = o; note = n }
 
--- "The arrows are the cells 1, 2 and 4." "On a judged row the arrows are 1, L, l and the paired heads" "On an unjudged row each 1, L, l, M, m, F,
--- f and paired head is one fake, and nothing else is counted." For the tracker 2 and 4 open, 3 closes, and 1, M, L, F block; for the last beat K
+-- "The arrows are the cells 1, 2 and 4. A K is a keysound and is counted as nothing else." "On a judged row the arrows are 1, L, l and the paired
+-- heads" "On an unjudged row each 1, L, l, M, m, F, f and paired head is one fake, and nothing else is counted." For the tracker 2 and 4 open, 3 closes, and 1, M, L, F block; for the last beat K
 -- blocks too. "A 3 closes the open head of its column" "Any of 1 2 4 M L F m l f drops the open head's note in its column." "K and the empty cells
 -- touch no note."
 --                      arrow judged unjudged  counted  tracker  last beat  notes
@@ -63,7 +63,7 @@ effects_of Roll = row true true true roll Opens Opens (note.Head kind.Roll)
 effects_of Mine = row false false true mine Blocks Blocks (note.Single kind.Mine)
 effects_of Lift = row false true true lift Blocks Blocks (note.Single kind.Lift)
 effects_of Fake = row false false true fake Blocks Blocks (note.Single kind.Fake)
-effects_of KeySound = row false false false nothing Nothing Blocks note.Nothing
+effects_of KeySound = row false false false keysound Nothing Blocks note.Nothing
 effects_of LowerMine = row false false true mine Nothing Nothing (note.Single kind.Mine)
 effects_of LowerLift = row false true true lift Nothing Nothing (note.Single kind.Lift)
 effects_of LowerFake = row false false true fake Nothing Nothing (note.Single kind.Fake)

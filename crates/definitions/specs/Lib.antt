@@ -26,6 +26,7 @@ pub mod SmBlocks
 pub mod WriterMakes
 pub mod Examples
 pub mod RuleExamples
+pub mod TallyExamples
 pub mod RequestExamples
 pub mod Damage
 pub mod DamageExample

@@ -21,7 +21,7 @@ ghost use Rattle.sheet_json.specs.Example.{JsonExample};
 ghost use Rattle.chart_sheet.specs.Forms.{sheet_in_form};
 ghost use Rattle.chart_sheet.specs.Entry.{most_sheet_bytes, places_of_sheet};
 ghost use Rattle.laws.specs.Fits.{FitsForAll};
-ghost use Rattle.laws.specs.Examples.{ExamplesHold, RuleExamplesHold, RequestExamplesHold, CardExample, BeatsRight, DamageMet, LastBeatStays};
+ghost use Rattle.laws.specs.Examples.{ExamplesHold, RuleExamplesHold, TallyExamplesHold, RequestExamplesHold, CardExample, BeatsRight, DamageMet, LastBeatStays};
 
 /// The specification's examples are what the definitions give.
 pub fn examples_hold()
@@ -31,6 +31,11 @@ pub fn examples_hold()
 /// So are those that pin the rules one by one.
 pub fn rule_examples_hold()
     ensures { RuleExamplesHold }
+{}
+
+/// The examples of keysounds, too.
+pub fn tally_examples_hold()
+    ensures { TallyExamplesHold }
 {}
 
 /// The examples of the requests, too.
