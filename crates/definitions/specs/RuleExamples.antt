@@ -22,7 +22,7 @@ use Rattle.definitions.specs.ReadBack.{rows_read_back, main_tally, kept_tally}
 use Rattle.definitions.specs.Judged.{judged_at, judged_sum, judge_row, open_before, judged_rows, judged_tally, flagged_tally}
 use Rattle.definitions.specs.TimingRows.{timing_rows, timing_heads}
 use Rattle.definitions.specs.Entries.{main_answer}
-use Rattle.definitions.specs.Examples.{Example, arrows, steps, holds, holding, every, text, density, spacing, row_counts, beat_list, last, last_48ths, note_list, note_bytes, timing, timing_head, main, kept, judged, flagged, record_read, told, left_text, left_work, told_length, bytes, figure, whole_beat, ◌is◌, at, at4, given_by_definitions, said}
+use Rattle.definitions.specs.Examples.{Example, steps, holds, holding, every, text, density, spacing, row_counts, beat_list, last, last_48ths, note_list, note_bytes, timing, timing_head, main, kept, judged, flagged, record_read, told, left_text, left_work, told_length, bytes, figure, whole_beat, ◌is◌, at, at4, given_by_definitions, said}
 
 -- the number of no tail
 abbrev pub none : ℕ

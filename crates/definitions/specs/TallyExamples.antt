@@ -1,6 +1,6 @@
 -- Specification, Examples: examples of the keysounds as one table with a single claim, `tally-examples-hold`. "So are examples of the keysounds, as a
 -- table of their own." In a text `|` is byte 10.
-use Rattle.std.specs.Prelude.{◌≡◌, refl, List, [], ◌∷◌, map, ℕ}
+use Rattle.std.specs.Prelude.{◌≡◌, refl, List, [], ◌∷◌, map}
 use Rattle.std.specs.Float.Ieee.{to_bits, of_int, round, add, mul, div}
 use Rattle.definitions.specs.Lanes.{lanes_of}
 use Rattle.definitions.specs.Lines.{is_blank_byte, is_row_line, kind_of, line_kind}
