@@ -251,7 +251,7 @@ uint32_t padcheck_minimize_chart_count_rows_notes(const uint8_t *data, size_t da
                                                   uint8_t *notes, size_t notes_len, uint64_t *figures);
 
 /*
- * The kept-row call: minimised text, densities, and the tally corrected over the pass's own rows.
+ * The kept-row call: minimised text, densities, and the tally, which is that of the main call.
  * Lengths: text padcheck_text_len, densities padcheck_measures_len, work padcheck_work_len.
  * Refusals: 1 2 3 5. Figures: TEXT_BYTES, MEASURES, ROWS and the tally.
  */

@@ -1,6 +1,6 @@
 /*
- * Every name of padcheck.h is tied twice: to the documents' number, where the header is compiled, and to what the
- * library answers, where it runs. mutants.sh changes them one at a time; with CALLS_ALONE the first tie is left out.
+ * Every name of padcheck.h is tied twice: to the number that the definitions have, where the header is compiled, and to
+ * what the library answers, where it runs. mutants.sh changes them one at a time; with CALLS_ALONE the first tie is left out.
  */
 #include "header.h"
 #include "calls.h"
@@ -24,13 +24,13 @@ _Static_assert(PADCHECK_TEXT_BYTES == 0, "bytes");
 _Static_assert(PADCHECK_MEASURES == 1, "measures");
 _Static_assert(PADCHECK_ROWS == 2, "rows");
 _Static_assert(PADCHECK_NOTES == 3, "records");
-_Static_assert(PADCHECK_LAST_BEAT == 4, "lastBits");
+_Static_assert(PADCHECK_LAST_BEAT == 4, "the bits of the last beat");
 _Static_assert(PADCHECK_HAS_HEADS == 5, "heads");
 _Static_assert(PADCHECK_LAST_BEAT_48THS == 6, "last");
 _Static_assert(PADCHECK_SHEET_BYTES == 7, "bytes of the sheet");
 _Static_assert(PADCHECK_FIGURES == 32, "the figures");
 
-/* "A note record has 10 bytes", its kinds, and `noteFigures` in Entries.antt. */
+/* "A note record has 10 bytes", its kinds, and `figures_of_note` in Entries.antt. */
 _Static_assert(PADCHECK_NOTE_BYTES == 10, "a note record");
 _Static_assert(PADCHECK_NO_TAIL == 4294967295, "no tail");
 _Static_assert(PADCHECK_NOTE_ROW == 0, "row");

@@ -27,7 +27,7 @@ impl Files {
         Self {
             entry: vec![Check::new("sm_chart", sm_chart)],
             charts: text_checks::entries()
-                .chain([sheet_checks::drawn(SHEET_ONE_IN)])
+                .chain([text_checks::tallies(), sheet_checks::drawn(SHEET_ONE_IN)])
                 .collect(),
             kinds: FileKinds::new(),
         }

@@ -2,13 +2,22 @@
 
 use crate::case::{Case, LANE_COUNTS, lane_place};
 use crate::random;
+use oracle::asked::{chart_text, read_back_text};
 use oracle::calls::lanes_in_force;
 use oracle::leaves::{self, Counted};
 
 /// What a kind asks of a text.
 type Test = fn(&Facts) -> bool;
 
-const KINDS: [(&str, Test); 51] = [
+/// The places of the two kinds that say with what a text is compared.
+const AS_IT_STANDS: usize = 0;
+const IN_ANOTHERS_PLACE: usize = 1;
+
+const KINDS: [(&str, Test); 57] = [
+    ("a text that the Rust is asked about", |f| f.as_it_stands),
+    ("a text about which the Rust is asked another", |f| {
+        !f.as_it_stands
+    }),
     ("an empty text", |f| f.len == 0),
     ("a text without rows", |f| f.len > 0 && f.rows == 0),
     ("no byte 10 at the end", |f| f.len > 0 && !f.ends_in_newline),
@@ -24,7 +33,22 @@ const KINDS: [(&str, Test); 51] = [
     ("a line that ends in byte 13 after its row", |f| {
         f.cr_after_row
     }),
-    ("byte 13 as a row's last cell", |f| f.cr_in_row),
+    ("a line refused for byte 13 as its first", |f| {
+        f.refused.first
+    }),
+    ("a line refused for byte 13 among its L bytes", |f| {
+        f.refused.middle
+    }),
+    ("a line refused for byte 13 as the last of L", |f| {
+        f.refused.last
+    }),
+    ("a row with byte 13 and more after it", |f| f.cr_and_more),
+    ("a line refused for byte 13 after blanks", |f| {
+        f.refused.after_blanks
+    }),
+    ("a line that only the text read back refuses", |f| {
+        f.refused.read_back_alone
+    }),
     ("every line ends in bytes 13 and 10", |f| {
         f.lines > 2 && f.cr_lines == f.lines
     }),
@@ -61,9 +85,6 @@ const KINDS: [(&str, Test); 51] = [
         f.is_like(Pairing::LeftOver)
     }),
     ("tails and no head", |f| f.is_like(Pairing::TailsAlone)),
-    ("tails, no head, and byte 13 as a row's last cell", |f| {
-        f.is_like(Pairing::TailsAlone) && f.cr_in_row
-    }),
     ("fewer flags than rows", |f| f.flags.len() < f.rows),
     ("more flags than rows", |f| {
         f.rows > 0 && f.flags.len() > f.rows
@@ -93,7 +114,18 @@ enum Pairing {
     TailsAlone,
 }
 
+/// Where a line that would be a row but for a byte 13 among its first L bytes has one, and which reading refuses it.
+#[derive(Default)]
+struct Refused {
+    first: bool,
+    middle: bool,
+    last: bool,
+    after_blanks: bool,
+    read_back_alone: bool,
+}
+
 struct Facts {
+    as_it_stands: bool,
     len: usize,
     lanes: usize,
     flags: Vec<u8>,
@@ -113,7 +145,8 @@ struct Facts {
     short_line: bool,
     long_line: bool,
     cr_after_row: bool,
-    cr_in_row: bool,
+    cr_and_more: bool,
+    refused: Refused,
     comma_and_more: bool,
     empty_measure: bool,
     semicolon: bool,
@@ -127,12 +160,14 @@ struct Facts {
 impl Facts {
     fn of(case: &Case) -> Self {
         let lanes = lanes_in_force(case.lanes);
+        let text = &case.bytes[..];
         let mut facts = Self {
-            len: case.bytes.len(),
+            as_it_stands: chart_text(text, lanes) == text && read_back_text(text, lanes) == text,
+            len: text.len(),
             lanes,
             flags: random::flags(case),
             judged: 0,
-            ends_in_newline: case.bytes.ends_with(b"\n"),
+            ends_in_newline: text.ends_with(b"\n"),
             lines: 0,
             cr_lines: 0,
             rows: 0,
@@ -146,7 +181,8 @@ impl Facts {
             short_line: false,
             long_line: false,
             cr_after_row: false,
-            cr_in_row: false,
+            cr_and_more: false,
+            refused: Refused::default(),
             comma_and_more: false,
             empty_measure: false,
             semicolon: false,
@@ -155,7 +191,7 @@ impl Facts {
             deepest: 0,
             pairing: Pairing::None,
         };
-        let rows = facts.read(&case.bytes);
+        let rows = facts.read(text);
         facts.look_at_rows(&rows);
         facts
     }
@@ -177,6 +213,7 @@ impl Facts {
             self.lines += 1;
             self.cr_lines += usize::from(raw.ends_with(b"\r"));
             let line = leaves::skip_ws(raw);
+            self.look_for_refused(raw, line);
             match line.first() {
                 None => self.empty_line = true,
                 Some(b'/') => self.slash = true,
@@ -188,6 +225,7 @@ impl Facts {
                 }
                 Some(b';') => self.semicolon = true,
                 Some(_) if line.len() < self.lanes => self.short_line = true,
+                Some(_) if line[..self.lanes].contains(&13) => {}
                 Some(_) => self.take_row(raw, line, &mut rows),
             }
         }
@@ -202,8 +240,28 @@ impl Facts {
         self.first_cell[row[0] as usize] = true;
         self.long_line |= rest.len() > 1;
         self.cr_after_row |= rest == b"\r";
-        self.cr_in_row |= rest.is_empty() && row.ends_with(b"\r");
+        self.cr_and_more |= rest.starts_with(b"\r") && rest.len() > 1;
         rows.extend_from_slice(row);
+    }
+
+    /// A line as it stands and without its blanks: whether one of the readings refuses it for a byte 13 among its first L bytes.
+    fn look_for_refused(&mut self, raw: &[u8], line: &[u8]) {
+        let cells = |line: &[u8], marks: &[u8]| {
+            let cells = line.get(..self.lanes)?.to_vec();
+            (cells.contains(&13) && !marks.contains(&cells[0])).then_some(cells)
+        };
+        let (in_chart, read_back) = (cells(line, b"/,;"), cells(leaves::trim_cr(raw), b",;"));
+        let refused = &mut self.refused;
+        refused.after_blanks |= in_chart.is_some() && raw.len() > line.len();
+        refused.read_back_alone |= in_chart.is_none() && read_back.is_some();
+        for cells in in_chart.into_iter().chain(read_back) {
+            let [first, middle @ .., last] = &cells[..] else {
+                continue;
+            };
+            refused.first |= *first == 13;
+            refused.middle |= *first != 13 && *last != 13 && middle.contains(&13);
+            refused.last |= *last == 13 && *first != 13 && !middle.contains(&13);
+        }
     }
 
     fn end_measure(&mut self, rows: &[u8]) {
@@ -264,6 +322,12 @@ impl Kinds {
         for (count, (_, test)) in counts.iter_mut().zip(KINDS) {
             *count += u64::from(test(&facts));
         }
+    }
+
+    /// How many texts the Rust was asked about at each lane count, and of how many it was asked another.
+    pub fn asked(&self) -> impl Iterator<Item = (usize, u64, u64)> {
+        let counts = self.0.iter().zip(LANE_COUNTS);
+        counts.map(|(counts, lanes)| (lanes, counts[AS_IT_STANDS], counts[IN_ANOTHERS_PLACE]))
     }
 
     /// The kinds that were not met, with the lane count.

@@ -1,5 +1,5 @@
-//! Texts that are not drawn: every short text over a few letters, texts for each case of the correction, a few texts for each lane number
-//! whose slices are lent too short, and texts of the greatest length and one byte more.
+//! Texts that are not drawn: every short text over a few letters, every byte at every place of a row's line, texts for each case of the correction,
+//! a few texts for each lane number whose slices are lent too short, and texts of the greatest length and one byte more.
 
 use crate::case::{Case, Check, LANE_COUNTS};
 use crate::kinds::Kinds;
@@ -45,28 +45,52 @@ fn word(letters: &[u8], len: u32, number: usize) -> Vec<u8> {
         .collect()
 }
 
-/// A column's cells for each case of the correction, in the order of its conditions: no head, heads that all pair, heads other
-/// than tails, a 1, M, L or F at a phantom depth, a phantom depth left over.
+/// Every byte at every place of the second of three rows' lines, and right after it, where lines end with byte 10 and with bytes 13 and 10: the readers
+/// tell most rows by a look of several bytes at once.
+pub fn bytes_in_rows(checks: &mut [Check], kinds: &mut Kinds) {
+    for lanes in LANE_COUNTS {
+        for newline in [&b"\n"[..], b"\r\n"] {
+            let rows = [&b"1000000000"[..], b"2100000001", b"0010000000"];
+            let text = rows.map(|row| [&row[..lanes], newline].concat()).concat();
+            let second = lanes + newline.len();
+            for place in second..=2 * second {
+                for byte in 0..=u8::MAX {
+                    let mut bytes = text.clone();
+                    bytes[place] = byte;
+                    let case = Case {
+                        bytes,
+                        lanes,
+                        seed: u64::from(byte),
+                    };
+                    kinds.note(&case);
+                    checks.iter_mut().for_each(|check| check.run(&case));
+                }
+            }
+        }
+    }
+}
+
+/// A column's cells for each case of the correction: no head, heads that all pair, and in the order of its conditions heads other than tails, a 1,
+/// M, L or F at a phantom depth, a phantom depth left over.
 const COLUMNS: [&[u8]; 12] = [
-    b"3", b"0", b"23", b"43", b"2", b"233", b"223", b"213", b"2M3", b"2L3", b"2F3", b"32",
+    b"0", b"23", b"43", b"3", b"2", b"233", b"223", b"213", b"2M3", b"2L3", b"2F3", b"32",
 ];
 
-/// A row whose last cell is byte 13 follows each of these columns. The main call counts anew over its text read back, where such a row is
-/// none: so its tally shows whether it counted anew.
+/// Nine heads and nine tails in a second column stand beside each of these columns. The ninth is not paired, and only in a tally that is counted
+/// anew is it missing: so both tallies show whether they were.
 pub fn corrections(checks: &mut [Check], kinds: &mut Kinds) {
+    const NEST: [u8; 18] = *b"222222222333333333";
     for lanes in LANE_COUNTS {
         for column in COLUMNS {
             for place in 0..lanes {
                 let mut bytes = Vec::new();
-                for &cell in column {
-                    let mut row = vec![b'0'; lanes];
-                    row[place] = cell;
-                    bytes.extend_from_slice(&row);
+                for row in 0..NEST.len() {
+                    let mut cells = vec![b'0'; lanes];
+                    cells[place] = column.get(row).copied().unwrap_or(b'0');
+                    cells[(place + 1) % lanes] = NEST[row];
+                    bytes.extend_from_slice(&cells);
                     bytes.push(b'\n');
                 }
-                bytes.push(b'1');
-                bytes.resize(bytes.len() + lanes - 2, b'0');
-                bytes.extend_from_slice(b"\r\n");
                 // A seed of its own, so that the slices lent differ; the last one leaves the text without its last newline.
                 for seed in 0..4 {
                     if seed == 3 {

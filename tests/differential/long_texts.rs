@@ -2,7 +2,7 @@
 //! need not, and odd lines among the rows.
 
 use crate::case::{Case, LANE_COUNTS};
-use crate::random::{BLANKS, LONG, Rng, STYLES};
+use crate::random::{BLANKS, LONG, Rng, STYLES, with_return};
 
 const LONGEST: usize = 1_000_000;
 
@@ -91,7 +91,7 @@ impl Writer<'_> {
         }
     }
 
-    /// A row, at times of a cell too few, so that a byte 13 after it is its last cell.
+    /// A row, at times of a cell too few, so that a byte 13 after it is the last of L bytes.
     fn row(&mut self, rng: &mut Rng, cells: &[u8]) -> Vec<u8> {
         let Some(open) = &mut self.open else {
             let len = self.lanes - usize::from(rng.one_in(300));
@@ -114,13 +114,17 @@ impl Writer<'_> {
         open.iter_mut().map(paired).collect()
     }
 
-    /// A line that is passed over, or a row of no letters.
+    /// A line that is passed over, mostly, or a row of no letters.
     fn odd_line(&mut self, rng: &mut Rng) {
-        match rng.below(5) {
+        match rng.below(6) {
             0 => self.line(rng, b""),
             1 => self.line(rng, b"// 1111111111"),
             2 => self.line(rng, b"0"),
             3 => self.line(rng, b"\x00\x80\xff#########"),
+            4 => {
+                let line = with_return(rng, self.lanes, b"0");
+                self.line(rng, &line);
+            }
             _ => self.line(rng, b"\t \x0c"),
         }
     }

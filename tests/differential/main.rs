@@ -1,4 +1,5 @@
 //! The differential run: libpadcheck.a and libleaves.a beside the Rust, in one process, on random, short and long texts and SM files.
+//! Where a row would have a byte 13 the Rust is asked about another text (`tests/oracle/asked.rs`).
 //! Ends with `N passed, M failed`; the exit status is not 0 if anything differs or was left out.
 
 mod beat_checks;
@@ -32,14 +33,17 @@ differential [--long | --cases N] [--at-least COUNT] [SEED..]
 
 Compares the exported entries and the leaves with the Rust. For each SEED (1 where none is given): N random
 texts, N random lists of rows, which are read as texts too, N beats, and random texts of 10,000 to 1,000,000
-bytes. Then every short text over a few letters, texts for each case of the correction, each entry with every
-combination of its slices one entry too short, and texts of the greatest length. The sheet is compared with the
-reference in Rust, on half of the random texts and some of the long ones. SM files are compared with the
-reference in Rust, every block and the numbers past them: for each SEED N random files, then every short file over
-a few tokens, a file by hand with each byte struck or changed, and files of the greatest length; the calls are made
-on the data of each accepted block, the sheet's on one in four. N is 200000, or 10000000 with --long. A text or
-file that differs is shown as short as it can be made. An entry, a leaf, a number that an entry can return, a lane
-count or a kind of text or file that was not met is a failure, and so are fewer comparisons than COUNT.
+bytes. Then every short text over a few letters, every byte at every place of a row's line, texts for each
+case of the correction, each entry with every combination of its slices one entry too short, and texts of the
+greatest length. The main and the kept tally are compared with each other too. Where a line has a byte 13
+among its first L bytes, which is a row for the Rust alone, it is asked about a text in which that line is
+none; both sorts of text are counted. The sheet is compared with the reference in Rust, on half of the random
+texts and some of the long ones. SM files are compared with the reference in Rust, every block and the numbers
+past them: for each SEED N random files, then every short file over a few tokens, a file by hand with each
+byte struck or changed, and files of the greatest length; the calls are made on the data of each accepted
+block, the sheet's on one in four. N is 200000, or 10000000 with --long. A text or file that differs is shown
+as short as it can be made. An entry, a leaf, a number that an entry can return, a lane count or a kind of
+text or file that was not met is a failure, and so are fewer comparisons than COUNT.
 The last line is 'N passed, M failed', counted in comparisons.";
 
 struct Options {
@@ -130,13 +134,16 @@ fn run(options: &Options) -> ExitCode {
     }
     texts.push(sheet);
     limits::short_texts(&mut texts, &mut kinds);
+    limits::bytes_in_rows(&mut texts, &mut kinds);
     limits::corrections(&mut texts, &mut kinds);
     let mut shortages: Vec<_> = text_checks::shortages().collect();
     shortages.push(sheet_checks::shortages());
+    shortages.push(text_checks::tallies());
     limits::every_lane(&mut shortages);
     file_limits::short_files(&mut files);
     file_limits::written(&mut files);
     let mut longest: Vec<_> = text_checks::entries().collect();
+    longest.push(text_checks::tallies());
     let mut longest_sheet = sheet_checks::exact();
     if case::any_differs(&texts) || files.any_differs() {
         println!("the longest texts and files are left out: shorter ones differ already");
@@ -180,6 +187,11 @@ fn report(
         let (same, differ) = case::totals(checks);
         passed += same;
         failed += differ;
+    }
+    for (lanes, as_it_stands, another) in kinds.asked() {
+        println!(
+            "{lanes} lanes: the Rust was asked about {as_it_stands} texts, and of {another} about another one"
+        );
     }
     let checks: Vec<&Check> = groups.iter().flat_map(|(_, checks)| *checks).collect();
     failed += coverage::missing(&checks, kinds, files);

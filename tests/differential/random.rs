@@ -122,15 +122,25 @@ fn line(rng: &mut Rng, width: usize, cells: &[u8], zeros: usize, text: &mut Vec<
         2 => text.extend_from_slice(b"/0000100001"),
         3 => text.extend((1..width).map(|_| rng.pick(cells))),
         4 => text.extend((0..=width + rng.below(3)).map(|_| rng.pick(cells))),
+        5 if rng.one_in(6) => text.extend(with_return(rng, width, cells)),
         _ if rng.below(4) < zeros => text.extend((0..width).map(|_| b'0')),
         _ => text.extend((0..width).map(|_| rng.pick(cells))),
     }
     match rng.below(12) {
         0 => text.push(b'\r'),
         1 => text.extend_from_slice(b" x"),
+        2 if rng.one_in(4) => text.extend_from_slice(b"\r0"),
         _ => {}
     }
     text.push(b'\n');
+}
+
+/// A line of a row's bytes or more, one of which is byte 13.
+pub fn with_return(rng: &mut Rng, width: usize, cells: &[u8]) -> Vec<u8> {
+    let len = width + rng.below(3);
+    let mut line: Vec<u8> = (0..len).map(|_| rng.pick(cells)).collect();
+    line[rng.below(len)] = b'\r';
+    line
 }
 
 fn end_line(rng: &mut Rng, mark: u8, text: &mut Vec<u8>) {

@@ -4,7 +4,7 @@ use crate::case::{Case, Check, Compare};
 use crate::entries::{ENTRIES, Enter};
 use crate::ours;
 use crate::random::{self, Rng};
-use oracle::calls::Call;
+use oracle::calls::{Call, TALLY, TALLY_NAMES};
 use oracle::entry::{Loan, enter, refusals};
 use oracle::leaves;
 
@@ -18,6 +18,7 @@ pub fn checks() -> Vec<Check> {
         Check::new("lanes_of", lanes_of),
     ];
     checks.extend(entries());
+    checks.push(tallies());
     checks
 }
 
@@ -28,6 +29,26 @@ pub fn entries() -> impl Iterator<Item = Check> {
             entered(entry.call, entry.enter, case, compared);
         })
     })
+}
+
+/// The main tally beside the kept one, which are the same for every text.
+pub fn tallies() -> Check {
+    Check::new("main and kept tally", |case, compared| {
+        let [main, kept] = [Call::MinimizeChartCountRowsNotes, Call::ProcessChartKept]
+            .map(|call| tally(call, case));
+        compared.same_slices("main and kept tally", &main, &kept);
+    })
+}
+
+/// The tally that a call answers, lent slices of the exact lengths.
+fn tally(call: Call, case: &Case) -> Vec<u64> {
+    let (len, lanes) = (case.bytes.len(), case.lanes);
+    let mut loan = random::lent(case.seed, !case.seed, call, len, lanes, |_, enough| enough);
+    let mut entries = ENTRIES.iter().filter(|entry| entry.call == call);
+    if let Some(entry) = entries.next() {
+        (entry.enter)(&case.bytes, lanes, &[], &mut loan);
+    }
+    loan.figures[TALLY..TALLY + TALLY_NAMES.len()].to_vec()
 }
 
 /// The exported entries with every combination of their slices one entry too short, the others exact.

@@ -42,6 +42,21 @@ const fn flagged(name: &'static str, text: &'static str, flags: &'static [u8]) -
 /// The chart whose figures are all different; `tests/c/header.c` reads them by name.
 pub const DIFFERENT: &str = "L133|13M4|3213|1033|L4M2|1413|L21M|1M13|1F4L|,|1030|4144|MF03|3FL1|MFFM|11M1|1M3L|M2L1|,|4010|34L0|3M14|1030|4M13|141M|110F|";
 
+macro_rules! eight {
+    ($($text:tt)*) => {
+        concat!(
+            $($text)*, $($text)*, $($text)*, $($text)*, $($text)*, $($text)*, $($text)*, $($text)*
+        )
+    };
+}
+
+/// Nine heads in a column, these rows after the first of them, and nine tails.
+macro_rules! nine_heads {
+    ($rows:literal) => {
+        concat!("2000|", $rows, eight!("2000|"), "3000|", eight!("3000|"))
+    };
+}
+
 pub const TEXTS: &[Deciding] = &[
     flagged("all figures different", DIFFERENT, &[1, 1, 1, 0]),
     // Lines
@@ -66,6 +81,10 @@ pub const TEXTS: &[Deciding] = &[
     four("exactly L bytes", "1000"),
     four("short line", "100|0100|"),
     four("more than L bytes", "10001|0100|"),
+    four("13 as the last of L bytes", "100\r|0100|"),
+    four("13 in the middle of L bytes", "1\r00|0100|"),
+    four("13 among L bytes after blanks", " \t10\r0|0100|"),
+    four("13 after L bytes", "1000\r|0100 \r|"),
     four("end without semicolon", "1000|,|0100"),
     four("last measure without rows", "1000|,|"),
     four("measure without rows", "1000|,|,|0100|"),
@@ -191,18 +210,18 @@ pub const TEXTS: &[Deciding] = &[
     lanes("tally: ten columns", 10, "0000111111|"),
     lanes("tally: slow path", 5, "2000M|01100|30000|"),
     // Correction
-    four("correction: if there is a head", "3000|100\r|"),
-    four("correction: more tails", "2000|3000|3000|100\r|"),
+    four("correction: if there is a head", "3000|1000|"),
+    four("correction: more tails", NINE_HEADS_TEN_TAILS),
     four("correction: more heads", "2000|0000|0200|0300|"),
     four("correction: 1 met", "2000|1000|3000|"),
     four("correction: 1 met beside a mine", "2000|1M00|3000|"),
     four("correction: M met", "2000|M000|3000|"),
     four("correction: L met", "2000|L000|3000|"),
     four("correction: F met", "2000|F000|3000|"),
-    four("correction: K not met", "2000|K000|3000|100\r|"),
-    four("correction: m not met", "2000|m000|3000|100\r|"),
-    four("correction: l not met", "2000|l000|3000|100\r|"),
-    four("correction: f not met", "2000|f000|3000|100\r|"),
+    four("correction: K not met", nine_heads!("K000|")),
+    four("correction: m not met", nine_heads!("m000|")),
+    four("correction: l not met", nine_heads!("l000|")),
+    four("correction: f not met", nine_heads!("f000|")),
     four("correction: depth left over", "2000|0300|"),
     four("correction: depth of a 4", "4000|1000|3000|"),
     four("correction: depth not below 0", "3000|2000|1000|"),
@@ -211,10 +230,14 @@ pub const TEXTS: &[Deciding] = &[
     four("correction: l resets no depth", "2000|l000|1000|3000|"),
     four("correction: f resets no depth", "2000|f000|1000|3000|"),
     four("correction: keeps the steps", "2000|0300|0010|"),
-    four("correction: none", "2000|3000|100\r|"),
+    four("correction: none", nine_heads!("")),
     // Rows read back
     four("read back: byte 13 dropped", "100\r|2000|"),
     four("read back: one byte 13", "100\r\r|"),
+    four("read back: 13 as the first of L bytes", "\r100|0100|"),
+    four("read back: 13 in the middle of L bytes", "1\r00|0100|"),
+    four("read back: 13 as the last of L bytes", "100\rx|0100|"),
+    four("read back: 13 after L bytes", "1000\r\r|0100|"),
     four("read back: no blanks", " 1000|"),
     four("read back: no slash", "/100|"),
     four("read back: comma and semicolon", ",1000|;0100|0010|"),
@@ -294,14 +317,6 @@ macro_rules! zeros_124 {
 const LAST_TIE_DOWN: &str = concat!("0000|0000|0000|1000|", zeros_124!());
 const LAST_TIE_UP: &str = concat!("0000|1000|0000|0000|", zeros_124!());
 
-macro_rules! eight {
-    ($($text:tt)*) => {
-        concat!(
-            $($text)*, $($text)*, $($text)*, $($text)*, $($text)*, $($text)*, $($text)*, $($text)*
-        )
-    };
-}
-
 /// 1,024 measures without rows, then one of 129 rows with a tap on the second.
 const LAST_WIDE: &str = concat!(
     eight!(eight!(eight!(",|"))),
@@ -319,3 +334,6 @@ const NINTH: &str =
     "2000|2000|2000|2000|2000|2000|2000|2000|2100|3000|3000|3000|3000|3000|3000|3000|3000|3000|";
 const EIGHTH: &str =
     "2000|2000|2000|2000|2000|2000|2000|2100|3000|3000|3000|3000|3000|3000|3000|3000|";
+
+/// The same nine heads with a tail too many.
+const NINE_HEADS_TEN_TAILS: &str = concat!(nine_heads!(""), "3000|");

@@ -1,5 +1,6 @@
 //! The oracle: what the Rust answers, as numbers and bytes, for any text, lane number and flags.
 //!
+//! - `asked`: the text that the Rust is asked about, which is another where a row would have a byte 13.
 //! - `calls`: the eight chart calls, each with its figures and the contents of its slices.
 //! - `leaves`: the functions below them.
 //! - `timed`: the calls with nothing around them.
@@ -10,6 +11,7 @@
 //! - `vectors`: the stored sample of answers; `deciding`: those of its texts that one rule decides.
 //! - `sm_vectors`: the stored sample of SM files; `sm_deciding`: those of its files that one sentence decides.
 
+pub mod asked;
 pub mod card;
 pub mod deciding;
 pub mod entry;

@@ -1,6 +1,7 @@
 //! The stored sample of the oracle's answers: its texts and how they are written.
 //! The layout is described in `tests/vectors/README.md`.
 
+use crate::asked::read_back_text;
 use crate::calls::{Answer, CALLS, answer, lanes_in_force};
 use crate::deciding::{Deciding, TEXTS};
 use crate::leaves::parse_minimized_rows;
@@ -189,7 +190,8 @@ fn deciding(text: &Deciding) -> Sample {
 fn with_flags(numbers: &mut Numbers, texts: Vec<(usize, Vec<u8>)>) -> Vec<Sample> {
     let mut samples = Vec::new();
     for (i, (lanes, text)) in texts.into_iter().enumerate() {
-        let rows = parse_minimized_rows(lanes, &text).len() / lanes_in_force(lanes);
+        let in_force = lanes_in_force(lanes);
+        let rows = parse_minimized_rows(lanes, &read_back_text(&text, in_force)).len() / in_force;
         let count = [0, rows / 2, rows, rows + 3, rows][i % 5];
         let values: &[u8] = if i % 5 == 4 { &[0] } else { &[0, 0, 1, 255] };
         let flags = (0..count).map(|_| *numbers.pick(values)).collect();
@@ -226,7 +228,7 @@ fn limits(lanes: usize) -> Vec<Vec<u8>> {
         &[short],
         &[short, b"\n", tap],
         &[tap, b"\n,"],
-        // Byte 13 as a cell, and before byte 10.
+        // Byte 13 among the first L bytes, and before byte 10.
         &[short, b"\r\n", &row(lanes, b"2")],
         &[tap, b"\r\n", head, b"\r\n,\r\n", tap, b"\r\n;\r\n"],
         &[b"1\r2", &row(lanes, b"")],

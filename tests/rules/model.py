@@ -54,7 +54,7 @@ def measures(L, text):
             found.append([])
         elif mark == b";":
             break
-        elif mark != b"/" and len(line) >= L:
+        elif mark != b"/" and len(line) >= L and 13 not in line[:L]:
             found[-1].append(line[:L])
     return found
 
@@ -320,7 +320,7 @@ def rows_read_back(L, text):
     found = []
     for line in text.split(b"\n"):
         line = line[:-1] if line.endswith(b"\r") else line
-        if len(line) >= L and line[:1] not in (b",", b";"):
+        if len(line) >= L and 13 not in line[:L] and line[:1] not in (b",", b";"):
             found.append(line[:L])
     return found
 

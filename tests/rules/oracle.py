@@ -88,7 +88,7 @@ def random_text(draw):
     """A lane number, flags and a text of a few lines, most of them rows."""
     lanes = draw.choice((4, 4, 5, 8, 10, 10, 0, 6, 9))
     width = lanes if lanes in (5, 8, 10) else 4
-    cells = draw.choice(("01", "0001234", "0012344MLFKmlf", "002233", "0000MLFKmlf123", "0123456789MLFKmlfxX \r"))
+    cells = draw.choice(("01", "0001234", "0012344MLFKmlf", "002233", "0000MLFKmlf123", "0001234\r", "0123456789MLFKmlfxX \r"))
     marks = draw.choice((0.0, 0.1, 0.4))
     zeros = draw.choice((0.0, 0.3, 0.8))
     column = draw.random() < 0.15

@@ -48,13 +48,13 @@ struct Seen {
     rows: usize,
     /// How many of them have more than a comment after their cells.
     past: usize,
-    /// How many lines are too short for a row.
+    /// How many lines are too short for a row, or are none for a byte 13.
     short: usize,
     /// The first line with a `:` outside its comment.
     colon: Option<usize>,
-    /// The first row that has such a byte among its cells, which none may be.
+    /// The first line that has such a byte among its cells, which none may be; for a byte 13 it is no row.
     cell: Option<(usize, u8)>,
-    /// The first line too short for a row between two rows of one measure.
+    /// The first such line between two rows of one measure.
     gap: Option<usize>,
 }
 
@@ -79,6 +79,9 @@ impl Seen {
                 }
                 LineKind::Short => {
                     seen.short += 1;
+                    if lanes <= line.trim_ascii_start().len() {
+                        seen.cell.get_or_insert((place, b'\r'));
+                    }
                     if measure.begun {
                         measure.short.get_or_insert(place);
                     }
@@ -217,6 +220,13 @@ mod tests {
             b"1000\n0100\n100\r\n",
             "line 3 has the byte `\\r` among"
         ));
+        for data in [
+            &b"100\r\n1000\n"[..],
+            b"1000\n,\n 1\r00 // x\n,\n",
+            b"1\r00",
+        ] {
+            assert!(doubted(data, "has the byte `\\r` among"));
+        }
         assert!(doubted(b"10 0\n", "line 1 has the byte ` ` among"));
         assert!(doubted(
             b"1000\n\n100\n// x\n0100\n",

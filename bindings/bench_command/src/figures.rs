@@ -103,14 +103,15 @@ mod tests {
 
     #[test]
     fn each_measure_has_its_own_rows() {
-        let figures = Figures::of(b"1000\n0000\n0100\n0000\n,\n,\n00x\r\n2;,2\n3003\n", 4).unwrap();
+        let text = b"1000\n0000\n0100\n0000\n,\n,\n00x0\r\n100\r\n2;,2\n3003\n";
+        let figures = Figures::of(text, 4).unwrap();
         assert_eq!((figures.measures(), figures.row_count()), (3, 5));
         assert_eq!(
             [0, 1, 2, 3].map(|m| figures.range(m)),
             [0..2, 2..2, 2..5, 0..0]
         );
         let rows: Vec<_> = figures.rows(2).collect();
-        assert_eq!(rows, [&b"00x\r"[..], b"2;,2", b"3003"]);
+        assert_eq!(rows, [&b"00x0"[..], b"2;,2", b"3003"]);
         assert_eq!(
             figures.beats(0).collect::<Vec<_>>(),
             [0.0f32, 2.0].map(f32::to_bits)

@@ -8,7 +8,7 @@ use std::ops::Range;
 pub enum LineKind {
     /// Blank or a comment.
     Passed,
-    /// Too short for a row, and passed over too.
+    /// Too short for a row, or with a byte 13 among a row's bytes, and passed over too.
     Short,
     /// Ends a measure.
     Comma,
@@ -30,8 +30,10 @@ pub fn line_kind(line: &[u8], lanes: usize) -> LineKind {
         None | Some(b'/') => LineKind::Passed,
         Some(b',') => LineKind::Comma,
         Some(b';') => LineKind::Semi,
-        Some(_) if line.len() < lanes => LineKind::Short,
-        Some(_) => LineKind::Row,
+        Some(_) => match line.get(..lanes) {
+            Some(cells) if !cells.contains(&b'\r') => LineKind::Row,
+            _ => LineKind::Short,
+        },
     }
 }
 
@@ -101,7 +103,7 @@ mod tests {
     use super::*;
 
     #[test]
-    fn kinds_are_document_01s() {
+    fn kinds_are_the_specifications() {
         use LineKind::*;
         let kinds = [
             (&b""[..], Passed),
@@ -112,8 +114,10 @@ mod tests {
             (b";", Semi),
             (b"100", Short),
             (b"\x0B100", Row),
-            (b"100\r", Row),
+            (b"100\r", Short),
+            (b" 1\r00 x", Short),
             (b"1000", Row),
+            (b"\r1000\r", Row),
             (b"  1000 x", Row),
         ];
         for (line, kind) in kinds {

@@ -60,7 +60,7 @@ pub fn minimize_chart_count_rows_notes(
     })
 }
 
-/// The kept-row call: minimised text, densities, and the tally corrected over the pass's own rows.
+/// The kept-row call: minimised text, densities, and the tally, which is that of the main call.
 ///
 /// # Errors
 ///

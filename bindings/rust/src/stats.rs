@@ -194,9 +194,8 @@ pub fn minimize_rows_typed<const L: usize>(data: &[u8]) -> MinimizedTypedRows<L>
 
 /// Minimised text, tally, densities, row beats and last beat; the minimised rows are in `scratch`.
 ///
-/// Three calls: text, densities and a tally corrected over the pass's own rows are the kept-row call's, rows and beats
-/// those of the timing rows, the last beat is the scan's. `L` is 4, 5, 8 or 10; another, which the Rust takes too,
-/// does not compile here.
+/// Three calls: text, tally and densities are the kept-row call's, rows and beats those of the timing rows, the last beat
+/// is the scan's. `L` is 4, 5, 8 or 10; another, which the Rust takes too, does not compile here.
 ///
 /// ```
 /// use padcheck::stats::{TypedRowsScratch, minimize_rows_typed_in};
@@ -225,7 +224,8 @@ pub fn minimize_rows_typed_in<const L: usize>(
     (text, stats, densities, beats, chart_last_beat(data, L))
 }
 
-/// The same, and the notes are in `chart_notes`: those of the main call, whose last beat is answered too.
+/// The same, and the notes are in `chart_notes`. Two calls: rows and beats are those of the timing rows, all else is the
+/// main call's.
 ///
 /// # Panics
 ///
@@ -235,13 +235,12 @@ pub fn minimize_rows_typed_in_notes<const L: usize>(
     scratch: &mut TypedRowsScratch<L>,
     chart_notes: &mut ChartNotesScratch,
 ) -> (Vec<u8>, ArrowStats, Vec<usize>, Vec<f32>, f64) {
-    let (text, _, densities, _, last) = minimize_chart_count_rows_notes(data, L, chart_notes);
-    let (_, stats, _) = kept(&mut chart_notes.buffers, data, L);
+    let (text, stats, densities, _, last) = minimize_chart_count_rows_notes(data, L, chart_notes);
     let beats = typed_rows(&mut chart_notes.buffers, data, scratch);
     (text, stats, densities, beats, last)
 }
 
-/// Text, tally and densities of the kept-row call, over buffers whose notes stay as they are.
+/// Text, tally and densities of the kept-row call.
 fn kept(buffers: &mut Buffers, data: &[u8], lanes: usize) -> (Vec<u8>, ArrowStats, Vec<usize>) {
     let chart = accepted(buffers.process_chart_kept(data, lanes));
     (chart.text.to_vec(), chart.stats, widened(chart.densities))

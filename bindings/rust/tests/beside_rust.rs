@@ -1,6 +1,9 @@
-//! `padcheck::stats` beside rssp's own `stats.rs`, as published, on the texts of the stored sample and on random ones.
+//! `padcheck::stats` beside rssp's own `stats.rs`, as published, on the texts of the stored sample and on random ones. Where a row
+//! would have a byte 13 the Rust is asked about another text.
 //! Answers are compared in the form that `{:?}` prints, which has every field by its name and every float exactly.
 
+#[path = "../../../tests/oracle/asked.rs"]
+mod asked;
 #[path = "../../../tests/vectors/reader.rs"]
 mod reader;
 #[path = "../../../docs/src/stats.rs"]
@@ -11,6 +14,7 @@ mod streams;
 #[path = "../../../tests/oracle/timing.rs"]
 mod timing;
 
+use asked::{chart_text, read_back_text};
 use padcheck::{lanes_in_force, stats};
 use reader::Reader;
 use std::fmt::Debug;
@@ -148,14 +152,15 @@ fn same(ours: impl Debug, rust: impl Debug, data: &[u8], lanes: usize) {
     );
 }
 
-/// Compares what two functions of the same name answer.
+/// Compares what two functions of the same name answer of a chart.
 fn beside<A: Debug, B: Debug>(
     ours: fn(&[u8], usize) -> A,
     rust: fn(&[u8], usize) -> B,
     data: &[u8],
     lanes: usize,
 ) {
-    same(ours(data, lanes), rust(data, lanes), data, lanes);
+    let asked = &chart_text(data, lanes_in_force(lanes));
+    same(ours(data, lanes), rust(asked, lanes), data, lanes);
 }
 
 #[test]
@@ -163,6 +168,7 @@ fn charts_by_lane_number() {
     let mut ours = stats::ChartNotesScratch::default();
     let mut rust = rssp::ChartNotesScratch::default();
     each_text(|data, lanes| {
+        let asked = &chart_text(data, lanes_in_force(lanes));
         beside(
             stats::minimize_chart_and_count_with_lanes,
             rssp::minimize_chart_and_count_with_lanes,
@@ -177,7 +183,7 @@ fn charts_by_lane_number() {
         );
         same(
             stats::minimize_chart_count_rows_notes(data, lanes, &mut ours),
-            rssp::minimize_chart_count_rows_notes(data, lanes, &mut rust),
+            rssp::minimize_chart_count_rows_notes(asked, lanes, &mut rust),
             data,
             lanes,
         );
@@ -234,15 +240,16 @@ impl<const L: usize> Typed<L> {
 
     fn compare(&mut self, data: &[u8]) {
         let (ours, rust) = (&mut self.ours, &mut self.rust);
+        let asked = &chart_text(data, L);
         same(
             stats::minimize_rows_typed::<L>(data),
-            rssp::minimize_rows_typed::<L>(data),
+            rssp::minimize_rows_typed::<L>(asked),
             data,
             L,
         );
         same(
             stats::minimize_rows_typed_in(data, &mut ours.0),
-            rssp::minimize_rows_typed_in(data, &mut rust.0),
+            rssp::minimize_rows_typed_in(asked, &mut rust.0),
             data,
             L,
         );
@@ -252,7 +259,7 @@ impl<const L: usize> Typed<L> {
         same(ours.0.rows(), rust.0.rows(), data, L);
         same(
             stats::minimize_rows_typed_in_notes(data, &mut ours.0, &mut ours.1),
-            rssp::minimize_rows_typed_in_notes(data, &mut rust.0, &mut rust.1),
+            rssp::minimize_rows_typed_in_notes(asked, &mut rust.0, &mut rust.1),
             data,
             L,
         );
@@ -284,35 +291,35 @@ fn typed_rows() {
 #[test]
 fn calls_in_place_of_what_is_left_out() {
     each_text(|data, lanes| {
+        let asked = &chart_text(data, lanes_in_force(lanes));
+        let read_back = &read_back_text(data, lanes_in_force(lanes));
         let judged = padcheck::process_rows_judgable(data, lanes).unwrap();
         same(
             &judged,
-            rssp::compute_timing_aware_stats_with_row_to_beat(data, lanes, &TimingData, &[]),
+            rssp::compute_timing_aware_stats_with_row_to_beat(read_back, lanes, &TimingData, &[]),
             data,
             lanes,
         );
         if judged.holds + judged.rolls == 0 {
-            let rust = rssp::compute_no_hold_stats(data, lanes, &TimingData, &[]);
+            let rust = rssp::compute_no_hold_stats(read_back, lanes, &TimingData, &[]);
             same(&judged, rust, data, lanes);
         }
 
         if lanes_in_force(lanes) == 4 {
             let (text, tally, densities, rows, beats, last, _) =
-                rssp::minimize_chart_rows_bits(data);
+                rssp::minimize_chart_rows_bits(asked);
             let ours = stats::minimize_chart_count_rows(data, 4);
             same(ours, (text, tally, densities, beats, last), data, 4);
             same(stats::minimize_rows_typed::<4>(data).3, rows, data, 4);
         }
 
         let minimised = stats::minimize_chart_for_hash(data, lanes);
-        if !minimised.contains(&b'\r') {
-            same(
-                padcheck::process_rows_judgable(&minimised, lanes).unwrap(),
-                rssp::compute_timing_aware_stats(data, lanes, &TimingData),
-                data,
-                lanes,
-            );
-        }
+        same(
+            padcheck::process_rows_judgable(&minimised, lanes).unwrap(),
+            rssp::compute_timing_aware_stats(asked, lanes, &TimingData),
+            data,
+            lanes,
+        );
         let mut spaced = Vec::new();
         let visited = rssp::visit_measure_spacing(&minimised, lanes, |flag| {
             spaced.push(flag);

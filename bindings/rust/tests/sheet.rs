@@ -109,7 +109,7 @@ fn the_json_of_each_example() {
     assert_eq!(sheet(FIRST_STEPS, 4, SheetForm::Json), object);
 }
 
-/// P8 and P9: the three tallies are not the same there.
+/// P8 and P9: the judged tally is another there than the main and the kept one, which are the same for every text.
 #[test]
 fn each_tally_stands_in_its_column() {
     let nest = ["2000\n".repeat(9), "3000\n".repeat(9)].concat();
@@ -118,12 +118,15 @@ fn each_tally_stands_in_its_column() {
     assert!(print.ends_with(" tail\nhold        8        0        9\n"));
     let data = b"100\r\n2000\n";
     let print = sheet(data, 4, SheetForm::Print);
-    assert!(print.contains("\ntotal_arrows        0        1        0\n"));
+    assert!(print.contains("\nrows                1\n"));
+    assert!(print.contains("\ntotal_steps         1        1        0\n"));
     let json = sheet(data, 4, SheetForm::Json);
-    let arrows = |name: &str, arrows: u32| format!("\"{name}\":{{\"total_arrows\":{arrows},");
-    assert!(json.contains(&arrows("main", 0)));
-    assert!(json.contains(&arrows("kept", 1)));
-    assert!(json.contains(&arrows("judged", 0)));
+    let no_arrow = "\"total_arrows\":0,\"left\":0,\"down\":0,\"up\":0,\"right\":0";
+    let steps =
+        |name: &str, steps: u32| format!("\"{name}\":{{{no_arrow},\"total_steps\":{steps},");
+    for (name, count) in [("main", 1), ("kept", 1), ("judged", 0)] {
+        assert!(json.contains(&steps(name, count)), "{name}");
+    }
 }
 
 /// A line of the densities has 16 measures; a number that is wider than its column is written whole.

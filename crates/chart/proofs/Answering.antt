@@ -1,6 +1,5 @@
 -- From the pass over a whole text to what the main call answers.
 use mathlib.Core.Path.{◌≡◌, refl, ap, ◌∙◌, subst}
-use mathlib.Core.Bool.{true}
 use mathlib.Core.List.{List, append-nil}
 use Prim.Native.Nat.{ℕ, ◌+◌, ◌-◌, ◌≤◌}
 use native.Mathlib.Omega.{arith}
@@ -14,15 +13,11 @@ use Rattle.definitions.specs.Beats.{f32, row_to_beat, beats as beats_of}
 use Rattle.definitions.specs.Objects.{place48, last_object, last48, last_beat_of}
 use Rattle.definitions.specs.Notes.{notes}
 use Rattle.definitions.specs.Records.{records}
-use Rattle.definitions.specs.Correction.{corrected}
 use Rattle.definitions.specs.ReadBack.{main_tally}
 use Rattle.definitions.specs.Entries.{figures_of_chart}
 use Rattle.definitions.specs.declared.ArrowStats.{ArrowStats}
 use Rattle.beats.specs.Places.{place_of}
-use Rattle.kept_pass.proofs.Answering.{own-part}
 use Rattle.row_notes.specs.Written.{Written, Finished}
-use Rattle.reader.specs.BackReading.{rows_back}
-use Rattle.reader.proofs.BackReading.{back-trimmed}
 use Rattle.slices.specs.Zeroed.{zeroed}
 use Rattle.slices.proofs.Zeroed.{zeroed-answer}
 use Rattle.definitions.specs.declared.ChartFigures.{ChartFigures}
@@ -54,12 +49,6 @@ module _ (L : ℕ) (data-text : List ℕ) (p : ChartPass) (text densities : List
     pub note-count : r ≡ length (notes L data-text)
     unfolding notes
     note-count = finished.count
-
-  -- the tally corrected over the text read back is that of the definition
-  pub tally-told : (stats : ArrowStats) → stats ≡ corrected L (joined (minimised L data-text)) (rows_back true L (take (p.draft.out - 0) text)) → stats ≡ main_tally L data-text
-  unfolding main_tally
-  tally-told stats e =
-      e ∙ ap (corrected L (joined (minimised L data-text))) (ap (rows_back true L) (own-part L data-text (kept_of p) text densities x.kept) ∙ back-trimmed L _)
 
   pub all-figures : (stats : ArrowStats) (measures count bits row last : ℕ) → stats ≡ main_tally L data-text → measures ≡ p.draft.midx + 1
       → count ≡ length (notes L data-text) → last ≡ last48 L data-text → bits ≡ to_bits binary64 (row_to_beat last) → row ≡ last

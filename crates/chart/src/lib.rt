@@ -79,7 +79,6 @@ pub fn chart_figures(
         pass.walk.phantoms(),
         &text[0..pass.draft.out],
         lanes,
-        true,
         work,
     );
     end_chart(&pass, stats, text, densities, beats, slots)

@@ -97,9 +97,9 @@ impl ChartPass {
         requires measures_few { self.old.draft.midx ≤ measures_bound }
         requires charted { Holding
             (Charted table.now.lanes.count self.old text.old densities.old beats.old slots.old) }
-        ensures charted { EndsMinimised
-            (Charted table.now.lanes.count self.old text.old densities.old beats.old slots.old)
-            (Charted table.now.lanes.count self.new text.new densities.new beats.new slots.new) }
+        ensures charted { let L = table.now.lanes.count in EndsMinimised
+            (Charted L self.old text.old densities.old beats.old slots.old)
+            (Charted L self.new text.new densities.new beats.new slots.new) }
         ensures out_bound { self.new.draft.out ≤ self.old.draft.out + 2 }
     {
         self.end_measure(text, densities, beats, slots, table);

@@ -2,6 +2,6 @@
 pub mod Zeros
 pub mod Marking
 pub mod Counting
-pub mod OwnRows
+pub mod Few
 pub mod Corrected
 pub mod Taps

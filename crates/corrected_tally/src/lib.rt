@@ -9,7 +9,7 @@ ghost use Rattle.definitions.specs.Correction.{paired_only, corrected};
 ghost use Rattle.row_tally.specs.Bounds.{Below};
 ghost use Rattle.row_tally.specs.Masked.{row_by_mask};
 ghost use Rattle.phantoms.specs.Phantoms.{Counts};
-ghost use Rattle.reader.specs.BackReading.{rows_back};
+ghost use Rattle.definitions.specs.ReadBack.{rows_read_back};
 ghost use Rattle.corrected_tally.specs.Heads.{Room, Heads};
 
 use definitions::{ArrowStats, Lanes};
@@ -18,14 +18,14 @@ use phantoms::Phantoms;
 use taps::{TapTable, Taps};
 
 // Marks in each row's entry of the work slice, which is all 0, the heads that the tracker pairs.
-fn mark_heads(text: &[u8], lanes: Lanes, trim: bool, work: &mut [u16])
-    requires room { Room trim lanes.count text.now work.old }
+fn mark_heads(text: &[u8], lanes: Lanes, work: &mut [u16])
+    requires room { Room lanes.count text.now work.old }
     requires clear { (i : ℕ) → slice_index work.old i ≡ 0 }
-    ensures { Heads (rows_back trim lanes.count text.now) work.new }
+    ensures { Heads (rows_read_back lanes.count text.now) work.new }
 {
     let mut tracker = Tracker::new();
     let mut row: u32 = 0;
-    for cells in reader::back::back_rows(text, lanes, trim) {
+    for cells in reader::back::back_rows(text, lanes) {
         tracker.track_row(row, cells, false, &mut *work);
         row += 1;
     }
@@ -48,15 +48,15 @@ fn count_row(stats: &mut ArrowStats, row: &[u8], heads: u16, table: &TapTable)
 }
 
 // The tally of the rows with only the heads that the work slice marks.
-fn count_paired(text: &[u8], lanes: Lanes, trim: bool, work: &[u16]) -> ArrowStats
-    requires room { Room trim lanes.count text.now work.now }
-    requires heads { Heads (rows_back trim lanes.count text.now) work.now }
-    ensures { result ≡ tally (paired_only (rows_back trim lanes.count text.now)) }
+fn count_paired(text: &[u8], lanes: Lanes, work: &[u16]) -> ArrowStats
+    requires room { Room lanes.count text.now work.now }
+    requires heads { Heads (rows_read_back lanes.count text.now) work.now }
+    ensures { result ≡ tally (paired_only (rows_read_back lanes.count text.now)) }
 {
     let table = TapTable::for_lanes(lanes);
     let mut stats = row_tally::no_stats();
     let mut i = 0;
-    for cells in reader::back::back_rows(text, lanes, trim) {
+    for cells in reader::back::back_rows(text, lanes) {
         count_row(&mut stats, cells, entry::heads(work[i]), &table);
         i += 1;
     }
@@ -64,14 +64,14 @@ fn count_paired(text: &[u8], lanes: Lanes, trim: bool, work: &[u16]) -> ArrowSta
 }
 
 /// The tally of the rows of minimised text with only tracker-paired heads. The work slice may hold anything, and is 0 afterwards.
-pub fn recalc_phantom_stats(text: &[u8], lanes: Lanes, trim: bool, work: &mut [u16]) -> ArrowStats
-    requires { Room trim lanes.count text.now work.old }
-    ensures value { result ≡ tally (paired_only (rows_back trim lanes.count text.now)) }
+pub fn recalc_phantom_stats(text: &[u8], lanes: Lanes, work: &mut [u16]) -> ArrowStats
+    requires { Room lanes.count text.now work.old }
+    ensures value { result ≡ tally (paired_only (rows_read_back lanes.count text.now)) }
     ensures work_after { work.new ≡ replicate (length work.old) 0 }
 {
     slices::zero_past(&mut *work, 0, 0);
-    mark_heads(text, lanes, trim, &mut *work);
-    let stats = count_paired(text, lanes, trim, &*work);
+    mark_heads(text, lanes, &mut *work);
+    let stats = count_paired(text, lanes, &*work);
     slices::zero_past(work, 0, 0);
     stats
 }
@@ -83,16 +83,15 @@ pub fn corrected_stats(
     p: Phantoms,
     text: &[u8],
     lanes: Lanes,
-    trim: bool,
     work: &mut [u16],
 ) -> ArrowStats
-    requires { Room trim lanes.count text.now work.old }
+    requires { Room lanes.count text.now work.old }
     ensures value { (rows : List Row) → Counts lanes.count rows p → stats ≡ tally rows
-        → result ≡ corrected lanes.count rows (rows_back trim lanes.count text.now) }
+        → result ≡ corrected lanes.count rows (rows_read_back lanes.count text.now) }
     ensures work_after { work.new ≡ replicate (length work.old) 0 }
 {
     if phantoms::is_corrected(p, lanes.count) {
-        let anew = recalc_phantom_stats(text, lanes, trim, work);
+        let anew = recalc_phantom_stats(text, lanes, work);
         row_tally::with_steps(anew, stats.total_steps)
     } else {
         slices::zero_past(work, 0, 0);

@@ -5,3 +5,5 @@ pub mod Notes
 pub mod Objects
 pub mod Stays
 pub mod Example
+pub mod Made
+pub mod Dropped

@@ -10,6 +10,7 @@ pub mod LaneBounds
 pub mod ChartRows
 pub mod Counts
 pub mod Tails
+pub mod Fates
 pub mod Blocks
 pub mod ReadBack
 pub mod RowBounds
@@ -22,3 +23,4 @@ pub mod SmBlocks
 pub mod BeatsNear
 pub mod Consequences
 pub mod Refusals
+pub mod DroppedOrNoted

@@ -39,40 +39,43 @@ pub data CountKind : Type 0 where
 -- that does to each of theirs. A cell that drops takes the note from the head that is open in its column."
 pub record Effects : Type 0 where
   pub arrow : Bool
-  pub judged_arrow : Bool
-  pub unjudged_fake : Bool
   pub counted : CountKind
+  pub note : NoteEffect
   pub hold : DepthEffect
   pub object : DepthEffect
-  pub note : NoteEffect
+  pub judged_arrow : Bool
+  pub unjudged_fake : Bool
 
-abbrev row : Bool → Bool → Bool → CountKind → DepthEffect → DepthEffect → NoteEffect → Effects
-row a j u k h o n = record { arrow = a; judged_arrow = j; unjudged_fake = u; counted = k; hold = h; object = o; note = n }
+abbrev row : Bool → CountKind → NoteEffect → DepthEffect → DepthEffect → Bool → Bool → Effects
+row a k n h o j u = record { arrow = a; counted = k; note = n; hold = h; object = o; judged_arrow = j; unjudged_fake = u }
 
--- "The arrows are the cells 1, 2 and 4. A K is a keysound and is counted as nothing else." "On a judged row the arrows are 1, L, l and the paired
--- heads" "On an unjudged row each 1, L, l, M, m, F, f and paired head is one fake, and nothing else is counted." For the tracker 2 and 4 open, 3 closes, and 1, M, L, F block; for the last beat K
--- blocks too. "A 3 closes the open head of its column" "Any of 1 2 4 M L F m l f drops the open head's note in its column." "K and the empty cells
--- touch no note."
---                      arrow judged unjudged  counted  tracker  last beat  notes
+-- The table. "The arrows are the cells 1, 2 and 4. A K is a keysound and is counted as nothing else." "A 3 closes the open head of its column" "Any
+-- of 1 2 4 M L F m l f drops the open head's note in its column." "K and the empty cells touch no note." For the tracker 2 and 4 open, 3 closes, and
+-- 1, M, L, F block; for the last beat K blocks too. "On a judged row the arrows are 1, L, l and the paired heads." "On an unjudged row each 1, L, l, M,
+-- m, F, f and paired head is one fake, and nothing else is counted."
+--                    arrow counted notes tracker last beat judged unjudged
 abbrev pub effects_of : Cell → Effects
-effects_of Empty = row false false false nothing Nothing Nothing note.Nothing
-effects_of Tap = row true true true nothing Blocks Blocks (note.Single kind.Tap)
-effects_of Hold = row true true true hold Opens Opens (note.Head kind.Hold)
-effects_of Tail = row false false false tail Closes Closes note.Closes
-effects_of Roll = row true true true roll Opens Opens (note.Head kind.Roll)
-effects_of Mine = row false false true mine Blocks Blocks (note.Single kind.Mine)
-effects_of Lift = row false true true lift Blocks Blocks (note.Single kind.Lift)
-effects_of Fake = row false false true fake Blocks Blocks (note.Single kind.Fake)
-effects_of KeySound = row false false false keysound Nothing Blocks note.Nothing
-effects_of LowerMine = row false false true mine Nothing Nothing (note.Single kind.Mine)
-effects_of LowerLift = row false true true lift Nothing Nothing (note.Single kind.Lift)
-effects_of LowerFake = row false false true fake Nothing Nothing (note.Single kind.Fake)
+effects_of Empty = row false nothing note.Nothing Nothing Nothing false false
+effects_of Tap = row true nothing (note.Single kind.Tap) Blocks Blocks true true
+effects_of Hold = row true hold (note.Head kind.Hold) Opens Opens true true
+effects_of Tail = row false tail note.Closes Closes Closes false false
+effects_of Roll = row true roll (note.Head kind.Roll) Opens Opens true true
+effects_of Mine = row false mine (note.Single kind.Mine) Blocks Blocks false true
+effects_of Lift = row false lift (note.Single kind.Lift) Blocks Blocks true true
+effects_of Fake = row false fake (note.Single kind.Fake) Blocks Blocks false true
+effects_of KeySound = row false keysound note.Nothing Nothing Blocks false false
+effects_of LowerMine = row false mine (note.Single kind.Mine) Nothing Nothing false true
+effects_of LowerLift = row false lift (note.Single kind.Lift) Nothing Nothing true true
+effects_of LowerFake = row false fake (note.Single kind.Fake) Nothing Nothing false true
 
+-- "The arrows are the cells 1, 2 and 4."
 abbrev pub is_arrow : Cell → Bool
 is_arrow x = (effects_of x).arrow
 
+-- what a cell does to the tracker and to the phantom depth
 abbrev pub hold_effect : Cell → DepthEffect
 hold_effect x = (effects_of x).hold
 
+-- what a cell does to the depth of the last beat
 abbrev pub object_effect : Cell → DepthEffect
 object_effect x = (effects_of x).object

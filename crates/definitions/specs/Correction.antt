@@ -33,14 +33,14 @@ abbrev pub phantom_met : ℕ → ℕ → List Row → Bool
 phantom_met c d [] = false
 phantom_met c d (r ∷ rs) = meets_phantom (hold_at (byte_at c r)) d || phantom_met c (phantom_step (hold_at (byte_at c r)) d) rs
 
--- a head, 2 or 4
+-- a head: "The heads are the cells 2 and 4, and the tails are the cells 3."
 abbrev pub is_opening : DepthEffect → Bool
 is_opening Nothing = false
 is_opening Blocks = false
 is_opening Opens = true
 is_opening Closes = false
 
--- a tail, 3
+-- a tail
 abbrev pub is_closing : DepthEffect → Bool
 is_closing Nothing = false
 is_closing Blocks = false

@@ -115,7 +115,7 @@ is_head b = among b (50 ∷ 52 ∷ [])
 unfoldable pub head_kind : ℕ → Kind
 head_kind b = if b == 50 then Hold else Roll
 
--- no 1 2 3 4 M L F m l f stands in column c of rows
+-- of a column c of rows: "no 1 2 3 4 M L F m l f follows it in its column before d"
 abbrev pub untouched : ℕ → List Row → Bool
 untouched c [] = true
 untouched c (r ∷ rs) = not (stops (byte_at c r)) && untouched c rs

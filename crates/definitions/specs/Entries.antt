@@ -13,6 +13,7 @@ use Rattle.definitions.specs.Figures.{minimised_text}
 use Rattle.definitions.specs.Objects.{last48, last_beat_of}
 use Rattle.definitions.specs.Notes.{notes}
 use Rattle.definitions.specs.Records.{number_of_tail, number_of_kind}
+use Rattle.definitions.specs.Dropped.{dropped_heads}
 use Rattle.definitions.specs.ReadBack.{main_tally, kept_tally}
 use Rattle.definitions.specs.Tally.{tally_figures}
 use Rattle.definitions.specs.Judged.{judged_tally, flagged_tally}
@@ -20,6 +21,7 @@ use Rattle.definitions.specs.TimingRows.{timing_rows, timing_heads}
 use Rattle.definitions.specs.declared.ArrowStats.{ArrowStats}
 use Rattle.definitions.specs.declared.ChartFigures.{ChartFigures}
 use Rattle.definitions.specs.declared.KeptFigures.{KeptFigures}
+use Rattle.definitions.specs.declared.DroppedFigures.{DroppedFigures}
 use Rattle.definitions.specs.declared.TimingFigures.{TimingFigures}
 use Rattle.definitions.specs.declared.LastBeat.{LastBeat}
 use Rattle.definitions.specs.declared.Refusal.{Refusal}
@@ -48,7 +50,8 @@ row_count L text = length (joined (minimised L text))
 abbrev pub bits_of_last_beat : ℕ → List ℕ → ℕ
 bits_of_last_beat L text = to_bits binary64 (last_beat_of L text)
 
--- minimize_chart_count_rows_notes, the main call: its value, for an accepted text at L lanes
+-- minimize_chart_count_rows_notes, the main call, of an accepted text at L lanes: "minimised text, densities, row beats, note records, main tally,
+-- last beat"; its value,
 unfoldable pub figures_of_chart : ℕ → List ℕ → ChartFigures
 figures_of_chart L text =
     record {
@@ -79,7 +82,7 @@ module _ (lanes : ℕ) (text out densities₀ : List ℕ) (beats₀ : List Float
       ∷ [])
       (figures_of_chart (lanes_of lanes) text)
 
--- process_chart_kept, the kept-row call: its value, and its places
+-- process_chart_kept, the kept-row call: "minimised text, densities, kept tally"; its value, and its places
 unfoldable pub figures_of_kept : ℕ → List ℕ → KeptFigures
 figures_of_kept L text =
     record {
@@ -104,7 +107,31 @@ module _ (lanes : ℕ) (text out densities₀ work : List ℕ) where
       ∷ [])
       (figures_of_kept (lanes_of lanes) text)
 
--- minimize_timing_rows: its value, and its places
+-- dropped_holds: its value, and its places
+unfoldable pub figures_of_dropped : ℕ → List ℕ → DroppedFigures
+figures_of_dropped L text =
+    record {
+      bytes = length (minimised_text L text);
+      measures = measure_count L text;
+      rows = row_count L text;
+      heads = length (dropped_heads L text);
+    }
+
+abbrev pub places_of_dropped : DroppedFigures → List ℕ
+places_of_dropped f = figures f.bytes f.measures f.rows f.heads 0 0 0 no_tally
+
+module _ (lanes : ℕ) (text out list : List ℕ) where
+  -- what the call answers; 6: "the note slice, for note records or for the list, is shorter than 10 × L × R"
+  unfoldable pub dropped_answer : Result DroppedFigures Refusal
+  dropped_answer =
+      answered
+      (long_text (length text)
+      ∷ short_text (length text) (length out)
+      ∷ short_notes (lanes_of lanes) (length text) (length list)
+      ∷ [])
+      (figures_of_dropped (lanes_of lanes) text)
+
+-- minimize_timing_rows: "timing rows, row beats, heads figure"; its value, and its places
 unfoldable pub figures_of_timing : ℕ → List ℕ → TimingFigures
 figures_of_timing L text =
     record {
@@ -161,11 +188,11 @@ module _ (lanes : ℕ) (text work : List ℕ) where
   unfoldable pub judged_checked : ArrowStats → Result ArrowStats Refusal
   judged_checked t = answered (long_text (length text) ∷ short_work (lanes_of lanes) (length text) (length work) ∷ []) t
 
-  -- what `process_rows_judgable` answers
+  -- what `process_rows_judgable` answers: "judged tally"
   abbrev pub judged_answer : Result ArrowStats Refusal
   judged_answer = judged_checked (judged_tally (lanes_of lanes) text)
 
-  -- what `process_timing_rows` answers, with these flags
+  -- what `process_timing_rows` answers, with these flags: "judged tally by flags"
   abbrev pub flagged_answer : List ℕ → Result ArrowStats Refusal
   flagged_answer flags = judged_checked (flagged_tally (lanes_of lanes) flags text)
 

@@ -15,9 +15,11 @@ use Rattle.definitions.specs.declared.ArrowStats.{ArrowStats}
 unfoldable pub judged_at : List ℕ → ℕ → Bool
 judged_at flags i = not (slice_index_or flags i 1 == 0)
 
+-- "On a judged row the arrows are 1, L, l and the paired heads."
 abbrev pub is_judged_arrow : Cell → Bool
 is_judged_arrow x = (effects_of x).judged_arrow
 
+-- "On an unjudged row each 1, L, l, M, m, F, f and paired head is one fake, and nothing else is counted."
 abbrev pub is_unjudged_fake : Cell → Bool
 is_unjudged_fake x = (effects_of x).unjudged_fake
 
@@ -25,9 +27,8 @@ is_unjudged_fake x = (effects_of x).unjudged_fake
 abbrev pub sum_of_fakes : ℕ → RowSum
 sum_of_fakes n = record empty_sum { fakes = n }
 
--- What a row adds up to, judged or not, where its paired heads alone are left. "On a judged row the arrows are 1, L, l and the paired heads." "Of a
--- judged row directions are those of its arrows, holds and rolls its paired heads, and mines, lifts, fakes and keysounds are counted as in a tally."
--- "On an unjudged row each 1, L, l, M, m, F, f and paired head is one fake, and nothing else is counted."
+-- What a row adds up to, judged or not, where its paired heads alone are left. "Of a judged row directions are those of its arrows, holds and rolls
+-- its paired heads, and mines, lifts, fakes and keysounds are counted as in a tally."
 unfoldable pub judged_sum : Bool → Row → RowSum
 judged_sum true r = row_sum_by is_judged_arrow r
 judged_sum false r = sum_of_fakes (count_by (λ b. is_unjudged_fake (cell_of b)) r)

@@ -1,4 +1,4 @@
--- Specification, Lanes: the lane count L, and the bound R on the rows of a text.
+-- Specification, Lanes: the lane count L, and the bound R on the rows of a text. "What is shown at 4, 5, 8 and 10 lanes is shown for L."
 use Rattle.std.specs.Prelude.{if◌then◌else◌, [], ◌∷◌, ℕ, ◌+◌, ◌/◌}
 use Rattle.definitions.specs.Lists.{among}
 

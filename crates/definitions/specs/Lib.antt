@@ -1,34 +1,38 @@
--- The specification (docs/SPECIFICATION.md) written down, in its order: a reader who believes these files, and the examples at their end, needs no
--- other.
+-- The specification (docs/SPECIFICATION.md) written down, in its order: a reader who believes these files, and the examples among them, needs no
+-- other. First words and bounds that the others use, last what a reader expects of the main theorems.
 pub mod Lists
 pub mod Sizes
 pub mod Lanes
-pub mod Refusals
 pub mod Lines
-pub mod Cells
 pub mod Measures
 pub mod Reduction
 pub mod Halving
+pub mod Cells
 pub mod Figures
 pub mod Beats
 pub mod Objects
+pub mod BeatsNear
 pub mod Tracker
 pub mod Notes
 pub mod Records
+pub mod WriterMakes
+pub mod Dropped
+pub mod DroppedOrNoted
 pub mod Tally
 pub mod Correction
 pub mod ReadBack
 pub mod Judged
 pub mod TimingRows
 pub mod Entries
+pub mod Refusals
+pub mod Damage
+pub mod DamageExample
+pub mod DroppedStays
 pub mod SmFile
 pub mod SmBlocks
-pub mod WriterMakes
 pub mod Examples
 pub mod RuleExamples
 pub mod TallyExamples
 pub mod RequestExamples
-pub mod Damage
-pub mod DamageExample
+pub mod DroppedExamples
 pub mod Consequences
-pub mod BeatsNear

@@ -5,7 +5,7 @@ use Rattle.definitions.specs.Lists.{among}
 use Rattle.definitions.specs.declared.LineKind.{LineKind}
 use Rattle.definitions.specs.declared.LineKind.TheVariants as kind
 
--- A row is the list of its L bytes.
+-- "is a row, its first L bytes": the list of these.
 abbrev pub Row : Type 0
 Row = List ℕ
 

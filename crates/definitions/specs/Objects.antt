@@ -45,7 +45,7 @@ abbrev pub object_from : Depths → ℕ → Row → Bool
 object_from D c [] = false
 object_from D c (b ∷ r) = is_object (object_at b) (D c) || object_from D (suc c) r
 
--- a row is an object row where the depths before it are D
+-- "A minimised row is an object row if" one of its cells is such, where the depths before it are D
 abbrev pub object_row : Depths → Row → Bool
 object_row D r = object_from D 0 r
 
@@ -81,7 +81,7 @@ abbrev pub place48 : Option Place → ℕ
 place48 None = 0
 place48 (Some p) = last_row p.m p.r p.n
 
--- a text's last beat in 48ths
+-- of a text, "the last beat in 48ths"
 unfoldable pub last48 : ℕ → List ℕ → ℕ
 last48 L text = place48 (last_object L text)
 

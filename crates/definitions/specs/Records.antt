@@ -50,7 +50,7 @@ abbrev pub plain_of : ℕ → ℕ → ℕ → Kind → Result Note Refusal
 plain_of row tail column kind =
     if tail == 4294967295 then Ok (record { row = row; tail = Without; column = column; kind = kind }) else Err BadRecord
 
--- of kinds 1 and 2: a tail above its row
+-- "Of these kinds 1 and 2 have a tail row above their row"
 abbrev pub held_of : ℕ → ℕ → ℕ → Kind → Result Note Refusal
 held_of row tail column kind =
     if nat_lt row tail then (if nat_lt tail row_numbers_bound then Ok (record { row = row; tail = Row tail; column = column; kind = kind }) else Err BadRecord)

@@ -84,7 +84,7 @@ short_beats L len room = refused_if (nat_lt room (most_rows_in L len)) ShortBeat
 unfoldable pub short_work : ℕ → ℕ → ℕ → Result Unit Refusal
 short_work L len room = refused_if (nat_lt room (most_rows_in L len)) ShortWork
 
--- 6: "the note slice is shorter than 10 × L × R"
+-- 6: "the note slice, for note records or for the list, is shorter than 10 × L × R"
 unfoldable pub short_notes : ℕ → ℕ → ℕ → Result Unit Refusal
 short_notes L len room = refused_if (nat_lt room (10 * L * most_rows_in L len)) ShortNotes
 

@@ -4,7 +4,7 @@ use Rattle.std.specs.Prelude.{Bool, if◌then◌else◌, ◌&&◌, List, [], ◌
 use Rattle.std.specs.List.{starts_with}
 use Rattle.definitions.specs.Lists.{only_if, up_to, through, after_each}
 use Rattle.definitions.specs.Lines.{cut, is_blank_byte, trim}
-use Rattle.definitions.specs.Refusals.{refused_if, long_text, answered, number_told, replaces}
+use Rattle.definitions.specs.Refusals.{refused_if, long_text, answered, number_told}
 use Rattle.definitions.specs.declared.Refusal.{Refusal}
 use Rattle.definitions.specs.declared.Refusal.TheVariants.{FewFields, OtherType, NoChart}
 
@@ -18,6 +18,10 @@ pub record SmPart : Type 0 where
   pub lanes : ℕ
   pub start : ℕ
   pub part : List ℕ
+
+-- its three places: "lane count, where the data begins in the file, its length"
+abbrev pub places_of_part : SmPart → List ℕ
+places_of_part c = c.lanes ∷ c.start ∷ length c.part ∷ []
 
 -- a byte in front of a list whose blanks at the end are off
 abbrev pub before_trimmed : ℕ → List ℕ → List ℕ
@@ -132,7 +136,3 @@ module _ (file : List ℕ) (k : ℕ) where
   -- the number that is returned outside
   abbrev pub sm_number : ℕ
   sm_number = number_told sm_answer
-
-  -- what it leaves in the three places of the chart, which held `old`: "lane count, where the data begins in the file, its length"
-  abbrev pub places_of_sm : List ℕ → List ℕ
-  places_of_sm old = replaces sm_answer (λ c. c.lanes ∷ c.start ∷ length c.part ∷ []) old

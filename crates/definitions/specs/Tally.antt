@@ -7,6 +7,7 @@ use Rattle.definitions.specs.declared.Cell.{Cell}
 use Rattle.definitions.specs.declared.RowSum.{RowSum}
 use Rattle.definitions.specs.declared.ArrowStats.{ArrowStats}
 
+-- what a cell is counted as
 abbrev pub counted_as : Cell → CountKind
 counted_as x = (effects_of x).counted
 
@@ -39,7 +40,7 @@ direction L c = c % 4
 abbrev pub arrows_towards : ℕ → (Cell → Bool) → Row → ℕ
 arrows_towards d arrow r = count_from (λ c x. arrow x && direction (length r) c == d) 0 r
 
--- What the cells of a row add up to, where `arrow` says which of them are arrows.
+-- What the cells of a row add up to, where `arrow` says which of them are arrows; directions are "0 left, 1 down, 2 up, 3 right".
 abbrev pub sum_of_cells : (Cell → Bool) → Row → RowSum
 sum_of_cells arrow r =
     record {
@@ -57,6 +58,7 @@ sum_of_cells arrow r =
       keysounds = counted keysound r;
     }
 
+-- the same, as a word that is opened only where it is named
 unfoldable pub row_sum_by : (Cell → Bool) → Row → RowSum
 row_sum_by arrow r = sum_of_cells arrow r
 
@@ -85,7 +87,7 @@ sum_counts s =
     ∷ s.keysounds
     ∷ []
 
--- the tally of no rows
+-- the tally of no rows: "a tally of zeros"
 abbrev pub empty_stats : ArrowStats
 empty_stats =
     record {
@@ -106,7 +108,7 @@ empty_stats =
       keysounds = 0;
     }
 
--- The fields of a tally in their order, each with its name: the one list of them.
+-- "the tally, its fields in their order", each with its name: the one list of them.
 abbrev pub tally_fields : ArrowStats → List (List ℕ × ℕ)
 tally_fields t =
     (codes "total_arrows", t.total_arrows)

@@ -93,6 +93,29 @@ pub enum NoteEffect {
     Head(Kind),
 }
 
+/// Why a head has no note: another head of its column, or another cell, stands at that row before a tail, or the chart ends.
+#[derive(Clone, Copy)]
+pub enum DropCause {
+    OtherHead(u32),
+    OtherCell(u32),
+    ChartEnd,
+}
+
+/// What becomes of a head: a tail at that row closes it, or it is dropped.
+#[derive(Clone, Copy)]
+pub enum Fate {
+    ClosedAt(u32),
+    DroppedBy(DropCause),
+}
+
+/// A head that has no note. Rows are numbered through all minimised rows of the chart.
+#[derive(Clone, Copy)]
+pub struct DroppedHead {
+    pub row: u32,
+    pub column: u32,
+    pub cause: DropCause,
+}
+
 /// What one row adds to a tally. `arrows` counts the row's arrows, and the four after it those of each direction.
 #[derive(Clone, Copy, Default)]
 pub struct RowSum {
@@ -230,6 +253,15 @@ pub struct KeptFigures {
     pub measures: usize,
     pub rows: u32,
     pub stats: ArrowStats,
+}
+
+/// What the list of dropped heads answers: bytes of the minimised text, measures, minimised rows, and the heads in the list.
+#[derive(Clone, Copy)]
+pub struct DroppedFigures {
+    pub bytes: usize,
+    pub measures: usize,
+    pub rows: usize,
+    pub heads: usize,
 }
 
 /// What `minimize_timing_rows` answers: bytes and rows written and whether any of them has a 2 or 4.

@@ -129,7 +129,7 @@ pub fn judge_clean(data: &[u8], lanes: Lanes) -> Option<ArrowStats>
 {
     let table = TapTable::for_lanes(lanes);
     let mut rows = CleanRows::new();
-    for row in reader::back::back_rows(data, lanes, true) {
+    for row in reader::back::back_rows(data, lanes) {
         rows.add_row(row, &table)?;
     }
     if rows.active != 0 {

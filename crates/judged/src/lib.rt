@@ -90,7 +90,7 @@ fn track_timing_rows(data: &[u8], lanes: Lanes, flags: Option<&[u8]>, work: &mut
     slices::zero_past(&mut *work, 0, 0);
     let mut tracker = Tracker::new();
     let mut row: u32 = 0;
-    for cells in reader::back::back_rows(data, lanes, true) {
+    for cells in reader::back::back_rows(data, lanes) {
         let judged = is_judged(flags, row as usize);
         tracker.track_row(row, cells, judged, &mut *work);
         row += 1;
@@ -109,7 +109,7 @@ fn tally_timing_rows(data: &[u8], lanes: Lanes, work: &[u16]) -> ArrowStats
     let table = TapTable::for_lanes(lanes);
     let mut tally = TimingStats::new();
     let mut row = 0;
-    for cells in reader::back::back_rows(data, lanes, true) {
+    for cells in reader::back::back_rows(data, lanes) {
         let entry = work[row];
         match taps::free_taps(cells, 0) {
             Taps::Mask(mask) => tally.add_taps(mask, entry, &table),

@@ -11,7 +11,7 @@ ghost use Rattle.definitions.specs.Entries.{figures_of_kept, kept_answer};
 
 use definitions::{KeptFigures, Lanes, Refusal};
 
-/// The kept-row call where it is accepted: the pass, the tally corrected over its own rows, and zeros past each answer.
+/// The kept-row call where it is accepted: the pass, the tally corrected over its own rows, as the text read back has them, and zeros past each answer.
 pub fn keep_figures(
     data: &[u8],
     lanes: Lanes,
@@ -36,7 +36,6 @@ pub fn keep_figures(
         pass.counting.phantoms,
         &text[0..pass.draft.out],
         lanes,
-        false,
         work,
     );
     KeptFigures {

@@ -1,17 +1,19 @@
 -- From the pass over a whole text to what the calls over it answer: the text, the densities, and the text read back.
 use mathlib.Core.Path.{◌≡◌, refl, ap, sym, ◌∙◌, subst}
-use mathlib.Core.Bool.{Bool}
 use mathlib.Core.List.{List}
 use Prim.Native.Nat.{ℕ, ◌+◌, ◌-◌, ◌≤◌}
 use native.Mathlib.Omega.{arith}
 use lib.ListN.{length, take, replicate, length-take, length-map}
 use Rattle.definitions.specs.Sizes.{most_bytes}
-use Rattle.definitions.specs.Lists.{padded}
+use Rattle.definitions.specs.Lists.{joined, padded}
 use Rattle.definitions.specs.Lanes.{most_rows_in}
 use Rattle.definitions.specs.Reduction.{minimised}
 use Rattle.definitions.specs.Figures.{density, minimised_text, densities as densities_of}
+use Rattle.definitions.specs.Correction.{corrected}
+use Rattle.definitions.specs.ReadBack.{rows_read_back, main_tally}
+use Rattle.definitions.specs.declared.ArrowStats.{ArrowStats}
 use Rattle.corrected_tally.specs.Heads.{Room}
-use Rattle.corrected_tally.proofs.OwnRows.{minimised-room}
+use Rattle.corrected_tally.proofs.Few.{minimised-room}
 use Rattle.slices.specs.Zeroed.{zeroed}
 use Rattle.slices.proofs.Zeroed.{zeroed-answer}
 use Rattle.kept_pass.specs.declared.KeptPass.{KeptPass}
@@ -35,8 +37,13 @@ module _ (L : ℕ) (data-text : List ℕ) (p : KeptPass) (text densities : List 
   pub own-part : take (p.draft.out - 0) text ≡ minimised_text L data-text
   own-part = let n : p.draft.out - 0 ≡ p.draft.out = omega arith in ap (λ k. take k text) n ∙ x.text_is
 
-  pub all-recount : (trim : Bool) (work : List ℕ) → 1 ≤ L → length data-text ≤ most_bytes → most_rows_in L (length data-text) ≤ length work → Room trim L (take (p.draft.out - 0) text) work
-  all-recount trim work l s w = subst (λ t. Room trim L t work) (sym own-part) (minimised-room trim L data-text work l s w)
+  pub all-recount : (work : List ℕ) → 1 ≤ L → length data-text ≤ most_bytes → most_rows_in L (length data-text) ≤ length work → Room L (take (p.draft.out - 0) text) work
+  all-recount work l s w = subst (λ t. Room L t work) (sym own-part) (minimised-room L data-text work l s w)
+
+  -- the tally that is corrected over it
+  pub all-tally : {stats : ArrowStats} → stats ≡ corrected L (joined (minimised L data-text)) (rows_read_back L (take (p.draft.out - 0) text)) → stats ≡ main_tally L data-text
+  unfolding main_tally
+  all-tally e = e ∙ ap (λ t. corrected L (joined (minimised L data-text)) (rows_read_back L t)) own-part
 
 -- a slice of zeros from its first entry on
 pub none-off : (n : ℕ) → replicate {A = ℕ} n 0 ≡ replicate (n - 0) 0

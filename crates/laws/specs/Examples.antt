@@ -7,6 +7,7 @@ use Rattle.definitions.specs.Examples as texts
 use Rattle.definitions.specs.RuleExamples as rules
 use Rattle.definitions.specs.TallyExamples as tallies
 use Rattle.definitions.specs.RequestExamples as requests
+use Rattle.definitions.specs.DroppedExamples as lists
 use Rattle.beats.specs.Vectors.{all_right, results}
 use Rattle.sheet.specs.Card.{card}
 
@@ -27,6 +28,10 @@ abbrev pub RequestExamplesHold : Type 0
 RequestExamplesHold =
     map (λ (e : requests.Example). requests.sm_told (texts.bytes e.file) e.k) requests.table
     ≡ map (λ (e : requests.Example). e.answer) requests.table
+
+-- of each example of the list of dropped heads, the same
+abbrev pub DroppedExamplesHold : Type 0
+DroppedExamplesHold = map lists.told_of lists.table ≡ map (λ (e : lists.Example). e.list) lists.table
 
 -- what the card prints for its example; `|` is byte 10
 abbrev pub CardExample : Type 0

@@ -1,5 +1,5 @@
 // The main theorems about the definitions, each as the contract of a function that does nothing: what a contract says is proved, or the crate
-// is not built.
+// is not built. Specification, Contracts: "Damage is stated of the same definitions as the contracts."
 #![tactic(auto)]
 
 ghost use Rattle.std.specs.Prelude.{ℕ, ◌≤◌, List, length};
@@ -11,6 +11,8 @@ ghost use Rattle.definitions.specs.Damage.{Differ, DamageStays};
 ghost use Rattle.definitions.specs.Halving.{ReduceHalved};
 ghost use Rattle.definitions.specs.ReadBack.{OwnRows, MainKeptAgree};
 ghost use Rattle.definitions.specs.WriterMakes.{WriterMakes};
+ghost use Rattle.definitions.specs.DroppedOrNoted.{DroppedOrNoted};
+ghost use Rattle.definitions.specs.DroppedStays.{DroppedStays};
 ghost use Rattle.definitions.specs.SmBlocks.{DataInFile, SemicolonLast, BlocksApart, LeastRefused};
 ghost use Rattle.definitions.specs.Beats.{last_row};
 ghost use Rattle.definitions.specs.BeatsNear.{SizeWithin, Nearest48, BeatsNear, BeatsToSpare, BeatsNearer, BeatsExact, LastNear, TextBeatsStand, TextLastNear};
@@ -21,39 +23,44 @@ ghost use Rattle.sheet_json.specs.Example.{JsonExample};
 ghost use Rattle.chart_sheet.specs.Forms.{sheet_in_form};
 ghost use Rattle.chart_sheet.specs.Entry.{most_sheet_bytes, places_of_sheet};
 ghost use Rattle.laws.specs.Fits.{FitsForAll};
-ghost use Rattle.laws.specs.Examples.{ExamplesHold, RuleExamplesHold, TallyExamplesHold, RequestExamplesHold, CardExample, BeatsRight, DamageMet, LastBeatStays};
+ghost use Rattle.laws.specs.Examples.{ExamplesHold, RuleExamplesHold, TallyExamplesHold, RequestExamplesHold, DroppedExamplesHold, CardExample, BeatsRight, DamageMet, LastBeatStays};
 
-/// The specification's examples are what the definitions give.
+/// What the specification's examples P1 to P11 say of their texts is what the definitions give.
 pub fn examples_hold()
     ensures { ExamplesHold }
 {}
 
-/// So are those that pin the rules one by one.
+/// What the examples R1 to R35, which pin the rules one by one, say of their texts is what the definitions give.
 pub fn rule_examples_hold()
     ensures { RuleExamplesHold }
 {}
 
-/// The examples of keysounds, too.
+/// What the examples of keysounds say of their texts is what the definitions give.
 pub fn tally_examples_hold()
     ensures { TallyExamplesHold }
 {}
 
-/// The examples of the requests, too.
+/// What the examples of SM files say is answered for a block is what the definitions answer.
 pub fn request_examples_hold()
     ensures { RequestExamplesHold }
 {}
 
-/// The card's example, too.
+/// What the specification's examples of dropped heads say of their texts is what the definitions give.
+pub fn dropped_examples_hold()
+    ensures { DroppedExamplesHold }
+{}
+
+/// The card of the specification's example has the lines that are shown there.
 pub fn card_example()
     ensures { CardExample }
 {}
 
-/// What the form `print` gives for the figures of an example.
+/// The form `print` of the figures of an example is the text that stands beside them.
 pub fn print_example()
     ensures { PrintExample }
 {}
 
-/// What the form `json` gives for the same figures.
+/// The form `json` of the figures of an example is the object that stands beside them.
 pub fn json_example()
     ensures { JsonExample }
 {}
@@ -83,12 +90,12 @@ pub fn damage_stays()
     ensures { (L d : ℕ) (old new : List ℕ) → Differ L d old new → DamageStays L d old new }
 {}
 
-/// Two texts meet each hypothesis of that, and what it promises holds of them, part by part.
+/// Two texts meet each hypothesis of `damage_stays`, and what it promises holds of them, part by part.
 pub fn damage_met()
     ensures { DamageMet }
 {}
 
-/// Theirs are met under which the last beat stays, too.
+/// Two texts that meet the hypotheses under which the last beat stays have the same last beat.
 pub fn last_beat_stays()
     ensures { LastBeatStays }
 {}
@@ -96,6 +103,16 @@ pub fn last_beat_stays()
 /// A note record is what the writer makes of a note, and is read back as that note.
 pub fn writer_makes()
     ensures { WriterMakes }
+{}
+
+/// Each head is in the list of dropped heads or has a note record, and not both.
+pub fn dropped_or_noted()
+    ensures { (L : ℕ) (text : List ℕ) → DroppedOrNoted L text }
+{}
+
+/// Where two texts differ only in lines of one measure, the rest of the list is the same.
+pub fn dropped_stays()
+    ensures { (L d : ℕ) (old new : List ℕ) → Differ L d old new → DroppedStays L d old new }
 {}
 
 /// Every figure that a call answers of an accepted text is below 2 ^ 64, in its place among the 32.
@@ -111,18 +128,18 @@ pub fn figures_fit()
     ensures sheet { (form : ℕ) → FitsForAll (places_of_sheet form) }
 {}
 
-/// Every form of its sheet has room in the slice that is asked for.
+/// Every form of the sheet of an accepted text has room in the slice that is asked for.
 pub fn sheet_has_room()
     ensures { (lanes form : ℕ) (text : List ℕ) → length text ≤ most_bytes
         → length (sheet_in_form form (lanes_of lanes) text) ≤ most_sheet_bytes (length text) }
 {}
 
-/// The data that is found in a file is a part of it.
+/// The data that is found in a block of a file is a part of the file.
 pub fn data_in_file()
     ensures { DataInFile }
 {}
 
-/// A `;` stands in it at most as its last byte.
+/// The data of a block has a `;` at most as its last byte.
 pub fn semicolon_last()
     ensures { SemicolonLast }
 {}
@@ -147,7 +164,7 @@ pub fn beats_near()
     ensures { BeatsNear }
 {}
 
-/// There it is within 1/8176, too, and in the measures below 2^j within (2^j + 2) / 2^23.
+/// In the measures 0 to 1,023 every row beat is within 1/8176 of 4 × m + 4 × r / n, and in those below 2^j within (2^j + 2) / 2^23.
 pub fn beats_nearer()
     ensures to_spare { BeatsToSpare }
     ensures every_measure { BeatsNearer }
@@ -163,18 +180,18 @@ pub fn last_near()
     ensures { LastNear }
 {}
 
-/// Every beat of a text is that of one of its rows, and so near and exact.
+/// Every row beat of an accepted text is that of one of its rows, and as near to it as `beats_near`, `beats_nearer` and `beats_exact` say.
 pub fn text_beats_stand()
     ensures { TextBeatsStand }
 {}
 
-/// A text's last object row is one of its rows, and its last beat in 48ths is so near to it.
+/// The last object row of an accepted text is one of its rows, and no whole number is nearer to it in 48ths than the text's last beat.
 pub fn text_last_near()
     ensures { TextLastNear }
 {}
 
-/// More is false: half of 1/4096, or 1/8177, in the measures 0 to 1,023; 1/4096 in measure 1,024; and the nearest whole number in a measure that
-/// no text has before so many rows.
+/// "More than that is false, each at a place": half of 1/4096, or 1/8177, in the measures 0 to 1,023; 1/4096 in measure 1,024; and the nearest whole
+/// number in a measure that no accepted text has with so many rows.
 pub fn claims_tight()
     ensures half { ¬ SizeWithin 1 8192 715 3784 4091 }
     ensures little_less { ¬ SizeWithin 1 8177 512 32254 32477 }
@@ -259,7 +276,7 @@ pub fn rest_in_order()
     ensures { RestInOrder }
 {}
 
-/// The examples are all there.
+/// The tables have all of P1 to P11, with as many things as each says, and 16 examples of SM files.
 pub fn examples_counted()
     ensures { ExamplesCounted }
 {}

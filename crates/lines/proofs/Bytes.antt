@@ -1,10 +1,11 @@
 -- A word by its bytes, and by exclusive or with one byte in every place: the bytes that equal it become 0.
 use Rattle.std.proofs.Common.{◌≡◌, ℕ, zero, suc, ◌+◌, ◌*◌, ◌<◌, Bool, true, false, eqb, List, [], ◌∷◌, length, refl, ap, ◌∙◌, mul_assoc, mul-zero, mul-one, mul-add, arith, lit<, eq-eqb, ne_eqb, eqb-true}
 use lib.Bits.{bit_and, bit_xor, xor_block, and_comm, and_shifted, and_le_l, and_le_r, xor_self, xor_lt, xor_zero_l, xor_add_and}
-use borrow.Author.Tests.{eqb-false}
+use lib.Dec.{ltb}
+use borrow.Author.Tests.{eqb-false, le-ltb}
 use Rattle.lines.specs.Search.{count_of}
 use Rattle.lines.proofs.Search.{count-cons}
-use Rattle.lines.specs.Words.{word_of, Bytes, first_in}
+use Rattle.lines.specs.Words.{word_of, Bytes, first_in, first_below}
 
 -- at n bytes: the numbers below it, a one in each byte, the seven low bits of each byte, the high bit of each byte
 abbrev pub cap : ℕ → ℕ
@@ -14,6 +15,11 @@ cap (suc n) = cap n * 256
 abbrev pub lo : ℕ → ℕ
 lo zero = 0
 lo (suc n) = lo n * 256 + 1
+
+-- k in each byte
+abbrev pub each : ℕ → ℕ → ℕ
+each k zero = 0
+each k (suc n) = each k n * 256 + k
 
 abbrev pub low : ℕ → ℕ
 low zero = 0
@@ -61,11 +67,16 @@ xor-eqb x b = go (eqb x b) refl
     go true e = rw (e, eqb-true x b e) (eq-eqb (bit_xor b b) 0 (xor_self b))
     go false e = rw e (ne_eqb (bit_xor x b) 0 (λ z. eqb-false x b e (xor_same x b z)))
 
+-- only 0 is below 1
+below-one : (z : ℕ) → ltb z 1 ≡ eqb z 0
+below-one zero = refl
+below-one (suc z) = rw (le-ltb (suc z) 1 (omega arith), ne_eqb (suc z) 0 (omega arith))
+
 -- the first 0 is where b was first, and there are as many
-pub xor_first : (b : ℕ) (xs : List ℕ) → first_in 0 (xor_all b xs) ≡ first_in b xs
-unfolding first_in
+pub xor_first : (b : ℕ) (xs : List ℕ) → first_below 1 (xor_all b xs) ≡ first_in b xs
+unfolding first_in first_below
 xor_first b [] = refl
-xor_first b (x ∷ xs) = rw (xor-eqb, xor_first b xs)
+xor_first b (x ∷ xs) = rw (below-one, xor-eqb, xor_first b xs)
 
 pub xor_count : (b : ℕ) (xs : List ℕ) → count_of 0 (xor_all b xs) ≡ count_of b xs
 unfolding count_of

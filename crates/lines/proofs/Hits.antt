@@ -1,10 +1,11 @@
--- Why the lowest bit of `byte_hits` stands in the first byte that is the one looked for: by induction over the word's bytes.
-use Rattle.std.proofs.Common.{◌≡◌, ℕ, zero, suc, ◌+◌, ◌-◌, ◌*◌, ◌/◌, ◌%◌, ◌^◌, ◌<◌, ◌⊎◌, List, [], ◌∷◌, length, refl, ap, ◌∙◌, inl, inr, lt_of_le_of_lt, pow-suc, div-add-mod', mul-one, arith, lit<, ne_eqb}
+-- Why the lowest bit of `byte_hits` stands in the first byte that is the one looked for, and that of `low_hits` in the first below 16: by induction over the word's bytes.
+use Rattle.std.proofs.Common.{◌≡◌, ℕ, zero, suc, ◌+◌, ◌-◌, ◌*◌, ◌/◌, ◌%◌, ◌^◌, ◌<◌, ◌⊎◌, ◌≤◌, List, [], ◌∷◌, length, refl, sym, ap, ap₂, ◌∙◌, inl, inr, ⊎_elim, lt_of_le_of_lt, pow-suc, div-add-mod', mul-one, arith, lit<}
 use native.Mathlib.Decide.{dec_lt}
-use lib.Bits.{bit_and, bit_xor, and_block, and_le_l, and_le_r, shifted_half, shifted_even}
+use lib.Bits.{bit_and, bit_xor, and_block, and_zero_r, and_le_l, and_le_r, shifted_half, shifted_even}
 use lib.Count.{count_trailing_zeros, under}
-use Rattle.lines.specs.Words.{word_of, Bytes, first_in}
-use Rattle.lines.proofs.Bytes.{cap, lo, hi, word_lt, small, xor_all, xor_bytes, xor_first, xor_is, xor-eight}
+use borrow.Author.Tests.{lt-ltb, le-ltb}
+use Rattle.lines.specs.Words.{word_of, Bytes, first_in, first_below}
+use Rattle.lines.proofs.Bytes.{cap, each, hi, word_lt, small, xor_all, xor_bytes, xor_first, xor_is, xor-eight}
 
 -- ---- trailing zeros
 
@@ -48,11 +49,23 @@ tz-miss d q =
     let e : q * 256 + 0 ≡ q * 2 ^ 8 = omega arith in
     rw (e, tz-up 8 d q) (omega arith)
 
--- ---- the first zero byte
+-- ---- the first byte below k
 
--- a byte r that is not 0 leaves no high bit
-high-clear : (s r : ℕ) → s + 1 ≡ r → r < 256 → bit_and (bit_and s (255 - r)) 128 ≡ 0
-high-clear s r e h = elim (dec_lt s 128) [
+-- two bytes of 128 and more have the high bit in common
+high-set : (s t : ℕ) → 128 ≤ s → s < 256 → 128 ≤ t → t < 256 → bit_and (bit_and s t) 128 ≡ 128
+high-set s t a b c d =
+    let x = s - 128 in
+    let y = t - 128 in
+    let es : s ≡ 1 * 128 + x = omega arith in
+    let et : t ≡ 1 * 128 + y = omega arith in
+    let hx : x < 128 = omega arith in
+    let hy : y < 128 = omega arith in
+    let both : bit_and s t ≡ 1 * 128 + bit_and x y = ap₂ bit_and es et ∙ and_block 7 1 1 x y hx hy in
+    ap (λ n. bit_and n 128) both ∙ and_block 7 1 1 (bit_and x y) 0 (lt_of_le_of_lt (and_le_l x y) hx) (lit< tt) ∙ rw and_zero_r
+
+-- a byte of k and more leaves none when k is taken off
+high-clear : (s r k : ℕ) → s + k ≡ r → r < 256 → bit_and (bit_and s (255 - r)) 128 ≡ 0
+high-clear s r k e h = elim (dec_lt s 128) [
   | yes l ↦ small _ (lt_of_le_of_lt (and_le_l s (255 - r)) l)
   | no l ↦ small _ (lt_of_le_of_lt (and_le_r s (255 - r)) (omega arith))
 ]
@@ -69,47 +82,46 @@ split n w Y s r hw hs hr =
 abbrev Less : ℕ → ℕ → ℕ → ℕ → Type 0
 Less m o x y = (y + o ≡ x) ⊎ (y + o ≡ x + m)
 
-abbrev Place : ℕ → List ℕ → ℕ → Type 0
-Place n xs y = count_trailing_zeros (bits n) (bit_and (bit_and y (cap n - 1 - word_of xs)) (hi n)) / 8 ≡ first_in 0 xs
+abbrev Place : ℕ → ℕ → List ℕ → ℕ → Type 0
+Place k n xs y = count_trailing_zeros (bits n) (bit_and (bit_and y (cap n - 1 - word_of xs)) (hi n)) / 8 ≡ first_below k xs
 
-zero-low : (n w Y s : ℕ) → s < 256 → Less (cap n * 256) (lo n * 256 + 1) (w * 256 + 0) (Y * 256 + s) → s ≡ 255
-zero-low n w Y s hs (inl e) = omega arith
-zero-low n w Y s hs (inr e) = omega arith
+module _ (k n w Y s r : ℕ) (few : k ≤ 128) (hs : s < 256) (hr : r < 256) (l : Less (cap n * 256) (each k n * 256 + k) (w * 256 + r) (Y * 256 + s)) where
+  below-low : r < k → s + k ≡ r + 256
+  below-low h = ⊎_elim (λ e. omega arith) (λ e. omega arith) l
 
-more-low : (n w Y s r : ℕ) → s < 256 → r < 255 → Less (cap n * 256) (lo n * 256 + 1) (w * 256 + suc r) (Y * 256 + s) → s ≡ r
-more-low n w Y s r hs hr (inl e) = omega arith
-more-low n w Y s r hs hr (inr e) = omega arith
+  other-low : k ≤ r → s + k ≡ r
+  other-low h = ⊎_elim (λ e. omega arith) (λ e. omega arith) l
 
-more-high : (n w Y s r : ℕ) → s ≡ r → Less (cap n * 256) (lo n * 256 + 1) (w * 256 + suc r) (Y * 256 + s) → Less (cap n) (lo n) w Y
-more-high n w Y s r q (inl e) = inl (omega arith)
-more-high n w Y s r q (inr e) = inr (omega arith)
+  other-high : k ≤ r → Less (cap n) (each k n) w Y
+  other-high h = let q = other-low h in ⊎_elim (λ e. inl (omega arith)) (λ e. inr (omega arith)) l
 
-step : (r : ℕ) (xs : List ℕ) (Y s : ℕ) → s < 256 → r < 256 → Bytes xs → (Less (cap (length xs)) (lo (length xs)) (word_of xs) Y → Place (length xs) xs Y)
-    → Less (cap (length xs) * 256) (lo (length xs) * 256 + 1) (word_of xs * 256 + r) (Y * 256 + s) → Place (suc (length xs)) (r ∷ xs) (Y * 256 + s)
-unfolding word_of first_in
-step zero xs Y s hs hr hb ih l =
+step : (k r : ℕ) (xs : List ℕ) (Y s : ℕ) → k ≤ 128 → s < 256 → r < 256 → Bytes xs → (Less (cap (length xs)) (each k (length xs)) (word_of xs) Y → Place k (length xs) xs Y)
+    → Less (cap (length xs) * 256) (each k (length xs) * 256 + k) (word_of xs * 256 + r) (Y * 256 + s) → Place k (suc (length xs)) (r ∷ xs) (Y * 256 + s)
+unfolding word_of first_below
+step k r xs Y s few hs hr hb ih l =
     let n = length xs in
-    let f : s ≡ 255 = zero-low n (word_of xs) Y s hs l in
-    let v : bit_and (bit_and s (255 - 0)) 128 ≡ 128 = rw f in
-    rw (split n (word_of xs) Y s 0 (word_lt xs hb) hs hr, v) (tz-hit _ _)
-step (suc r) xs Y s hs hr hb ih l =
-    let n = length xs in
-    let f : s ≡ r = more-low n (word_of xs) Y s r hs (omega arith) l in
-    let g : s + 1 ≡ suc r = omega arith in
-    let v = high-clear s (suc r) g hr in
-    let z : suc r ≡ 0 → ⊥ = omega arith in
-    rw (split n (word_of xs) Y s (suc r) (word_lt xs hb) hs hr, v, ne_eqb (suc r) 0 z)
-    (tz-miss _ _ ∙ ap suc (ih (more-high n (word_of xs) Y s r f l)))
+    let w = word_of xs in
+    elim (dec_lt r k) [
+      | yes h ↦
+          let f : s + k ≡ r + 256 = below-low k n w Y s r few hs hr l h in
+          let v : bit_and (bit_and s (255 - r)) 128 ≡ 128 = high-set s (255 - r) (omega arith) hs (omega arith) (omega arith) in
+          rw (split n w Y s r (word_lt xs hb) hs hr, v, lt-ltb r k h) (tz-hit _ _)
+      | no h ↦
+          let g : k ≤ r = omega arith in
+          let v = high-clear s r k (other-low k n w Y s r few hs hr l g) hr in
+          rw (split n w Y s r (word_lt xs hb) hs hr, v, le-ltb r k g)
+          (tz-miss _ _ ∙ ap suc (ih (other-high k n w Y s r few hs hr l g)))
+    ]
 
-place : (xs : List ℕ) (y : ℕ) → Bytes xs → Less (cap (length xs)) (lo (length xs)) (word_of xs) y → Place (length xs) xs y
-unfolding count_trailing_zeros first_in word_of
-place [] y hb l = refl
-place (r ∷ xs) y hb l =
+place : (k : ℕ) (xs : List ℕ) (y : ℕ) → k ≤ 128 → Bytes xs → Less (cap (length xs)) (each k (length xs)) (word_of xs) y → Place k (length xs) xs y
+unfolding count_trailing_zeros first_below word_of
+place k [] y few hb l = refl
+place k (r ∷ xs) y few hb l =
     rw (← div-add-mod' y 256)
-    (step r xs (y / 256) (y % 256) (omega arith) hb.0 hb.1 (place xs (y / 256) hb.1) (rw (div-add-mod' y 256) l))
+    (step k r xs (y / 256) (y % 256) few (omega arith) hb.0 hb.1 (place k xs (y / 256) few hb.1) (rw (div-add-mod' y 256) l))
 
-wrapped : (x y : ℕ) → x < 2 ^ 64 → y < 2 ^ 64 → (y + 72340172838076673) % 2 ^ 64 ≡ x → Less (2 ^ 64) 72340172838076673 x y
-wrapped x y hx hy e = elim (dec_lt (y + 72340172838076673) (2 ^ 64)) [ yes h ↦ inl (omega arith) | no h ↦ inr (omega arith) ]
+wrapped : (o x y : ℕ) → o < 2 ^ 64 → x < 2 ^ 64 → y < 2 ^ 64 → (y + o) % 2 ^ 64 ≡ x → Less (2 ^ 64) o x y
+wrapped o x y ho hx hy e = elim (dec_lt (y + o) (2 ^ 64)) [ yes h ↦ inl (omega arith) | no h ↦ inr (omega arith) ]
 
 -- a word of eight bytes w, and y that is less by a one in each byte, where the bytes have been put together with b by exclusive or
 pub hits-place : (xs : List ℕ) (w b y : ℕ) → length xs ≡ 8 → Bytes xs → word_of xs ≡ w → b < 256 → y < 2 ^ 64
@@ -120,7 +132,18 @@ hits-place xs w b y eight hx hw hb hy e =
     let len = xor-eight xs w b eight hx hw hb in
     let x-is = xor_is xs w b eight hx hw hb in
     let lt : word_of (xor_all b xs) < 2 ^ 64 = rw len at (word_lt (xor_all b xs) hz) in
-    let l : Less (2 ^ 64) 72340172838076673 (word_of (xor_all b xs)) y = wrapped _ y lt hy (e ∙ x-is) in
-    let p : Less (cap (length (xor_all b xs))) (lo (length (xor_all b xs))) (word_of (xor_all b xs)) y = rw len l in
-    let q : Place 8 (xor_all b xs) y = rw len at (place (xor_all b xs) y hz p) in
+    let l : Less (2 ^ 64) 72340172838076673 (word_of (xor_all b xs)) y = wrapped _ _ y (lit< tt) lt hy (e ∙ x-is) in
+    let p : Less (cap (length (xor_all b xs))) (each 1 (length (xor_all b xs))) (word_of (xor_all b xs)) y = rw len l in
+    let q : Place 1 8 (xor_all b xs) y = rw len at (place 1 (xor_all b xs) y (omega arith) hz p) in
     rw x-is (q ∙ xor_first b xs)
+
+-- a word of eight bytes w, and y that is less by 16 in each byte
+pub low-place : (xs : List ℕ) (w y : ℕ) → length xs ≡ 8 → Bytes xs → word_of xs ≡ w → y < 2 ^ 64
+    → (y + 1157442765409226768) % 2 ^ 64 ≡ w
+    → count_trailing_zeros 64 (bit_and (bit_and y (18446744073709551615 - w)) 9259542123273814144) / 8 ≡ first_below 16 xs
+low-place xs w y eight hx hw hy e =
+    let lt : word_of xs < 2 ^ 64 = rw eight at (word_lt xs hx) in
+    let l : Less (2 ^ 64) 1157442765409226768 (word_of xs) y = wrapped _ _ y (lit< tt) lt hy (e ∙ sym hw) in
+    let p : Less (cap (length xs)) (each 16 (length xs)) (word_of xs) y = rw eight l in
+    let q : Place 16 8 xs y = rw eight at (place 16 xs y (omega arith) hx p) in
+    rw (← hw) q

@@ -4,6 +4,7 @@ pub mod Trims
 pub mod Search
 pub mod Bytes
 pub mod Hits
+pub mod Lows
 pub mod Matches
 pub mod SliceWords
 pub mod RowWords

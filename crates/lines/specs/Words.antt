@@ -1,5 +1,5 @@
 -- Words of bytes, the first one lowest. Only contracts of functions that go by words cite these.
-use Rattle.std.specs.Prelude.{ℕ, zero, suc, ◌+◌, ◌*◌, ◌/◌, ◌%◌, ◌<◌, if◌then◌else◌, List, [], ◌∷◌, ◌==◌, slice_index}
+use Rattle.std.specs.Prelude.{ℕ, zero, suc, ◌+◌, ◌*◌, ◌/◌, ◌%◌, ◌<◌, if◌then◌else◌, List, [], ◌∷◌, ◌==◌, nat_lt, slice_index}
 
 -- the word of the four bytes from i on
 abbrev pub half_word_at : List ℕ → ℕ → ℕ
@@ -40,3 +40,8 @@ bytes_of_word w = low_bytes 8 w
 unfoldable pub first_in : ℕ → List ℕ → ℕ
 first_in b [] = 0
 first_in b (x ∷ xs) = if x == b then 0 else suc (first_in b xs)
+
+-- the place of the first byte below k, or the length
+unfoldable pub first_below : ℕ → List ℕ → ℕ
+first_below k [] = 0
+first_below k (x ∷ xs) = if nat_lt x k then 0 else suc (first_below k xs)

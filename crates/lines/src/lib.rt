@@ -3,13 +3,13 @@
 
 pub mod words;
 
-ghost use Rattle.std.specs.Prelude.{◌≡◌, ◌==◌, ◌+◌, ◌≤◌, length, take, drop, position};
+ghost use Rattle.std.specs.Prelude.{◌≡◌, ◌==◌, ◌≤◌, nat_le, length, take, drop, position};
 ghost use Rattle.std.specs.List.{position_from};
 ghost use Rattle.definitions.specs.Lists.{after};
 ghost use Rattle.definitions.specs.Lines.{is_blank_byte, trim};
 ghost use Rattle.definitions.specs.ReadBack.{without_cr};
 ghost use Rattle.lines.specs.Search.{count_of};
-ghost use Rattle.lines.specs.Words.{first_in};
+ghost use Rattle.lines.specs.Words.{first_below};
 ghost use Rattle.lines.specs.Lines.{first_line};
 
 /// The line without one carriage return at its end.
@@ -110,12 +110,18 @@ pub fn find_byte(slice: &[u8], needle: u8) -> Option<usize>
     find_between(slice, needle, i, slice.len())
 }
 
-/// How many of the eight bytes from `start` on stand before the first newline among them: 8 where there is none.
-pub fn near_newline(data: &[u8], start: usize) -> usize
-    requires { start + 8 ≤ length «data».now }
-    ensures { result ≡ first_in 10 (take 8 (drop start «data».now)) }
+/// Whether none of the first `n` bytes is below 16, as newlines and carriage returns are: by a word of the first eight bytes, and one that ends with the
+/// last of the `n` where they are more.
+pub fn starts_high(data: &[u8], n: usize) -> bool
+    requires some { 1 ≤ n }
+    requires few { n ≤ 16 }
+    requires within { n ≤ length «data».now }
+    requires wide { 8 ≤ length «data».now }
+    ensures { result ≡ nat_le n (first_below 16 «data».now) }
 {
-    (u64::trailing_zeros(words::byte_hits(words::halves_at(data, start), 10)) / 8) as usize
+    let few = usize::min(n, 8);
+    words::starts_high(words::halves_at(data, 0), few)
+        & words::starts_high(words::halves_at(data, n - few), few)
 }
 
 /// The line that starts at `start`, without its newline, and what follows that newline: nothing where there is none, nor past the text's end.

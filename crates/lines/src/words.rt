@@ -1,12 +1,14 @@
 // Words of eight bytes, the first one lowest: reading one out of a slice, and marking the bytes in it that equal a given one.
-ghost use Rattle.std.specs.Prelude.{◌≡◌, ◌+◌, ◌/◌, ◌<◌, ◌≤◌, length, count_ones};
+ghost use Rattle.std.specs.Prelude.{◌≡◌, ◌+◌, ◌/◌, ◌<◌, ◌≤◌, nat_le, length, count_ones};
 ghost use Rattle.std.specs.Int.Count.{count_trailing_zeros};
 ghost use Rattle.lines.specs.Search.{count_of};
 ghost use Rattle.definitions.specs.Lists.{among};
-ghost use Rattle.lines.specs.Words.{half_word_at, word_at, bytes_of_word, first_in};
+ghost use Rattle.lines.specs.Words.{half_word_at, word_at, bytes_of_word, first_in, first_below};
 
-// In each byte: a one, the seven low bits, the high bit.
+// In each byte: a one, a sixteen, the seven low bits, the high bit.
 const LO: u64 = 0x0101_0101_0101_0101;
+
+const SIXTEEN: u64 = 0x1010_1010_1010_1010;
 
 const LOW: u64 = 0x7f7f_7f7f_7f7f_7f7f;
 
@@ -64,6 +66,23 @@ pub fn byte_hits(word: u64, byte: u8) -> u64
 {
     let x = word ^ (u64::from(byte) * LO);
     std::num::wrapping_sub_u64(x, LO) & !x & HI
+}
+
+/// The same for bytes that are below 16.
+pub fn low_hits(word: u64) -> u64
+    ensures { count_trailing_zeros 64 result / 8 ≡ first_below 16 (bytes_of_word word) }
+{
+    std::num::wrapping_sub_u64(word, SIXTEEN) & !word & HI
+}
+
+/// Whether none of the first `n` of the word's bytes is below 16.
+pub fn starts_high(word: u64, n: usize) -> bool
+    requires some { 1 ≤ n }
+    requires few { n ≤ 8 }
+    ensures { result ≡ nat_le n (first_below 16 (bytes_of_word word)) }
+{
+    let mask = u64::MAX >> (64 - 8 * n);
+    low_hits(word) & mask == 0
 }
 
 /// Whether one of the word's bytes equals `byte`.

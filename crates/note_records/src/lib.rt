@@ -135,7 +135,8 @@ pub fn put_record(records: &mut [u8], k: usize, row: u32, tail: u32, column: u8,
 
 /// Copies a record to the front.
 pub fn move_record(records: &mut [u8], from: usize, to: usize)
-    requires { (from * 10 + 10 ≤ length records.old) × (to ≤ from) }
+    requires from_within { from * 10 + 10 ≤ length records.old }
+    requires earlier { to ≤ from }
     ensures { records.new ≡ sets records.old (to * 10) (fields_at records.old (from * 10)) }
 {
     let at = from * 10;

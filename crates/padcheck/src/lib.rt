@@ -1,6 +1,9 @@
-// The entries for callers in Rust and C, each thin over the proved call of the same work. `lanes` is the lane number as the caller has it: 5, 8 and 10
-// are these, any other is 4. An entry returns 0 for accepted, else the number of a refusal, and then it has written nothing; 1 to 6, 19 and 20 are
-// mistakes of whoever wires up the call. After an accepted call zeros follow each answer in its slice. `figures` has the places of crate `figures`.
+// The entries for callers in Rust and C, each thin over the proved call of the same work: Specification, Calls. "What a call is lent comes in the
+// order of this table." Specification, Contracts: "An entry's contract says, for every input, all of its answer and all that each slice holds after
+// it, refused calls too." "No entry asks anything of its caller." `lanes` is the lane number as the caller has it: 5, 8 and 10 are these, any other
+// is 4. An entry returns 0 for accepted, else the number of a refusal, and then it has written nothing; 1 to 6, 19 and 20 are mistakes of whoever
+// wires up the call. After an accepted call zeros follow each answer in its slice. Specification, Figures, has the places of `figures`, and Slices
+// those of `note` and `chart`.
 #![tactic(auto)]
 
 ghost use Rattle.std.specs.Prelude.{◌≡◌, []};
@@ -12,7 +15,7 @@ ghost use Rattle.definitions.specs.Notes.{notes as notes_of};
 ghost use Rattle.definitions.specs.Records.{records as records_of, note_of_record};
 ghost use Rattle.definitions.specs.TimingRows.{timing_rows};
 ghost use Rattle.definitions.specs.Entries.{measures_answer, places_of_measures, last_answer, places_of_last, main_answer, places_of_chart, judged_answer, places_of_judged, flagged_answer, kept_answer, places_of_kept, timing_answer, places_of_timing, figures_of_note};
-ghost use Rattle.definitions.specs.SmFile.{sm_number, places_of_sm};
+ghost use Rattle.definitions.specs.SmFile.{sm_answer, places_of_part};
 ghost use Rattle.chart_sheet.specs.Forms.{sheet_in_form};
 ghost use Rattle.chart_sheet.specs.Entry.{sheet_answer};
 ghost use Rattle.padcheck.specs.Told.{leaves_by};
@@ -206,8 +209,8 @@ pub extern "C" fn padcheck_read_note(records: &[u8], index: usize, note: &mut [u
 /// and 10; 9 and 10 are mistakes of the file's author, 11 of whoever asks.
 #[unsafe(no_mangle)]
 pub extern "C" fn padcheck_sm_chart(file: &[u8], k: usize, chart: &mut [u64; 3]) -> u32
-    ensures value { result ≡ sm_number file.now k }
-    ensures chart_after { chart.new ≡ places_of_sm file.now k chart.old }
+    ensures value { result ≡ number_told (sm_answer file.now k) }
+    ensures chart_after { chart.new ≡ replaces (sm_answer file.now k) places_of_part chart.old }
 {
     match files::sm::sm_chart(file, k) {
         Err(refusal) => refusal.number(),

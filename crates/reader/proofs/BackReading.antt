@@ -1,27 +1,16 @@
 -- A line of minimised text as it counts, and its first byte.
 use mathlib.Core.Path.{◌≡◌, refl, ap, sym, ◌∙◌}
 use mathlib.Core.Bool.{Bool, true, false, ◌&&◌, not, cond}
-use mathlib.Core.List.{List, [], ◌∷◌, ◌++◌}
+use mathlib.Core.List.{List, [], ◌∷◌}
 use Prim.Native.Nat.{ℕ, ◌+◌, ◌≤◌}
 use native.Mathlib.Omega.{arith}
 use lib.Dec.{eqb}
 use lib.ListN.{length, get_or, take}
 use Rattle.definitions.specs.Lists.{among}
-use Rattle.definitions.specs.Lines.{cut}
-use Rattle.definitions.specs.ReadBack.{without_cr, begins_mark, back_row, back_rows, rows_read_back}
-use Rattle.reader.specs.BackReading.{trimmed_by, back_rows_by, rows_back}
-
--- trimmed, the rows are those of the definitions
-pub back-trimmed : (L : ℕ) (text : List ℕ) → rows_back true L text ≡ rows_read_back L text
-unfolding rows_back rows_read_back
-back-trimmed L text = go (cut text)
-  where
-    go : (ls : List (List ℕ)) → back_rows_by true L ls ≡ back_rows L ls
-    go [] = refl
-    go (l ∷ ls) = ap (λ r. back_row L (without_cr l) ++ r) (go ls)
+use Rattle.definitions.specs.ReadBack.{without_cr, begins_mark}
 
 -- a line without its byte 13 is a front of it
-trim-front : (l : List ℕ) → without_cr l ≡ take (length (without_cr l)) l
+pub trim-front : (l : List ℕ) → without_cr l ≡ take (length (without_cr l)) l
 trim-front [] = refl
 trim-front (b ∷ []) = go (eqb b 13)
   where
@@ -30,7 +19,7 @@ trim-front (b ∷ []) = go (eqb b 13)
     go false = refl
 trim-front (b ∷ b' ∷ s) = ap (λ l. b ∷ l) (trim-front (b' ∷ s))
 
-trim-less : (l : List ℕ) → length (without_cr l) ≤ length l
+pub trim-less : (l : List ℕ) → length (without_cr l) ≤ length l
 trim-less [] = omega arith
 trim-less (b ∷ []) = go (eqb b 13)
   where
@@ -39,16 +28,8 @@ trim-less (b ∷ []) = go (eqb b 13)
     go false = omega arith
 trim-less (b ∷ b' ∷ s) = omega (arith, trim-less (b' ∷ s))
 
-pub by_front : (trim : Bool) (l : List ℕ) → trimmed_by trim l ≡ take (length (trimmed_by trim l)) l
-by_front true l = trim-front l
-by_front false l = sym (take-all-is l)
-  where
-    take-all-is : (l : List ℕ) → take (length l) l ≡ l
-    take-all-is [] = refl
-    take-all-is (x ∷ l) = ap (λ r. x ∷ r) (take-all-is l)
-
 -- and at most one byte is off
-trim-most : (l : List ℕ) → length l ≤ length (without_cr l) + 1
+pub trim-most : (l : List ℕ) → length l ≤ length (without_cr l) + 1
 trim-most [] = omega arith
 trim-most (b ∷ []) = go (eqb b 13)
   where
@@ -56,14 +37,6 @@ trim-most (b ∷ []) = go (eqb b 13)
     go true = omega arith
     go false = omega arith
 trim-most (b ∷ b' ∷ s) = omega (arith, trim-most (b' ∷ s))
-
-pub by_most : (trim : Bool) (l : List ℕ) → length l ≤ length (trimmed_by trim l) + 1
-by_most true l = trim-most l
-by_most false l = omega arith
-
-pub by_less : (trim : Bool) (l : List ℕ) → length (trimmed_by trim l) ≤ length l
-by_less true l = trim-less l
-by_less false l = omega arith
 
 pub mark-first : (x : Bool) (l : List ℕ) → (length l ≡ 0 → ⊥) → (x && not (begins_mark l)) ≡ (x && not (among (get_or l 0 0) (44 ∷ 59 ∷ [])))
 mark-first x [] h = absurd (h refl)

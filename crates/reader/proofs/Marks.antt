@@ -9,15 +9,16 @@ use lib.ListN.{length, take, drop, get_or}
 use lib.Seq.{get_or-take, length-take-le, take-take}
 use Rattle.std.specs.Prelude.{Option, Some, fold}
 use Rattle.std.specs.List.{onto_first}
-use Rattle.definitions.specs.Lists.{after}
+use Rattle.definitions.specs.Lists.{among, up_to, after}
 use Rattle.definitions.specs.Lines.{Row, cut, trim, kind_of, line_kind, line_row}
 use Rattle.definitions.specs.Measures.{add_line, measures, chart}
 use Rattle.definitions.specs.declared.LineKind.{LineKind}
 use Rattle.definitions.specs.declared.LineKind.TheVariants as line
 use Rattle.lines.specs.Lines.{first_line}
-use Rattle.reader.specs.Reading.{near_row}
-use Rattle.reader.proofs.Cuts.{cut-below, after-line}
-use Rattle.reader.proofs.Plain.{near-just, bare, bare-row}
+use Rattle.definitions.proofs.Lists.{after-cons}
+use Rattle.reader.specs.Reading.{LineWidth, near_row}
+use Rattle.reader.proofs.Cuts.{cut-below}
+use Rattle.reader.proofs.Plain.{near-plain, bare, bare-row}
 use Rattle.reader.specs.Marks.{add_mark, marks, chart_marks, Held, held_with, held}
 
 -- ---- the first line of a text, and what follows it
@@ -33,20 +34,27 @@ pub marks-none : (L : ℕ) → chart_marks L [] ≡ []
 unfolding chart_marks line_kind kind_of
 marks-none L = refl
 
+-- an empty line has none
+marks-empty : (L : ℕ) (s : List ℕ) → chart_marks L (10 ∷ s) ≡ chart_marks L s
+unfolding first_line up_to line_kind kind_of
+marks-empty L s = marks-first L (10 ∷ s) ∙ ap (chart_marks L) (after-cons 10 10 s)
+
 -- a row that one look tells
-pub marks-near : (L m : ℕ) (s : List ℕ) → L ≤ m → 4 ≤ L → m ≤ 11 → near_row m s ≡ true → chart_marks L s ≡ Some (take L s) ∷ chart_marks L (drop (m + 1) s)
+pub marks-near : (L m : ℕ) (s : List ℕ) → 4 ≤ L → L ≤ 10 → LineWidth L m → near_row L m s ≡ true → chart_marks L s ≡ Some (take L s) ∷ chart_marks L (drop (m + 1) s)
 unfolding line_kind
-marks-near L m s w low high e =
-    let told = near-just m s e in
-    let raw = take m s in
-    let size : length raw ≡ m = length-take-le m s (omega (arith, told.0)) in
-    let first : get_or raw 0 0 ≡ get_or s 0 0 = get_or-take m s 0 0 (omega arith) in
-    let past : 47 < get_or raw 0 0 = rw first told.2 in
+marks-near L m s low high w e =
+    let p = near-plain L m s low high w e in
+    let raw = take p.size s in
+    let size : length raw ≡ p.size = length-take-le p.size s (omega (arith, p.within)) in
+    let first : get_or raw 0 0 ≡ get_or s 0 0 = get_or-take p.size s 0 0 (omega (arith, p.wide)) in
+    let past : 47 < get_or raw 0 0 = rw first p.past in
     let whole = bare raw past in
-    let kind = bare-row L raw (omega arith) past (λ q. told.3 (sym first ∙ q)) in
-    let row : take L (trim raw) ≡ take L s = ap (take L) (sym whole) ∙ take-take L m s w in
-    let below = after-line m s (omega (arith, told.0)) told.1 in
-    marks-first L s ∙ rw (told.1, row, below, ← whole, ← kind)
+    let cells : take L raw ≡ take L s = take-take L p.size s p.wide.0 in
+    let kind = bare-row L raw (omega (arith, p.wide)) (ap (among 13) cells ∙ p.plain) past (λ q. p.other (sym first ∙ q)) in
+    let row : take L (trim raw) ≡ take L s = ap (take L) (sym whole) ∙ cells in
+    let below : chart_marks L (after 10 s) ≡ chart_marks L (drop (m + 1) s) =
+    ⊎_elim (λ q. ap (chart_marks L) q) (λ q. ap (chart_marks L) q ∙ marks-empty L (drop (m + 1) s)) p.rest in
+    marks-first L s ∙ rw (p.line, row, below, ← whole, ← kind)
 
 -- ---- what marks come to
 

@@ -1,128 +1,25 @@
--- A plain row: its line begins with no blank, `,`, `;` or `/` and has at least L bytes. Laws of a part of a text that begins with it, and of the
--- text where that part stands.
+-- A plain row: its line begins with no blank, `,`, `;` or `/`, has at least L bytes and no byte below 16 among the first L. Laws of a text that begins
+-- with it.
 use mathlib.Core.Path.{◌≡◌, refl, ap, sym, ◌∙◌}
-use mathlib.Core.Logic.{◌⊎◌, inl, inr, ⊎_elim}
+use mathlib.Core.Logic.{◌⊎◌, inl, inr}
 use mathlib.Core.Bool.{Bool, true, false, cond, ◌&&◌, not}
-use mathlib.Core.List.{List, [], ◌∷◌}
-use Prim.Native.Nat.{ℕ, zero, suc, ◌+◌, ◌-◌, ◌≤◌, ◌<◌}
-use native.Mathlib.Nat.{zero-add, suc-add}
+use mathlib.Core.List.{List, [], ◌∷◌, ◌++◌, append-nil}
+use Prim.Native.Nat.{ℕ, zero, suc, ◌+◌, ◌≤◌, ◌<◌}
+use native.Mathlib.Numerals.{add-one}
+use native.Mathlib.Decide.{dec_lt}
 use native.Mathlib.Omega.{arith}
-use borrow.Author.Tests.{eqb-true, eqb-false, eq-eqb, ne_eqb, ltb-true, leb-true, le-leb, not-true}
+use borrow.Author.Tests.{eqb-true, eqb-false, ne_eqb, ltb-true, ltb-false, leb-true, le-leb, not-true}
 use lib.Dec.{eqb, ltb, leb}
 use lib.ListN.{length, get_or, take, drop}
-use Rattle.definitions.specs.Lists.{up_to}
+use lib.Seq.{drop-cons, take-suc}
+use Rattle.definitions.specs.Lists.{among, up_to, after}
 use Rattle.definitions.specs.Lines.{is_blank_byte, trim, is_row_line, kind_of}
 use Rattle.definitions.specs.declared.LineKind.TheVariants as line
-use Rattle.definitions.proofs.Bools.{and_left, and_right, and-false}
+use Rattle.definitions.proofs.Bools.{and_left, and_right}
+use Rattle.definitions.proofs.Lists.{after-cons}
 use Rattle.lines.specs.Lines.{first_line}
-use Rattle.lines.specs.Words.{first_in}
-use Rattle.reader.specs.Reading.{just_row, near_row}
-use Rattle.reader.proofs.Cuts.{line-front}
-
--- ---- where the first line ends, told by the first newline among eight bytes
-
--- the first line ends at the first newline
-line-place : (s : List ℕ) → length (first_line s) ≡ first_in 10 s
-unfolding first_line up_to first_in
-line-place [] = refl
-line-place (x ∷ s) = go (eqb x 10) (line-place s)
-  where
-    go : (t : Bool) → length (up_to 10 s) ≡ first_in 10 s → length (cond t [] (x ∷ up_to 10 s)) ≡ cond t 0 (suc (first_in 10 s))
-    go true h = refl
-    go false h = ap suc h
-
--- it is no further on than any newline
-place-most : (b : ℕ) (s : List ℕ) (k : ℕ) → k < length s → get_or s k 0 ≡ b → first_in b s ≤ k
-unfolding first_in
-place-most b [] k h e = absurd (omega arith)
-place-most b (x ∷ s) zero h e = rw (eq-eqb x b e) (omega arith)
-place-most b (x ∷ s) (suc k) h e = go (eqb x b) (place-most b s k (omega arith) e)
-  where
-    go : (t : Bool) → first_in b s ≤ k → cond t 0 (suc (first_in b s)) ≤ suc k
-    go true l = omega arith
-    go false l = omega arith
-
--- among the first n bytes it has the same place, or it is none of them
-place-near : (b n : ℕ) (s : List ℕ) → (first_in b (take n s) ≡ first_in b s) ⊎ ((n ≤ first_in b (take n s)) × (n ≤ first_in b s))
-unfolding first_in
-place-near b zero s = inr (omega arith, omega arith)
-place-near b (suc n) [] = inl refl
-place-near b (suc n) (x ∷ s) = go (eqb x b) (place-near b n s)
-  where
-    go : (t : Bool) → (first_in b (take n s) ≡ first_in b s) ⊎ ((n ≤ first_in b (take n s)) × (n ≤ first_in b s))
-        → (cond t 0 (suc (first_in b (take n s))) ≡ cond t 0 (suc (first_in b s))) ⊎ ((suc n ≤ cond t 0 (suc (first_in b (take n s)))) × (suc n ≤ cond t 0 (suc (first_in b s))))
-    go true h = inl refl
-    go false h = ⊎_elim (λ e. inl (ap suc e)) (λ f. inr (omega (arith, f.0), omega (arith, f.1))) h
-
--- past k bytes that are none it is k further on
-place-past : (b k : ℕ) (s : List ℕ) → k ≤ length s → ((i : ℕ) → i < k → get_or s i 0 ≡ b → ⊥) → first_in b s ≡ k + first_in b (drop k s)
-unfolding first_in
-place-past b zero s h f = sym (zero-add (first_in b s))
-place-past b (suc k) [] h f = absurd (omega arith)
-place-past b (suc k) (x ∷ s) h f =
-    rw (ne_eqb x b (f 0 (omega arith)), suc-add) (ap suc (place-past b k s (omega arith) (λ i l. f (suc i) (omega arith))))
-
-same_test : (a b c d : ℕ) → (a ≡ b → c ≡ d) → (c ≡ d → a ≡ b) → eqb a b ≡ eqb c d
-same_test a b c d f g = go (eqb a b) refl
-  where
-    go : (t : Bool) → eqb a b ≡ t → t ≡ eqb c d
-    go true e = sym (eq-eqb c d (f (eqb-true a b e)))
-    go false e = sym (ne_eqb c d (λ q. eqb-false a b e (g q)))
-
--- none of four bytes
-four-other : (s : List ℕ) (b : ℕ) → (get_or s 0 0 ≡ b → ⊥) → (get_or s 1 0 ≡ b → ⊥) → (get_or s 2 0 ≡ b → ⊥) → (get_or s 3 0 ≡ b → ⊥)
-    → (k : ℕ) → k < 4 → get_or s k 0 ≡ b → ⊥
-four-other s b p q r t zero h = p
-four-other s b p q r t (suc zero) h = q
-four-other s b p q r t (suc (suc zero)) h = r
-four-other s b p q r t (suc (suc (suc zero))) h = t
-four-other s b p q r t (suc (suc (suc (suc k)))) h = absurd (omega arith)
-
-module _ (s : List ℕ) (m : ℕ) (long : 12 ≤ length s) (low : 4 ≤ m) (high : m ≤ 11) where
-  -- no line of m bytes where one of the first four is a newline
-  early : (k : ℕ) → k < 4 → eqb (get_or s k 0) 10 ≡ true → eqb (length (first_line s)) m ≡ false
-  early k h e =
-      let near : first_in 10 s ≤ k = place-most 10 s k (omega arith) (eqb-true (get_or s k 0) 10 e) in
-      rw line-place (ne_eqb (first_in 10 s) m (λ q. omega arith))
-
-  -- else it ends where the newline is the first of the eight bytes
-  look : ((k : ℕ) → k < 4 → get_or s k 0 ≡ 10 → ⊥) → eqb (first_in 10 (take 8 (drop (m - 7) s))) (m - (m - 7)) ≡ eqb (length (first_line s)) m
-  look other =
-      let rest = drop (m - 7) s in
-      let near = first_in 10 (take 8 rest) in
-      let at : first_in 10 s ≡ m - 7 + first_in 10 rest = place-past 10 (m - 7) s (omega arith) (λ k h. other k (omega arith)) in
-      rw line-place (told near (first_in 10 rest) (first_in 10 s) at (place-near 10 8 rest))
-    where
-      told : (near far all : ℕ) → all ≡ m - 7 + far → (near ≡ far) ⊎ ((8 ≤ near) × (8 ≤ far)) → eqb near (m - (m - 7)) ≡ eqb all m
-      told near far all e h =
-          same_test near (m - (m - 7)) all m (λ q. ⊎_elim (λ p. omega arith) (λ f. absurd (omega (arith, f.0))) h)
-          (λ q. ⊎_elim (λ p. omega arith) (λ f. absurd (omega (arith, f.1))) h)
-
--- a test more that fails only where the whole does
-one_more : (x y a : Bool) → (a ≡ true → y ≡ false) → (a ≡ false → x ≡ y) → (x && not a) ≡ y
-one_more x y true f g = and-false x ∙ sym (f refl)
-one_more true y false f g = g refl
-one_more false y false f g = g refl
-
--- a test that both have
-both : (x y p : Bool) → (p ≡ true → x ≡ y) → (x && p) ≡ (y && p)
-both x y true f = ap (λ t. t && true) (f refl)
-both x y false f = and-false x ∙ sym (and-false y)
-
--- What `is_just_row` tests.
-pub just-told : (s : List ℕ) (m : ℕ) → 12 ≤ length s → 4 ≤ m → m ≤ 11
-    → (((((eqb (first_in 10 (take 8 (drop (m - 7) s))) (m - (m - 7)) && not (eqb (get_or s 1 0) 10)) && not (eqb (get_or s 2 0) 10)) && not (eqb (get_or s 3 0) 10)) && ltb 47 (get_or s 0 0)) && not (eqb (get_or s 0 0) 59))
-    ≡ just_row m s
-just-told s m long low high =
-    let y = eqb (length (first_line s)) m in
-    let past = ltb 47 (get_or s 0 0) in
-    ap (λ t. t && not (eqb (get_or s 0 0) 59))
-    (both _ y past (λ p.
-    let first : 47 < get_or s 0 0 = ltb-true 47 (get_or s 0 0) p in
-    one_more _ y (eqb (get_or s 3 0) 10) (early s m long low high 3 (omega arith)) (λ c.
-    one_more _ y (eqb (get_or s 2 0) 10) (early s m long low high 2 (omega arith)) (λ b.
-    one_more _ y (eqb (get_or s 1 0) 10) (early s m long low high 1 (omega arith)) (λ a.
-    look s m long low high (four-other s 10 (λ e. omega arith) (eqb-false _ 10 a) (eqb-false _ 10 b) (eqb-false _ 10 c)))))))
+use Rattle.lines.specs.Words.{first_below}
+use Rattle.reader.specs.Reading.{LineWidth, near_row}
 
 -- ---- such a line is a row
 
@@ -133,25 +30,131 @@ bare [] h = refl
 bare (b ∷ l) h =
     simp (ne_eqb b 9 (omega arith), ne_eqb b 10 (omega arith), ne_eqb b 12 (omega arith), ne_eqb b 13 (omega arith), ne_eqb b 32 (omega arith))
 
--- and is a row, unless that byte is `;` or the line is short
-pub bare-row : (L : ℕ) (l : List ℕ) → L ≤ length l → 47 < get_or l 0 0 → (get_or l 0 0 ≡ 59 → ⊥) → line.Row ≡ kind_of L l
-unfolding kind_of is_row_line
-bare-row L [] w h n = absurd (omega arith)
-bare-row L (b ∷ l) w h n =
-    simp (ne_eqb b 47 (omega arith), ne_eqb b 44 (omega arith), ne_eqb b 59 n, le-leb L (length (b ∷ l)) w)
+-- the row test holds of a line that is long enough and whose first L bytes have no 13
+pub is-row : (L : ℕ) (l : List ℕ) → L ≤ length l → among 13 (take L l) ≡ false → true ≡ is_row_line L l
+unfolding is_row_line
+is-row L l w e = rw (le-leb L (length l) w, e)
 
--- What it says where it is so: the line's length and its first byte.
-pub near-just : (m : ℕ) (part : List ℕ) → near_row m part ≡ true
-    → (12 ≤ length part) × (first_line part ≡ take m part) × (47 < get_or part 0 0) × (get_or part 0 0 ≡ 59 → ⊥)
-near-just m part e =
-    let wide = leb 12 (length part) in
-    let just = eqb (length (first_line part)) m in
-    let past = ltb 47 (get_or part 0 0) in
-    let semi = eqb (get_or part 0 0) 59 in
-    let all = and_right wide ((just && past) && not semi) e in
-    let two = and_left (just && past) (not semi) all in (
-      leb-true 12 (length part) (and_left wide ((just && past) && not semi) e),
-      line-front part ∙ ap (λ k. take k part) (eqb-true (length (first_line part)) m (and_left just past two)),
-      ltb-true 47 (get_or part 0 0) (and_right just past two),
-      eqb-false (get_or part 0 0) 59 (not-true semi (and_right (just && past) (not semi) all)),
-    )
+-- and it is a row, unless its first byte is `;` or no more than `/`
+pub bare-row : (L : ℕ) (l : List ℕ) → L ≤ length l → among 13 (take L l) ≡ false → 47 < get_or l 0 0 → (get_or l 0 0 ≡ 59 → ⊥) → line.Row ≡ kind_of L l
+unfolding kind_of
+bare-row L [] w e h n = absurd (omega arith)
+bare-row L (b ∷ l) w e h n =
+    simp (ne_eqb b 47 (omega arith), ne_eqb b 44 (omega arith), ne_eqb b 59 n, sym (is-row L (b ∷ l) w e))
+
+-- ---- a text that begins with bytes of 16 and more: its first line begins with them, and they have no 13
+pub Begins : ℕ → List ℕ → Type 0
+Begins n s = (first_line s ≡ take n s ++ first_line (drop n s)) × (after 10 s ≡ after 10 (drop n s)) × (among 13 (take n s) ≡ false)
+
+begins : (n : ℕ) (s : List ℕ) → n ≤ length s → n ≤ first_below 16 s → Begins n s
+unfolding Begins first_below first_line up_to
+begins zero s h f = (refl, refl, refl)
+begins (suc n) [] h f = absurd (omega arith)
+begins (suc n) (x ∷ s) h f = go (ltb x 16) refl (begins n s (omega arith)) f
+  where
+    go : (t : Bool) → ltb x 16 ≡ t → (n ≤ first_below 16 s → Begins n s) → suc n ≤ cond t 0 (suc (first_below 16 s)) → Begins (suc n) (x ∷ s)
+    go true e ih g = absurd (omega arith)
+    go false e ih g =
+        let b = ih (omega arith) in
+        let high : 16 ≤ x = omega (arith, ltb-false x 16 e) in (
+          rw (ne_eqb x 10 (omega arith)) (ap (λ (l : List ℕ). x ∷ l) b.0),
+          rw (after-cons, ne_eqb x 10 (omega arith)) b.1,
+          rw (ne_eqb 13 x (omega arith)) b.2,
+        )
+
+-- What the look says of a text: its first line has L bytes or one more, no 13 among the first L, and begins past `/` and with no `;`. What follows it is
+-- what follows the newline at `width`, or that after an empty line.
+pub record Plain (L width : ℕ) (s : List ℕ) : Type 0 where
+  pub size : ℕ
+  pub wide : LineWidth L size
+  pub within : size < length s
+  pub line : first_line s ≡ take size s
+  pub rest : (after 10 s ≡ drop (width + 1) s) ⊎ (after 10 s ≡ 10 ∷ drop (width + 1) s)
+  pub plain : among 13 (take L s) ≡ false
+  pub past : 47 < get_or s 0 0
+  pub other : get_or s 0 0 ≡ 59 → ⊥
+
+module _ (L width : ℕ) (s : List ℕ) (some : 4 ≤ L) (few : L ≤ 10) (w : LineWidth L width) (long : 12 ≤ length s) (cells : L ≤ first_below 16 s)
+    (ends : get_or s width 0 ≡ 10) (past : 47 < get_or s 0 0) (other : get_or s 0 0 ≡ 59 → ⊥) where
+  front : Begins L s
+  front = begins L s (omega arith) cells
+
+  below : drop L s ≡ get_or s L 0 ∷ drop (suc L) s
+  below = drop-cons s L 0 (omega arith)
+
+  -- the newline stands right after the cells
+  at_once : get_or s L 0 ≡ 10 → (first_line s ≡ take L s) × (after 10 s ≡ drop (suc L) s)
+  unfolding Begins first_line up_to
+  at_once e = (
+    front.0 ∙ rw (below, e, append-nil),
+    front.1 ∙ rw (below, e, after-cons),
+  )
+
+  next : suc L < length s → drop (suc L) s ≡ get_or s (suc L) 0 ∷ drop (suc (suc L)) s
+  next h = drop-cons s (suc L) 0 h
+
+  -- one byte stands between them
+  one_later : (get_or s L 0 ≡ 10 → ⊥) → width ≡ suc L → (first_line s ≡ take (suc L) s) × (after 10 s ≡ drop (suc width) s)
+  unfolding Begins first_line up_to
+  one_later n e =
+      let nl : get_or s (suc L) 0 ≡ 10 = rw e at ends in (
+        front.0 ∙ rw (below, ne_eqb (get_or s L 0) 10 n, next (omega arith), nl) (sym (take-suc s L 0 (omega arith))),
+        front.1 ∙ rw (below, after-cons, ne_eqb (get_or s L 0) 10 n, next (omega arith), after-cons, nl, e),
+      )
+
+  told : (t : Bool) → eqb (get_or s L 0) 10 ≡ t → Plain L width s
+  unfolding Begins
+  told true q =
+      let now = at_once (eqb-true (get_or s L 0) 10 q) in
+      record {
+        size = L;
+        wide = (omega arith, omega arith);
+        within = omega arith;
+        line = now.0;
+        rest = elim (dec_lt L width) [
+          | yes h ↦
+              let u : width ≡ suc L = omega (arith, w) in
+              let nl : get_or s (suc L) 0 ≡ 10 = rw u at ends in
+              inr (now.1 ∙ next (omega arith) ∙ rw (nl, u, add-one))
+          | no h ↦ let u : width ≡ L = omega (arith, w) in inl (now.1 ∙ rw (u, add-one))
+        ];
+        plain = front.2;
+        past = past;
+        other = other;
+      }
+  told false q =
+      let n = eqb-false (get_or s L 0) 10 q in
+      let u : width ≡ suc L = elim (dec_lt L width) [
+        | yes h ↦ omega (arith, w)
+        | no h ↦ let v : width ≡ L = omega (arith, w) in absurd (n (rw v at ends))
+      ] in
+      let now = one_later n u in
+      record {
+        size = suc L;
+        wide = (omega arith, omega arith);
+        within = omega arith;
+        line = now.0;
+        rest = inl (now.1 ∙ rw add-one);
+        plain = front.2;
+        past = past;
+        other = other;
+      }
+
+  pub plain-is : Plain L width s
+  plain-is = told (eqb (get_or s L 0) 10) refl
+
+pub near-plain : (L width : ℕ) (s : List ℕ) → 4 ≤ L → L ≤ 10 → LineWidth L width → near_row L width s ≡ true → Plain L width s
+near-plain L width s some few w e =
+    let long = leb 12 (length s) in
+    let cells = leb L (first_below 16 s) in
+    let past = ltb 47 (get_or s 0 0) in
+    let semi = eqb (get_or s 0 0) 59 in
+    let ends = eqb (get_or s width 0) 10 in
+    let all = and_right long (((cells && past) && not semi) && ends) e in
+    let three = and_left ((cells && past) && not semi) ends all in
+    let two = and_left (cells && past) (not semi) three in
+    plain-is L width s some few w (leb-true 12 (length s) (and_left long (((cells && past) && not semi) && ends) e))
+    (leb-true L (first_below 16 s) (and_left cells past two))
+    (eqb-true (get_or s width 0) 10 (and_right ((cells && past) && not semi) ends all))
+    (ltb-true 47 (get_or s 0 0) (and_right cells past two))
+    (eqb-false (get_or s 0 0) 59 (not-true semi (and_right (cells && past) (not semi) three)))

@@ -1,5 +1,4 @@
 -- What reading by lines means to a loop: a chart, and minimised text read back.
 pub mod Reading
-pub mod BackReading
 pub mod Marks
 pub mod ChartLines

@@ -88,11 +88,11 @@ impl<'a> Iterator for ChartLines<'a> {
 
     ghost remaining = { item_count (λ rest. rest) };
 
-    // A row of `width` bytes, as most lines are, is told by one look.
+    // A row whose newline stands at `width`, as most lines are, is told by one look.
     #[inline(always)]
     fn next(&mut self) -> Option<ChartLine<'a>> {
         let text = self.rest;
-        if crate::is_near_row(text, self.width) {
+        if crate::is_near_row(text, self.lanes, self.width) {
             self.rest = &text[self.width + 1..];
             return Some(ChartLine::Row(&text[..self.lanes.count]));
         }

@@ -6,17 +6,25 @@ pub mod back;
 pub mod charts;
 
 ghost use Rattle.std.specs.Prelude.{◌≡◌, ◌≤◌, length};
+ghost use Rattle.definitions.specs.Lists.{among};
 ghost use Rattle.definitions.specs.Lines.{is_row_line, kind_of};
 ghost use Rattle.reader.specs.Reading.{LineWidth, just_row, near_row};
 
 use definitions::{Lanes, LineKind};
 
-/// Whether a line that is nothing else is a row.
+// Whether one of some bytes is a carriage return.
+fn has_return(bytes: &[u8]) -> bool
+    ensures { result ≡ among 13 bytes.now }
+{
+    bytes.iter().any(|&b| b == 13)
+}
+
+/// Whether a line that is nothing else is a row: it has all cells, and none of them is a carriage return.
 #[tactic(auto, unfolding(definitions::specs::Lines::is_row_line))]
 pub fn is_row(line: &[u8], lanes: usize) -> bool
     ensures { result ≡ is_row_line lanes line.now }
 {
-    lanes <= line.len()
+    (lanes <= line.len()) && !has_return(&line[..lanes])
 }
 
 /// What a line is whose leading blanks are off.
@@ -33,36 +41,27 @@ pub fn line_kind(line: &[u8], lanes: usize) -> LineKind
     }
 }
 
-// Whether a text that goes on as `part` does begins with a row of `width` bytes, with nothing before it and byte 10 right after it. `width` is
-// that of the row's cells, or one more where a byte 13 follows them. Eight bytes from `from` on have all of a line of up to seven bytes, or the
-// last seven of a longer one, and the newline after it: that byte 10 is the first in them, and before them are at most four bytes, none of which
-// is one. The tests are joined without a branch.
-fn is_just_row(part: &[u8], width: usize) -> bool
+// Whether a text that goes on as `part` does begins with a row of all lanes, with nothing before it, and has a newline at `width`, which is right after
+// the cells, or one further on where a byte 13 follows them. No cell is below 16, so none is a newline or a byte 13. Where the newline is looked for one
+// further on, another may stand right after the cells: the empty line between the two is passed over anyway. The tests are joined without a branch.
+fn is_just_row(part: &[u8], lanes: Lanes, width: usize) -> bool
     requires twelve { 12 ≤ length part.now }
-    requires wide { 4 ≤ width }
-    requires narrow { width ≤ 11 }
-    ensures { result ≡ just_row width part.now }
+    requires narrow { LineWidth lanes.count width }
+    ensures { result ≡ just_row lanes.count width part.now }
 {
-    let from = width.saturating_sub(7);
     let first = part[0];
-    (lines::near_newline(part, from) == width - from)
-        & (part[1] != 10)
-        & (part[2] != 10)
-        & (part[3] != 10)
-        & (b'/' < first)
-        & (first != b';')
+    lines::starts_high(part, lanes.count) & (b'/' < first) & (first != b';') & (part[width] == 10)
 }
 
 // The same, and no near the text's end.
-fn is_near_row(part: &[u8], width: usize) -> bool
-    requires wide { 4 ≤ width }
-    requires narrow { width ≤ 11 }
-    ensures { result ≡ near_row width part.now }
+fn is_near_row(part: &[u8], lanes: Lanes, width: usize) -> bool
+    requires { LineWidth lanes.count width }
+    ensures { result ≡ near_row lanes.count width part.now }
 {
     if part.len() < 12 {
         return false;
     }
-    is_just_row(part, width)
+    is_just_row(part, lanes, width)
 }
 
 // How many bytes the line of a row has, as the first line of the text tells it: one more than its cells where byte 13 is its last. Where other

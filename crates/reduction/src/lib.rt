@@ -17,7 +17,7 @@ pub fn measure_reduce_shift(
     width: usize,
     lanes: usize,
 ) -> usize
-    requires wide { 0 < width }
+    requires some_width { 0 < width }
     requires cells_within { lanes ≤ width }
     requires in_text { start + rows * width ≤ length text.now }
     ensures value { 2 ^ result ≡ stride (rows_from width lanes rows start text.now) }
@@ -121,7 +121,7 @@ pub fn compact_output_rows(
 
 // Search and compaction of `rows` rows from `start` on, each with `after` bytes after its cells. A measure without rows stays as it is.
 fn reduce_measure(text: &mut [u8], start: usize, rows: usize, lanes: usize, after: usize) -> usize
-    requires wide { 0 < lanes + after }
+    requires some_width { 0 < lanes + after }
     requires in_text { start + rows * (lanes + after) ≤ length text.old }
     ensures value { result ≡ length (reduce (rows_from (lanes + after) lanes rows start text.old)) }
     ensures text_after { text.new ≡ reduced_in (lanes + after) lanes rows start text.old }

@@ -1,5 +1,5 @@
 -- What callers of the note writer go by: the state and the slice after some rows, what one more row asks, and the end.
-use Rattle.std.specs.Prelude.{◌≡◌, List, ℕ, ◌+◌, ◌*◌, ◌<◌, ◌≤◌, length}
+use Rattle.std.specs.Prelude.{◌≡◌, List, [], ◌∷◌, ◌++◌, ℕ, ◌+◌, ◌*◌, ◌<◌, ◌≤◌, length}
 use Rattle.definitions.specs.Sizes.{row_numbers_bound}
 use Rattle.definitions.specs.Lists.{joined, padded}
 use Rattle.definitions.specs.Lines.{Row}
@@ -44,6 +44,12 @@ pub record MaskReady (i n m : ℕ) (l : List ℕ) : Type 0 where
 abbrev pub after_taps : ChartNotesScratch → ℕ → ChartNotesScratch
 after_taps s n =
     record { hold_heads = s.hold_heads; count = n; row_index = s.row_index + 1; has_invalid = s.has_invalid }
+
+-- One row of taps more, by its mask: whatever struct, cells and rows before they are, and r is then the number of records.
+abbrev pub MaskWritten : ℕ → ℕ → ℕ → List ℕ → ℕ → List ℕ → Type 0
+MaskWritten i n m l r l' =
+    (s : ChartNotesScratch) (cells : Row) → MaskFits i n m l s cells
+    → (rows : List Row) → Written rows s l → Written (rows ++ (cells ∷ [])) (after_taps s r) l'
 
 pub record RowsWritten (s : ChartNotesScratch) (l : List ℕ) : Type 0 where
   pub rows : List Row

@@ -2,14 +2,14 @@
 // struct by value; a head's record stands in the slice from its row on, and a later cell of its column writes the tail or drops the record.
 #![tactic(auto)]
 
-ghost use Rattle.std.specs.Prelude.{◌≡◌, true, List, [], ◌∷◌, ◌++◌, ◌+◌, ◌*◌, ◌≤◌, ◌<◌, length};
+ghost use Rattle.std.specs.Prelude.{◌≡◌, true, List, ◌+◌, ◌*◌, ◌≤◌, ◌<◌, length};
 ghost use lib.Seq.{sets};
 ghost use Rattle.definitions.specs.Lists.{number_of_bool};
 ghost use Rattle.definitions.specs.Lines.{Row};
 ghost use Rattle.definitions.specs.Records.{fields};
 ghost use Rattle.row_notes.specs.Writer.{HeadThere, HoldEnded, invalid_after, no_head, no_tail, dropped, end_at, note_at, CellReady, HeadsEnded, Compacted, HoldsDrafts};
 ghost use Rattle.row_notes.specs.Masks.{LowOf};
-ghost use Rattle.row_notes.specs.Written.{Written, MaskFits, MaskReady, after_taps, RowsWritten, Finished};
+ghost use Rattle.row_notes.specs.Written.{Written, MaskReady, MaskWritten, RowsWritten, Finished};
 ghost use Rattle.row_notes.specs.declared.ChartNotesScratch.{ChartNotesScratch};
 
 use definitions::Kind;
@@ -126,9 +126,7 @@ fn low_bit(mask: u32) -> LowBit
 /// written whatever the mask is, and more only where it has more taps, so that few rows branch on theirs.
 pub fn push_mask(row: u32, number: usize, mask: u16, notes: &mut [u8]) -> usize
     requires { MaskReady row number mask notes.old }
-    ensures { (s : ChartNotesScratch) (cells : Row) → MaskFits row number mask notes.old s cells
-        → (rows : List Row) → Written rows s notes.old
-        → Written (rows ++ (cells ∷ [])) (after_taps s result) notes.new }
+    ensures { MaskWritten row number mask notes.old result notes.new }
 {
     let one = low_bit(u32::from(mask));
     let first = push_tap(row, number, one.column, one.tap, notes);

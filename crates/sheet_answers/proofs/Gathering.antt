@@ -9,10 +9,11 @@ use lib.ListN.{length, take}
 use Rattle.definitions.specs.Lanes.{most_rows_in}
 use Rattle.definitions.specs.Figures.{minimised_text}
 use Rattle.definitions.specs.Judged.{judged_tally}
-use Rattle.definitions.specs.ReadBack.{kept_tally}
+use Rattle.definitions.specs.ReadBack.{main_tally, MainKeptAgree}
 use Rattle.definitions.specs.Entries.{figures_of_chart, figures_of_kept}
 use Rattle.definitions.proofs.ChartRows.{minimised-short}
 use Rattle.definitions.proofs.LastByte.{judged-last}
+use Rattle.definitions.proofs.OwnRows.{main-kept-agree}
 use Rattle.definitions.specs.declared.ArrowStats.{ArrowStats}
 use Rattle.definitions.specs.declared.ChartFigures.{ChartFigures}
 use Rattle.definitions.specs.declared.KeptFigures.{KeptFigures}
@@ -35,11 +36,11 @@ module _ (L : ℕ) (text : List ℕ) where
       → t ≡ judged_tally L (minimised_text L text)
   judged-part h e f = f ∙ ap (λ (m : List ℕ). judged_tally L (take (length m - 1) m)) e ∙ judged-last L text h
 
-  -- the kept-row call's figures are the main call's but for the tally
-  pub kept-are : {a : ChartFigures} {t : ArrowStats} → a ≡ figures_of_chart L text → t ≡ kept_tally L text
+  -- the kept-row call's figures are the main call's, and so is its tally
+  pub kept-are : {a : ChartFigures} {t : ArrowStats} → a ≡ figures_of_chart L text → t ≡ main_tally L text
       → ◌≡◌ {A = KeptFigures} (record { bytes = a.bytes; measures = a.measures; rows = a.rows; stats = t }) (figures_of_kept L text)
-  unfolding figures_of_chart figures_of_kept
-  kept-are e t = made (ap (λ f. f.bytes) e) (ap (λ f. f.measures) e) (ap (λ f. f.rows) e) t
+  unfolding figures_of_chart figures_of_kept MainKeptAgree
+  kept-are e t = made (ap (λ f. f.bytes) e) (ap (λ f. f.measures) e) (ap (λ f. f.rows) e) (t ∙ main-kept-agree L text)
     where
       made : {a b c d f g : ℕ} {s t : ArrowStats} → a ≡ b → c ≡ d → f ≡ g → s ≡ t
           → ◌≡◌ {A = KeptFigures} (record { bytes = a; measures = c; rows = f; stats = s }) (record { bytes = b; measures = d; rows = g; stats = t })

@@ -30,8 +30,8 @@ fn judge_minimised(minimised: &[u8], lanes: Lanes, work: &mut [u16]) -> ArrowSta
     judged::judge_accepted(&minimised[..end], lanes, None, work)
 }
 
-/// All answers of an accepted text, and zeros past each in the lent slices. One pass over the text serves both calls: their tallies differ only in
-/// how the correction reads the minimised text back.
+/// All answers of an accepted text, and zeros past each in the lent slices. One pass over the text and one correction serve both calls: their
+/// tallies are the same.
 pub fn sheet_answers(
     data: &[u8],
     lanes: Lanes,
@@ -65,33 +65,23 @@ pub fn sheet_answers(
 {
     let pass = chart_pass::read_chart(data, lanes, text, densities, beats, notes);
     let bytes = pass.draft.out;
-    let phantoms = pass.walk.phantoms();
-    let main = corrected_tally::corrected_stats(
+    let stats = corrected_tally::corrected_stats(
         pass.walk.run.stats,
-        phantoms,
+        pass.walk.phantoms(),
         &text[0..bytes],
         lanes,
-        true,
-        work,
-    );
-    let kept = corrected_tally::corrected_stats(
-        pass.walk.run.stats,
-        phantoms,
-        &text[0..bytes],
-        lanes,
-        false,
         work,
     );
     let judged = judge_minimised(&text[0..bytes], lanes, work);
     scans::spacing::fill_spacing(data, lanes, spacing);
-    let chart = chart::end_chart(&pass, main, text, densities, beats, notes);
+    let chart = chart::end_chart(&pass, stats, text, densities, beats, notes);
     SheetFigures {
         chart,
         kept: KeptFigures {
             bytes: chart.bytes,
             measures: chart.measures,
             rows: chart.rows,
-            stats: kept,
+            stats,
         },
         judged,
     }

@@ -46,6 +46,12 @@ halves-all z l a h less both i within =
       | inr second ↦ ap (λ (j : ℕ). get_or l j z) (omega arith) ∙ (both (i - a) (omega arith)).1
     ]
 
+-- s is l with zeros from place f on, up to place a
+pub record ZeroedTo {A : Type 0} (z : A) (l s : List A) (f a : ℕ) : Type 0 where
+  pub onwards : f ≤ a
+  pub within : a ≤ length l
+  pub front : take a s ≡ take f l ++ replicate (a - f) z
+
 -- one part more of zeros, after those from f to a
 pub zeroed-next : {A : Type 0} (z : A) (l s part : List A) (f a k n m : ℕ) → f ≤ a → a ≤ length s → take a s ≡ take f l ++ replicate (a - f) z → part ≡ replicate m z → m ≡ n → take (a + n) (put_mid a k s part) ≡ take f l ++ replicate (a + n - f) z
 zeroed-next z l s part f a k n m h room so zeros all =

@@ -5,7 +5,8 @@ ghost use Rattle.stored.specs.Lent.{lent_text, lent_densities, lent_spacing, len
 /// For minimised text.
 #[tactic(auto, unfolding(crate::specs::Lent::lent_text))]
 pub fn text() -> [u8; 4096]
-    ensures { (result ≡ lent_text) × (4096 ≡ length result) }
+    ensures value { result ≡ lent_text }
+    ensures size { 4096 ≡ length result }
 {
     [165; 4096]
 }
@@ -13,7 +14,8 @@ pub fn text() -> [u8; 4096]
 /// For densities, one a measure.
 #[tactic(auto, unfolding(crate::specs::Lent::lent_densities))]
 pub fn densities() -> [u32; 2049]
-    ensures { (result ≡ lent_densities) × (2049 ≡ length result) }
+    ensures value { result ≡ lent_densities }
+    ensures size { 2049 ≡ length result }
 {
     [2779096485; 2049]
 }
@@ -21,7 +23,8 @@ pub fn densities() -> [u32; 2049]
 /// For the spacing, a byte a measure.
 #[tactic(auto, unfolding(crate::specs::Lent::lent_spacing))]
 pub fn spacing() -> [u8; 2049]
-    ensures { (result ≡ lent_spacing) × (2049 ≡ length result) }
+    ensures value { result ≡ lent_spacing }
+    ensures size { 2049 ≡ length result }
 {
     [165; 2049]
 }
@@ -29,7 +32,8 @@ pub fn spacing() -> [u8; 2049]
 /// For the beats of rows.
 #[tactic(auto, unfolding(crate::specs::Lent::lent_beats))]
 pub fn beats() -> [f32; 820]
-    ensures { (result ≡ lent_beats) × (820 ≡ length result) }
+    ensures value { result ≡ lent_beats }
+    ensures size { 820 ≡ length result }
 {
     [1.5; 820]
 }
@@ -37,7 +41,8 @@ pub fn beats() -> [f32; 820]
 /// The work slice.
 #[tactic(auto, unfolding(crate::specs::Lent::lent_work))]
 pub fn work() -> [u16; 820]
-    ensures { (result ≡ lent_work) × (820 ≡ length result) }
+    ensures value { result ≡ lent_work }
+    ensures size { 820 ≡ length result }
 {
     [42405; 820]
 }
@@ -45,7 +50,8 @@ pub fn work() -> [u16; 820]
 /// For note records of ten bytes.
 #[tactic(auto, unfolding(crate::specs::Lent::lent_notes))]
 pub fn notes() -> [u8; 40960]
-    ensures { (result ≡ lent_notes) × (40960 ≡ length result) }
+    ensures value { result ≡ lent_notes }
+    ensures size { 40960 ≡ length result }
 {
     [165; 40960]
 }
@@ -53,7 +59,8 @@ pub fn notes() -> [u8; 40960]
 /// For the 32 figures of a call on a text.
 #[tactic(auto, unfolding(crate::specs::Lent::lent_figures))]
 pub fn figures() -> [u64; 32]
-    ensures { (result ≡ lent_figures) × (32 ≡ length result) }
+    ensures value { result ≡ lent_figures }
+    ensures size { 32 ≡ length result }
 {
     [165; 32]
 }
@@ -61,7 +68,8 @@ pub fn figures() -> [u64; 32]
 /// For the three numbers of a chart inside an SM file.
 #[tactic(auto, unfolding(crate::specs::Lent::lent_chart))]
 pub fn chart() -> [u64; 3]
-    ensures { (result ≡ lent_chart) × (3 ≡ length result) }
+    ensures value { result ≡ lent_chart }
+    ensures size { 3 ≡ length result }
 {
     [165; 3]
 }

@@ -1,5 +1,5 @@
 -- Ordinary rows: what one more asks, and a measure of which some rows are walked.
-use Rattle.std.specs.Prelude.{◌≡◌, Bool, if◌then◌else◌, not, List, [], ◌∷◌, ◌++◌, ℕ, ◌+◌, ◌-◌, ◌*◌, ◌<◌, ◌≤◌, ◌==◌, length, take}
+use Rattle.std.specs.Prelude.{◌≡◌, Bool, if◌then◌else◌, not, List, ℕ, ◌+◌, ◌-◌, ◌*◌, ◌<◌, ◌≤◌, ◌==◌, length, take}
 use Rattle.definitions.specs.Sizes.{count_bound, measures_bound, row_count_bound}
 use Rattle.definitions.specs.Lists.{joined}
 use Rattle.definitions.specs.Lines.{Row}
@@ -7,8 +7,7 @@ use Rattle.definitions.specs.Tally.{row_sum, tally_with_row}
 use Rattle.taps.specs.Taps.{mask_of_line, masks}
 use Rattle.taps.specs.declared.Taps.TheVariants.{Mask}
 use Rattle.row_tally.specs.Bounds.{Below}
-use Rattle.row_notes.specs.declared.ChartNotesScratch.{ChartNotesScratch}
-use Rattle.row_notes.specs.Written.{Written, MaskFits, MaskReady, after_taps}
+use Rattle.row_notes.specs.Written.{MaskReady, MaskWritten}
 use Rattle.row_walk.specs.declared.Columns.{Columns}
 use Rattle.measure_tally.specs.declared.Counting.{Counting}
 use Rattle.measure_tally.specs.Counted.{Counted, CountsOn}
@@ -26,7 +25,7 @@ pub record TapsReady (r : Run) (mask : ℕ) (wide : Bool) (l : List ℕ) : Type 
 pub record TapsAdded (r : Run) (mask : ℕ) (l l' : List ℕ) (t : Run) : Type 0 where
   pub marks : t.marks ≡ r.marks
   pub stats : (cells : Row) → mask_of_line cells ≡ Mask mask → t.stats ≡ tally_with_row r.stats (row_sum cells)
-  pub written : (s : ChartNotesScratch) (cells : Row) → MaskFits r.row r.count mask l s cells → (rows : List Row) → Written rows s l → Written (rows ++ (cells ∷ [])) (after_taps s t.count) l'
+  pub written : MaskWritten r.row r.count mask l t.count l'
   pub row : t.row ≡ r.row + 1
   pub last : t.last ≡ if not (mask == 0) then r.row + 1 else r.last
 

@@ -1,7 +1,8 @@
-//! The eight chart calls of the outside interface, each as the Rust answers it.
+//! The eight chart calls of the outside interface, each as the Rust answers it, which is asked about the text that `asked` says.
 //! A text that a call would refuse is answered here all the same; `entry` has the refusals.
 
 use super::*;
+use crate::asked::{chart_text, read_back_text};
 
 /// Places in `figures`; the tally takes the fourteen places from `TALLY` on.
 pub const TEXT_BYTES: usize = 0;
@@ -150,6 +151,7 @@ pub fn lanes_in_force(lanes: usize) -> usize {
 #[must_use]
 pub fn minimize_chart_count_rows_notes(data: &[u8], lanes: usize) -> Answer {
     let mut chart_notes = ChartNotesScratch::default();
+    let data = &chart_text(data, lanes_in_force(lanes));
     let (text, stats, densities, beats, last) =
         super::minimize_chart_count_rows_notes(data, lanes, &mut chart_notes);
     let mut answer = Answer::default();
@@ -167,6 +169,7 @@ pub fn minimize_chart_count_rows_notes(data: &[u8], lanes: usize) -> Answer {
 /// The kept-row call: `process_chart_in_impl` with KEEP.
 #[must_use]
 pub fn process_chart_kept(data: &[u8], lanes: usize) -> Answer {
+    let data = &chart_text(data, lanes_in_force(lanes));
     dispatch_lanes!(lanes, kept(data))
 }
 
@@ -189,6 +192,7 @@ fn kept<const L: usize>(data: &[u8]) -> Answer {
 
 #[must_use]
 pub fn minimize_timing_rows(data: &[u8], lanes: usize) -> Answer {
+    let data = &chart_text(data, lanes_in_force(lanes));
     dispatch_lanes!(lanes, timing_rows(data))
 }
 
@@ -208,6 +212,7 @@ fn timing_rows<const L: usize>(data: &[u8]) -> Answer {
 pub fn measure_densities(data: &[u8], lanes: usize) -> Answer {
     let divisor = lanes.wrapping_add(1).wrapping_mul(4);
     let lanes = if divisor == 0 { 4 } else { lanes };
+    let data = &chart_text(data, lanes_in_force(lanes));
     let mut answer = Answer::default();
     answer.set_densities(&measure_densities_unchanged(data, lanes));
     answer
@@ -221,6 +226,7 @@ pub fn measure_densities_unchanged(data: &[u8], lanes: usize) -> Vec<usize> {
 
 #[must_use]
 pub fn equally_spaced(data: &[u8], lanes: usize) -> Answer {
+    let data = &chart_text(data, lanes_in_force(lanes));
     let spacing = dispatch_lanes!(lanes, equally_spaced_impl(data));
     let mut answer = Answer::default();
     answer.figures[MEASURES] = spacing.len() as u64;
@@ -230,6 +236,7 @@ pub fn equally_spaced(data: &[u8], lanes: usize) -> Answer {
 
 #[must_use]
 pub fn chart_last_beat(data: &[u8], lanes: usize) -> Answer {
+    let data = &chart_text(data, lanes_in_force(lanes));
     let mut answer = Answer::default();
     answer.set_last_beat(dispatch_lanes!(lanes, chart_last_beat_impl(data)));
     answer
@@ -238,6 +245,7 @@ pub fn chart_last_beat(data: &[u8], lanes: usize) -> Answer {
 /// The judged tally without flags, over the rows that `parse_minimized_rows` reads.
 #[must_use]
 pub fn process_rows_judgable(data: &[u8], lanes: usize) -> Answer {
+    let data = &read_back_text(data, lanes_in_force(lanes));
     tally_alone(&dispatch_lanes!(lanes, judged_rows(data)))
 }
 
@@ -248,6 +256,7 @@ fn judged_rows<const L: usize>(data: &[u8]) -> ArrowStats {
 /// The judged tally with one flag a row: 0 unjudged, else judged, past the flags judged.
 #[must_use]
 pub fn process_timing_rows(data: &[u8], lanes: usize, flags: &[u8]) -> Answer {
+    let data = &read_back_text(data, lanes_in_force(lanes));
     tally_alone(&dispatch_lanes!(lanes, judged_by_flags(data, flags)))
 }
 

@@ -8,16 +8,15 @@ use Rattle.definitions.specs.Figures.{minimised_text, densities}
 use Rattle.definitions.specs.Beats.{f32, beats}
 use Rattle.definitions.specs.Notes.{notes}
 use Rattle.definitions.specs.Records.{records}
-use Rattle.kept_pass.proofs.Answering.{all-recount, none-off}
+use Rattle.kept_pass.proofs.Answering.{all-recount, all-tally, none-off}
 use Rattle.phantoms.specs.Phantoms.{Counts}
 use Rattle.chart.specs.Ends.{ChartRead}
-use Rattle.chart.proofs.Answering.{tally-told}
 use Rattle.chart.proofs.chart_figures.Goals as goal
 use Rattle.chart.proofs.chart_figures.Goals.{After-corrected_stats-stats}
 
 pub corrected_stats-stats-requires : goal.corrected_stats-stats-requires
 corrected_stats-stats-requires c =
-    all-recount _ _ _ _ _ c.read_chart-pass.ensures.kept _ c.args.work.now (omega (arith, c.args.lanes.within.0)) c.requires.text_length c.requires.work_room
+    all-recount _ _ _ _ _ c.read_chart-pass.ensures.kept c.args.work.now (omega (arith, c.args.lanes.within.0)) c.requires.text_length c.requires.work_room
 
 abbrev chart-read : (c : After-corrected_stats-stats) → ChartRead c.read_chart-pass.result c.read_chart-pass.new.text c.read_chart-pass.new.densities c.read_chart-pass.new.beats c.read_chart-pass.new.slots
 chart-read c = record {
@@ -38,7 +37,7 @@ returns c =
     let pass = c.read_chart-pass in
     let x = pass.ensures in
     let counts = subst (Counts L (joined (minimised L text))) (sym c.phantoms.ensures) x.kept.phantoms in
-    let a = c.end_chart.ensures (chart-read (goal.at.returns c).After-corrected_stats-stats) (tally-told _ _ _ _ _ _ _ x _ (c.corrected_stats-stats.ensures.value _ counts x.kept.stats)) in record {
+    let a = c.end_chart.ensures (chart-read (goal.at.returns c).After-corrected_stats-stats) (all-tally _ _ _ _ _ x.kept (c.corrected_stats-stats.ensures.value _ counts x.kept.stats)) in record {
       value = a.value;
       text_after = a.text_is ∙ ap (λ n. padded 0 n (minimised_text L text)) pass.auto.text;
       densities_after = a.densities_are ∙ ap (λ n. padded 0 n (densities L text)) pass.auto.densities;

@@ -10,7 +10,7 @@ use Rattle.corrected_tally.proofs.count_paired.Goals as goal
 
 pub loop-cells-init : goal.loop-cells-init
 loop-cells-init c =
-    back-start _ _ _ (c.into_iter-cells-iterator.ensures.into_iter_gives ∙ c.back_rows-cells-items.ensures) c.args.lanes.within.0
+    back-start _ _ (c.into_iter-cells-iterator.ensures.into_iter_gives ∙ c.back_rows-cells-items.ensures) c.args.lanes.within.0
     (counting-start _ _ c.no_stats-stats.ensures)
 
 pub count_row-requires : goal.count_row-requires

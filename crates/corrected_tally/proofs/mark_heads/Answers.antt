@@ -7,7 +7,7 @@ use Rattle.corrected_tally.proofs.mark_heads.Goals as goal
 
 pub loop-cells-init : goal.loop-cells-init
 loop-cells-init c =
-    back-start _ _ _ (c.into_iter-cells-iterator.ensures.into_iter_gives ∙ c.back_rows-cells-items.ensures) c.args.lanes.within.0
+    back-start _ _ (c.into_iter-cells-iterator.ensures.into_iter_gives ∙ c.back_rows-cells-items.ensures) c.args.lanes.within.0
     (marking-start _ _ c.new-tracker.ensures c.requires.clear)
 
 -- a row's entry stands in the work slice

@@ -4,4 +4,4 @@ use Rattle.corrected_tally.proofs.Marking.{Marking}
 use Rattle.corrected_tally.proofs.mark_heads.Given as goal
 
 abbrev pub invariant-loop-cells : goal.invariant-loop-cells
-invariant-loop-cells l = BackHolds l.trim l.fn.lanes.count l.text (λ rows. Marking rows l.row l.tracker l.work) l.yielded l.cells-iterator
+invariant-loop-cells l = BackHolds l.fn.lanes.count l.text (λ rows. Marking rows l.row l.tracker l.work) l.yielded l.cells-iterator

@@ -49,10 +49,10 @@ module _ (L d : ℕ) (old new : List ℕ) (x : Differ L d old new) where
   unfolding minimised
   but = but-map reduce (charts-but x)
 
-  same_before : rows_above L d old ≡ rows_above L d new
+  pub same_before : rows_above L d old ≡ rows_above L d new
   same_before = ap joined (takes but d (zero-add d))
 
-  same-later : drop (suc d) (minimised L old) ≡ drop (suc d) (minimised L new)
+  pub same-later : drop (suc d) (minimised L old) ≡ drop (suc d) (minimised L new)
   same-later = drops but d (zero-add d)
 
   later_notes : AllZip (Shifted (length (rows_of L d old)) (length (rows_of L d new))) (later L d old) (later L d new)

@@ -1,8 +1,7 @@
 -- `judged::tally_timing_rows` meets its contract. The loop's invariant: the tally and the open holds are those of the rows that have come, whichever
 -- rows are judged.
 use Prim.Native.Nat.{ℕ, ◌<◌, ◌*◌, ◌≤◌}
-use mathlib.Core.Path.{◌≡◌, sym, ◌∙◌}
-use mathlib.Core.Bool.{true}
+use mathlib.Core.Path.{◌≡◌, ◌∙◌}
 use mathlib.Core.List.{List, [], ◌∷◌}
 use native.Mathlib.Omega.{arith}
 use lib.ListN.{length, get_or}
@@ -11,7 +10,6 @@ use Rattle.definitions.specs.Sizes.{count_bound}
 use Rattle.definitions.specs.ReadBack.{rows_read_back}
 use Rattle.taps.proofs.Free.{free-told}
 use Rattle.taps.proofs.Masks.{below-at, fits-table}
-use Rattle.reader.proofs.BackReading.{back-trimmed}
 use Rattle.reader.proofs.BackLoops.{BackCome, came, back-start, back-more, next-inside, next-here, next-wide, all-came, short-back}
 use Rattle.judged.proofs.Tallying.{tallying-start, tallying-few, tallying-enough, tallying-row, tallying-taps, tallying-end}
 use Rattle.judged.proofs.tally_timing_rows.Goals.{In-Some, in-Mask, in-Other}
@@ -23,12 +21,12 @@ record Here (L : ℕ) (text : List ℕ) (rows : List Row) (cells : Row) : Type 0
   here : get_or (rows_read_back L text) (length rows) [] ≡ cells
   inside : length rows < length (rows_read_back L text)
 
-here : {L : ℕ} {text : List ℕ} {rows rest : List Row} → BackCome true L text rows rest → {cells : Row} {below : List Row} → rest ≡ cells ∷ below → Here L text rows cells
-here {L = L} {text = text} x e =
+here : {L : ℕ} {text : List ℕ} {rows rest : List Row} → BackCome L text rows rest → {cells : Row} {below : List Row} → rest ≡ cells ∷ below → Here L text rows cells
+here x e =
     record {
       wide = next-wide x e;
-      here = rw (← back-trimmed L text) (next-here x e);
-      inside = rw (← back-trimmed L text) (next-inside x e);
+      here = next-here x e;
+      inside = next-inside x e;
     }
 
 row-here : (c : In-Some) → Here c.args.lanes.count c.args.«data».now (came c.loop-cells.yielded) c.in-Some.cells.now
@@ -46,7 +44,7 @@ few c = omega (arith, c.loop-cells.invariant.come.few, c.requires.text_length)
 
 pub loop-cells-init : goal.loop-cells-init
 loop-cells-init c =
-    back-start _ _ _ (c.into_iter-cells-iterator.ensures.into_iter_gives ∙ c.back_rows-cells-items.ensures) c.args.lanes.within.0
+    back-start _ _ (c.into_iter-cells-iterator.ensures.into_iter_gives ∙ c.back_rows-cells-items.ensures) c.args.lanes.within.0
     (λ J w. tallying-start _ _ _ _ c.new-tally.ensures)
 
 pub offset_bounds-work-row : goal.offset_bounds-work-row
@@ -97,4 +95,4 @@ loop-cells-preserved c =
 pub returns : goal.returns
 returns c =
     λ J w.
-    tallying-end _ _ _ _ _ _ (c.loop-cells.invariant.held J w) (sym (back-trimmed _ _) ∙ all-came c.loop-cells.invariant.come c.in-None.ensures.steps.0)
+    tallying-end _ _ _ _ _ _ (c.loop-cells.invariant.held J w) (all-came c.loop-cells.invariant.come c.in-None.ensures.steps.0)

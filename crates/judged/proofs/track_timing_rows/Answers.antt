@@ -1,14 +1,13 @@
 -- `judged::track_timing_rows` meets its contract. The loop's invariant: the tracker and the work slice are those of the rows that have come.
 use mathlib.Core.Path.{sym, ◌∙◌}
 use native.Mathlib.Omega.{arith}
-use Rattle.reader.proofs.BackReading.{back-trimmed}
 use Rattle.reader.proofs.BackLoops.{back-start, back-more, next-inside, next-wide, all-came}
 use Rattle.judged.proofs.Tracking.{tracking-start, tracking-reached, tracking-row, tracking-end}
 use Rattle.judged.proofs.track_timing_rows.Goals as goal
 
 pub loop-cells-init : goal.loop-cells-init
 loop-cells-init c =
-    back-start _ _ _ (c.into_iter-cells-iterator.ensures.into_iter_gives ∙ c.back_rows-cells-items.ensures) c.args.lanes.within.0
+    back-start _ _ (c.into_iter-cells-iterator.ensures.into_iter_gives ∙ c.back_rows-cells-items.ensures) c.args.lanes.within.0
     (tracking-start _ _ c.args.work.now _ c.new-tracker.ensures c.zero_past.ensures)
 
 -- a row's entry stands in the work slice
@@ -27,4 +26,4 @@ loop-cells-preserved c =
 
 pub returns : goal.returns
 returns c =
-    tracking-end _ _ _ _ _ c.loop-cells.invariant.held _ (sym (back-trimmed _ _) ∙ all-came c.loop-cells.invariant.come c.in-None.ensures.steps.0)
+    tracking-end _ _ _ _ _ c.loop-cells.invariant.held _ (all-came c.loop-cells.invariant.come c.in-None.ensures.steps.0)

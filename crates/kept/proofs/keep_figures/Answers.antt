@@ -2,13 +2,13 @@
 use mathlib.Core.Path.{◌∙◌}
 use native.Mathlib.Omega.{arith}
 use lib.ListN.{length}
-use Rattle.kept_pass.proofs.Answering.{all-text, all-densities, all-recount, none-off}
-use Rattle.kept.proofs.Answering.{tally-told, all-figures}
+use Rattle.kept_pass.proofs.Answering.{all-text, all-densities, all-recount, all-tally, none-off}
+use Rattle.kept.proofs.Answering.{all-figures}
 use Rattle.kept.proofs.keep_figures.Goals as goal
 
 pub corrected_stats-stats-requires : goal.corrected_stats-stats-requires
 corrected_stats-stats-requires c =
-    all-recount _ _ _ _ _ c.keep_chart-pass.ensures _ c.args.work.now (omega (arith, c.args.lanes.within.0)) c.requires.text_length c.requires.work_room
+    all-recount _ _ _ _ _ c.keep_chart-pass.ensures c.args.work.now (omega (arith, c.args.lanes.within.0)) c.requires.text_length c.requires.work_room
 
 pub returns : goal.returns
 returns c =
@@ -16,7 +16,7 @@ returns c =
     let x = k.ensures in
     let r = c.corrected_stats-stats.ensures in
     record {
-      value = all-figures _ _ _ _ _ x _ _ (tally-told _ _ _ _ _ x _ (omega (arith, c.args.lanes.within.0)) (r.value _ x.phantoms x.stats)) c.finish.ensures.value;
+      value = all-figures _ _ _ _ _ x _ _ (all-tally _ _ _ _ _ x (r.value _ x.phantoms x.stats)) c.finish.ensures.value;
       text_after = c.finish.ensures.text_after ∙ all-text _ _ _ _ _ x (length c.args.text.now) k.auto.text c.requires.text_room;
       densities_after = c.finish.ensures.densities_after ∙ all-densities _ _ _ _ _ x (length c.args.densities.now) k.auto.densities;
       work_after = r.work_after ∙ none-off (length c.args.work.now);

@@ -1,5 +1,5 @@
--- `sheet_answers::sheet_answers` meets its contract: what the pass leaves, its tally corrected over both readings of the minimised text, and the
--- judged tally of that text.
+-- `sheet_answers::sheet_answers` meets its contract: what the pass leaves, its tally corrected over the minimised text read back, and the judged tally
+-- of that text.
 use mathlib.Core.Path.{ap, sym, ◌∙◌, subst}
 use mathlib.Core.List.{[]}
 use Prim.Native.Nat.{ℕ, ◌≤◌}
@@ -11,21 +11,15 @@ use Rattle.definitions.specs.Beats.{f32, beats}
 use Rattle.definitions.specs.Notes.{notes}
 use Rattle.definitions.specs.Records.{records}
 use Rattle.phantoms.specs.Phantoms.{Counts}
-use Rattle.kept_pass.proofs.Answering.{own-part, all-recount}
+use Rattle.kept_pass.proofs.Answering.{own-part, all-recount, all-tally}
 use Rattle.chart.specs.Ends.{ChartRead}
-use Rattle.chart.proofs.Answering as main
-use Rattle.kept.proofs.Answering as kept
 use Rattle.sheet_answers.proofs.Gathering.{rows-fewer, minimised-less, judged-part, kept-are, figures-are}
 use Rattle.sheet_answers.proofs.sheet_answers.Goals as goal
 use Rattle.sheet_answers.proofs.sheet_answers.Goals.{After-fill_spacing}
 
-pub corrected_stats-main-requires : goal.corrected_stats-main-requires
-corrected_stats-main-requires c =
-    all-recount _ _ _ _ _ c.read_chart-pass.ensures.kept _ c.args.work.now (omega (arith, c.args.lanes.within.0)) c.requires.text_length c.requires.work_room
-
-pub corrected_stats-kept-requires : goal.corrected_stats-kept-requires
-corrected_stats-kept-requires c =
-    all-recount _ _ _ _ _ c.read_chart-pass.ensures.kept _ c.corrected_stats-main.new.work (omega (arith, c.args.lanes.within.0)) c.requires.text_length (omega arith)
+pub corrected_stats-stats-requires : goal.corrected_stats-stats-requires
+corrected_stats-stats-requires c =
+    all-recount _ _ _ _ _ c.read_chart-pass.ensures.kept c.args.work.now (omega (arith, c.args.lanes.within.0)) c.requires.text_length c.requires.work_room
 
 -- the minimised text has no more rows than the text once its last byte is left out
 pub judge_minimised-judged-requires : goal.judge_minimised-judged-requires
@@ -57,18 +51,18 @@ returns c =
     let k = x.kept in
     let L = c.args.lanes.count in
     let text = c.args.data.now in
-    let counts = subst (Counts L (joined (minimised L text))) (sym c.phantoms-phantoms.ensures) k.phantoms in
-    let a = c.end_chart-chart.ensures (chart-read (goal.at.returns c).After-fill_spacing) (main.tally-told _ _ _ _ _ _ _ x _ (c.corrected_stats-main.ensures.value _ counts k.stats)) in
-    let wide : 1 ≤ L = omega (arith, c.args.lanes.within.0) in
+    let counts = subst (Counts L (joined (minimised L text))) (sym c.phantoms.ensures) k.phantoms in
+    let tally = all-tally _ _ _ _ _ k (c.corrected_stats-stats.ensures.value _ counts k.stats) in
+    let a = c.end_chart-chart.ensures (chart-read (goal.at.returns c).After-fill_spacing) tally in
     record {
       value =
           figures-are L text a.value
-          (kept-are L text a.value (kept.tally-told _ _ _ _ _ k _ wide (c.corrected_stats-kept.ensures.value _ counts k.stats)))
-          (judged-part L text wide (own-part _ _ _ _ _ k) c.judge_minimised-judged.ensures.value);
+          (kept-are L text a.value tally)
+          (judged-part L text (omega (arith, c.args.lanes.within.0)) (own-part _ _ _ _ _ k) c.judge_minimised-judged.ensures.value);
       text_after = a.text_is ∙ ap (λ n. padded 0 n (minimised_text L text)) pass.auto.text;
       densities_after = a.densities_are ∙ ap (λ n. padded 0 n (densities L text)) pass.auto.densities;
       spacing_after = c.fill_spacing.ensures.spacing_after;
       beats_after = a.beats_are ∙ ap (λ n. padded (f32 0) n (beats L text)) pass.auto.beats;
-      work_after = c.judge_minimised-judged.ensures.work_after ∙ ap (λ (n : ℕ). padded 0 n []) (c.corrected_stats-kept.auto.work ∙ c.corrected_stats-main.auto.work);
+      work_after = c.judge_minimised-judged.ensures.work_after ∙ ap (λ (n : ℕ). padded 0 n []) c.corrected_stats-stats.auto.work;
       notes_after = a.slots_are ∙ ap (λ n. padded 0 n (records (notes L text))) pass.auto.slots;
     }

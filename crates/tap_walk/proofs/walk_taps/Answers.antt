@@ -44,11 +44,11 @@ abbrev number : In-Mask → ℕ
 number c = c.loop-run.run.row - c.args.first
 
 below : (c : In-Mask) → number c < c.args.rows
-below c = omega (arith, c.loop-run-test.true, c.requires.first_row, c.loop-run.invariant.0)
+below c = omega (arith, c.loop-run-test.true, c.requires.first_row, c.loop-run.invariant.onwards)
 
 -- it has `lanes` bytes
 wide : (c : In-Mask) → length (part c.args.table.now.lanes.count c.args.text.now c.loop-run.at) ≡ c.args.table.now.lanes.count
-wide c = row-wide c.args.table.now.lanes.count c.args.rows c.args.text.now c.args.start c.requires.in_text (number c) c.loop-run.at (below c) c.loop-run.invariant.2
+wide c = row-wide c.args.table.now.lanes.count c.args.rows c.args.text.now c.args.start c.requires.in_text (number c) c.loop-run.at (below c) c.loop-run.invariant.stands
 
 -- what is walked so far
 walked : (c : In-Mask) →
@@ -56,7 +56,7 @@ walked : (c : In-Mask) →
     Walking c.args.table.now.lanes.count (counting_of q c.args.columns.now c.loop-run.run) (noting_of c.args.first q c.args.columns.now c.loop-run.run) c.loop-run.slots (all c) (number c)
 walked c =
     let q = c.requires.running.rest in
-    walked_on c.args.table.now.lanes.count _ _ _ _ _ _ _ _ _ c.requires.running.walking c.loop-run.invariant.3 (c.loop-run.invariant.4 q) (c.loop-run.invariant.5 q)
+    walked_on c.args.table.now.lanes.count _ _ _ _ _ _ _ _ _ c.requires.running.walking c.loop-run.invariant.same (c.loop-run.invariant.counted q) (c.loop-run.invariant.noted q)
 
 -- it is one of the measure's
 within : (c : In-Mask) → number c < length (all c)
@@ -97,18 +97,19 @@ loop-run-preserved c =
     let ms = all k in
     let t = c.add_taps.ensures in
     let free = free-told c.free_taps.ensures c.in-Mask.is in
-    let next : c.add_taps.new.run.row - a.first ≡ i + 1 = omega (arith, t.row, pre.first_row, v.invariant.0) in
-    let more = ap (λ n. take n ms) next ∙ row_more L a.rows a.text.now a.start pre.in_text i v.at (below k) v.invariant.2 in
-    let above : a.first ≤ v.run.row = omega (arith, pre.first_row, v.invariant.0) in
+    let next : c.add_taps.new.run.row - a.first ≡ i + 1 = omega (arith, t.row, pre.first_row, v.invariant.onwards) in
+    let more = ap (λ n. take n ms) next ∙ row_more L a.rows a.text.now a.start pre.in_text i v.at (below k) v.invariant.stands in
+    let above : a.first ≤ v.run.row = omega (arith, pre.first_row, v.invariant.onwards) in
     let counted = count-few _ _ _ _ _ _ (walked k) (within k) in
     let width = wide k in
-    let noted = note-ready _ _ _ _ _ _ (walked k) (within k) (part L a.text.now v.at) width narrow in (
-      omega (arith, v.invariant.0, t.row),
-      omega (arith, t.row, c.loop-run-test.true),
-      next-at v.at a.start i L v.invariant.2 ∙ ap (λ n. a.start + n * (L + 1)) (sym next),
-      c.add_taps.auto.slots ∙ v.invariant.3,
-      (λ q done x. subst (Counted L _ done) (sym more)
-          (counted-taps L q a.columns.now v.run _ _ done (take i ms) _ _ _ t free (omega (arith, width)) narrow (v.invariant.4 q done x))),
-      (λ q done x. subst (NotedRows L _ _ done) (sym more)
-          (noted-taps L q a.columns.now v.run _ _ done (take i ms) _ _ _ t free (omega (arith, width)) a.first above counted.0 (omega (arith, width, narrow)) noted.room.room (v.invariant.5 q done x))),
-    )
+    let noted = note-ready _ _ _ _ _ _ (walked k) (within k) (part L a.text.now v.at) width narrow in
+    record {
+      onwards = omega (arith, v.invariant.onwards, t.row);
+      inside = omega (arith, t.row, c.loop-run-test.true);
+      stands = next-at v.at a.start i L v.invariant.stands ∙ ap (λ n. a.start + n * (L + 1)) (sym next);
+      same = c.add_taps.auto.slots ∙ v.invariant.same;
+      counted = λ q done x. subst (Counted L _ done) (sym more)
+          (counted-taps L q a.columns.now v.run _ _ done (take i ms) _ _ _ t free (omega (arith, width)) narrow (v.invariant.counted q done x));
+      noted = λ q done x. subst (NotedRows L _ _ done) (sym more)
+          (noted-taps L q a.columns.now v.run _ _ done (take i ms) _ _ _ t free (omega (arith, width)) a.first above counted.0 (omega (arith, width, narrow)) noted.room.room (v.invariant.noted q done x));
+    }

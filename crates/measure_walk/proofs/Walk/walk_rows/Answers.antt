@@ -29,25 +29,26 @@ none n ms = let zero : 0 ≡ n - n = omega arith in ap (λ i. take i ms) zero
 pub loop-run-init : goal.loop-run-init
 loop-run-init c =
     let n = c.args.self.now.run.row in
-    let ms = rows_of c.args.table.now.lanes.count c.args.rows c.args.text.now c.args.start in (
-      omega arith,
-      omega arith,
-      refl,
-      c.requires.ten,
-      (λ done x. subst (Counted c.args.table.now.lanes.count _ done) (none n ms) x),
-      (λ done x. subst (NotedRows c.args.table.now.lanes.count _ _ done) (none n ms) x),
-    )
+    let ms = rows_of c.args.table.now.lanes.count c.args.rows c.args.text.now c.args.start in
+    record {
+      onwards = omega arith;
+      inside = omega arith;
+      same = refl;
+      ten = c.requires.ten;
+      counted = λ done x. subst (Counted c.args.table.now.lanes.count _ done) (none n ms) x;
+      noted = λ done x. subst (NotedRows c.args.table.now.lanes.count _ _ done) (none n ms) x;
+    }
 
 pub walk_taps-requires : goal.walk_taps-requires
 walk_taps-requires c =
     let v = c.loop-run.invariant in
     record {
       in_text = c.requires.in_text;
-      first_row = v.0;
-      in_measure = v.1;
+      first_row = v.onwards;
+      in_measure = v.inside;
       running = record {
         rest = rest c.loop-run.self;
-        walking = walked_on _ _ _ _ _ _ _ _ 0 _ c.requires.walking v.2 v.4 v.5;
+        walking = walked_on _ _ _ _ _ _ _ _ 0 _ c.requires.walking v.same v.counted v.noted;
       };
     }
 
@@ -68,7 +69,7 @@ walked : (c : After-walk_taps) →
 walked c =
     let t = c.walk_taps in
     let v = c.loop-run.invariant in
-    walked_on _ _ _ _ _ _ _ _ 0 _ c.requires.walking (t.auto.slots ∙ v.2) (λ done x. t.ensures.counted (rest c.loop-run.self) done (v.4 done x)) (λ done x. t.ensures.noted_rows (rest c.loop-run.self) done (v.5 done x))
+    walked_on _ _ _ _ _ _ _ _ 0 _ c.requires.walking (t.auto.slots ∙ v.same) (λ done x. t.ensures.counted (rest c.loop-run.self) done (v.counted done x)) (λ done x. t.ensures.noted_rows (rest c.loop-run.self) done (v.noted done x))
 
 -- ---- no row is left
 
@@ -78,7 +79,7 @@ end_rows-requires c =
     let h : number k ≤ length (all k) = rw rows-length (omega (arith, c.walk_taps.ensures.in_measure)) in
     let ready = measure-ready _ _ _ _ _ _ (walked k) h in
     record {
-      first_row = omega (arith, c.walk_taps.ensures.onwards, c.loop-run.invariant.0);
+      first_row = omega (arith, c.walk_taps.ensures.onwards, c.loop-run.invariant.onwards);
       rows_few = ready.0;
       measures_few = ready.1;
     }
@@ -90,9 +91,9 @@ returns-then-rows-i c =
     let t = c.walk_taps.ensures in
     let whole = take_all (number k) (all k) (rw rows-length c.if-rows-i.true) in
     record {
-      ten = rw c.end_rows.ensures.columns_stay v.3;
-      counted = λ done x. rw c.end_rows.ensures.counting_stays (subst (Counted c.args.table.now.lanes.count _ done) whole (t.counted (rest k.loop-run.self) done (v.4 done x)));
-      noted = λ done x. c.end_rows.ensures.noted c.args.table.now.lanes.count _ done (all k) (subst (NotedRows c.args.table.now.lanes.count _ _ done) whole (t.noted_rows (rest k.loop-run.self) done (v.5 done x)));
+      ten = rw c.end_rows.ensures.columns_stay v.ten;
+      counted = λ done x. rw c.end_rows.ensures.counting_stays (subst (Counted c.args.table.now.lanes.count _ done) whole (t.counted (rest k.loop-run.self) done (v.counted done x)));
+      noted = λ done x. c.end_rows.ensures.noted c.args.table.now.lanes.count _ done (all k) (subst (NotedRows c.args.table.now.lanes.count _ _ done) whole (t.noted_rows (rest k.loop-run.self) done (v.noted done x)));
     }
 
 -- ---- the next row is not ordinary
@@ -109,7 +110,7 @@ walk_cells-s-requires c =
     let row = part L a.text.now at in
     let wide = row-wide L a.rows a.text.now a.start c.requires.in_text (number k) at c.if-rows-i.false refl in
     let ready = note-ready _ _ _ _ _ _ (walked k) h row wide narrow in
-    cells-asked a.self.now.run.row (rest k.loop-run.self) c.loop-run.self.columns c.walk_taps.new.run row _ few.0 few.1 ready c.loop-run.invariant.3
+    cells-asked a.self.now.run.row (rest k.loop-run.self) c.loop-run.self.columns c.walk_taps.new.run row _ few.0 few.1 ready c.loop-run.invariant.ten
 
 pub add_cells-requires : goal.add_cells-requires
 add_cells-requires c =
@@ -137,17 +138,18 @@ loop-run-preserved c =
     let i = number k in
     let ms = all k in
     let at = a.start + i * (L + 1) in
-    let above : a.self.now.run.row ≤ t.new.run.row = omega (arith, t.ensures.onwards, v.0) in
+    let above : a.self.now.run.row ≤ t.new.run.row = omega (arith, t.ensures.onwards, v.onwards) in
     let row : c.add_cells.new.self.row ≡ t.new.run.row + 1 = ap (λ (x : Run). x.row) e in
     let next : c.add_cells.new.self.row - a.self.now.run.row ≡ i + 1 = omega (arith, above, row) in
     let more = ap (λ n. take n ms) next ∙ row_more L a.rows a.text.now a.start c.requires.in_text i at c.if-rows-i.false refl in
-    let wide = row-wide L a.rows a.text.now a.start c.requires.in_text i at c.if-rows-i.false refl in (
-      omega (arith, above, row),
-      omega (arith, c.if-rows-i.false, above, row),
-      w.auto.slots ∙ t.auto.slots ∙ v.2,
-      w.ensures.ten,
-      (λ done x. subst (Counted L _ done) (sym more)
-          (counted-cells L q columns t.new.run _ _ done (take i ms) _ _ _ w.ensures (omega (arith, wide)) _ e narrow (t.ensures.counted q done (v.4 done x)))),
-      (λ done x. subst (NotedRows L _ _ done) (sym more)
-          (noted-cells L q columns t.new.run _ _ done (take i ms) _ _ _ w.ensures (omega (arith, wide)) _ e a.self.now.run.row above (t.ensures.noted_rows q done (v.5 done x)))),
-    )
+    let wide = row-wide L a.rows a.text.now a.start c.requires.in_text i at c.if-rows-i.false refl in
+    record {
+      onwards = omega (arith, above, row);
+      inside = omega (arith, c.if-rows-i.false, above, row);
+      same = w.auto.slots ∙ t.auto.slots ∙ v.same;
+      ten = w.ensures.ten;
+      counted = λ done x. subst (Counted L _ done) (sym more)
+          (counted-cells L q columns t.new.run _ _ done (take i ms) _ _ _ w.ensures (omega (arith, wide)) _ e narrow (t.ensures.counted q done (v.counted done x)));
+      noted = λ done x. subst (NotedRows L _ _ done) (sym more)
+          (noted-cells L q columns t.new.run _ _ done (take i ms) _ _ _ w.ensures (omega (arith, wide)) _ e a.self.now.run.row above (t.ensures.noted_rows q done (v.noted done x)));
+    }

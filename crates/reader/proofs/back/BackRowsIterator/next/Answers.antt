@@ -4,15 +4,15 @@ use Rattle.lines.proofs.Trims.{part-all}
 use Rattle.reader.proofs.PlainBack.{rows-near}
 use Rattle.reader.proofs.back.BackRowsIterator.next.Goals as goal
 
-pub returns-then-is_plain_row-clause-steps : goal.returns-then-is_plain_row-clause-steps
-returns-then-is_plain_row-clause-steps c =
+pub returns-then-is_near_row-clause-steps : goal.returns-then-is_near_row-clause-steps
+returns-then-is_near_row-clause-steps c =
     let i = c.self.invariant in
     let w = c.self.inside.lanes.within in
-    rw part-all (sym c.self.view_is ∙ rows-near _ _ _ w.0 w.1 i (sym c.is_plain_row.ensures ∙ c.if-is_plain_row.true) _)
+    rw part-all (sym c.self.view_is ∙ rows-near _ _ _ w.0 w.1 i (sym c.is_near_row.ensures ∙ c.if-is_near_row.true))
 
-pub returns-then-is_plain_row-clause-goes : goal.returns-then-is_plain_row-clause-goes
-returns-then-is_plain_row-clause-goes c =
+pub returns-then-is_near_row-clause-goes : goal.returns-then-is_near_row-clause-goes
+returns-then-is_near_row-clause-goes c =
     let i = c.self.invariant in
     let w = c.self.inside.lanes.within in
-    let shorter = ap length (sym c.self.view_is ∙ rows-near _ _ _ w.0 w.1 i (sym c.is_plain_row.ensures ∙ c.if-is_plain_row.true) _) in
+    let shorter = ap length (sym c.self.view_is ∙ rows-near _ _ _ w.0 w.1 i (sym c.is_near_row.ensures ∙ c.if-is_near_row.true)) in
     rw part-all (search rules)

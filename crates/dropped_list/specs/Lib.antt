@@ -1,0 +1,3 @@
+-- What the contracts of the list cite, beside the definitions.
+pub mod Listed
+pub mod TextOf
