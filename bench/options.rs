@@ -39,6 +39,7 @@ A LIST has its words parted by commas, and leaves out the others:
            the one past it; then what files of 1, 4 and 16 MB cost
   --once   makes each call once on short texts instead, for callgrind; `instructions.sh` runs it
 
+`dropped_holds`, which the Rust does not have, stands beside a plain reference over the Rust's minimised text.
 The entries' answers are compared with the Rust's before anything is timed. Run it on a machine that does nothing else.
 On a busy one take more runs, and --thread, which times by the processor time of the thread and not by the clock on the
 wall. All of it takes some 20 minutes, on a busy machine twice that.";

@@ -205,6 +205,9 @@ fn with_buffers(
         Call::ChartLastBeat => padcheck::chart_last_beat(data, lanes).map(take),
         Call::ProcessRowsJudgable => buffers.process_rows_judgable(data, lanes).map(take),
         Call::ProcessTimingRows => buffers.process_timing_rows(data, lanes, flags).map(take),
+        Call::DroppedHolds => buffers
+            .dropped_holds(data, lanes)
+            .map(|dropped| dropped.heads.for_each(take)),
     };
     accepted.expect("no text here is too long");
 }
@@ -239,6 +242,7 @@ fn anew(call: Call, data: &[u8], lanes: usize, flags: &[u8]) {
         Call::ChartLastBeat => padcheck::chart_last_beat(data, lanes).map(take),
         Call::ProcessRowsJudgable => padcheck::process_rows_judgable(data, lanes).map(take),
         Call::ProcessTimingRows => padcheck::process_timing_rows(data, lanes, flags).map(take),
+        Call::DroppedHolds => padcheck::dropped_holds(data, lanes).map(take),
     };
     accepted.expect("no text here is too long");
 }

@@ -64,7 +64,7 @@ enum padcheck_number {
 
 /*
  * What is wrong, in the library's words. len is the length of the text or SM file in bytes; L and R are given below.
- * The measure slice is that of the densities or of the spacing.
+ * The measure slice is that of the densities or of the spacing, the note slice that of the notes or of the dropped heads.
  */
 static inline const char *padcheck_words(uint32_t number)
 {
@@ -135,6 +135,10 @@ static inline const char *padcheck_caused_by(uint32_t number)
 #define PADCHECK_NOTE_BYTES ((size_t)10)
 #define PADCHECK_NO_TAIL ((uint64_t)4294967295)
 
+/* Bytes of a dropped head's record, and the row that stands for none. */
+#define PADCHECK_DROPPED_BYTES ((size_t)10)
+#define PADCHECK_NO_ROW ((uint32_t)4294967295)
+
 /* How many numbers `figures`, `note` and `chart` have. */
 #define PADCHECK_FIGURES 32
 #define PADCHECK_NOTE_FIGURES 4
@@ -180,7 +184,7 @@ enum padcheck_figure {
     PADCHECK_TEXT_BYTES = 0,      /* bytes of the answer in the text slice */
     PADCHECK_MEASURES = 1,        /* measures */
     PADCHECK_ROWS = 2,            /* minimised rows, also the number of beats */
-    PADCHECK_NOTES = 3,           /* note records */
+    PADCHECK_NOTES = 3,           /* note records, or those of dropped heads */
     PADCHECK_LAST_BEAT = 4,       /* last beat, the bits of a double */
     PADCHECK_HAS_HEADS = 5,       /* 1 where a timing row has a 2 or 4, else 0 */
     PADCHECK_LAST_BEAT_48THS = 6, /* last beat in 48ths of a beat */
@@ -217,6 +221,24 @@ enum padcheck_kind {
     PADCHECK_MINE = 3,
     PADCHECK_LIFT = 4,
     PADCHECK_FAKE = 5
+};
+
+/*
+ * Where the fields of a dropped head's record begin: its row and the row that dropped it, 4 bytes each and low byte first,
+ * then a byte each for the column and the reason. The second row is PADCHECK_NO_ROW where the chart's end dropped it.
+ */
+enum padcheck_dropped_place {
+    PADCHECK_DROPPED_ROW = 0,
+    PADCHECK_DROPPED_BY = 4,
+    PADCHECK_DROPPED_COLUMN = 8,
+    PADCHECK_DROPPED_REASON = 9
+};
+
+/* Why a head is dropped, by what comes before its tail. */
+enum padcheck_drop_reason {
+    PADCHECK_BY_OTHER_HEAD = 0, /* another 2 or 4 in its column */
+    PADCHECK_BY_OTHER_CELL = 1, /* a 1, M, L, F, m, l or f in its column */
+    PADCHECK_BY_CHART_END = 2   /* nothing: the chart ends */
 };
 
 /* Forms of a sheet. */
@@ -301,6 +323,16 @@ uint32_t padcheck_process_rows_judgable(const uint8_t *data, size_t data_len, si
  */
 uint32_t padcheck_process_timing_rows(const uint8_t *data, size_t data_len, size_t lanes, const uint8_t *flags,
                                       size_t flags_len, uint16_t *work, size_t work_len, uint64_t *figures);
+
+/*
+ * The holds and rolls that came to nothing: minimised text, and a record for each 2 or 4 of its rows that the main call has
+ * no note of. Records of PADCHECK_DROPPED_BYTES stand back to back in `list`, in rising row, then column. Rows are those of
+ * the text, numbered through the whole chart.
+ * Lengths: text padcheck_text_len, list padcheck_notes_len.
+ * Refusals: 1 2 6, where 6 is of the list. Figures: TEXT_BYTES, MEASURES, ROWS and NOTES, here the number of records.
+ */
+uint32_t padcheck_dropped_holds(const uint8_t *data, size_t data_len, size_t lanes, uint8_t *text, size_t text_len,
+                                uint8_t *list, size_t list_len, uint64_t *figures);
 
 /*
  * The sheet of a chart in one of the forms of padcheck_sheet_form, in bytes of ASCII without a byte 0 at its end. Text,

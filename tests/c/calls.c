@@ -36,6 +36,7 @@ static const struct call_kind kinds[CALLS] = {
     [LAST_BEAT] = {"chart_last_beat", {false}},
     [JUDGED] = {"process_rows_judgable", {[WORK] = true}},
     [FLAGGED] = {"process_timing_rows", {[WORK] = true}},
+    [DROPPED] = {"dropped_holds", {[TEXT] = true, [NOTES] = true}},
     [CHART_SHEET] = {"chart_sheet",
                      {[TEXT] = true,
                       [MEASURE_DENSITIES] = true,
@@ -148,6 +149,8 @@ static uint32_t enter(enum call call, const struct question *q, struct loan *loa
     case FLAGGED:
         return padcheck_process_timing_rows(q->data, q->len, q->lanes, q->flags, q->flags_len, work.at, work.len,
                                             loan->figures);
+    case DROPPED:
+        return padcheck_dropped_holds(q->data, q->len, q->lanes, text.at, text.len, notes.at, notes.len, loan->figures);
     case CHART_SHEET:
         return padcheck_chart_sheet(q->data, q->len, q->lanes, q->form, text.at, text.len, densities.at, densities.len,
                                     spacing.at, spacing.len, beats.at, beats.len, work.at, work.len, notes.at,

@@ -16,12 +16,13 @@ enum call {
     LAST_BEAT,
     JUDGED,
     FLAGGED,
+    DROPPED,
     STORED_CALLS,
     CHART_SHEET = STORED_CALLS,
     CALLS
 };
 
-/* What can be lent for writing. */
+/* What can be lent for writing; NOTES is also the list of dropped heads. */
 enum lent { TEXT, MEASURE_DENSITIES, MEASURE_SPACING, BEATS, WORK, NOTES, SHEET, LENT };
 
 struct question {

@@ -45,6 +45,17 @@ _Static_assert(PADCHECK_MINE == 3, "3 mine");
 _Static_assert(PADCHECK_LIFT == 4, "4 lift");
 _Static_assert(PADCHECK_FAKE == 5, "5 fake");
 
+/* `encode_dropped` in Dropped.antt: where the fields of a record begin, and the numbers of the causes. */
+_Static_assert(PADCHECK_DROPPED_BYTES == 10, "a dropped head's record");
+_Static_assert(PADCHECK_NO_ROW == 4294967295, "no row");
+_Static_assert(PADCHECK_DROPPED_ROW == 0, "row");
+_Static_assert(PADCHECK_DROPPED_BY == 4, "the row that dropped it");
+_Static_assert(PADCHECK_DROPPED_COLUMN == 8, "column");
+_Static_assert(PADCHECK_DROPPED_REASON == 9, "reason");
+_Static_assert(PADCHECK_BY_OTHER_HEAD == 0, "0 another head");
+_Static_assert(PADCHECK_BY_OTHER_CELL == 1, "1 another cell");
+_Static_assert(PADCHECK_BY_CHART_END == 2, "2 the end of the chart");
+
 /* The forms of a sheet. */
 _Static_assert(PADCHECK_SHEET_CARD == 0, "0 card");
 _Static_assert(PADCHECK_SHEET_PRINT == 1, "1 print");
@@ -165,6 +176,15 @@ static void check_places(void)
                   measure_figures);
     CHECK_FIGURES("equally_spaced", padcheck_equally_spaced(data, len, 4, room.spacing, ROOM, room.figures),
                   measure_figures);
+    static const struct figure dropped_figures[] = {
+        FIGURE(TEXT_BYTES, 124),
+        FIGURE(MEASURES, 3),
+        FIGURE(ROWS, 24),
+        FIGURE(NOTES, 10),
+    };
+    CHECK_FIGURES("dropped_holds",
+                  padcheck_dropped_holds(data, len, 4, room.text, ROOM, room.notes, ROOM * 10, room.figures),
+                  dropped_figures);
     static const struct figure last_figures[] = {FIGURE(LAST_BEAT, 4622628358147014656), FIGURE(LAST_BEAT_48THS, 549)};
     CHECK_FIGURES("chart_last_beat", padcheck_chart_last_beat(data, len, 4, room.figures), last_figures);
     static const struct figure judged_figures[] = {
@@ -246,6 +266,42 @@ static void check_kinds(void)
         check(note[PADCHECK_NOTE_FIGURES - 1] != 0xA5A5A5A5A5A5A5A5 &&
                   note[PADCHECK_NOTE_FIGURES] == 0xA5A5A5A5A5A5A5A5,
               "%s: a note has %d figures", wanted[i].name, PADCHECK_NOTE_FIGURES);
+    }
+}
+
+static uint32_t low_first(const uint8_t *at)
+{
+    return (uint32_t)at[0] | (uint32_t)at[1] << 8 | (uint32_t)at[2] << 16 | (uint32_t)at[3] << 24;
+}
+
+/* A head dropped for each reason, each with a row, a dropping row and a column of its own. */
+static void check_dropped_places(void)
+{
+    static const char text[] = "0000\n0200\n0002\n0000\n0001\n0000\n0400\n";
+    static const struct {
+        const char *name;
+        enum padcheck_drop_reason reason;
+        uint32_t row, by;
+        uint8_t column;
+    } wanted[] = {
+        {"BY_OTHER_HEAD", PADCHECK_BY_OTHER_HEAD, 1, 6, 1},
+        {"BY_OTHER_CELL", PADCHECK_BY_OTHER_CELL, 2, 4, 3},
+        {"BY_CHART_END", PADCHECK_BY_CHART_END, 6, PADCHECK_NO_ROW, 1},
+    };
+    enum { COUNT = sizeof wanted / sizeof wanted[0] };
+    memset(&room, 0xA5, sizeof room);
+    uint32_t number = padcheck_dropped_holds((const uint8_t *)text, sizeof text - 1, 4, room.text, ROOM, room.notes,
+                                             ROOM * 10, room.figures);
+    check(number == PADCHECK_ACCEPTED, "dropped heads: returns %u", number);
+    check(room.figures[PADCHECK_TEXT_BYTES] == 35 && room.figures[PADCHECK_MEASURES] == 1 &&
+              room.figures[PADCHECK_ROWS] == 7 && room.figures[PADCHECK_NOTES] == COUNT,
+          "dropped heads: figures");
+    for (size_t i = 0; i < COUNT; i++) {
+        const uint8_t *record = room.notes + PADCHECK_DROPPED_BYTES * i;
+        check(low_first(record + PADCHECK_DROPPED_ROW) == wanted[i].row, "%s: row", wanted[i].name);
+        check(low_first(record + PADCHECK_DROPPED_BY) == wanted[i].by, "%s: the row that dropped it", wanted[i].name);
+        check(record[PADCHECK_DROPPED_COLUMN] == wanted[i].column, "%s: column", wanted[i].name);
+        check(record[PADCHECK_DROPPED_REASON] == wanted[i].reason, "%s: reason", wanted[i].name);
     }
 }
 
@@ -350,6 +406,9 @@ static void check_refusals(void)
                   "work slice");
     check_refusal("a note slice too short", ask_main(data, len, ROOM, ROOM, ROOM, ROOM, 0), PADCHECK_SHORT_NOTES,
                   "note slice");
+    check_refusal("a list too short",
+                  padcheck_dropped_holds(data, len, 4, room.text, ROOM, room.notes, 0, room.figures),
+                  PADCHECK_SHORT_NOTES, "note slice");
     check_refusal("no record", padcheck_read_note(data, 0, 0, note), PADCHECK_NO_RECORD, "no such note record");
     check_refusal("a bad record", padcheck_read_note(data, PADCHECK_NOTE_BYTES, 0, note), PADCHECK_BAD_RECORD,
                   "record breaks a limit");
@@ -380,6 +439,7 @@ void check_header(void)
     check_forms();
     check_figure_count();
     check_kinds();
+    check_dropped_places();
     check_chart_places();
     check_lengths();
     check_words();

@@ -82,6 +82,10 @@ static void check_example(void)
     answers[LAST_BEAT].figures[PADCHECK_LAST_BEAT_48THS] = 96;
     set_two_taps(&answers[JUDGED]);
     set_two_taps(&answers[FLAGGED]);
+    answers[DROPPED].figures[PADCHECK_TEXT_BYTES] = 10;
+    answers[DROPPED].figures[PADCHECK_MEASURES] = 1;
+    answers[DROPPED].figures[PADCHECK_ROWS] = 2;
+    set_contents(&answers[DROPPED], TEXT, minimised, sizeof minimised - 1);
     for (enum call call = 0; call < STORED_CALLS; call++)
         check_call("example", call, &question, &answers[call]);
 
@@ -95,6 +99,38 @@ static void check_example(void)
     one_fake.figures[PADCHECK_TOTAL_STEPS] = 1;
     one_fake.figures[PADCHECK_FAKES] = 1;
     check_call("example with flags", FLAGGED, &question, &one_fake);
+}
+
+/* Heads that are dropped for each reason, beside one that a 3 closes: the request's examples. */
+static void check_dropped(void)
+{
+    static const struct {
+        const char *name, *text, *minimised;
+        uint64_t measures, rows, heads;
+        uint8_t records[2 * 10];
+    } examples[] = {
+        {"closed", "2000\nK000\nx000\n3000\n", "2000\nK000\nx000\n3000\n", 1, 4, 0, {0}},
+        {"another head", "2000\n4000\n3000\n", "2000\n4000\n3000\n", 1, 3, 1, {[4] = 1, [9] = PADCHECK_BY_OTHER_HEAD}},
+        {"another cell", "2000\n1000\n3000\n", "2000\n1000\n3000\n", 1, 3, 1, {[4] = 1, [9] = PADCHECK_BY_OTHER_CELL}},
+        {"a small letter", "4000\nm000\n3000\n", "4000\nm000\n3000\n", 1, 3, 1, {[4] = 1, [9] = PADCHECK_BY_OTHER_CELL}},
+        {"the chart's end", "4000\n,0000\n", "4000\n,\n", 2, 1, 1, {0, 0, 0, 0, 255, 255, 255, 255, 0, PADCHECK_BY_CHART_END}},
+        {"rows of all measures", "1000\n0000\n,\n2000\n0000\n1000\n0000\n", "1000\n,\n2000\n1000\n", 2, 3, 1,
+         {[0] = 1, [4] = 2, [9] = PADCHECK_BY_OTHER_CELL}},
+        {"two, by their columns", "2002\n0100\n0001\n", "2002\n0100\n0001\n", 1, 3, 2,
+         {0, 0, 0, 0, 255, 255, 255, 255, 0, PADCHECK_BY_CHART_END, 0, 0, 0, 0, 2, 0, 0, 0, 3, PADCHECK_BY_OTHER_CELL}},
+    };
+    for (size_t i = 0; i < sizeof examples / sizeof examples[0]; i++) {
+        const uint8_t *data = (const uint8_t *)examples[i].text;
+        struct question question = {data, strlen(examples[i].text), 4, (const uint8_t *)"", 0, 0};
+        struct answer answer = {0};
+        answer.figures[PADCHECK_TEXT_BYTES] = strlen(examples[i].minimised);
+        answer.figures[PADCHECK_MEASURES] = examples[i].measures;
+        answer.figures[PADCHECK_ROWS] = examples[i].rows;
+        answer.figures[PADCHECK_NOTES] = examples[i].heads;
+        set_contents(&answer, TEXT, examples[i].minimised, strlen(examples[i].minimised));
+        set_contents(&answer, NOTES, examples[i].records, PADCHECK_DROPPED_BYTES * examples[i].heads);
+        check_call(examples[i].name, DROPPED, &question, &answer);
+    }
 }
 
 static const char card[] = "measures 1\nrows 2\narrows 2\nsteps 2\nnotes 2\nlast 96\nm 0 2 1\nn 0 0 0 -\nn 1 1 0 -\n";
@@ -264,6 +300,7 @@ int main(int count, char **args)
     }
     check_header();
     check_example();
+    check_dropped();
     check_example_sheets();
     check_longest();
     check_records();

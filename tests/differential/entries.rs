@@ -1,5 +1,6 @@
 //! The entries of libpadcheck.a as safe functions over what the oracle calls a loan.
 //! One line of `entries!` puts an entry into `ENTRIES`: its call, its symbol as the Rust binding declares it, and what it is lent in order.
+//! The list of dropped heads is lent where the notes of the main call are.
 
 use crate::symbols;
 use oracle::calls::Call;
@@ -54,4 +55,5 @@ entries! {
     ChartLastBeat padcheck_chart_last_beat(data, lanes, figures);
     ProcessRowsJudgable padcheck_process_rows_judgable(data, lanes, work, figures);
     ProcessTimingRows padcheck_process_timing_rows(data, lanes, flags, work, figures);
+    DroppedHolds padcheck_dropped_holds(data, lanes, text, notes, figures);
 }

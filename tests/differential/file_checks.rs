@@ -1,4 +1,4 @@
-//! Checks over SM files: the entry that finds a chart in a file beside the reference, and the nine entries of a text on each chart that it finds.
+//! Checks over SM files: the entry that finds a chart in a file beside the reference, and the ten entries of a text on each chart that it finds.
 
 use crate::case::{self, Case, Check, Compare};
 use crate::file_kinds::FileKinds;

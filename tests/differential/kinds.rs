@@ -4,6 +4,7 @@ use crate::case::{Case, LANE_COUNTS, lane_place};
 use crate::random;
 use oracle::asked::{chart_text, read_back_text};
 use oracle::calls::lanes_in_force;
+use oracle::dropped::{DroppedHead, NO_ROW, dropped_of};
 use oracle::leaves::{self, Counted};
 
 /// What a kind asks of a text.
@@ -13,7 +14,7 @@ type Test = fn(&Facts) -> bool;
 const AS_IT_STANDS: usize = 0;
 const IN_ANOTHERS_PLACE: usize = 1;
 
-const KINDS: [(&str, Test); 57] = [
+const KINDS: [(&str, Test); 62] = [
     ("a text that the Rust is asked about", |f| f.as_it_stands),
     ("a text about which the Rust is asked another", |f| {
         !f.as_it_stands
@@ -85,6 +86,13 @@ const KINDS: [(&str, Test); 57] = [
         f.is_like(Pairing::LeftOver)
     }),
     ("tails and no head", |f| f.is_like(Pairing::TailsAlone)),
+    ("a head dropped by another head", |f| f.drops[0]),
+    ("a head dropped by another cell", |f| f.drops[1]),
+    ("a head dropped by the chart's end", |f| f.drops[2]),
+    ("two heads dropped by one row", |f| f.dropped_together),
+    ("a head dropped after one that stands below it", |f| {
+        f.dropped_out_of_turn
+    }),
     ("fewer flags than rows", |f| f.flags.len() < f.rows),
     ("more flags than rows", |f| {
         f.rows > 0 && f.flags.len() > f.rows
@@ -155,6 +163,10 @@ struct Facts {
     strides: [bool; 4],
     deepest: u32,
     pairing: Pairing,
+    /// Whether a head is dropped for each of the reasons.
+    drops: [bool; 3],
+    dropped_together: bool,
+    dropped_out_of_turn: bool,
 }
 
 impl Facts {
@@ -190,6 +202,9 @@ impl Facts {
             strides: [false; 4],
             deepest: 0,
             pairing: Pairing::None,
+            drops: [false; 3],
+            dropped_together: false,
+            dropped_out_of_turn: false,
         };
         let rows = facts.read(text);
         facts.look_at_rows(&rows);
@@ -292,6 +307,18 @@ impl Facts {
         let judged = |row: &usize| self.flags.get(*row).is_none_or(|&flag| flag != 0);
         self.judged = (0..self.rows).filter(judged).count();
         self.pairing = pairing(&leaves::count_line(self.lanes, rows));
+        self.look_at_drops(&dropped_of(rows.chunks_exact(self.lanes), self.lanes));
+    }
+
+    fn look_at_drops(&mut self, heads: &[DroppedHead]) {
+        for head in heads {
+            self.drops[usize::from(head.reason)] = true;
+        }
+        for pair in heads.windows(2) {
+            let [first, second] = [0, 1].map(|place| pair[place].by.unwrap_or(NO_ROW));
+            self.dropped_together |= first == second && first != NO_ROW;
+            self.dropped_out_of_turn |= second < first && pair[0].row < pair[1].row;
+        }
     }
 }
 

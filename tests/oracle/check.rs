@@ -1,6 +1,7 @@
-//! Self-check of the oracle: the specification's examples, refusals, leaves, sheets, the charts inside an SM file, and the stored samples.
+//! Self-check of the oracle: the specification's examples, refusals, leaves, dropped heads, sheets, the charts inside an SM file, and the stored samples.
 //! Ends with `N passed, M failed`; the exit status is not 0 if anything failed.
 
+mod check_dropped;
 mod check_examples;
 mod check_files;
 mod check_sample;
@@ -71,6 +72,7 @@ fn main() -> ExitCode {
     checks.group("reduction", reduction);
     checks.group("beats", beats);
     checks.group("object rows", object_rows);
+    checks.group("dropped heads", check_dropped::run);
     checks.group("sheets", check_sheet::run);
     checks.group("charts in files", check_sm::run);
     checks.group("sample", |checks| check_sample::run(checks, &stored));
@@ -111,7 +113,7 @@ fn panic_message<T>(run: impl FnOnce() -> T) -> Option<String> {
 }
 
 /// What each call returns when the text, measure, beat, work or note slice is one too short.
-const WHEN_SHORT: [(Call, [u32; 5]); 8] = [
+const WHEN_SHORT: [(Call, [u32; 5]); 9] = [
     (Call::MinimizeChartCountRowsNotes, [2, 3, 4, 5, 6]),
     (Call::ProcessChartKept, [2, 3, 0, 5, 0]),
     (Call::MinimizeTimingRows, [2, 0, 4, 0, 0]),
@@ -120,6 +122,7 @@ const WHEN_SHORT: [(Call, [u32; 5]); 8] = [
     (Call::ChartLastBeat, [0, 0, 0, 0, 0]),
     (Call::ProcessRowsJudgable, [0, 0, 0, 5, 0]),
     (Call::ProcessTimingRows, [0, 0, 0, 5, 0]),
+    (Call::DroppedHolds, [2, 0, 0, 0, 6]),
 ];
 
 fn lengths([text, measure, beat, work, note]: [usize; 5]) -> Lengths {

@@ -17,6 +17,7 @@ pub struct Lengths {
     pub measure: usize,
     pub beat: usize,
     pub work: usize,
+    /// Notes, or the list of dropped heads.
     pub note: usize,
 }
 
@@ -50,6 +51,7 @@ pub fn refusals(call: Call) -> &'static [u32] {
         Call::MeasureDensities | Call::EquallySpaced => &[1, 3],
         Call::ChartLastBeat => &[1],
         Call::ProcessRowsJudgable | Call::ProcessTimingRows => &[1, 5],
+        Call::DroppedHolds => &[1, 2, 6],
     }
 }
 

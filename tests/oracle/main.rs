@@ -3,6 +3,7 @@
 use oracle::calls::{self, Answer, CALLS, Call, TALLY_NAMES};
 use oracle::card::card;
 use oracle::deciding::TEXTS;
+use oracle::dropped::heads_in;
 use oracle::entry::MAX_LEN;
 use oracle::sheet::{ChartFigures, Form, note_lines};
 use oracle::sm::{SmChart, charts};
@@ -14,7 +15,7 @@ use std::io::{self, Read, Write};
 use std::process::ExitCode;
 
 const HELP: &str = "\
-oracle figures LANES [FLAGSFILE] < TEXT   every figure of the eight chart calls
+oracle figures LANES [FLAGSFILE] < TEXT   every figure of the nine chart calls
 oracle sm < FILE                          the charts of an SM file
 oracle card < TEXT                        what the program card prints
 oracle sheet FORM LANES < TEXT            the sheet of a chart; FORM is card, print or json
@@ -105,6 +106,12 @@ fn answer_lines(call: Call, answer: &Answer) -> Vec<String> {
         Call::EquallySpaced => vec![measures_line(answer), listed("spacing", &answer.spacing)],
         Call::ChartLastBeat => last_beat_lines(answer),
         Call::ProcessRowsJudgable | Call::ProcessTimingRows => tally_lines(answer),
+        Call::DroppedHolds => [
+            text_lines(answer),
+            vec![measures_line(answer), rows_line(answer)],
+            dropped_lines(answer),
+        ]
+        .concat(),
     }
 }
 
@@ -153,6 +160,17 @@ fn notes_lines(answer: &Answer) -> Vec<String> {
             .iter()
             .map(|l| format!("note {l}")),
     );
+    lines
+}
+
+/// Row, column, reason and the row that dropped it of each dropped head.
+fn dropped_lines(answer: &Answer) -> Vec<String> {
+    let heads = heads_in(&answer.notes);
+    let mut lines = vec![format!("dropped {}", heads.len())];
+    lines.extend(heads.iter().map(|head| {
+        let by = head.by.map_or(String::from("-"), |by| by.to_string());
+        format!("dropped {} {} {} {by}", head.row, head.column, head.reason)
+    }));
     lines
 }
 

@@ -1,7 +1,8 @@
 //! The oracle: what the Rust answers, as numbers and bytes, for any text, lane number and flags.
 //!
 //! - `asked`: the text that the Rust is asked about, which is another where a row would have a byte 13.
-//! - `calls`: the eight chart calls, each with its figures and the contents of its slices.
+//! - `calls`: the nine chart calls, each with its figures and the contents of its slices.
+//! - `dropped`: the heads that come to nothing, which the Rust does not list.
 //! - `leaves`: the functions below them.
 //! - `timed`: the calls with nothing around them.
 //! - `entry`: the calls as they are met from outside, with their refusals.
@@ -14,6 +15,7 @@
 pub mod asked;
 pub mod card;
 pub mod deciding;
+pub mod dropped;
 pub mod entry;
 pub mod sheet;
 pub mod sheet_entry;

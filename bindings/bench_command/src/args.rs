@@ -16,6 +16,8 @@ pub enum Request {
     Charts(Charts),
     /// The sheets of files.
     Sheet(Sheet),
+    /// The holds of files that came to nothing.
+    Dropped(Sheet),
     /// Records and beats of a chart.
     Rig(Rig),
     /// Two files side by side.
@@ -29,7 +31,7 @@ pub struct Charts {
     pub force: bool,
 }
 
-/// `padcheck sheet`.
+/// `padcheck sheet`, and `padcheck dropped`, whose form is never the card.
 #[derive(Debug, PartialEq)]
 pub struct Sheet {
     pub files: Vec<PathBuf>,
@@ -60,7 +62,7 @@ pub struct Diff {
 /// What the arguments ask for, or a line that says what is wrong with them.
 pub fn request(mut words: impl Iterator<Item = OsString>) -> Result<Request, String> {
     let Some(word) = words.next() else {
-        return Err(usage("charts, sheet, rig or diff is wanted"));
+        return Err(usage("charts, sheet, dropped, rig or diff is wanted"));
     };
     let word = word.to_string_lossy().into_owned();
     let (help, known): (&str, &[&str]) = match &*word {
@@ -68,6 +70,7 @@ pub fn request(mut words: impl Iterator<Item = OsString>) -> Result<Request, Str
         "--version" | "-V" => return Ok(Request::Text(help::version())),
         "charts" => (help::CHARTS, &["--force"]),
         "sheet" => (help::SHEET, &["--chart", "--lanes", "--form", "--force"]),
+        "dropped" => (help::DROPPED, &["--chart", "--lanes", "--form", "--force"]),
         "rig" => (
             help::RIG,
             &["--chart", "--lanes", "--notes", "--beats", "--force"],
@@ -81,7 +84,8 @@ pub fn request(mut words: impl Iterator<Item = OsString>) -> Result<Request, Str
         }
         match &*word {
             "charts" => options.charts(),
-            "sheet" => options.sheet(),
+            "sheet" => options.sheet().map(Request::Sheet),
+            "dropped" => options.dropped(),
             "rig" => options.rig(),
             _ => options.diff(),
         }
@@ -180,16 +184,26 @@ impl Options {
         Ok(Request::Charts(Charts { files, force }))
     }
 
-    fn sheet(self) -> Result<Request, String> {
+    fn sheet(self) -> Result<Sheet, String> {
         let selection = self.selection()?;
         let (form, force) = (self.form.unwrap_or(SheetForm::Print), self.force);
         let files = self.files()?;
-        Ok(Request::Sheet(Sheet {
+        Ok(Sheet {
             files,
             selection,
             form,
             force,
-        }))
+        })
+    }
+
+    fn dropped(self) -> Result<Request, String> {
+        let sheet = self.sheet()?;
+        match sheet.form {
+            SheetForm::Card => Err(String::from(
+                "--form needs print or json here, and not `card`",
+            )),
+            SheetForm::Print | SheetForm::Json => Ok(Request::Dropped(sheet)),
+        }
     }
 
     fn rig(self) -> Result<Request, String> {
@@ -303,7 +317,7 @@ mod tests {
     #[test]
     fn what_is_wrong_is_said() {
         let wrong = [
-            ("", "charts, sheet, rig or diff is wanted"),
+            ("", "charts, sheet, dropped, rig or diff is wanted"),
             ("print a", "`print` is no word"),
             ("charts", "charts: a file is wanted"),
             ("charts a --chart 0", "`--chart` is not known here"),
@@ -320,6 +334,11 @@ mod tests {
             ("sheet a --lanes 4 --chart 0", "--chart is for an SM file"),
             ("sheet a --form pdf", "--form needs card, print or json"),
             ("sheet a --force=1", "--force has no value"),
+            ("dropped", "dropped: a file is wanted"),
+            (
+                "dropped a --form card",
+                "--form needs print or json here, and not `card`",
+            ),
             (
                 "rig a --notes b --beats c",
                 "--chart K is wanted, or --lanes N",
@@ -343,7 +362,7 @@ mod tests {
 
     #[test]
     fn help_is_given_for_each_word() {
-        for word in ["charts", "sheet", "rig", "diff"] {
+        for word in ["charts", "sheet", "dropped", "rig", "diff"] {
             let Ok(Request::Text(text)) = asked(&format!("{word} --help")) else {
                 panic!("{word} has no help");
             };

@@ -6,7 +6,7 @@ use crate::help::{KIT, LIBRARY};
 use crate::input::shown;
 use crate::json::quoted;
 use crate::measures::Measures;
-use padcheck::{Refusal, SheetForm};
+use padcheck::{DropCause, Refusal, SheetForm};
 use std::fmt::Display;
 use std::io::{self, Write};
 use std::mem;
@@ -28,6 +28,10 @@ const COLUMNS: usize = 80;
 /// The columns that stand before the first density of a line of the library's.
 const DENSITY_INDENT: usize = 8;
 
+/// The names of the columns of dropped heads: where each stands, and what dropped it.
+const DROPPED_HEAD: &str =
+    "         row column measure in it        beat  dropped by          row measure";
+
 /// The names of the columns of holds and rolls, as the library writes them.
 const HELD_HEAD: &[u8] = b"          row   column     tail\n";
 
@@ -38,6 +42,27 @@ pub struct Places<'a> {
     pub measures: Measures,
     /// At which beat.
     pub beats: &'a [f32],
+}
+
+/// A head that has no note.
+pub struct Dropped {
+    /// `hold` or `roll`.
+    pub name: &'static str,
+    pub column: usize,
+    /// Where it stands.
+    pub at: Spot,
+    pub beat: f32,
+    /// What dropped it, and where that stands; the chart's end stands nowhere.
+    pub cause: DropCause,
+    pub by: Option<Spot>,
+}
+
+/// Where a row stands.
+pub struct Spot {
+    /// Through the whole chart.
+    pub row: usize,
+    pub measure: usize,
+    pub row_in_measure: usize,
 }
 
 /// Writes sheets in one form.
@@ -87,6 +112,112 @@ impl<'a> Sheets<'a> {
                 self.out.write_all(b"}\n")
             }
         }
+    }
+
+    /// The heads of a chart that have no note.
+    pub fn dropped(
+        &mut self,
+        subject: &Subject,
+        lanes: usize,
+        heads: impl Iterator<Item = Dropped>,
+    ) -> io::Result<()> {
+        match self.form {
+            SheetForm::Json => self.dropped_in_json(subject, lanes, heads),
+            SheetForm::Card | SheetForm::Print => self.dropped_on_paper(subject, lanes, heads),
+        }
+    }
+
+    fn dropped_on_paper(
+        &mut self,
+        subject: &Subject,
+        lanes: usize,
+        heads: impl Iterator<Item = Dropped>,
+    ) -> io::Result<()> {
+        self.head(subject)?;
+        writeln!(self.out, "{:<11}{lanes:>10}\n", "lanes")?;
+        let mut heads = heads.peekable();
+        if heads.peek().is_none() {
+            return writeln!(self.out, "no hold came to nothing");
+        }
+        writeln!(
+            self.out,
+            "holds and rolls that came to nothing\n{DROPPED_HEAD}"
+        )?;
+        for head in heads {
+            let Dropped {
+                name,
+                column,
+                at,
+                beat,
+                cause,
+                by,
+            } = head;
+            let cause = match cause {
+                DropCause::OtherHead(_) => "another head",
+                DropCause::OtherCell(_) => "another cell",
+                DropCause::ChartEnd => "the chart's end",
+            };
+            let Spot {
+                row,
+                measure,
+                row_in_measure,
+            } = at;
+            write!(
+                self.out,
+                "{name}{row:>8}{column:>7}{measure:>8}{row_in_measure:>6}{beat:>12}"
+            )?;
+            match by {
+                None => writeln!(self.out, "  {cause}")?,
+                Some(Spot { row, measure, .. }) => {
+                    writeln!(self.out, "  {cause:<15}{row:>8}{measure:>8}")?;
+                }
+            }
+        }
+        Ok(())
+    }
+
+    fn dropped_in_json(
+        &mut self,
+        subject: &Subject,
+        lanes: usize,
+        heads: impl Iterator<Item = Dropped>,
+    ) -> io::Result<()> {
+        let subject = json_subject(subject);
+        write!(self.out, "{{{subject},\"lanes\":{lanes},\"dropped\":[")?;
+        let mut comma = "";
+        for head in heads {
+            let Dropped {
+                name,
+                column,
+                at,
+                beat,
+                cause,
+                by,
+            } = head;
+            let cause = match cause {
+                DropCause::OtherHead(_) => "other_head",
+                DropCause::OtherCell(_) => "other_cell",
+                DropCause::ChartEnd => "chart_end",
+            };
+            let Spot {
+                row,
+                measure,
+                row_in_measure,
+            } = at;
+            write!(
+                self.out,
+                "{comma}{{\"row\":{row},\"measure\":{measure},\"row_in_measure\":{row_in_measure},\"beat\":{beat},\
+                 \"column\":{column},\"head\":\"{name}\",\"cause\":\"{cause}\","
+            )?;
+            match by {
+                None => write!(self.out, "\"by_row\":null,\"by_measure\":null}}")?,
+                Some(Spot { row, measure, .. }) => {
+                    write!(self.out, "\"by_row\":{row},\"by_measure\":{measure}}}")?;
+                }
+            }
+            comma = ",";
+        }
+        self.out.write_all(b"]}\n")
     }
 
     /// What stands in place of a sheet that is refused.

@@ -18,6 +18,7 @@ padcheck WORD ...
 
   charts FILE...         which charts an SM file has
   sheet FILE...          the sheet of each chart, to be checked and initialled
+  dropped FILE...        which holds and rolls of a chart came to nothing, and why
   rig FILE               note records and row beats of a chart, for the rig
   diff OLD NEW           which measures of a chart differ, and what stays the same
   --help, WORD --help    this, or more on one word
@@ -71,6 +72,28 @@ byte, a : outside comments, a row with a byte among its cells that is none of
 row, no rows or only lines shorter than the lanes, or where most of its rows have
 more than a comment after their cells. What makes a whole SM file doubtful,
 padcheck charts --help says.
+";
+
+/// The word `dropped`.
+pub const DROPPED: &str = "\
+padcheck dropped FILE... [--chart K] [--form print|json] [--force]
+padcheck dropped FILE... --lanes N [--form print|json] [--force]
+
+Lists the heads of holds and rolls that have no note in a chart: of every chart of each
+SM file, of chart K alone, or with --lanes of bare note data. Each has its row, measure
+and row in the measure, beat and column, and what it met before a tail in its column:
+another head, another cell (1, M, L, F, m, l or f) or the end of the chart, with the row
+and measure of the cell. Rows are those that are left by minimising.
+
+  --form print   a line a head, or `no hold came to nothing` (this is the default)
+  --form json    one object a chart, each on one line: its heads in `dropped`, with
+                 `row`, `measure`, `row_in_measure`, `beat`, `column`, `head` (hold or
+                 roll), `cause` (other_head, other_cell or chart_end), `by_row` and
+                 `by_measure`, which are null at the chart's end
+  --force        takes doubtful note data all the same (see padcheck sheet --help)
+
+The exit status is 0 whether there are any or not; of refused charts it is that of
+padcheck sheet.
 ";
 
 /// The word `rig`.
@@ -128,7 +151,7 @@ mod tests {
 
     #[test]
     fn help_fits_on_a_page() {
-        for text in [WHOLE, CHARTS, SHEET, RIG, DIFF] {
+        for text in [WHOLE, CHARTS, SHEET, DROPPED, RIG, DIFF] {
             assert!(text.lines().all(|line| line.chars().count() <= 90));
             assert!(text.ends_with('\n'));
         }

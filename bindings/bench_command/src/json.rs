@@ -31,10 +31,22 @@ pub fn after_value(text: &str) -> Option<&str> {
         '{' => after_list(&text[1..], "}", |member| {
             after_value(after_string(member)?.strip_prefix(':')?)
         }),
-        '0'..='9' => Some(text.trim_start_matches(|letter: char| letter.is_ascii_digit())),
+        '0'..='9' => after_number(text),
         _ => ["null", "true", "false"]
             .iter()
             .find_map(|word| text.strip_prefix(word)),
+    }
+}
+
+/// What follows a number, of which a fraction may be a part.
+#[cfg(test)]
+fn after_number(text: &str) -> Option<&str> {
+    let digits = |text: &str| text.bytes().take_while(u8::is_ascii_digit).count();
+    let rest = &text[digits(text)..];
+    match rest.strip_prefix('.') {
+        None => Some(rest),
+        Some(fraction) if digits(fraction) == 0 => None,
+        Some(fraction) => Some(&fraction[digits(fraction)..]),
     }
 }
 
@@ -83,11 +95,17 @@ mod tests {
 
     #[test]
     fn the_check_knows_values_from_others() {
-        for text in ["[]", "{}", "[1,[null,true]]", "{\"a\":{\"b\":\"\\u0001\"}}"] {
+        for text in [
+            "[]",
+            "{}",
+            "[1,[null,true]]",
+            "[0.5,12.25]",
+            "{\"a\":{\"b\":\"\\u0001\"}}",
+        ] {
             assert_eq!(after_value(text), Some(""), "{text}");
         }
         for text in [
-            "", "[1", "[1,]", "{\"a\"}", "{a:1}", "\"\n\"", "\"\\x\"", "nul",
+            "", "[1", "[1.]", "[1,]", "{\"a\"}", "{a:1}", "\"\n\"", "\"\\x\"", "nul",
         ] {
             assert_eq!(after_value(text), None, "{text}");
         }

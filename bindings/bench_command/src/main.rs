@@ -7,6 +7,7 @@ mod closed;
 mod damage;
 mod diff;
 mod doubt;
+mod dropped;
 mod figures;
 mod forms;
 mod help;
@@ -69,6 +70,7 @@ fn run(request: &Request, out: &mut dyn Write) -> io::Result<Status> {
         Request::Text(text) => out.write_all(text.as_bytes()).map(|()| Status::Done),
         Request::Charts(asked) => charts::run(asked, out),
         Request::Sheet(asked) => sheet::run(asked, out),
+        Request::Dropped(asked) => dropped::run(asked, out),
         Request::Rig(asked) => rig::run(asked, out),
         Request::Diff(asked) => diff::run(asked, out),
     }

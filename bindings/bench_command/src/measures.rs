@@ -47,6 +47,12 @@ impl Measures {
         }
     }
 
+    /// Where the cells of a row begin in the minimised text: a line stands there for each row before it, and one of `,` for each
+    /// measure that has ended.
+    pub fn place_of_row(&self, row: usize, lanes: usize) -> usize {
+        (lanes + 1) * row + 2 * self.of_row(row)
+    }
+
     /// The measure that a row stands in.
     pub fn of_row(&self, row: usize) -> usize {
         self.starts.partition_point(|&start| start <= row) - 1
@@ -69,6 +75,10 @@ mod tests {
         assert_eq!(
             [0, 1, 2, 3, 4].map(|row| measures.of_row(row)),
             [0, 0, 2, 3, 3]
+        );
+        assert_eq!(
+            [0, 1, 2, 3, 4].map(|row| measures.place_of_row(row, 4)),
+            [0, 5, 14, 21, 26]
         );
     }
 

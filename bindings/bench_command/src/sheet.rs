@@ -14,14 +14,39 @@ use padcheck::{SheetForm, lanes_in_force};
 use std::io::{self, Write};
 use std::path::Path;
 
+/// What is made and written of each chart.
+#[derive(Clone, Copy)]
+pub struct Word {
+    /// Asks the library, and answers the measures of the chart where they are wanted.
+    pub make: fn(&mut Slices, &[u8], usize, SheetForm) -> Result<Measures, Left>,
+    /// Writes what the slices hold of a chart.
+    pub write: fn(&mut Sheets, &Subject, usize, &Slices, Measures) -> io::Result<()>,
+}
+
+const SHEET: Word = Word {
+    make: |slices, data, lanes, form| {
+        slices.make_sheet(data, lanes, form)?;
+        Ok(measures(slices, lanes, form)?)
+    },
+    write: |sheets, subject, lanes, slices, measures| {
+        let beats = slices.beats();
+        sheets.sheet(subject, lanes, slices.sheet(), &Places { measures, beats })
+    },
+};
+
 /// `padcheck sheet`.
 pub fn run(asked: &Sheet, out: &mut dyn Write) -> io::Result<Status> {
+    each_chart(asked, SHEET, out)
+}
+
+/// Writes something of each chart that is asked for.
+pub fn each_chart(asked: &Sheet, word: Word, out: &mut dyn Write) -> io::Result<Status> {
     let mut sheets = Sheets::new(asked.form, out);
     let mut slices = Slices::default();
     let mut worst = Status::Done;
     for path in &asked.files {
         let status = match contents(path) {
-            Ok(file) => file_sheets(asked, path, &file, &mut slices, &mut sheets)?,
+            Ok(file) => of_file(asked, word, path, &file, &mut slices, &mut sheets)?,
             Err(message) => fault(sheets.out(), &message)?,
         };
         worst = worst.max(status);
@@ -29,10 +54,11 @@ pub fn run(asked: &Sheet, out: &mut dyn Write) -> io::Result<Status> {
     Ok(worst)
 }
 
-/// The sheets of one file. It is refused where all its charts that are asked for are; beside another the reason in the place
-/// of a refused one's sheet will do.
-fn file_sheets(
+/// The same of one file. It is refused where all its charts that are asked for are; beside another the reason in the place of
+/// what is written of a refused one will do.
+pub fn of_file(
     asked: &Sheet,
+    word: Word,
     path: &Path,
     file: &[u8],
     slices: &mut Slices,
@@ -52,14 +78,12 @@ fn file_sheets(
         subject.chart = chart.chart;
         let made = chart.taken(asked.force).and_then(|chart| {
             let lanes = lanes_in_force(chart.lanes);
-            slices.make_sheet(chart.data, lanes, asked.form)?;
-            Ok((lanes, measures(slices, lanes, asked.form)?))
+            let measures = (word.make)(slices, chart.data, lanes, asked.form)?;
+            Ok((lanes, measures))
         });
         let status = match made {
             Ok((lanes, measures)) => {
-                let beats = slices.beats();
-                let places = Places { measures, beats };
-                sheets.sheet(&subject, lanes, slices.sheet(), &places)?;
+                (word.write)(sheets, &subject, lanes, slices, measures)?;
                 Status::Done
             }
             Err(left) => left_out(&subject, &left, sheets)?,
@@ -74,12 +98,12 @@ fn file_sheets(
 /// The measures of a chart, which a sheet on paper names beside holds and rolls.
 fn measures(slices: &Slices, lanes: usize, form: SheetForm) -> Result<Measures, NoMemory> {
     match form {
-        SheetForm::Print => Measures::of(slices.text(), lanes, slices.densities().len()),
+        SheetForm::Print => Measures::of(slices.text(), lanes, slices.measure_count()),
         _ => Ok(Measures::default()),
     }
 }
 
-/// Says why there is no sheet: a refusal in its place, anything else on standard error.
+/// Says why there is nothing of a chart: a refusal in its place, anything else on standard error.
 fn left_out(subject: &Subject, left: &Left, sheets: &mut Sheets) -> io::Result<Status> {
     let path = shown(subject.path);
     let whose = subject.chart.map_or_else(
@@ -114,7 +138,8 @@ mod tests {
         let mut out = Vec::new();
         let mut sheets = Sheets::new(form, &mut out);
         let mut slices = Slices::default();
-        let status = file_sheets(&asked, Path::new("x"), file, &mut slices, &mut sheets).unwrap();
+        let path = Path::new("x");
+        let status = of_file(&asked, SHEET, path, file, &mut slices, &mut sheets).unwrap();
         (String::from_utf8(out).unwrap(), status)
     }
 

@@ -53,6 +53,26 @@ impl Slices {
         Ok(())
     }
 
+    /// Asks for the heads that come to nothing, whose records stand where those of the notes do, and for the beats of the rows.
+    pub fn dropped_holds(&mut self, data: &[u8], lanes: usize) -> Result<(), Left> {
+        let lengths = Lengths::of(data.len(), lanes);
+        lent::minimize_timing_rows(
+            data,
+            lanes,
+            part(&mut self.text, lengths.text)?,
+            part(&mut self.beats, lengths.beats)?,
+            &mut self.figures,
+        )?;
+        lent::dropped_holds(
+            data,
+            lanes,
+            part(&mut self.text, lengths.text)?,
+            part(&mut self.notes, lengths.notes)?,
+            &mut self.figures,
+        )?;
+        Ok(())
+    }
+
     /// Asks for the spacing of a chart, beside the figures of the main call.
     pub fn equally_spaced(&mut self, data: &[u8], lanes: usize) -> Result<(), Left> {
         let measures = Lengths::of(data.len(), lanes).measures;
@@ -75,6 +95,11 @@ impl Slices {
         &self.text[..self.count(place::TEXT_BYTES)]
     }
 
+    /// How many measures there are.
+    pub fn measure_count(&self) -> usize {
+        self.count(place::MEASURES)
+    }
+
     /// The density of each measure.
     pub fn densities(&self) -> &[u32] {
         &self.densities[..self.count(place::MEASURES)]
@@ -90,7 +115,7 @@ impl Slices {
         &self.beats[..self.count(place::ROWS)]
     }
 
-    /// The note records, back to back.
+    /// The note records, or those of the dropped heads, back to back.
     pub fn records(&self) -> &[u8] {
         &self.notes[..NOTE_BYTES * self.count(place::NOTES)]
     }
@@ -131,6 +156,24 @@ mod tests {
             assert_eq!(slices.spacing().len(), densities.len());
         }
         assert_eq!((slices.beats(), slices.last_in_48ths()), (&[0.0][..], 0));
+    }
+
+    #[test]
+    fn dropped_heads_stand_beside_text_and_beats() {
+        let mut slices = Slices::default();
+        slices.main_call(&b"1000\n0100\n".repeat(9), 4).unwrap();
+        let data = b",\n2000\n0000\n1040\n0000\n";
+        slices.dropped_holds(data, 4).unwrap();
+        assert_eq!(
+            (slices.text(), slices.measure_count()),
+            (&b",\n2000\n1040\n"[..], 2)
+        );
+        assert_eq!(slices.beats(), [4.0, 6.0]);
+        let records = [
+            [0, 0, 0, 0, 1, 0, 0, 0, 0, 1],
+            [1, 0, 0, 0, 255, 255, 255, 255, 2, 2],
+        ];
+        assert_eq!(slices.records(), records.as_flattened());
     }
 
     #[test]

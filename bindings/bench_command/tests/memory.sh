@@ -32,6 +32,8 @@ for space in 8000 16000 32000 64000 100000 150000 250000 400000; do
     within "$space" charts "$out/many.sm"
     within "$space" sheet "$out/one.sm" --form card
     within "$space" sheet "$out/measures" --lanes 10 --force
+    within "$space" dropped "$out/one.sm"
+    within "$space" dropped "$out/measures" --lanes 10 --force --form json
     within "$space" rig "$out/one.sm" --chart 0 --notes "$out/n" --beats "$out/b"
     within "$space" diff "$out/rows" "$out/measures" --lanes 4 --force
 done

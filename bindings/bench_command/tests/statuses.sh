@@ -9,6 +9,10 @@ printed 1 "refused 1: len is over 16,777,215, by whoever wires up the call" shee
 printed 1 "refused 1: len is over 16,777,215, by whoever wires up the call" sheet /dev/zero
 printed 1 "refused 1: len is over 16,777,215, by whoever wires up the call" charts /dev/zero
 printed 1 '"chart":1,"type":"lights-cabinet","refused":10,"words":"the chart has another type name, by whoever writes the SM file"' sheet "$sm" --chart 1 --form json
+printed 1 "refused 10: the chart has another type name, by whoever writes the SM file" dropped "$sm" --chart 1
+printed 1 '"chart":1,"type":"lights-cabinet","refused":10,"words":' dropped "$sm" --chart 1 --form json
+printed 1 "refused 11: the file has no such block, by whoever asks for the chart" dropped "$sm" --chart 3
+printed 1 "refused 1: len is over 16,777,215, by whoever wires up the call" dropped /dev/zero --lanes 4
 printed 1 "new refused 11" diff "$sm" "$chart" --chart 0
 printf '#NOTES:dance-single:x;\n#NOTES::::::;\n#NOTES:dance-single:::::\n1000\n;\n' >"$out/few.sm"
 printed 0 "chart 0 dance-single refused 9: the block has fewer than five fields, by whoever writes the SM file" \
@@ -21,9 +25,13 @@ printed 0 "chart 1 dance-double" sheet "$out/two-charts.sm" --form card
 printed 0 "2 charts, 0 refused" charts "$out/two-charts.sm"
 
 # 2: arguments and inputs, with one line on standard error.
-told 2 "charts, sheet, rig or diff is wanted"
+told 2 "charts, sheet, dropped, rig or diff is wanted"
 told 2 "\`print\` is no word" print "$sm"
 told 2 "sheet: a file is wanted" sheet
+told 2 "dropped: a file is wanted" dropped
+told 2 "dropped: --form needs print or json here, and not \`card\`" dropped "$sm" --form card
+told 2 "\`--notes\` is not known here" dropped --notes "$sm"
+told 2 "cannot read no/such/file: No such file" dropped no/such/file
 told 2 "--lanes needs a number, and \`four\` is none" sheet "$chart" --lanes four
 told 2 "\`--line\` is not known here" sheet --line "$sm"
 told 2 "--chart is for an SM file and --lanes for bare note data" sheet "$sm" --chart 0 --lanes 4
@@ -36,7 +44,9 @@ told 2 "cannot read .: Is a directory" sheet . --lanes 4
 # 3: doubtful note data, which --force takes all the same.
 doubtful() {
     told 3 "$1; --force takes it all the same" sheet "$out/doubtful" --lanes 4
+    told 3 "$1; --force takes it all the same" dropped "$out/doubtful" --lanes 4
     told 3 "$1; --force takes it all the same" rig "$out/doubtful" --lanes 4 --notes "$out/n" --beats "$out/b"
+    printed 0 "no hold came to nothing" dropped "$out/doubtful" --lanes 4 --force
     printed 0 "measures 1" sheet "$out/doubtful" --lanes 4 --force --form card
     [ ! -e "$out/n" ] && [ ! -e "$out/b" ] || failed "rig wrote a file for doubtful data"
 }
@@ -70,12 +80,15 @@ one_line "cannot read no/such/file" "several files"
 [ "$(grep -c '^chart ' "$out/stdout")" -eq 5 ] || failed "the other files are not there"
 run 3 sheet "$out/doubtful" no/such/file "$chart" --lanes 4 --form card
 diff "$out/stdout" examples/first-steps.sheet.txt
+run 2 dropped "$out/two-charts.sm" no/such/file "$sm"
+one_line "cannot read no/such/file" "several files"
+[ "$(grep -c '^no hold came to nothing$' "$out/stdout")" -eq 4 ] || failed "the lists of the other files are not there"
 run 0 charts "$out/two-charts.sm" "$sm" "$out/two-charts.sm"
 [ "$(grep -c ' charts, ' "$out/stdout")" -eq 3 ] || failed "a file is not listed"
-passed=$((passed + 3))
+passed=$((passed + 4))
 
 # Outputs that are full or closed: status 2 and one line, and no sheet is taken for whole.
-for words in "charts $sm" "sheet $sm" "sheet $sm --form json" "diff $sm $sm" "rig $sm --chart 0 --notes $out/n --beats $out/b" --help; do
+for words in "charts $sm" "sheet $sm" "sheet $sm --form json" "dropped $sm" "dropped $sm --form json" "diff $sm $sm" "rig $sm --chart 0 --notes $out/n --beats $out/b" --help; do
     : >"$out/stdout"
     status=0
     # The words have no blanks in them.

@@ -10,6 +10,12 @@ stored 0 sheet.lanes sheet "$chart" --lanes 4
 stored 0 sheet.chart sheet "$sm" --chart 2
 stored 0 sheet.json sheet "$sm" --form json
 stored 0 sheet.lanes.json sheet "$chart" --lanes=4 --form=json
+holds=bindings/bench_command/tests/given/holds.sm
+stored 0 dropped dropped "$sm" "$holds"
+stored 0 dropped dropped "$sm" --form print "$holds"
+stored 0 dropped.json dropped "$sm" "$holds" --form json
+stored 0 dropped.lanes dropped "$chart" --lanes 4
+stored 0 dropped.chart dropped "$holds" --chart=0 --form=json
 stored 1 diff diff "$sm" "$changed"
 stored 0 diff.chart diff "$sm" "$changed" --chart 0
 stored 0 diff.lanes diff "$chart" "$chart" --lanes 4
@@ -37,10 +43,20 @@ sed 's/.*"chart"/"chart"/' "$out/stdout" >"$out/crlf.json"
 sed 's/.*"chart"/"chart"/' "$tests/stored/sheet.json" | diff - "$out/crlf.json"
 passed=$((passed + 2))
 
+# Its dropped heads are the same too; one of the four heads of that file has a note.
+sed 's/$/\r/' "$holds" >"$out/crlf.sm"
+run 0 dropped "$out/crlf.sm" --form json
+sed 's/.*"chart"/"chart"/' "$out/stdout" >"$out/crlf.json"
+sed 's/.*"chart"/"chart"/' "$tests/stored/dropped.chart" | diff - "$out/crlf.json"
+run 0 sheet "$holds" --form card
+[ "$(grep -c '^n [0-9]* [0-9]* [12] ' "$out/stdout")" -eq 1 ] || failed "the holds of $holds"
+passed=$((passed + 2))
+
 # Help and versions.
 printed 0 "padcheck WORD ..." --help
 printed 0 "padcheck charts FILE" charts --help
 printed 0 "padcheck sheet FILE" sheet --help
+printed 0 "padcheck dropped FILE" dropped --help
 printed 0 "padcheck rig FILE" rig -h
 printed 0 "padcheck diff OLD NEW" diff a --help
 printed 0 "kit $(rt version)" --version

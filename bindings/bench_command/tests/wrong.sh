@@ -16,6 +16,7 @@ doubtful_line() {
     answered 3 "wrong.$1" sheet "$given/$1.sm" --form card
     said=$(cat "$out/stderr")
     told 3 "$said" rig "$given/$1.sm" --chart 0 --notes "$out/n" --beats "$out/b"
+    told 3 "$said" dropped "$given/$1.sm"
     run 3 diff "$given/$1.sm" "$given/$2.sm"
     one_line "$said" "diff of $1"
     run 0 sheet "$given/$1.sm" --form card --force
@@ -36,6 +37,7 @@ answered 0 wrong.marked.neighbour charts "$given/chart.sm"
 # A line with a chart's tag in other letters starts no chart: beside charts it is doubted by every word, since one may be missed.
 answered 3 wrong.some-letters charts "$given/some-letters.sm"
 told 3 "$(cat "$out/stderr")" sheet "$given/some-letters.sm"
+told 3 "$(cat "$out/stderr")" dropped "$given/some-letters.sm"
 told 3 "$(cat "$out/stderr")" rig "$given/some-letters.sm" --chart 0 --notes "$out/n" --beats "$out/b"
 run 3 diff "$given/some-letters.sm" "$given/chart.sm"
 one_line "$(cat "$out/stderr")" "diff of some-letters"
@@ -98,6 +100,7 @@ else
     lacks="padcheck: this processor is no x86-64-v2, for which the library is compiled: it has no SSE4.2, POPCNT"
     told 2 "$lacks" charts "$sm"
     told 2 "$lacks" sheet "$sm"
+    told 2 "$lacks" dropped "$sm"
     told 2 "$lacks" rig "$sm" --chart 0 --notes "$out/n" --beats "$out/b"
     told 2 "$lacks" diff "$sm" "$sm"
 fi

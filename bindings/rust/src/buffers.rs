@@ -1,7 +1,9 @@
 //! The calls over buffers that are kept from one chart to the next.
 
 use crate::figures::{ArrowStats, Figures, count, place};
-use crate::{Lengths, NOTE_BYTES, Notes, Refusal, SheetForm, large_pages, lent};
+use crate::{
+    DROPPED_BYTES, DroppedHeads, Lengths, NOTE_BYTES, Notes, Refusal, SheetForm, large_pages, lent,
+};
 use std::cell::Cell;
 use std::mem;
 
@@ -56,7 +58,7 @@ pub struct Chart<'a> {
 pub struct KeptChart<'a> {
     /// Minimised text.
     pub text: &'a [u8],
-    /// The tally, corrected over the pass's own rows.
+    /// The tally, which is that of the main call.
     pub stats: ArrowStats,
     /// For each measure how many of its minimised rows have a 1, 2 or 4.
     pub densities: &'a [u32],
@@ -73,6 +75,19 @@ pub struct TimingRows<'a> {
     pub beats: &'a [f32],
     /// Whether any row has a 2 or 4.
     pub has_heads: bool,
+}
+
+/// The heads that come to nothing.
+#[derive(Clone, Debug)]
+pub struct DroppedHolds<'a> {
+    /// Minimised text, of which each line is a row or a `,`: the rows that the heads are told by stand there.
+    pub text: &'a [u8],
+    /// How many measures there are.
+    pub measures: usize,
+    /// How many minimised rows there are.
+    pub rows: usize,
+    /// The heads, in rising row, then column.
+    pub heads: DroppedHeads<'a>,
 }
 
 /// Where the last object row stands.
@@ -335,6 +350,48 @@ impl Buffers {
             &mut self.figures,
         )?;
         Ok(ArrowStats::from_figures(&self.figures))
+    }
+
+    /// The holds and rolls that came to nothing: each 2 or 4 of the minimised rows that the main call has no note of, with what
+    /// dropped it.
+    ///
+    /// ```
+    /// use padcheck::{Buffers, DropCause, DroppedHead};
+    ///
+    /// let mut buffers = Buffers::new();
+    /// let dropped = buffers.dropped_holds(b"2004\n0100\n1000\n", 4)?;
+    /// let want = [
+    ///     DroppedHead { row: 0, column: 0, cause: DropCause::OtherCell(2) },
+    ///     DroppedHead { row: 0, column: 3, cause: DropCause::ChartEnd },
+    /// ];
+    /// assert!(dropped.heads.eq(want));
+    /// assert_eq!((dropped.measures, dropped.rows), (1, 3));
+    /// # Ok::<(), padcheck::Refusal>(())
+    /// ```
+    ///
+    /// # Errors
+    ///
+    /// [`Refusal::LongText`].
+    pub fn dropped_holds(
+        &mut self,
+        data: &[u8],
+        lanes: usize,
+    ) -> Result<DroppedHolds<'_>, Refusal> {
+        let lengths = Lengths::of(data.len(), lanes);
+        lent::dropped_holds(
+            data,
+            lanes,
+            part(&mut self.text, lengths.text),
+            part(&mut self.notes, lengths.notes),
+            &mut self.figures,
+        )?;
+        let records = &self.notes[..DROPPED_BYTES * count(&self.figures, place::NOTES)];
+        Ok(DroppedHolds {
+            text: &self.text[..count(&self.figures, place::TEXT_BYTES)],
+            measures: count(&self.figures, place::MEASURES),
+            rows: count(&self.figures, place::ROWS),
+            heads: DroppedHeads::new(records),
+        })
     }
 
     /// The sheet of a chart, in bytes of ASCII. The slice that it is written to has 42 bytes for each byte of the text, of which

@@ -8,7 +8,7 @@ pub mod place {
     pub const MEASURES: usize = 1;
     /// Minimised rows, also the number of beats.
     pub const ROWS: usize = 2;
-    /// Note records.
+    /// Note records, or those of dropped heads.
     pub const NOTES: usize = 3;
     /// Last beat, the bits of the `f64`.
     pub const LAST_BEAT: usize = 4;

@@ -6,6 +6,9 @@ pub const MAX_LEN: usize = 16_777_215;
 /// Bytes of a note record.
 pub const NOTE_BYTES: usize = 10;
 
+/// Bytes of a dropped head's record.
+pub const DROPPED_BYTES: usize = 10;
+
 /// Bytes of a sheet: so many for each byte of the text and one more, and so many besides.
 const SHEET_BYTES: usize = 42;
 const SHEET_HEAD: usize = 3000;
@@ -34,7 +37,7 @@ pub struct Lengths {
     pub beats: usize,
     /// Work slice.
     pub work: usize,
-    /// Note records, bytes.
+    /// Note records, or those of dropped heads, bytes.
     pub notes: usize,
     /// Sheet, bytes: 42 × (len + 1) + 3,000, whatever its form.
     pub sheet: usize,

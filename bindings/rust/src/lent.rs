@@ -201,6 +201,34 @@ pub fn process_timing_rows(
     })
 }
 
+/// The heads that come to nothing: minimised text, and for each 2 or 4 of its rows that has no note a record of
+/// [`DROPPED_BYTES`](crate::DROPPED_BYTES) in `list`, their number at [`place::NOTES`](crate::place::NOTES).
+/// [`DroppedHeads::new`](crate::DroppedHeads::new) reads them.
+///
+/// # Errors
+///
+/// Refusals 1, 2 and 6; 6 is of the list, which has the length of the notes.
+pub fn dropped_holds(
+    data: &[u8],
+    lanes: usize,
+    text: &mut [u8],
+    list: &mut [u8],
+    figures: &mut Figures,
+) -> Result<(), Refusal> {
+    Refusal::of(unsafe {
+        padcheck_dropped_holds(
+            data.as_ptr(),
+            data.len(),
+            lanes,
+            text.as_mut_ptr(),
+            text.len(),
+            list.as_mut_ptr(),
+            list.len(),
+            figures,
+        )
+    })
+}
+
 /// Note record number `index`: row, tail (4,294,967,295 for none), column, kind.
 ///
 /// # Errors

@@ -11,6 +11,8 @@
 //! - [`Buffers`] does the same over buffers that are kept from one chart to the next.
 //! - [`lent`] has the entries as they are, over slices of the caller's.
 //!
+//! [`dropped_holds`] lists the holds and rolls that came to nothing, each with what dropped it.
+//!
 //! [`chart_sheet`] writes a chart's figures out, in the lines of the program card, in columns for the eye, or as JSON.
 //!
 //! [`sm_chart`] and [`sm_charts`] find what any of these is given: the note data of each chart inside an SM file, and its
@@ -24,6 +26,7 @@
 //! the repository, where `sh tools/build.sh lib` writes it. The archive is for x86-64 Linux.
 
 mod buffers;
+mod dropped;
 mod figures;
 mod large_pages;
 mod lengths;
@@ -36,12 +39,13 @@ mod sm;
 pub mod stats;
 mod symbols;
 
-pub use buffers::{Buffers, Chart, KeptChart, LastBeat, TimingRows, release_buffers};
+pub use buffers::{Buffers, Chart, DroppedHolds, KeptChart, LastBeat, TimingRows, release_buffers};
+pub use dropped::{DropCause, DroppedHead, DroppedHeads};
 pub use figures::{ArrowStats, Figures, place};
-pub use lengths::{Lengths, MAX_LEN, NOTE_BYTES, lanes_in_force};
+pub use lengths::{DROPPED_BYTES, Lengths, MAX_LEN, NOTE_BYTES, lanes_in_force};
 pub use note::{ChartNoteType, Notes, ParsedChartNote, read_note};
 pub use owned::{
-    OwnedChart, chart_last_beat, chart_sheet, equally_spaced, measure_densities,
+    OwnedChart, chart_last_beat, chart_sheet, dropped_holds, equally_spaced, measure_densities,
     minimize_chart_count_rows_notes, minimize_timing_rows, process_chart_kept,
     process_rows_judgable, process_timing_rows,
 };

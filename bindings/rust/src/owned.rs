@@ -2,7 +2,7 @@
 
 use crate::buffers::{LastBeat, with_kept};
 use crate::figures::{count, place};
-use crate::{ArrowStats, Lengths, ParsedChartNote, Refusal, SheetForm, lent};
+use crate::{ArrowStats, DroppedHead, Lengths, ParsedChartNote, Refusal, SheetForm, lent};
 
 /// What the main call answers, owned.
 #[derive(Clone, Debug, PartialEq)]
@@ -188,6 +188,29 @@ pub fn process_rows_judgable(data: &[u8], lanes: usize) -> Result<ArrowStats, Re
 /// [`Refusal::LongText`].
 pub fn process_timing_rows(data: &[u8], lanes: usize, flags: &[u8]) -> Result<ArrowStats, Refusal> {
     with_kept(|buffers| buffers.process_timing_rows(data, lanes, flags))
+}
+
+/// The holds and rolls that came to nothing: each 2 or 4 of the minimised rows that the main call has no note of, with what
+/// dropped it, in rising row, then column.
+///
+/// ```
+/// use padcheck::{DropCause, DroppedHead, dropped_holds};
+///
+/// let cause = DropCause::OtherHead(1);
+/// let head = DroppedHead { row: 0, column: 2, cause };
+/// assert_eq!(dropped_holds(b"0020\n0040\n0030\n", 4)?, [head]);
+/// assert_eq!(cause.to_string(), "another head at row 1");
+/// # Ok::<(), padcheck::Refusal>(())
+/// ```
+///
+/// # Errors
+///
+/// [`Refusal::LongText`].
+pub fn dropped_holds(data: &[u8], lanes: usize) -> Result<Vec<DroppedHead>, Refusal> {
+    with_kept(|buffers| {
+        let dropped = buffers.dropped_holds(data, lanes)?;
+        Ok(dropped.heads.collect())
+    })
 }
 
 /// The sheet of a chart, in bytes of ASCII.

@@ -81,6 +81,16 @@ unsafe extern "C" {
         work_len: usize,
         figures: *mut Figures,
     ) -> u32;
+    pub fn padcheck_dropped_holds(
+        data: *const u8,
+        data_len: usize,
+        lanes: usize,
+        text: *mut u8,
+        text_len: usize,
+        list: *mut u8,
+        list_len: usize,
+        figures: *mut Figures,
+    ) -> u32;
     pub fn padcheck_read_note(
         records: *const u8,
         records_len: usize,

@@ -11,7 +11,7 @@ const DATA: &[u8] = b"1000\n0000\n0100\n0000\n;\n";
 type Call = fn(&mut Loan) -> Result<(), Refusal>;
 
 /// The calls on a text, each with what it is lent.
-const CALLS: [(Call, &[Lent]); 7] = [
+const CALLS: [(Call, &[Lent]); 8] = [
     (
         |loan| loan.main_call(DATA, 4),
         &[Text, Densities, Beats, Work, Notes],
@@ -46,6 +46,7 @@ const CALLS: [(Call, &[Lent]); 7] = [
         |loan| lent::process_timing_rows(DATA, 4, &[], &mut loan.work, &mut loan.figures),
         &[Work],
     ),
+    (|loan| loan.dropped_holds(DATA, 4), &[Text, Notes]),
 ];
 
 #[test]
@@ -107,6 +108,10 @@ fn a_text_that_is_too_long_is_refused_first() {
         lent::process_timing_rows(&data, 4, &[], &mut [], &mut figures),
         too_long
     );
+    assert_eq!(
+        lent::dropped_holds(&data, 4, &mut [], &mut [], &mut figures),
+        too_long
+    );
     assert_eq!(figures, [7; 32]);
 }
 
@@ -139,6 +144,7 @@ fn allocating_calls_refuse_a_text_that_is_too_long_and_nothing_else() {
         padcheck::process_timing_rows(&data, 4, &[0]),
         Err(Refusal::LongText)
     );
+    assert_eq!(padcheck::dropped_holds(&data, 4), Err(Refusal::LongText));
 
     let data = &data[..MAX_LEN];
     let mut buffers = Buffers::new();

@@ -7,7 +7,7 @@ mod loan;
 
 use chart::Kind;
 use loan::Loan;
-use padcheck::{Buffers, Lengths, MAX_LEN, NOTE_BYTES, SheetForm, place};
+use padcheck::{Buffers, DROPPED_BYTES, Lengths, MAX_LEN, NOTE_BYTES, SheetForm, place};
 use std::ffi::c_int;
 use std::process::Command;
 use std::{env, fs};
@@ -129,6 +129,18 @@ fn the_main_call_on_an_unclosed_text() {
         loan.main_call(&data, LANES).unwrap();
         let marks = size_of::<u16>() * figure(&loan, place::ROWS);
         within(&data, answers(&loan) + marks, BESIDES);
+    });
+}
+
+#[test]
+fn the_dropped_heads() {
+    alone("the_dropped_heads", || {
+        small_pages();
+        let data = text(Kind::Unclosed);
+        let mut loan = slices(&data, 0);
+        loan.dropped_holds(&data, LANES).unwrap();
+        let list = DROPPED_BYTES * figure(&loan, place::NOTES);
+        within(&data, figure(&loan, place::TEXT_BYTES) + list, BESIDES);
     });
 }
 

@@ -5,7 +5,10 @@
 mod reader;
 
 use padcheck::stats::ChartNotesScratch;
-use padcheck::{ArrowStats, Buffers, ChartNoteType, Figures, KeptChart, ParsedChartNote, place};
+use padcheck::{
+    ArrowStats, Buffers, ChartNoteType, DropCause, DroppedHead, Figures, KeptChart,
+    ParsedChartNote, place,
+};
 use reader::Reader;
 use std::fs;
 use std::path::Path;
@@ -37,7 +40,7 @@ struct Record<'a> {
     lanes: usize,
     text: &'a [u8],
     flags: &'a [u8],
-    answers: [Answer<'a>; 8],
+    answers: [Answer<'a>; 9],
 }
 
 /// Places of the answers in a record.
@@ -49,6 +52,7 @@ const SPACING: usize = 4;
 const LAST_BEAT: usize = 5;
 const JUDGED: usize = 6;
 const FLAGGED: usize = 7;
+const DROPPED: usize = 8;
 
 fn answer<'a>(reader: &mut Reader<'a>) -> Answer<'a> {
     let figures = std::array::from_fn(|_| reader.number(8));
@@ -301,4 +305,42 @@ fn judged_tallies() {
             Ok(stats)
         );
     });
+}
+
+#[test]
+fn dropped_heads() {
+    let mut buffers = Buffers::new();
+    each_record(|record| {
+        let answer = &record.answers[DROPPED];
+        let dropped = buffers.dropped_holds(record.text, record.lanes).unwrap();
+        assert_eq!(dropped.text, answer.text);
+        let counts = [dropped.measures, dropped.rows, dropped.heads.len()];
+        let places = [place::MEASURES, place::ROWS, place::NOTES];
+        assert_eq!(counts, places.map(|place| answer.figures[place] as usize));
+        assert_eq!(dropped.heads.records(), answer.notes);
+        let heads = stored_heads(answer.notes);
+        assert!(dropped.heads.eq(heads.iter().copied()));
+        assert_eq!(
+            padcheck::dropped_holds(record.text, record.lanes),
+            Ok(heads)
+        );
+    });
+}
+
+/// The dropped heads of stored records, read by their layout.
+fn stored_heads(records: &[u8]) -> Vec<DroppedHead> {
+    let mut reader = Reader(records);
+    let mut heads = Vec::new();
+    while !reader.0.is_empty() {
+        let (row, by) = (reader.length(), reader.length());
+        let column = reader.number(1) as usize;
+        let cause = match reader.number(1) {
+            0 => DropCause::OtherHead(by),
+            1 => DropCause::OtherCell(by),
+            2 if by == 4_294_967_295 => DropCause::ChartEnd,
+            reason => panic!("{reason} is no reason"),
+        };
+        heads.push(DroppedHead { row, column, cause });
+    }
+    heads
 }

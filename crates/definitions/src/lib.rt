@@ -260,7 +260,7 @@ pub struct KeptFigures {
 pub struct DroppedFigures {
     pub bytes: usize,
     pub measures: usize,
-    pub rows: usize,
+    pub rows: u32,
     pub heads: usize,
 }
 

@@ -3,14 +3,15 @@
 #![tactic(auto)]
 
 ghost use Rattle.std.specs.Prelude.{◌≡◌, [], ◌∷◌};
-ghost use Rattle.definitions.specs.Entries.{figures as stored_figures, figures_of_note, places_of_chart, places_of_kept, places_of_timing, places_of_measures, places_of_last, places_of_judged};
+ghost use Rattle.definitions.specs.Entries.{figures as stored_figures, figures_of_note, places_of_chart, places_of_kept, places_of_dropped, places_of_timing, places_of_measures, places_of_last, places_of_judged};
 ghost use Rattle.definitions.specs.Lists.{number_of_bool};
 ghost use Rattle.definitions.specs.Records.{number_of_tail};
 ghost use Rattle.definitions.specs.Tally.{tally_figures};
 ghost use Rattle.definitions.specs.Refusals.{number_told, replaces};
 
 use definitions::{
-    ArrowStats, ChartFigures, KeptFigures, LastBeat, Note, Refusal, Tail, TimingFigures,
+    ArrowStats, ChartFigures, DroppedFigures, KeptFigures, LastBeat, Note, Refusal, Tail,
+    TimingFigures,
 };
 use note_records::{NO_TAIL_ROW, kind_number};
 
@@ -20,7 +21,7 @@ struct Places {
     bytes: usize,
     measures: usize,
     rows: usize,
-    notes: usize,
+    records: usize,
     last_bits: u64,
     heads: bool,
     last_row: u64,
@@ -30,7 +31,7 @@ struct Places {
 impl Places {
     // The 32 numbers: the figures, the last beat by its bits and in 48ths, and from place 8 on the tally in the order of its fields.
     fn numbers(self) -> [u64; 32]
-        ensures { result ≡ stored_figures self.bytes self.measures self.rows self.notes
+        ensures { result ≡ stored_figures self.bytes self.measures self.rows self.records
             self.last_bits (number_of_bool self.heads) self.last_row (tally_figures self.stats) }
     {
         let t = self.stats;
@@ -38,7 +39,7 @@ impl Places {
             self.bytes as u64,
             self.measures as u64,
             self.rows as u64,
-            self.notes as u64,
+            self.records as u64,
             self.last_bits,
             u64::from(self.heads),
             self.last_row,
@@ -99,7 +100,7 @@ impl Figures<32> for ChartFigures {
             bytes: self.bytes,
             measures: self.measures,
             rows: self.rows as usize,
-            notes: self.notes,
+            records: self.notes,
             last_bits: self.last_bits,
             last_row: self.last_row,
             stats: self.stats,
@@ -118,6 +119,21 @@ impl Figures<32> for KeptFigures {
             measures: self.measures,
             rows: self.rows as usize,
             stats: self.stats,
+            ..Places::default()
+        };
+        places.numbers()
+    }
+}
+
+impl Figures<32> for DroppedFigures {
+    ghost places = { places_of_dropped };
+
+    fn places(self) -> [u64; 32] {
+        let places = Places {
+            bytes: self.bytes,
+            measures: self.measures,
+            rows: self.rows as usize,
+            records: self.heads,
             ..Places::default()
         };
         places.numbers()

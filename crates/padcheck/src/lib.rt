@@ -13,8 +13,9 @@ ghost use Rattle.definitions.specs.Figures.{minimised_text, densities as densiti
 ghost use Rattle.definitions.specs.Beats.{f32, beats as beats_of};
 ghost use Rattle.definitions.specs.Notes.{notes as notes_of};
 ghost use Rattle.definitions.specs.Records.{records as records_of, note_of_record};
+ghost use Rattle.definitions.specs.Dropped.{dropped_heads, dropped_records};
 ghost use Rattle.definitions.specs.TimingRows.{timing_rows};
-ghost use Rattle.definitions.specs.Entries.{measures_answer, places_of_measures, last_answer, places_of_last, main_answer, places_of_chart, judged_answer, places_of_judged, flagged_answer, kept_answer, places_of_kept, timing_answer, places_of_timing, figures_of_note};
+ghost use Rattle.definitions.specs.Entries.{measures_answer, places_of_measures, last_answer, places_of_last, main_answer, places_of_chart, judged_answer, places_of_judged, flagged_answer, kept_answer, places_of_kept, dropped_answer, places_of_dropped, timing_answer, places_of_timing, figures_of_note};
 ghost use Rattle.definitions.specs.SmFile.{sm_answer, places_of_part};
 ghost use Rattle.chart_sheet.specs.Forms.{sheet_in_form};
 ghost use Rattle.chart_sheet.specs.Entry.{sheet_answer};
@@ -79,6 +80,29 @@ pub extern "C" fn padcheck_process_chart_kept(
         places_of_kept figures.old }
 {
     let answer = kept::process_chart_kept(data, lanes, text, densities, work);
+    tell(answer, figures)
+}
+
+/// The heads that have no note: minimised text, and a record of ten bytes for each 2 or 4 of its rows that is dropped, its row, the row that dropped it
+/// or 4,294,967,295, its column, and the reason: 0 another head, 1 another cell, 2 the chart's end. Refusals: 1, 2 and 6, the last of the list.
+#[unsafe(no_mangle)]
+pub extern "C" fn padcheck_dropped_holds(
+    data: &[u8],
+    lanes: usize,
+    text: &mut [u8],
+    list: &mut [u8],
+    figures: &mut [u64; 32],
+) -> u32
+    ensures value { result ≡ number_told (dropped_answer lanes «data».now text.old list.old) }
+    ensures text_after { text.new
+        ≡ leaves_by 0 result (minimised_text (lanes_of lanes) «data».now) text.old }
+    ensures list_after { list.new ≡ leaves_by 0 result
+        (dropped_records (dropped_heads (lanes_of lanes) «data».now)) list.old }
+    ensures figures_after { figures.new
+        ≡ replaces (dropped_answer lanes «data».now text.old list.old)
+        places_of_dropped figures.old }
+{
+    let answer = dropped::dropped_holds(data, lanes, text, list);
     tell(answer, figures)
 }
 

@@ -2,6 +2,7 @@
 use chart::minimize_chart_count_rows_notes;
 use compare::{all_zero, same_bytes, same_figures, same_floats, same_numbers};
 use definitions::Refusal;
+use dropped::dropped_holds;
 use figures::Figures;
 use judged::{process_rows_judgable, process_timing_rows};
 use kept::process_chart_kept;
@@ -95,6 +96,16 @@ pub fn flagged_agrees(record: &Record, stored: &Answer) -> bool {
     let mut work = lent::work();
     let answered = process_timing_rows(record.text, record.lanes, record.flags, &mut work);
     has_figures(answered, stored) && all_zero(&work)
+}
+
+/// The list of dropped heads.
+pub fn dropped_agrees(record: &Record, stored: &Answer) -> bool {
+    let mut text = lent::text();
+    let mut list = lent::notes();
+    let answered = dropped_holds(record.text, record.lanes, &mut text, &mut list);
+    has_figures(answered, stored)
+        && same_bytes(&text, stored.text)
+        && same_bytes(&list, stored.notes)
 }
 
 // Whether a call was accepted, with the figures that are stored.

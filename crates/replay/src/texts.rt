@@ -13,6 +13,7 @@ pub enum Call {
     LastBeat,
     Judged,
     Flagged,
+    Dropped,
 }
 
 impl Call {
@@ -28,6 +29,7 @@ impl Call {
             Call::LastBeat => agreements::last_beat_agrees(record, &answers.last_beat),
             Call::Judged => agreements::judged_agrees(record, &answers.judged),
             Call::Flagged => agreements::flagged_agrees(record, &answers.flagged),
+            Call::Dropped => agreements::dropped_agrees(record, &answers.dropped),
         }
     }
 }

@@ -1,5 +1,5 @@
-// Replays the stored sample of the Rust's answers (tests/vectors/README.md), which it reads from standard input, with the timing rows, the scans
-// and the judged calls.
+// Replays the stored sample of the Rust's answers (tests/vectors/README.md), which it reads from standard input, with the timing rows, the scans,
+// the judged calls and the list of dropped heads.
 #![tactic(auto)]
 
 use replay::Call;
@@ -13,6 +13,7 @@ fn main(rt: HostRuntime) -> io::Result<()> {
         Call::LastBeat,
         Call::Judged,
         Call::Flagged,
+        Call::Dropped,
     ];
     replay::replay_texts(&rt, &calls)
 }

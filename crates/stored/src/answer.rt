@@ -49,17 +49,18 @@ pub struct Answers<'a> {
     pub last_beat: Answer<'a>,
     pub judged: Answer<'a>,
     pub flagged: Answer<'a>,
+    pub dropped: Answer<'a>,
 }
 
 impl<'a> Answers<'a> {
     ghost use Rattle.stored.specs.Layout.{Begins, answers_bytes, answers_length};
 
-    /// The eight answers at the front of `rest`, which keeps what follows them.
+    /// The nine answers at the front of `rest`, which keeps what follows them.
     pub fn read(rest: &mut &'a [u8]) -> Option<Answers<'a>>
         ensures value { IfSome result (λ a. Begins rest.old.now (answers_bytes a) rest.new.now) }
         ensures after { IfSome result (λ _. length rest.old.now
-            ≡ answers_length 8 rest.old.now + length rest.new.now) }
-        ensures variant { IsSome result ↔ (answers_length 8 rest.old.now ≤ length rest.old.now) }
+            ≡ answers_length 9 rest.old.now + length rest.new.now) }
+        ensures variant { IsSome result ↔ (answers_length 9 rest.old.now ≤ length rest.old.now) }
     {
         Some(Answers {
             main: Answer::read(rest)?,
@@ -70,6 +71,7 @@ impl<'a> Answers<'a> {
             last_beat: Answer::read(rest)?,
             judged: Answer::read(rest)?,
             flagged: Answer::read(rest)?,
+            dropped: Answer::read(rest)?,
         })
     }
 }

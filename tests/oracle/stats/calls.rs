@@ -1,8 +1,10 @@
-//! The eight chart calls of the outside interface, each as the Rust answers it, which is asked about the text that `asked` says.
+//! The nine chart calls of the outside interface, each as the Rust answers it, which is asked about the text that `asked` says; the list of
+//! dropped heads, which the Rust does not have, as a plain reference does (`dropped`).
 //! A text that a call would refuse is answered here all the same; `entry` has the refusals.
 
 use super::*;
 use crate::asked::{chart_text, read_back_text};
+use crate::dropped::{DroppedHead, dropped_heads};
 
 /// Places in `figures`; the tally takes the fourteen places from `TALLY` on.
 pub const TEXT_BYTES: usize = 0;
@@ -51,9 +53,10 @@ pub enum Call {
     ChartLastBeat,
     ProcessRowsJudgable,
     ProcessTimingRows,
+    DroppedHolds,
 }
 
-pub const CALLS: [Call; 8] = [
+pub const CALLS: [Call; 9] = [
     Call::MinimizeChartCountRowsNotes,
     Call::ProcessChartKept,
     Call::MinimizeTimingRows,
@@ -62,6 +65,7 @@ pub const CALLS: [Call; 8] = [
     Call::ChartLastBeat,
     Call::ProcessRowsJudgable,
     Call::ProcessTimingRows,
+    Call::DroppedHolds,
 ];
 
 impl Call {
@@ -77,6 +81,7 @@ impl Call {
             Self::ChartLastBeat => "chart_last_beat",
             Self::ProcessRowsJudgable => "process_rows_judgable",
             Self::ProcessTimingRows => "process_timing_rows",
+            Self::DroppedHolds => "dropped_holds",
         }
     }
 }
@@ -91,7 +96,7 @@ pub struct Answer {
     /// 1 true, 0 false.
     pub spacing: Vec<u8>,
     pub beats: Vec<f32>,
-    /// Note records back to back.
+    /// Note records back to back, or those of the dropped heads.
     pub notes: Vec<u8>,
 }
 
@@ -124,7 +129,7 @@ impl Answer {
     }
 }
 
-/// The answer of any of the eight calls. Only `process_timing_rows` looks at the flags.
+/// The answer of any of these calls. Only `process_timing_rows` looks at the flags.
 #[must_use]
 pub fn answer(call: Call, data: &[u8], lanes: usize, flags: &[u8]) -> Answer {
     match call {
@@ -136,6 +141,7 @@ pub fn answer(call: Call, data: &[u8], lanes: usize, flags: &[u8]) -> Answer {
         Call::ChartLastBeat => chart_last_beat(data, lanes),
         Call::ProcessRowsJudgable => process_rows_judgable(data, lanes),
         Call::ProcessTimingRows => process_timing_rows(data, lanes, flags),
+        Call::DroppedHolds => dropped_holds(data, lanes),
     }
 }
 
@@ -262,6 +268,21 @@ pub fn process_timing_rows(data: &[u8], lanes: usize, flags: &[u8]) -> Answer {
 
 fn judged_by_flags<const L: usize>(data: &[u8], flags: &[u8]) -> ArrowStats {
     super::process_timing_rows::<L>(&parse_minimized_rows(data), |row| is_judged(flags, row))
+}
+
+/// The minimised text, and the heads that come to nothing.
+#[must_use]
+pub fn dropped_holds(data: &[u8], lanes: usize) -> Answer {
+    let main = minimize_chart_count_rows_notes(data, lanes);
+    let heads = dropped_heads(&main.text, lanes_in_force(lanes));
+    let mut answer = Answer::default();
+    for place in [MEASURES, ROWS] {
+        answer.figures[place] = main.figures[place];
+    }
+    answer.figures[NOTES] = heads.len() as u64;
+    answer.set_text(main.text);
+    answer.notes = heads.iter().flat_map(DroppedHead::record).collect();
+    answer
 }
 
 fn tally_alone(stats: &ArrowStats) -> Answer {

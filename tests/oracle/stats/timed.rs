@@ -1,7 +1,9 @@
-//! The calls with nothing around them, for timing: the Rust's own results, and its buffers reused where it takes them.
+//! The calls with nothing around them, for timing: the Rust's own results, and its buffers reused where it takes them. For the list of
+//! dropped heads, which the Rust does not have, it is the plain reference over the Rust's minimised text.
 
-use super::calls::{Call, is_judged};
+use super::calls::{Call, is_judged, lanes_in_force};
 use super::*;
+use crate::dropped::dropped_heads;
 use std::hint::black_box;
 
 /// What the Rust fills and a caller may keep from call to call.
@@ -33,6 +35,10 @@ pub fn run(call: Call, data: &[u8], lanes: usize, flags: &[u8], buffers: &mut Bu
         }
         Call::ProcessRowsJudgable => dispatch_lanes!(lanes, judged_rows(data)),
         Call::ProcessTimingRows => dispatch_lanes!(lanes, judged_by_flags(data, flags)),
+        Call::DroppedHolds => {
+            let text = minimize_chart_for_hash(data, lanes);
+            black_box(dropped_heads(&text, lanes_in_force(lanes)));
+        }
     }
 }
 

@@ -102,6 +102,12 @@ impl Loan {
         )
     }
 
+    /// Asks for the dropped heads; the note slice is the list.
+    pub fn dropped_holds(&mut self, data: &[u8], lanes: usize) -> Result<(), Refusal> {
+        let (text, list) = (&mut self.text, &mut self.notes);
+        lent::dropped_holds(data, lanes, text, list, &mut self.figures)
+    }
+
     /// Asks for the sheet in the form of this number.
     pub fn chart_sheet(&mut self, data: &[u8], lanes: usize, form: usize) -> Result<(), Refusal> {
         lent::chart_sheet(

@@ -1,0 +1,2 @@
+-- What the contracts of the pass cite, beside the definitions.
+pub mod TextPass
