@@ -29,7 +29,7 @@ head-line : (name : List ℕ) (n c : ℕ) → n < 2 ^ 64 → length name ≤ c �
 unfolding line_of_figure
 head-line name n c small h = rw length-append (omega (arith, field-length n 10 small))
 
-head-lines : (f : ChartFigures) → HeadsFit f → length (lines_of_head f) ≤ 164
+head-lines : (f : ChartFigures) → HeadsFit f → length (lines_of_head f) ≤ 190
 unfolding lines_of_head
 head-lines f fit =
     simp length-append
@@ -39,6 +39,7 @@ head-lines f fit =
       head-line (codes "rows ") f.rows 5 fit.rows (omega arith),
       head-line (codes "arrows ") f.stats.total_arrows 7 fit.arrows (omega arith),
       head-line (codes "steps ") f.stats.total_steps 6 fit.steps (omega arith),
+      head-line (codes "keys ") f.stats.keysounds 5 fit.keys (omega arith),
       head-line (codes "notes ") f.notes 6 fit.notes (omega arith),
       head-line (codes "last ") f.last_row 5 fit.last_row (omega arith),
     ))

@@ -36,6 +36,7 @@ pub record HeadsFit (f : ChartFigures) : Type 0 where
   pub last_row : f.last_row < 2 ^ 64
   pub arrows : f.stats.total_arrows < 2 ^ 64
   pub steps : f.stats.total_steps < 2 ^ 64
+  pub keys : f.stats.keysounds < 2 ^ 64
 
 pub record FiguresFit (f : SheetFigures) : Type 0 where
   pub heads : HeadsFit f.chart

@@ -71,12 +71,12 @@ member-length : (i : ℕ) (name : List ℕ) (count : ℕ) → count < 2 ^ 64 →
 unfolding member
 member-length i name count small h = rw length-append (omega (arith, separator-length i, named-length name count 12 small h))
 
-members-length : (t : ArrowStats) → TallyFits t → length (members t) ≤ 504
-unfolding members field_count
+members-length : (t : ArrowStats) → TallyFits t → length (members t) ≤ 36 * field_count
+unfolding members
 members-length t fit =
     listed-most (λ (i : ℕ). member i (field_at t i).0 (field_at t i).1) field_count 36 (λ i h. member-length i (field_at t i).0 (field_at t i).1 (field-fits t fit i) (field-name t i))
 
-json-tallies : (f : SheetFigures) → FiguresFit f → length (json_tallies f) ≤ 1544
+json-tallies : (f : SheetFigures) → FiguresFit f → length (json_tallies f) ≤ 32 + 108 * field_count
 unfolding json_tallies
 json-tallies f fit =
     simp length-append (omega (arith, members-length f.chart.stats fit.main, members-length f.kept.stats fit.kept, members-length f.judged fit.judged))
@@ -121,7 +121,7 @@ found-entry k n made = rw length-append (omega (arith, separator-length k, note-
 
 json-parts : (f : SheetFigures) (densities spacings records : List ℕ) → FiguresFit f
     → length (json_of f densities spacings records)
-    ≤ 1800
+    ≤ 288 + 108 * field_count
     + (length (entries_of_densities densities (length densities)) + length (entries_of_spacings spacings (length spacings)))
     + length (entries_of_records records (length records / 10))
 unfolding json_of json_lists
@@ -135,7 +135,7 @@ module _ (L : ℕ) (four : 4 ≤ L) (ten : L ≤ 10) (text : List ℕ) (short : 
       rw back.read (found-entry k back.note back.limits)
 
   pub json-room : length (json_object L text) ≤ 42 * (length text + 1) + 3000
-  unfolding json_object
+  unfolding json_object field_count
   json-room =
       let ds = densities L text in
       let ss = spacings L text in
@@ -152,6 +152,6 @@ module _ (L : ℕ) (four : 4 ≤ L) (ten : L ≤ 10) (text : List ℕ) (short : 
       omega (
         arith,
         json-parts (sheet_figures L text) ds ss rs (printed-fit L four ten text short),
-        room-enough L (omega arith) ten text 1800 (length (entries_of_densities ds (length ds)) + length (entries_of_spacings ss (length ss))) (length (entries_of_records rs (length rs / 10)))
+        room-enough L (omega arith) ten text (288 + 108 * field_count) (length (entries_of_densities ds (length ds)) + length (entries_of_spacings ss (length ss))) (length (entries_of_records rs (length rs / 10)))
             (omega arith) (omega (arith, densities-count L text, spacings-count L text)) (omega (arith, records-count (notes L text))),
       )

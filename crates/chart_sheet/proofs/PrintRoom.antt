@@ -63,15 +63,15 @@ tally-line : (name : List ℕ) (main kept judged : ℕ) → main < 2 ^ 64 → ke
 unfolding line_of_tally
 tally-line name main kept judged p q r h = rw length-append (omega (arith, name-columns name h, three-length main kept judged p q r))
 
-tally-lines : (f : SheetFigures) → FiguresFit f → length (lines_of_tally f) ≤ 1400
-unfolding lines_of_tally field_count
+tally-lines : (f : SheetFigures) → FiguresFit f → length (lines_of_tally f) ≤ 100 * field_count
+unfolding lines_of_tally
 tally-lines f fit =
     let t = f.chart.stats in
     listed-most (λ (i : ℕ). line_of_tally (field_at t i).0 (field_at t i).1 (field_at f.kept.stats i).1 (field_at f.judged i).1) field_count 100
     (λ i h. tally-line (field_at t i).0 (field_at t i).1 (field_at f.kept.stats i).1 (field_at f.judged i).1
     (field-fits t fit.main i) (field-fits f.kept.stats fit.kept i) (field-fits f.judged fit.judged i) (field-name t i))
 
-print-tallies : (f : SheetFigures) → FiguresFit f → length (print_tallies f) ≤ 1441
+print-tallies : (f : SheetFigures) → FiguresFit f → length (print_tallies f) ≤ 41 + 100 * field_count
 unfolding print_tallies head_of_tally
 print-tallies f fit = simp length-append (omega (arith, tally-lines f fit))
 
@@ -121,7 +121,7 @@ held-line n (Row j) made m =
 
 print-parts : (f : SheetFigures) (densities spacings records : List ℕ) → FiguresFit f
     → length (print_of f densities spacings records)
-    ≤ 1785 + length (lines_of_densities densities spacings (length densities)) + length (lines_of_held records (length records / 10))
+    ≤ 385 + 100 * field_count + length (lines_of_densities densities spacings (length densities)) + length (lines_of_held records (length records / 10))
 unfolding print_of head_of_densities head_of_held
 print-parts f densities spacings records fit =
     simp length-append (omega (arith, print-heads f.chart fit.heads, print-tallies f fit))
@@ -133,7 +133,7 @@ module _ (L : ℕ) (four : 4 ≤ L) (ten : L ≤ 10) (text : List ℕ) (short : 
       rw back.read (held-line back.note back.note.tail back.limits back.limits.tail)
 
   pub print-room : length (printed L text) ≤ 42 * (length text + 1) + 3000
-  unfolding printed
+  unfolding printed field_count
   print-room =
       let ds = densities L text in
       let ss = spacings L text in
@@ -148,6 +148,6 @@ module _ (L : ℕ) (four : 4 ≤ L) (ten : L ≤ 10) (text : List ℕ) (short : 
       omega (
         arith,
         print-parts (sheet_figures L text) ds ss rs (printed-fit L four ten text short),
-        room-enough L (omega arith) ten text 1785 (length (lines_of_densities ds ss (length ds))) (length (lines_of_held rs (length rs / 10)))
+        room-enough L (omega arith) ten text (385 + 100 * field_count) (length (lines_of_densities ds ss (length ds))) (length (lines_of_held rs (length rs / 10)))
             (omega arith) (omega (arith, densities-count L text)) (omega (arith, records-count (notes L text))),
       )

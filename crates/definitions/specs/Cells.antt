@@ -33,7 +33,7 @@ byte_at c r = slice_index_or r c 48
 
 -- What a cell is counted as, beside an arrow.
 pub data CountKind : Type 0 where
-  nothing hold roll tail mine lift fake : CountKind
+  nothing hold roll tail mine lift fake keysound : CountKind
 
 -- What a cell does, all in one place. "In its column a cell opens, closes, blocks or does nothing; Last beat, Hold tracker and Correction say what
 -- that does to each of theirs. A cell that drops takes the note from the head that is open in its column."
@@ -49,10 +49,10 @@ pub record Effects : Type 0 where
 abbrev row : Bool → CountKind → NoteEffect → DepthEffect → DepthEffect → Bool → Bool → Effects
 row a k n h o j u = record { arrow = a; counted = k; note = n; hold = h; object = o; judged_arrow = j; unjudged_fake = u }
 
--- The table. "The arrows are the cells 1, 2 and 4." "A 3 closes the open head of its column" "Any of 1 2 4 M L F m l f drops the open head's note in
--- its column." "K and the empty cells touch no note." For the tracker 2 and 4 open, 3 closes, and 1, M, L, F block; for the last beat K blocks too.
--- "On a judged row the arrows are 1, L, l and the paired heads." "On an unjudged row each 1, L, l, M, m, F, f and paired head is one fake, and nothing
--- else is counted."
+-- The table. "The arrows are the cells 1, 2 and 4. A K is a keysound and is counted as nothing else." "A 3 closes the open head of its column" "Any
+-- of 1 2 4 M L F m l f drops the open head's note in its column." "K and the empty cells touch no note." For the tracker 2 and 4 open, 3 closes, and
+-- 1, M, L, F block; for the last beat K blocks too. "On a judged row the arrows are 1, L, l and the paired heads." "On an unjudged row each 1, L, l, M,
+-- m, F, f and paired head is one fake, and nothing else is counted."
 --                    arrow counted notes tracker last beat judged unjudged
 abbrev pub effects_of : Cell → Effects
 effects_of Empty = row false nothing note.Nothing Nothing Nothing false false
@@ -63,7 +63,7 @@ effects_of Roll = row true roll (note.Head kind.Roll) Opens Opens true true
 effects_of Mine = row false mine (note.Single kind.Mine) Blocks Blocks false true
 effects_of Lift = row false lift (note.Single kind.Lift) Blocks Blocks true true
 effects_of Fake = row false fake (note.Single kind.Fake) Blocks Blocks false true
-effects_of KeySound = row false nothing note.Nothing Nothing Blocks false false
+effects_of KeySound = row false keysound note.Nothing Nothing Blocks false false
 effects_of LowerMine = row false mine (note.Single kind.Mine) Nothing Nothing false true
 effects_of LowerLift = row false lift (note.Single kind.Lift) Nothing Nothing true true
 effects_of LowerFake = row false fake (note.Single kind.Fake) Nothing Nothing false true

@@ -16,6 +16,7 @@ use Rattle.definitions.specs.WriterMakes.{Made}
 use Rattle.definitions.specs.SmFile.{Tag, block_end, blocks, sm_tag, sm_data, sm_start, sm_number}
 use Rattle.definitions.specs.Damage.{rows_above, rows_of, earlier, later, all_later, byte_in, head_kind, open_in, HoldObject}
 use Rattle.definitions.specs.Examples as texts
+use Rattle.definitions.specs.TallyExamples as tallies
 use Rattle.definitions.specs.RequestExamples as requests
 use Rattle.definitions.specs.declared.Tail.{Tail}
 use Rattle.definitions.specs.declared.Tail.TheVariants.{Without, Row as to_row}
@@ -162,9 +163,10 @@ ElevenSays =
     → ((k : ℕ) → (sm_number file k == 11) ≡ nat_le (length (blocks file)) k)
     × (find (λ k. sm_number file k == 11) (range_with_len 0 (suc (length (blocks file)))) ≡ Some (length (blocks file)))
 
--- ---- Of the examples: P1 to P11 are there, with so many things that each says, and as many of the requests'
+-- ---- Of the examples: P1 to P11 and those of keysounds are there, with so many things that each says, and as many of SM files
 
 unfoldable pub ExamplesCounted : Type 0
 ExamplesCounted =
     (map (λ (e : texts.Example). length e.says) texts.table ≡ 5 ∷ 4 ∷ 1 ∷ 5 ∷ 3 ∷ 4 ∷ 2 ∷ 3 ∷ 6 ∷ 1 ∷ 2 ∷ [])
+    × (map (λ (e : texts.Example). length e.says) tallies.table ≡ 6 ∷ 2 ∷ 4 ∷ 5 ∷ 3 ∷ [])
     × (length requests.table ≡ 16)

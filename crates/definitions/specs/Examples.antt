@@ -1,5 +1,5 @@
 -- Specification, Examples: "P1 to P11 are proved of the definitions as one table with a single claim.", `examples-hold`. In a text `|` is byte 10 and
--- `^` is byte 13. The table of RuleExamples.antt is of the same form.
+-- `^` is byte 13. The tables of RuleExamples.antt and TallyExamples.antt are of the same form.
 use Rattle.std.specs.Prelude.{◌≡◌, refl, if◌then◌else◌, List, [], ◌∷◌, map, ℕ, ◌==◌, length, replicate, Result}
 use Prim.Native.Char.{code}
 use Prim.Native.String.{String, [] as end, ◌∷◌ as ◌then◌}
@@ -35,7 +35,7 @@ bytes (◌then◌ c s) = (if code c == 124 then 10 else if code c == 94 then 13 
 
 -- The fields of a tally that an example speaks of; `every` stands for all of them in their order.
 pub data Field : Type 0 where
-  arrows left steps mines holds holding every : Field
+  arrows left steps mines holds holding keys every : Field
 
 -- the value of that field
 abbrev pub field : Field → ArrowStats → List ℕ
@@ -45,6 +45,7 @@ field steps t = t.total_steps ∷ []
 field mines t = t.mines ∷ []
 field holds t = t.holds ∷ []
 field holding t = t.holding ∷ []
+field keys t = t.keysounds ∷ []
 field every t = tally_figures t
 
 -- What an example speaks of. `row_counts` are the minimised rows of each measure; `note_list` has for each note its row, tail (4,294,967,295 for

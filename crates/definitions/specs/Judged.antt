@@ -28,7 +28,7 @@ abbrev pub sum_of_fakes : ℕ → RowSum
 sum_of_fakes n = record empty_sum { fakes = n }
 
 -- What a row adds up to, judged or not, where its paired heads alone are left. "Of a judged row directions are those of its arrows, holds and rolls
--- its paired heads, and mines, lifts and fakes are counted as in a tally."
+-- its paired heads, and mines, lifts, fakes and keysounds are counted as in a tally."
 unfoldable pub judged_sum : Bool → Row → RowSum
 judged_sum true r = row_sum_by is_judged_arrow r
 judged_sum false r = sum_of_fakes (count_by (λ b. is_unjudged_fake (cell_of b)) r)

@@ -32,6 +32,7 @@ pub mod SmFile
 pub mod SmBlocks
 pub mod Examples
 pub mod RuleExamples
+pub mod TallyExamples
 pub mod RequestExamples
 pub mod DroppedExamples
 pub mod Consequences

@@ -22,15 +22,15 @@ use Rattle.definitions.specs.ReadBack.{rows_read_back, main_tally, kept_tally}
 use Rattle.definitions.specs.Judged.{judged_at, judged_sum, judge_row, open_before, judged_rows, judged_tally, flagged_tally}
 use Rattle.definitions.specs.TimingRows.{timing_rows, timing_heads}
 use Rattle.definitions.specs.Entries.{main_answer}
-use Rattle.definitions.specs.Examples.{Example, arrows, steps, holds, holding, every, text, density, spacing, row_counts, beat_list, last, last_48ths, note_list, note_bytes, timing, timing_head, main, kept, judged, flagged, record_read, told, left_text, left_work, told_length, bytes, figure, whole_beat, ◌is◌, at, at4, given_by_definitions, said}
+use Rattle.definitions.specs.Examples.{Example, steps, holds, holding, every, text, density, spacing, row_counts, beat_list, last, last_48ths, note_list, note_bytes, timing, timing_head, main, kept, judged, flagged, record_read, told, left_text, left_work, told_length, bytes, figure, whole_beat, ◌is◌, at, at4, given_by_definitions, said}
 
 -- the number of no tail
 abbrev pub none : ℕ
 none = 4294967295
 
 -- the counts of a tally in the order of `tally_fields`
-abbrev pub counts : ℕ → ℕ → ℕ → ℕ → ℕ → ℕ → ℕ → ℕ → ℕ → ℕ → ℕ → ℕ → ℕ → ℕ → List ℕ
-counts a l d u r s j h m ho ro li f hg = a ∷ l ∷ d ∷ u ∷ r ∷ s ∷ j ∷ h ∷ m ∷ ho ∷ ro ∷ li ∷ f ∷ hg ∷ []
+abbrev pub counts : ℕ → ℕ → ℕ → ℕ → ℕ → ℕ → ℕ → ℕ → ℕ → ℕ → ℕ → ℕ → ℕ → ℕ → ℕ → List ℕ
+counts a l d u r s j h m ho ro li f hg k = a ∷ l ∷ d ∷ u ∷ r ∷ s ∷ j ∷ h ∷ m ∷ ho ∷ ro ∷ li ∷ f ∷ hg ∷ k ∷ []
 
 -- a record's ten bytes: four of the row, four of the tail, the column and the kind
 abbrev pub ten : ℕ → ℕ → ℕ → ℕ → ℕ → ℕ → ℕ → ℕ → ℕ → ℕ → List ℕ
@@ -52,7 +52,7 @@ table =
     -- R2: blanks (9, 12, 13, 32, not 11) are taken off at the head of a line and nowhere else; byte 13 cuts no line; a row is the first L bytes
     ∷ at 4 (9 ∷ 12 ∷ (bytes "^ 1000|" ++ (11 ∷ bytes "100|0100^|0010 x|0001^1000|010 ")))
     ((text is bytes "1000|" ++ (11 ∷ bytes "100|0100|0010|0001|010 |"))
-    ∷ (judged every is counts 5 0 3 1 1 5 0 0 0 0 0 0 0 0)
+    ∷ (judged every is counts 5 0 3 1 1 5 0 0 0 0 0 0 0 0 0)
     ∷ (timing is bytes "1000" ++ (11 ∷ bytes "100010000100001010 "))
     ∷ [])
     -- R3: `/`, `,` and `;` count at the head of a line alone, whatever follows them; a short line is none; `;` ends the reading, but not where
@@ -60,7 +60,7 @@ table =
     ∷ at4 "/100|1/00|//00|100|,1111|01;0|1,00|0/00|1000|;001|1000|,"
     ((text is bytes "1/00|,|01;0|1,00|0/00|1000|")
     ∷ (density is 1 ∷ 3 ∷ [])
-    ∷ (judged every is counts 6 4 2 0 0 6 0 0 0 0 0 0 0 0)
+    ∷ (judged every is counts 6 4 2 0 0 6 0 0 0 0 0 0 0 0 0)
     ∷ [])
     -- R4: a `,` ends a measure, and the text's end the last; a measure without rows writes nothing and has spacing
     ∷ at4 ","
@@ -95,99 +95,99 @@ table =
     ((last_48ths is 160 ∷ [])
     ∷ (note_list is 1 ∷ none ∷ 0 ∷ 3 ∷ 2 ∷ none ∷ 0 ∷ 4 ∷ 3 ∷ none ∷ 0 ∷ 5 ∷ [])
     ∷ (main holds is 1 ∷ [])
-    ∷ (judged every is counts 2 2 0 0 0 2 0 0 1 1 0 1 1 0)
+    ∷ (judged every is counts 2 2 0 0 0 2 0 0 1 1 0 1 1 0 0)
     ∷ [])
     -- R9: 1, M, L and F make that depth 0, empty the tracker's stack and drop the open note; L is a judged arrow, and a mine is none
     ∷ at4 "2222|1MLF|3333"
     ((last_48ths is 64 ∷ [])
     ∷ (note_list is 1 ∷ none ∷ 0 ∷ 0 ∷ 1 ∷ none ∷ 1 ∷ 3 ∷ 1 ∷ none ∷ 2 ∷ 4 ∷ 1 ∷ none ∷ 3 ∷ 5 ∷ [])
-    ∷ (main every is counts 1 1 0 0 0 2 0 0 1 0 0 1 1 0)
-    ∷ (judged every is counts 2 1 0 1 0 1 1 0 1 0 0 1 1 0)
-    ∷ (flagged (1 ∷ 1 ∷ 0 ∷ []) every is counts 2 1 0 1 0 1 1 0 1 0 0 1 1 0)
+    ∷ (main every is counts 1 1 0 0 0 2 0 0 1 0 0 1 1 0 0)
+    ∷ (judged every is counts 2 1 0 1 0 1 1 0 1 0 0 1 1 0 0)
+    ∷ (flagged (1 ∷ 1 ∷ 0 ∷ []) every is counts 2 1 0 1 0 1 1 0 1 0 0 1 1 0 0)
     ∷ [])
     -- R10: a 4 that is not paired is counted anew as nothing, but `total_steps` is kept; f is a fake
     ∷ at4 "34f0"
-    ((main every is counts 0 0 0 0 0 1 0 0 0 0 0 0 1 0)
-    ∷ (judged every is counts 0 0 0 0 0 0 0 0 0 0 0 0 1 0)
+    ((main every is counts 0 0 0 0 0 1 0 0 0 0 0 0 1 0 0)
+    ∷ (judged every is counts 0 0 0 0 0 0 0 0 0 0 0 0 1 0 0)
     ∷ (note_list is 0 ∷ none ∷ 2 ∷ 5 ∷ [])
     ∷ [])
     -- R11: a 3 takes the newest head off, lowers the depth by one and asks for one in its own column; the steps are kept; a 4 is no hold
     ∷ at4 "4442|0314|/000|0332"
     ((last_48ths is 64 ∷ [])
     ∷ (note_list is 0 ∷ 1 ∷ 1 ∷ 2 ∷ 1 ∷ none ∷ 2 ∷ 0 ∷ [])
-    ∷ (main every is counts 2 0 1 1 0 3 0 0 0 0 1 0 0 0)
-    ∷ (judged every is counts 2 0 1 1 0 2 0 0 0 0 1 0 0 0)
-    ∷ (flagged (0 ∷ 1 ∷ []) every is counts 1 0 0 1 0 1 0 0 0 0 0 0 1 0)
+    ∷ (main every is counts 2 0 1 1 0 3 0 0 0 0 1 0 0 0 0)
+    ∷ (judged every is counts 2 0 1 1 0 2 0 0 0 0 1 0 0 0 0)
+    ∷ (flagged (0 ∷ 1 ∷ []) every is counts 1 0 0 1 0 1 0 0 0 0 0 0 1 0 0)
     ∷ [])
     -- R12: five columns: the fifth is left
     ∷ at 5 (bytes "10042|40040|00431")
-    ((main every is counts 3 2 0 0 1 3 0 0 0 0 1 0 0 0)
-    ∷ (kept every is counts 3 2 0 0 1 3 0 0 0 0 1 0 0 0)
-    ∷ (judged every is counts 3 2 0 0 1 3 0 0 0 0 1 0 0 0)
-    ∷ (flagged (1 ∷ 0 ∷ []) every is counts 2 2 0 0 0 2 0 0 0 0 0 0 1 0)
+    ((main every is counts 3 2 0 0 1 3 0 0 0 0 1 0 0 0 0)
+    ∷ (kept every is counts 3 2 0 0 1 3 0 0 0 0 1 0 0 0 0)
+    ∷ (judged every is counts 3 2 0 0 1 3 0 0 0 0 1 0 0 0 0)
+    ∷ (flagged (1 ∷ 0 ∷ []) every is counts 2 2 0 0 0 2 0 0 0 0 0 0 1 0 0)
     ∷ [])
     -- R13: eight columns; depths go on through measures
     ∷ at 8 (bytes "21020020|,|30303040")
     ((text is bytes "21020020|,|30303040|")
     ∷ (density is 1 ∷ 1 ∷ [])
     ∷ (last_48ths is 192 ∷ [])
-    ∷ (main every is counts 2 1 1 0 0 2 1 0 0 1 0 0 0 0)
-    ∷ (judged every is counts 2 1 1 0 0 1 1 0 0 1 0 0 0 0)
-    ∷ (flagged (1 ∷ 0 ∷ []) every is counts 2 1 1 0 0 1 1 0 0 1 0 0 0 0)
+    ∷ (main every is counts 2 1 1 0 0 2 1 0 0 1 0 0 0 0 0)
+    ∷ (judged every is counts 2 1 1 0 0 1 1 0 0 1 0 0 0 0 0)
+    ∷ (flagged (1 ∷ 0 ∷ []) every is counts 2 1 1 0 0 1 1 0 0 1 0 0 0 0 0)
     ∷ [])
     -- R14: holding and its floor; a tail that is not paired stays; a 2 drops an older head's note, a 0 does not; a judged hold is open through its
     -- tail's row, one of an unjudged row never; a flag 2 is judged
     ∷ at4 "2322|2030|2333|3222|0020|3020"
     ((note_list is 0 ∷ 1 ∷ 2 ∷ 1 ∷ 0 ∷ 2 ∷ 3 ∷ 1 ∷ 2 ∷ 3 ∷ 0 ∷ 1 ∷ [])
-    ∷ (main every is counts 4 2 0 1 1 6 1 0 0 4 0 0 0 0)
-    ∷ (judged every is counts 4 2 0 1 1 3 1 2 0 4 0 0 0 0)
-    ∷ (flagged (2 ∷ 0 ∷ 1 ∷ []) every is counts 3 1 0 1 1 2 1 0 0 3 0 0 1 0)
+    ∷ (main every is counts 4 2 0 1 1 6 1 0 0 4 0 0 0 0 0)
+    ∷ (judged every is counts 4 2 0 1 1 3 1 2 0 4 0 0 0 0 0)
+    ∷ (flagged (2 ∷ 0 ∷ 1 ∷ []) every is counts 3 1 0 1 1 2 1 0 0 3 0 0 1 0 0)
     ∷ [])
     -- R15: ten columns: directions; every kind of note, and their order
     ∷ at 10 (bytes "0000111111|2M000l0L42|00F0f0m033|100K000000")
     ((note_list is 0 ∷ none ∷ 4 ∷ 0 ∷ 0 ∷ none ∷ 5 ∷ 0 ∷ 0 ∷ none ∷ 6 ∷ 0 ∷ 0 ∷ none ∷ 7 ∷ 0 ∷ 0 ∷ none ∷ 8 ∷ 0 ∷ 0 ∷ none ∷ 9 ∷ 0 ∷ 1 ∷ none ∷ 1 ∷ 3 ∷ 1 ∷ none ∷ 5 ∷ 4 ∷ 1 ∷ none ∷ 7 ∷ 4 ∷ 1 ∷ 2 ∷ 8 ∷ 2 ∷ 1 ∷ 2 ∷ 9 ∷ 1 ∷ 2 ∷ none ∷ 2 ∷ 5 ∷ 2 ∷ none ∷ 4 ∷ 5 ∷ 2 ∷ none ∷ 6 ∷ 3 ∷ 3 ∷ none ∷ 0 ∷ 0 ∷ [])
-    ∷ (main every is counts 9 4 3 1 1 3 2 1 2 1 1 2 2 0)
-    ∷ (judged every is counts 11 4 4 1 2 3 2 2 2 1 1 2 2 0)
-    ∷ (flagged (0 ∷ 0 ∷ 1 ∷ []) every is counts 1 1 0 0 0 1 0 0 1 0 0 0 13 0)
+    ∷ (main every is counts 9 4 3 1 1 3 2 1 2 1 1 2 2 0 1)
+    ∷ (judged every is counts 11 4 4 1 2 3 2 2 2 1 1 2 2 0 1)
+    ∷ (flagged (0 ∷ 0 ∷ 1 ∷ []) every is counts 1 1 0 0 0 1 0 0 1 0 0 0 13 0 1)
     ∷ [])
     -- R16: a ninth head is not pushed, so the judged tally has 8 holds; nested heads and a 1 in another column correct nothing, so the main tally
     -- has 9; depths go up to 9
     ∷ at4 "2000|2000|2000|2000|2000|2000|2000|2000|2100|3000|3000|3000|3000|3000|3000|3000|3000|3000"
     ((last_48ths is 181 ∷ [])
-    ∷ (main every is counts 10 9 1 0 0 9 1 7 0 9 0 0 0 0)
-    ∷ (judged every is counts 9 8 1 0 0 9 0 7 0 8 0 0 0 0)
+    ∷ (main every is counts 10 9 1 0 0 9 1 7 0 9 0 0 0 0 0)
+    ∷ (judged every is counts 9 8 1 0 0 9 0 7 0 8 0 0 0 0 0)
     ∷ [])
     -- R17: K, m, l, f, 2 and 4 are not met, so nothing is corrected: else the main tally would lose the ninth head of column 0; they empty no
     -- stack; m, l, f and 4 drop a note
     ∷ at4 "2222|Kmlf|2000|2000|2000|2000|2000|2000|2000|4000|3333|3000|3000|3000|3000|3000|3000|3000|3000"
     ((density is 9 ∷ [])
     ∷ (note_list is 1 ∷ none ∷ 1 ∷ 3 ∷ 1 ∷ none ∷ 2 ∷ 4 ∷ 1 ∷ none ∷ 3 ∷ 5 ∷ 9 ∷ 10 ∷ 0 ∷ 2 ∷ [])
-    ∷ (main every is counts 12 9 1 1 1 9 1 9 1 11 1 1 1 0)
-    ∷ (judged every is counts 12 8 1 2 1 9 1 9 1 11 0 1 1 0)
-    ∷ (flagged (1 ∷ 0 ∷ 1 ∷ []) every is counts 11 8 1 1 1 8 1 8 0 11 0 0 3 0)
+    ∷ (main every is counts 12 9 1 1 1 9 1 9 1 11 1 1 1 0 1)
+    ∷ (judged every is counts 12 8 1 2 1 9 1 9 1 11 0 1 1 0 1)
+    ∷ (flagged (1 ∷ 0 ∷ 1 ∷ []) every is counts 11 8 1 1 1 8 1 8 0 11 0 0 3 0 0)
     ∷ [])
     -- R18: M is met, and is an object
     ∷ at4 "2000|M000|3000"
     ((last_48ths is 64 ∷ [])
-    ∷ (main every is counts 0 0 0 0 0 1 0 0 1 0 0 0 0 0)
+    ∷ (main every is counts 0 0 0 0 0 1 0 0 1 0 0 0 0 0 0)
     ∷ [])
     -- R19: F is met, and is an object; a 4 is a head of the timing rows
     ∷ at 5 (bytes "00004|0000F|00003")
     ((last_48ths is 64 ∷ [])
-    ∷ (main every is counts 0 0 0 0 0 1 0 0 0 0 0 0 1 0)
+    ∷ (main every is counts 0 0 0 0 0 1 0 0 0 0 0 0 1 0 0)
     ∷ (timing_head is 1 ∷ [])
     ∷ [])
     -- R20: L is met, and is an object, but makes no density
     ∷ at 8 (bytes "00000002|0000000L|00000003")
     ((density is 1 ∷ [])
     ∷ (last_48ths is 64 ∷ [])
-    ∷ (main every is counts 0 0 0 0 0 1 0 0 0 0 0 1 0 0)
+    ∷ (main every is counts 0 0 0 0 0 1 0 0 0 0 0 1 0 0 0)
     ∷ [])
     -- R21: 1 is met; another byte drops no note; the bytes of records
     ∷ at 10 (bytes "0000000042|000000001x|0000000033")
     ((note_list is 0 ∷ 2 ∷ 9 ∷ 1 ∷ 1 ∷ none ∷ 8 ∷ 0 ∷ [])
     ∷ (note_bytes is 0 ∷ 0 ∷ 0 ∷ 0 ∷ 2 ∷ 0 ∷ 0 ∷ 0 ∷ 9 ∷ 1 ∷ 1 ∷ 0 ∷ 0 ∷ 0 ∷ 255 ∷ 255 ∷ 255 ∷ 255 ∷ 8 ∷ 0 ∷ [])
-    ∷ (main every is counts 2 1 1 0 0 2 0 0 0 1 0 0 0 0)
+    ∷ (main every is counts 2 1 1 0 0 2 0 0 0 1 0 0 0 0 0)
     ∷ [])
     -- R22: a 1 empties the whole stack of the tracker
     ∷ at4 "2000|2000|1000|3000|3000"
@@ -213,8 +213,8 @@ table =
     -- R26: more tails than heads correct, so a ninth head is lost in both tallies; a depth does not fall below 0 before a 4
     ∷ at4 "3000|4000|4000|4000|4000|4000|4000|4000|4000|4000|3000|3000|3000|3000|3000|3000|3000|3000|3000"
     ((last_48ths is 182 ∷ [])
-    ∷ (main every is counts 8 8 0 0 0 9 0 6 0 0 8 0 0 0)
-    ∷ (kept every is counts 8 8 0 0 0 9 0 6 0 0 8 0 0 0)
+    ∷ (main every is counts 8 8 0 0 0 9 0 6 0 0 8 0 0 0 0)
+    ∷ (kept every is counts 8 8 0 0 0 9 0 6 0 0 8 0 0 0 0)
     ∷ [])
     -- R27: a 3 and a 1 are no heads of the timing rows
     ∷ at4 "3000|1000"
@@ -224,22 +224,22 @@ table =
     -- no row
     ∷ at4 "2000| 0100|1^00|^010|00 ^|^^^^1|100^^"
     ((text is bytes "2000|0100|")
-    ∷ (main every is counts 1 0 1 0 0 2 0 0 0 0 0 0 0 0)
-    ∷ (judged every is counts 1 0 0 1 0 1 0 0 0 0 0 0 0 0)
+    ∷ (main every is counts 1 0 1 0 0 2 0 0 0 0 0 0 0 0 0)
+    ∷ (judged every is counts 1 0 0 1 0 1 0 0 0 0 0 0 0 0 0)
     ∷ (timing is bytes "20000100")
     ∷ [])
     -- R29: a judged hand by mines and fakes under three holds; a plain hand needs a step, and counts the holds before its row, of 2 and 4
     ∷ at4 "2440|000M|000m|000F|000f|000K|3331"
     ((density is 2 ∷ [])
-    ∷ (main every is counts 4 1 1 1 1 2 1 2 2 1 2 0 2 0)
-    ∷ (judged every is counts 4 1 1 1 1 2 1 6 2 1 2 0 2 0)
-    ∷ (flagged (1 ∷ 1 ∷ 1 ∷ 1 ∷ 1 ∷ 1 ∷ 0 ∷ []) every is counts 3 1 1 1 0 1 1 5 2 1 2 0 3 0)
+    ∷ (main every is counts 4 1 1 1 1 2 1 2 2 1 2 0 2 0 1)
+    ∷ (judged every is counts 4 1 1 1 1 2 1 6 2 1 2 0 2 0 1)
+    ∷ (flagged (1 ∷ 1 ∷ 1 ∷ 1 ∷ 1 ∷ 1 ∷ 0 ∷ []) every is counts 3 1 1 1 0 1 1 5 2 1 2 0 3 0 1)
     ∷ [])
     -- R30: what is a fake on an unjudged row: 1 L l M m F f and a paired head
     ∷ at4 "1LlM|mFf0|KxX5|2043|3000"
-    ((main every is counts 2 2 0 0 0 2 0 0 2 1 0 2 2 0)
-    ∷ (judged every is counts 4 2 1 1 0 2 1 1 2 1 0 2 2 0)
-    ∷ (flagged (0 ∷ 0 ∷ 0 ∷ 0 ∷ 2 ∷ []) every is counts 0 0 0 0 0 0 0 0 0 0 0 0 8 0)
+    ((main every is counts 2 2 0 0 0 2 0 0 2 1 0 2 2 0 1)
+    ∷ (judged every is counts 4 2 1 1 0 2 1 1 2 1 0 2 2 0 1)
+    ∷ (flagged (0 ∷ 0 ∷ 0 ∷ 0 ∷ 2 ∷ []) every is counts 0 0 0 0 0 0 0 0 0 0 0 0 8 0 0)
     ∷ [])
     -- R31: 48ths at a tie go to even, up: row 1 of 128 is at 1 and a half
     ∷ at 4 (bytes "0000|1000|" ++ zero_rows 126)

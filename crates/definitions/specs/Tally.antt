@@ -2,7 +2,7 @@
 use Rattle.std.specs.Prelude.{Bool, ◌&&◌, List, [], ◌∷◌, ℕ, suc, ◌+◌, ◌-◌, ◌%◌, ◌==◌, nat_le, count_by, length, codes, map}
 use Rattle.definitions.specs.Lists.{number_of_bool}
 use Rattle.definitions.specs.Lines.{Row}
-use Rattle.definitions.specs.Cells.{cell_of, is_arrow, effects_of, CountKind, nothing, hold, roll, tail, mine, lift, fake}
+use Rattle.definitions.specs.Cells.{cell_of, is_arrow, effects_of, CountKind, nothing, hold, roll, tail, mine, lift, fake, keysound}
 use Rattle.definitions.specs.declared.Cell.{Cell}
 use Rattle.definitions.specs.declared.RowSum.{RowSum}
 use Rattle.definitions.specs.declared.ArrowStats.{ArrowStats}
@@ -20,9 +20,10 @@ place tail = 3
 place mine = 4
 place lift = 5
 place fake = 6
+place keysound = 7
 
 -- The cells of a row that are counted so: of holds "cells 2", of rolls "cells 4", of mines "cells M and m", of lifts "cells L and l", of fakes "cells
--- F and f".
+-- F and f", of keysounds "cells K".
 abbrev pub counted : CountKind → Row → ℕ
 counted k r = count_by (λ b. place (counted_as (cell_of b)) == place k) r
 
@@ -54,6 +55,7 @@ sum_of_cells arrow r =
       mines = counted mine r;
       lifts = counted lift r;
       fakes = counted fake r;
+      keysounds = counted keysound r;
     }
 
 -- the same, as a word that is opened only where it is named
@@ -82,6 +84,7 @@ sum_counts s =
     ∷ s.mines
     ∷ s.lifts
     ∷ s.fakes
+    ∷ s.keysounds
     ∷ []
 
 -- the tally of no rows: "a tally of zeros"
@@ -102,6 +105,7 @@ empty_stats =
       lifts = 0;
       fakes = 0;
       holding = 0;
+      keysounds = 0;
     }
 
 -- "the tally, its fields in their order", each with its name: the one list of them.
@@ -121,6 +125,7 @@ tally_fields t =
     ∷ (codes "lifts", t.lifts)
     ∷ (codes "fakes", t.fakes)
     ∷ (codes "holding", t.holding)
+    ∷ (codes "keysounds", t.keysounds)
     ∷ []
 
 -- the counts of a tally in that order
@@ -146,6 +151,7 @@ tally_with_sum t s hand holding =
       lifts = t.lifts + s.lifts;
       fakes = t.fakes + s.fakes;
       holding = holding;
+      keysounds = t.keysounds + s.keysounds;
     }
 
 -- "A hand is a step whose arrows and the `holding` before it make 3 or more together. After a row `holding` is the larger of 0 and `holding` + the

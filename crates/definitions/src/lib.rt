@@ -130,9 +130,10 @@ pub struct RowSum {
     pub mines: u32,
     pub lifts: u32,
     pub fakes: u32,
+    pub keysounds: u32,
 }
 
-/// The tally, with the fields of the Rust's `ArrowStats` in their order.
+/// The tally, with the fields of the Rust's `ArrowStats` in their order, and then the keysounds, which the Rust does not count.
 #[derive(Clone, Copy, Default)]
 pub struct ArrowStats {
     pub total_arrows: u32,
@@ -149,6 +150,7 @@ pub struct ArrowStats {
     pub lifts: u32,
     pub fakes: u32,
     pub holding: u32,
+    pub keysounds: u32,
 }
 
 /// Why a call is refused (Specification, Refusals). Printed, a refusal says what is wrong and who caused it.

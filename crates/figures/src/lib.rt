@@ -58,7 +58,7 @@ impl Places {
             u64::from(t.lifts),
             u64::from(t.fakes),
             u64::from(t.holding),
-            0,
+            u64::from(t.keysounds),
             0,
             0,
             0,

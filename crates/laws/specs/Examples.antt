@@ -5,6 +5,7 @@ use Rattle.definitions.specs.DamageExample.{old_text, new_text, parts, parts_of_
 use Rattle.definitions.specs.Objects.{last_beat_of}
 use Rattle.definitions.specs.Examples as texts
 use Rattle.definitions.specs.RuleExamples as rules
+use Rattle.definitions.specs.TallyExamples as tallies
 use Rattle.definitions.specs.RequestExamples as requests
 use Rattle.definitions.specs.DroppedExamples as lists
 use Rattle.beats.specs.Vectors.{all_right, results}
@@ -17,6 +18,10 @@ ExamplesHold = map texts.given_by_definitions texts.table ≡ map texts.said tex
 -- of each example that pins a rule, too
 abbrev pub RuleExamplesHold : Type 0
 RuleExamplesHold = map texts.given_by_definitions rules.table ≡ map texts.said rules.table
+
+-- of each example of keysounds
+abbrev pub TallyExamplesHold : Type 0
+TallyExamplesHold = map texts.given_by_definitions tallies.table ≡ map texts.said tallies.table
 
 -- of each example of the requests: the answer that the definitions give is the one that the table says
 abbrev pub RequestExamplesHold : Type 0
@@ -32,7 +37,7 @@ DroppedExamplesHold = map lists.told_of lists.table ≡ map (λ (e : lists.Examp
 abbrev pub CardExample : Type 0
 CardExample =
     card (texts.bytes "1000|0000|0100|0000|;|")
-    ≡ texts.bytes "measures 1|rows 2|arrows 2|steps 2|notes 2|last 96|m 0 2 1|n 0 0 0 -|n 1 1 0 -|"
+    ≡ texts.bytes "measures 1|rows 2|arrows 2|steps 2|keys 0|notes 2|last 96|m 0 2 1|n 0 0 0 -|n 1 1 0 -|"
 
 -- of each computed result: the row beat and the last beat that the definitions give have its bits
 abbrev pub BeatsRight : Type 0

@@ -23,7 +23,7 @@ ghost use Rattle.sheet_json.specs.Example.{JsonExample};
 ghost use Rattle.chart_sheet.specs.Forms.{sheet_in_form};
 ghost use Rattle.chart_sheet.specs.Entry.{most_sheet_bytes, places_of_sheet};
 ghost use Rattle.laws.specs.Fits.{FitsForAll};
-ghost use Rattle.laws.specs.Examples.{ExamplesHold, RuleExamplesHold, RequestExamplesHold, DroppedExamplesHold, CardExample, BeatsRight, DamageMet, LastBeatStays};
+ghost use Rattle.laws.specs.Examples.{ExamplesHold, RuleExamplesHold, TallyExamplesHold, RequestExamplesHold, DroppedExamplesHold, CardExample, BeatsRight, DamageMet, LastBeatStays};
 
 /// What the specification's examples P1 to P11 say of their texts is what the definitions give.
 pub fn examples_hold()
@@ -33,6 +33,11 @@ pub fn examples_hold()
 /// What the examples R1 to R35, which pin the rules one by one, say of their texts is what the definitions give.
 pub fn rule_examples_hold()
     ensures { RuleExamplesHold }
+{}
+
+/// What the examples of keysounds say of their texts is what the definitions give.
+pub fn tally_examples_hold()
+    ensures { TallyExamplesHold }
 {}
 
 /// What the examples of SM files say is answered for a block is what the definitions answer.

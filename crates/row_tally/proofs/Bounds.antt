@@ -1,15 +1,17 @@
 -- How the counts grow: a row's sum by at most 1 with each cell, and a tally by at most n with a row of n cells.
+use mathlib.Core.Path.{◌≡◌, refl}
 use mathlib.Core.Bool.{Bool, true, false, ◌&&◌}
 use mathlib.Core.List.{[], ◌∷◌}
 use Prim.Native.Nat.{ℕ, suc, ◌+◌, ◌≤◌}
 use native.Mathlib.Omega.{arith}
+use borrow.Author.Tests.{eqb-true}
 use lib.Dec.{eqb, leb}
 use lib.ListN.{length}
 use Rattle.definitions.proofs.Lists.{one-le}
 use Rattle.std.proofs.lemmas.List.Sums.{count_by-le-length}
 use Rattle.definitions.specs.Lists.{number_of_bool}
 use Rattle.definitions.specs.Lines.{Row}
-use Rattle.definitions.specs.Cells.{cell_of, CountKind, nothing, hold, roll, tail, mine, lift, fake}
+use Rattle.definitions.specs.Cells.{cell_of}
 use Rattle.definitions.specs.Tally.{counted_as, place, direction, row_sum, row_sum_by, empty_stats, tally_with_row, empty_sum}
 use Rattle.definitions.specs.Judged.{is_judged_arrow, is_unjudged_fake, judged_sum, judge_row}
 use Rattle.definitions.specs.declared.Cell.{Cell}
@@ -25,15 +27,14 @@ under_more j k s h u = omega arith
 pub below_more : (j k : ℕ) (t : ArrowStats) → j ≤ k → Below j t → Below k t
 below_more j k t h b = omega arith
 
--- a cell is counted in one way at most
-heads-le : (k : CountKind) → number_of_bool (eqb (place k) 1) + number_of_bool (eqb (place k) 2) ≤ 1
-heads-le nothing = omega arith
-heads-le hold = omega arith
-heads-le roll = omega arith
-heads-le tail = omega arith
-heads-le mine = omega arith
-heads-le lift = omega arith
-heads-le fake = omega arith
+-- a cell is a hold or a roll, and not both
+heads-le : (n : ℕ) → number_of_bool (eqb n 1) + number_of_bool (eqb n 2) ≤ 1
+heads-le n = go (eqb n 1) (eqb n 2) (eqb-true n 1) (eqb-true n 2)
+  where
+    go : (p q : Bool) → (p ≡ true → n ≡ 1) → (q ≡ true → n ≡ 2) → number_of_bool p + number_of_bool q ≤ 1
+    go true true a b = absurd (omega (arith, a refl, b refl))
+    go true false a b = omega arith
+    go false q a b = omega (arith, one-le q)
 
 module _ (k : ℕ) (s : RowSum) (d : ℕ) (arrow : Bool) (u : Under k s) where
   pub under-cell : (x : Cell) → Under (k + 1) (sum_with_cell s d x arrow)
@@ -46,11 +47,12 @@ module _ (k : ℕ) (s : RowSum) (d : ℕ) (arrow : Bool) (u : Under k s) where
       let r = one-le (arrow && eqb d 3) in
       let h = one-le (eqb (place (counted_as x)) 1) in
       let o = one-le (eqb (place (counted_as x)) 2) in
-      let b = heads-le (counted_as x) in
+      let b = heads-le (place (counted_as x)) in
       let t = one-le (eqb (place (counted_as x)) 3) in
       let m = one-le (eqb (place (counted_as x)) 4) in
       let i = one-le (eqb (place (counted_as x)) 5) in
       let f = one-le (eqb (place (counted_as x)) 6) in
+      let y = one-le (eqb (place (counted_as x)) 7) in
       omega arith
 
 -- a row adds at most its length to each count

@@ -9,7 +9,7 @@ use lib.ListN.{length}
 use Rattle.definitions.specs.Lists.{number_of_bool}
 use Rattle.definitions.proofs.Lists.{count-cons}
 use Rattle.definitions.specs.Lines.{Row}
-use Rattle.definitions.specs.Cells.{cell_of, CountKind, hold, roll, tail, mine, lift, fake}
+use Rattle.definitions.specs.Cells.{cell_of, CountKind, hold, roll, tail, mine, lift, fake, keysound}
 use Rattle.definitions.specs.Tally.{counted_as, place, count_from, counted, direction, row_sum_by, empty_sum}
 use Rattle.definitions.specs.declared.Cell.{Cell}
 use Rattle.definitions.specs.declared.Cell.TheVariants.{Empty}
@@ -39,7 +39,15 @@ pub sum-next : (L : ℕ) (arrow : Cell → Bool) (s : RowSum) (c b : ℕ) (r : R
     → sum_from L arrow s c (b ∷ r) ≡ sum_from L arrow (sum_with_cell s (direction L c) (cell_of b) (arrow (cell_of b))) (suc c) r
 unfolding sum_from sum_with_cell
 sum-next L arrow s c b r =
-    rw (counted-cons hold b r, counted-cons roll b r, counted-cons tail b r, counted-cons mine b r, counted-cons lift b r, counted-cons fake b r)
+    rw (
+      counted-cons hold b r,
+      counted-cons roll b r,
+      counted-cons tail b r,
+      counted-cons mine b r,
+      counted-cons lift b r,
+      counted-cons fake b r,
+      counted-cons keysound b r,
+    )
     (simp add_assoc)
 
 pub no_cell : (s : RowSum) (d : ℕ) → sum_with_cell s d Empty false ≡ s

@@ -1,7 +1,7 @@
 -- What one cell adds to its row's sum: cited by private functions alone.
 use Rattle.std.specs.Prelude.{Bool, true, false, ◌&&◌, ℕ, ◌+◌, ◌==◌}
 use Rattle.definitions.specs.Lists.{number_of_bool}
-use Rattle.definitions.specs.Cells.{is_arrow, CountKind, hold, roll, tail, mine, lift, fake}
+use Rattle.definitions.specs.Cells.{is_arrow, CountKind, hold, roll, tail, mine, lift, fake, keysound}
 use Rattle.definitions.specs.Tally.{counted_as, place}
 use Rattle.definitions.specs.Judged.{is_judged_arrow}
 use Rattle.definitions.specs.declared.Cell.{Cell}
@@ -22,6 +22,7 @@ add_counts s arrows towards of =
       mines = s.mines + of mine;
       lifts = s.lifts + of lift;
       fakes = s.fakes + of fake;
+      keysounds = s.keysounds + of keysound;
     }
 
 abbrev one_of : CountKind → Cell → ℕ

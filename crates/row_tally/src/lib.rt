@@ -74,7 +74,11 @@ fn add_cell(mut s: RowSum, direction: usize, b: u8, judged: bool) -> RowSum
             s.fakes += 1;
             s
         }
-        Cell::Empty | Cell::KeySound => s,
+        Cell::KeySound => {
+            s.keysounds += 1;
+            s
+        }
+        Cell::Empty => s,
     }
 }
 
@@ -121,6 +125,7 @@ fn add_sum(mut t: ArrowStats, s: RowSum, hand: bool, holding: u32) -> ArrowStats
     t.lifts += s.lifts;
     t.fakes += s.fakes;
     t.holding = holding;
+    t.keysounds += s.keysounds;
     t
 }
 

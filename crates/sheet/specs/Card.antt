@@ -25,8 +25,8 @@ use Rattle.sheet.specs.Sheet.{line_of_figure, lines_of_head, line_of_measure, li
 unfoldable pub note_lines : List Note → List ℕ
 note_lines ns = joined (map line_of_note ns)
 
--- "`measures` and `notes` count measures and note records, and `rows` minimised rows. `arrows` and `steps` are `total_arrows` and `total_steps` of
--- the main tally, and `last` is the last beat in 48ths."
+-- "`measures` and `notes` count measures and note records, and `rows` minimised rows. `arrows`, `steps` and `keys` are `total_arrows`, `total_steps`
+-- and `keysounds` of the main tally, and `last` is the last beat in 48ths."
 unfoldable pub sheet : ℕ → List ℕ → List ℕ
 sheet L text =
     lines_of_head (figures_of_chart L text)
@@ -39,6 +39,6 @@ card text = if nat_lt 4095 (length text) then bytes "refused 1|" else sheet 4 te
 
 -- "For `1000|0000|0100|0000|;|`, where | is byte 10, it prints this."
 pub card-example : card (bytes "1000|0000|0100|0000|;|")
-    ≡ bytes "measures 1|rows 2|arrows 2|steps 2|notes 2|last 96|m 0 2 1|n 0 0 0 -|n 1 1 0 -|"
+    ≡ bytes "measures 1|rows 2|arrows 2|steps 2|keys 0|notes 2|last 96|m 0 2 1|n 0 0 0 -|n 1 1 0 -|"
 unfolding card sheet figures_of_chart note_lines lines_of_head line_of_figure line_of_measure line_of_note number_field digits minimised_text densities spacings is_step beat whole last_row last48 last_object object_at notes effect_at main_tally corrected corrects paired_only pairs hold_at tally tally_with_row row_sum row_sum_by rows_read_back minimised reduce stride chart line_kind kind_of is_row_line is_blank_byte cell_of of_int round add mul div
 card-example = refl

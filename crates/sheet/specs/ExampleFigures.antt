@@ -4,8 +4,8 @@ use Rattle.definitions.specs.declared.ArrowStats.{ArrowStats}
 use Rattle.sheet.specs.declared.SheetFigures.{SheetFigures}
 
 -- a tally
-abbrev tally : (a b c d e f g h i j k l m n : ℕ) → ArrowStats
-tally a b c d e f g h i j k l m n =
+abbrev tally : (a b c d e f g h i j k l m n o : ℕ) → ArrowStats
+tally a b c d e f g h i j k l m n o =
     record {
       total_arrows = a;
       left = b;
@@ -21,6 +21,7 @@ tally a b c d e f g h i j k l m n =
       lifts = l;
       fakes = m;
       holding = n;
+      keysounds = o;
     }
 
 abbrev pub figures : SheetFigures
@@ -34,10 +35,10 @@ figures =
             notes = 3;
             last_bits = 0;
             last_row = 721;
-            stats = tally 17 5 4 3 6 12 1 0 7 1 2 8 9 10;
+            stats = tally 17 5 4 3 6 12 1 0 7 1 2 8 9 10 45;
           };
-      kept = record { bytes = 0; measures = 0; rows = 0; stats = tally 11 12 13 14 15 16 17 18 19 20 21 22 23 24 };
-      judged = tally 31 32 33 34 35 36 37 38 39 40 41 42 43 44;
+      kept = record { bytes = 0; measures = 0; rows = 0; stats = tally 11 12 13 14 15 16 17 18 19 20 21 22 23 24 46 };
+      judged = tally 31 32 33 34 35 36 37 38 39 40 41 42 43 44 47;
     }
 
 abbrev pub records : List ℕ

@@ -16,7 +16,7 @@ named_fields t = tally_fields t
 
 -- how many they are
 unfoldable pub field_count : ℕ
-field_count = 14
+field_count = 15
 
 -- one of them
 abbrev pub field_at : ArrowStats → ℕ → List ℕ × ℕ
@@ -52,13 +52,14 @@ lines_of_measures densities spacings n = listed (λ (k : ℕ). line_of_measure k
 abbrev pub lines_of_records : List ℕ → ℕ → List ℕ
 lines_of_records records n = listed (λ (k : ℕ). line_of_record (note_of_record records k)) n
 
--- "The card has a line for each of `measures`, `rows`, `arrows`, `steps`, `notes` and `last`: the name, a blank, the number and byte 10."
+-- "The card has a line for each of `measures`, `rows`, `arrows`, `steps`, `keys`, `notes` and `last`: the name, a blank, the number and byte 10."
 unfoldable pub lines_of_head : ChartFigures → List ℕ
 lines_of_head f =
     line_of_figure (codes "measures ") f.measures
     ++ line_of_figure (codes "rows ") f.rows
     ++ line_of_figure (codes "arrows ") f.stats.total_arrows
     ++ line_of_figure (codes "steps ") f.stats.total_steps
+    ++ line_of_figure (codes "keys ") f.stats.keysounds
     ++ line_of_figure (codes "notes ") f.notes
     ++ line_of_figure (codes "last ") f.last_row
 

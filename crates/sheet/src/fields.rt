@@ -6,7 +6,7 @@ use definitions::ArrowStats;
 use std::marker::Model;
 
 /// How many fields a tally has.
-pub const FIELD_COUNT: usize = 14;
+pub const FIELD_COUNT: usize = 15;
 
 /// A field of a tally: its name and its count.
 #[derive(Drop)]
@@ -21,7 +21,7 @@ impl Model for Field {
 }
 
 impl Field {
-    /// The field's name, as the Rust's `ArrowStats` has it.
+    /// The field's name, as `ArrowStats` has it.
     pub fn name(&self) -> &'static str
         ensures { result.now ≡ self.now.0 }
     {
@@ -56,5 +56,6 @@ pub fn fields_of(stats: &ArrowStats) -> [Field; FIELD_COUNT]
         Field("lifts", stats.lifts),
         Field("fakes", stats.fakes),
         Field("holding", stats.holding),
+        Field("keysounds", stats.keysounds),
     ]
 }

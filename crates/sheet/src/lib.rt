@@ -31,7 +31,7 @@ fn figure_line(page: &mut Page, name: &str, n: u64) -> Result<(), Full>
     Ok(())
 }
 
-// The six figures at the head.
+// The seven figures at the head.
 #[tactic(auto, unfolding(crate::specs::Sheet::lines_of_head))]
 fn head_lines(page: &mut Page, figures: &ChartFigures) -> Result<(), Full>
     ensures { Prints page.old (lines_of_head figures.now) page.new result }
@@ -40,6 +40,7 @@ fn head_lines(page: &mut Page, figures: &ChartFigures) -> Result<(), Full>
     figure_line(page, "rows ", figures.rows as u64)?;
     figure_line(page, "arrows ", figures.stats.total_arrows as u64)?;
     figure_line(page, "steps ", figures.stats.total_steps as u64)?;
+    figure_line(page, "keys ", figures.stats.keysounds as u64)?;
     figure_line(page, "notes ", figures.notes as u64)?;
     figure_line(page, "last ", figures.last_row)?;
     Ok(())

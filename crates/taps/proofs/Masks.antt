@@ -241,6 +241,7 @@ module _ (w m : ℕ) (short : w ≤ 10) (few : m < 2 ^ w) where
         others 4 refl,
         others 5 refl,
         others 6 refl,
+        others 7 refl,
       )
       (packed (sum_columns 10 (λ c. bit c m)) (towards 0 m) (towards 1 m) (towards 2 m) (towards 3 m)
       (subst (λ n. n ≤ 10) ten-bits (few_bits (λ c. true) m 0 10)) (few-towards 0) (few-towards 1) (few-towards 2) (few-towards 3))

@@ -1,4 +1,4 @@
--- The six lines, one after the other.
+-- The seven lines, one after the other.
 use Rattle.std.proofs.Common.{arith}
 use Rattle.sheet.specs.Sheet.{lines_of_head}
 use Rattle.page.proofs.Pages.{appends_then}
@@ -12,9 +12,11 @@ returns c =
     (appends_then
     (appends_then
     (appends_then
+    (appends_then
     (appends_then c.in_ok-figure_line.ensures c.in_ok-figure_line-2.ensures) c.in_ok-figure_line-3.ensures)
     c.in_ok-figure_line-4.ensures)
     c.in_ok-figure_line-5.ensures)
-    c.in_ok-figure_line-6.ensures
+    c.in_ok-figure_line-6.ensures)
+    c.in_ok-figure_line-7.ensures
     in
     grind (arith, lines)

@@ -12,8 +12,8 @@ use Rattle.sheet_print.proofs.tally_lines.Goals as goal
 use Rattle.sheet_print.proofs.tally_lines.Goals.{After-tally_line}
 
 -- field i of a tally
-at : (t : ArrowStats) (fields : List (List ℕ × ℕ)) (i : ℕ) (d : List ℕ × ℕ) → fields ≡ named_fields t → i < 14 → get_or fields i d ≡ field_at t i
-unfolding named_fields
+at : (t : ArrowStats) (fields : List (List ℕ × ℕ)) (i : ℕ) (d : List ℕ × ℕ) → fields ≡ named_fields t → i < field_count → get_or fields i d ≡ field_at t i
+unfolding named_fields field_count
 at t fields i d e h = rw e (get_or_default (named_fields t) i d ([], 0) h)
 
 -- what is printed is the next field's line

@@ -1,0 +1,54 @@
+-- Specification, Examples: examples of the keysounds as one table with a single claim, `tally-examples-hold`. "So are examples of the keysounds, as a
+-- table of their own." In a text `|` is byte 10.
+use Rattle.std.specs.Prelude.{◌≡◌, refl, List, [], ◌∷◌, map}
+use Rattle.std.specs.Float.Ieee.{to_bits, of_int, round, add, mul, div}
+use Rattle.definitions.specs.Lanes.{lanes_of}
+use Rattle.definitions.specs.Lines.{is_blank_byte, is_row_line, kind_of, line_kind}
+use Rattle.definitions.specs.Cells.{cell_of}
+use Rattle.definitions.specs.Measures.{chart}
+use Rattle.definitions.specs.Reduction.{stride, reduce, minimised}
+use Rattle.definitions.specs.Figures.{minimised_text, is_step}
+use Rattle.definitions.specs.Beats.{beat, whole, last_row, row_to_beat}
+use Rattle.definitions.specs.Objects.{object_at, last_object, last48, last_beat_of}
+use Rattle.definitions.specs.Tracker.{hold_at, pairs}
+use Rattle.definitions.specs.Notes.{effect_at, notes}
+use Rattle.definitions.specs.Tally.{row_sum_by, row_sum, tally_with_row, tally}
+use Rattle.definitions.specs.Correction.{corrects, paired_only, corrected}
+use Rattle.definitions.specs.ReadBack.{rows_read_back, main_tally, kept_tally}
+use Rattle.definitions.specs.Judged.{judged_at, judged_sum, judge_row, open_before, judged_rows, judged_tally, flagged_tally}
+use Rattle.definitions.specs.Examples.{Example, arrows, steps, holding, keys, last, note_list, main, kept, judged, flagged, figure, whole_beat, ◌is◌, at4, given_by_definitions, said}
+
+unfoldable pub table : List Example
+table =
+    -- "cells K", in each tally; "A K is a keysound and is counted as nothing else."
+    at4 "K000|K0K0|000K|0000"
+    ((main keys is 4 ∷ [])
+    ∷ (kept keys is 4 ∷ [])
+    ∷ (judged keys is 4 ∷ [])
+    ∷ (main arrows is 0 ∷ [])
+    ∷ (main steps is 0 ∷ [])
+    ∷ (last is whole_beat 2)
+    ∷ [])
+    -- k is an empty cell
+    ∷ at4 "k000" ((main keys is 0 ∷ []) ∷ (judged keys is 0 ∷ []) ∷ [])
+    -- "In counting anew": the hold is not paired, and its column keeps its K
+    ∷ at4 "2000|1000|K000" ((main arrows is 1 ∷ []) ∷ (main keys is 1 ∷ []) ∷ (kept keys is 1 ∷ []) ∷ (judged keys is 1 ∷ []) ∷ [])
+    -- P7: a K leaves the note of the hold that is open in its column, and what is held
+    ∷ at4 "2000|K000|3000|0000"
+    ((note_list is 0 ∷ 2 ∷ 0 ∷ 1 ∷ [])
+    ∷ (main holding is 0 ∷ [])
+    ∷ (main keys is 1 ∷ [])
+    ∷ (kept keys is 1 ∷ [])
+    ∷ (judged keys is 1 ∷ [])
+    ∷ [])
+    -- "On an unjudged row each 1, L, l, M, m, F, f and paired head is one fake, and nothing else is counted."
+    ∷ at4 "K000|K000"
+    ((flagged (0 ∷ 1 ∷ []) keys is 1 ∷ [])
+    ∷ (flagged (0 ∷ 0 ∷ []) keys is 0 ∷ [])
+    ∷ (flagged (1 ∷ 1 ∷ []) keys is 2 ∷ [])
+    ∷ [])
+    ∷ []
+
+pub tally-examples-hold : map given_by_definitions table ≡ map said table
+unfolding table figure lanes_of minimised_text is_step beat whole last_row row_to_beat last_beat_of last48 last_object object_at notes effect_at main_tally kept_tally judged_tally flagged_tally judged_rows judged_at open_before judge_row judged_sum corrected corrects paired_only pairs hold_at tally tally_with_row row_sum row_sum_by rows_read_back minimised reduce stride chart line_kind kind_of is_row_line is_blank_byte cell_of to_bits of_int round add mul div
+tally-examples-hold = refl
