@@ -10,6 +10,7 @@ mod loans;
 mod once;
 mod options;
 mod report;
+mod sm_files;
 #[path = "../bindings/rust/src/symbols.rs"]
 #[allow(dead_code)] // Not every entry is timed.
 mod symbols;

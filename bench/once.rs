@@ -3,9 +3,9 @@
 //! For `sm_chart` these are the call, the file, line ends, 4 lanes, and the file's lines.
 
 use crate::entries::ENTRIES;
-use crate::files::{self, File};
 use crate::loads::{LANES, Lines, Load, Text};
 use crate::loans::lent;
+use crate::sm_files::{self, File};
 
 /// Bytes of a text: enough that what a call does once does not show, few enough that all of it takes seconds.
 const LEN: usize = 60_000;
@@ -35,7 +35,7 @@ pub fn run() {
 fn run_files() {
     for (file, lines) in FILES {
         let data = file.bytes(LEN, lines.bytes());
-        let answer = files::enter(&data, usize::MAX);
+        let answer = sm_files::enter(&data, usize::MAX);
         assert_eq!(answer, Err(11), "no file has so many blocks");
         let count = data.split(|&byte| byte == b'\n').count();
         println!("sm_chart {} {} 4 {count}", file.name(), lines.name());

@@ -2,30 +2,17 @@
 //! together as many as the heads, and each record stands at a head of the text that is left.
 
 use crate::case::{Case, Check, Compare};
-use crate::entries::ENTRIES;
-use crate::random;
+use crate::text_checks::left_by;
 use oracle::calls::{Call, NOTE_BYTES, NOTES, TEXT_BYTES, lanes_in_force};
 use oracle::dropped::{DROPPED_BYTES, heads_in, text_rows};
 use oracle::entry::Loan;
 
 pub fn listed_or_noted() -> Check {
     Check::new("dropped or noted", |case, compared| {
-        let dropped = asked(Call::DroppedHolds, case);
-        let main = asked(Call::MinimizeChartCountRowsNotes, case);
+        let dropped = left_by(Call::DroppedHolds, case);
+        let main = left_by(Call::MinimizeChartCountRowsNotes, case);
         compare(case, &dropped, &main, compared);
     })
-}
-
-/// What an entry leaves in slices of the exact lengths, which are full of garbage.
-fn asked(call: Call, case: &Case) -> Loan {
-    let entry = ENTRIES.iter().find(|entry| entry.call == call);
-    let enter = entry.expect("every call has its entry").enter;
-    let len = case.bytes.len();
-    let mut loan = random::lent(case.seed, !case.seed, call, len, case.lanes, |_, enough| {
-        enough
-    });
-    enter(&case.bytes, case.lanes, &[], &mut loan);
-    loan
 }
 
 fn compare(case: &Case, dropped: &Loan, main: &Loan, compared: &mut Compare) {

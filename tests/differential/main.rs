@@ -15,6 +15,7 @@ mod kinds;
 mod limits;
 mod long_texts;
 mod ours;
+mod places;
 mod random;
 mod row_checks;
 mod sheet_checks;
@@ -36,9 +37,10 @@ Compares the exported entries and the leaves with the Rust. For each SEED (1 whe
 texts, N random lists of rows, which are read as texts too, N beats, and random texts of 10,000 to 1,000,000
 bytes. Then every short text over a few letters, every byte at every place of a row's line, texts for each
 case of the correction, each entry with every combination of its slices one entry too short, and texts of the
-greatest length. The main and the kept tally are compared with each other too. Where a line has a byte 13
-among its first L bytes, which is a row for the Rust alone, it is asked about a text in which that line is
-none; both sorts of text are counted. The sheet is compared with the reference in Rust, on half of the random
+greatest length. The search for a byte is made with it at every place of short slices, beside bytes that
+differ from it in one bit. The main and the kept tally are compared with each other too. Where a line has a
+byte 13 among its first L bytes, which is a row for the Rust alone, it is asked about a text in which that
+line is none; both sorts of text are counted. The sheet is compared with the reference in Rust, on half of the random
 texts and some of the long ones. SM files are compared with the reference in Rust, every block and the numbers
 past them: for each SEED N random files, then every short file over a few tokens, a file by hand with each
 byte struck or changed, and files of the greatest length; the calls are made on the data of each accepted
@@ -134,6 +136,8 @@ fn run(options: &Options) -> ExitCode {
         };
         bytes.iter_mut().for_each(|check| check.run(&case));
     }
+    let mut places = [places::check()];
+    places.iter_mut().for_each(places::every_place);
     texts.push(sheet);
     limits::short_texts(&mut texts, &mut kinds);
     limits::bytes_in_rows(&mut texts, &mut kinds);
@@ -155,11 +159,12 @@ fn run(options: &Options) -> ExitCode {
         file_limits::longest_files(&mut files);
     }
     longest.push(longest_sheet);
-    let groups: [(&str, &[Check]); 8] = [
+    let groups: [(&str, &[Check]); 9] = [
         ("texts", &texts),
         ("rows", &rows),
         ("beats", &beats),
         ("bytes", &bytes),
+        ("the places of a byte", &places),
         (
             "every combination of slices one entry too short",
             &shortages,
@@ -192,7 +197,7 @@ fn report(
     }
     for (lanes, as_it_stands, another) in kinds.asked() {
         println!(
-            "{lanes} lanes: the Rust was asked about {as_it_stands} texts, and of {another} about another one"
+            "{lanes} lanes: {as_it_stands} texts that the Rust was asked about, {another} in whose place it was asked another"
         );
     }
     let checks: Vec<&Check> = groups.iter().flat_map(|(_, checks)| *checks).collect();

@@ -40,15 +40,21 @@ pub fn tallies() -> Check {
     })
 }
 
-/// The tally that a call answers, lent slices of the exact lengths.
+/// The tally that a call answers.
 fn tally(call: Call, case: &Case) -> Vec<u64> {
-    let (len, lanes) = (case.bytes.len(), case.lanes);
-    let mut loan = random::lent(case.seed, !case.seed, call, len, lanes, |_, enough| enough);
-    let mut entries = ENTRIES.iter().filter(|entry| entry.call == call);
-    if let Some(entry) = entries.next() {
-        (entry.enter)(&case.bytes, lanes, &[], &mut loan);
-    }
-    loan.figures[TALLY..TALLY + TALLY_NAMES.len()].to_vec()
+    left_by(call, case).figures[TALLY..TALLY + TALLY_NAMES.len()].to_vec()
+}
+
+/// What an entry leaves in slices of the exact lengths, which are full of garbage.
+pub fn left_by(call: Call, case: &Case) -> Loan {
+    let entry = ENTRIES.iter().find(|entry| entry.call == call);
+    let enter = entry.expect("every call has its entry").enter;
+    let len = case.bytes.len();
+    let mut loan = random::lent(case.seed, !case.seed, call, len, case.lanes, |_, enough| {
+        enough
+    });
+    enter(&case.bytes, case.lanes, &[], &mut loan);
+    loan
 }
 
 /// The exported entries with every combination of their slices one entry too short, the others exact.

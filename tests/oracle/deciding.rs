@@ -283,6 +283,15 @@ pub const TEXTS: &[Deciding] = &[
     four("timing: no head", "1000|3000|M00K|"),
     four("timing: head in an earlier measure", "2000|,|1000|"),
     four("timing: back to back", "1000|0100|"),
+    // Dropped holds
+    four("dropped: another column", "2000|0300|0100|"),
+    four("dropped: rising row", "2000|0200|0100|"),
+    four("dropped: rising column", "2002|0100|0001|"),
+    four(
+        "dropped: rows through the chart",
+        "1000|0000|,|2000|0000|1000|0000|",
+    ),
+    four("dropped: low byte first", LOW_FIRST_DROPPED),
 ];
 
 macro_rules! eight_zeros {
@@ -328,6 +337,9 @@ const LAST_WIDE: &str = concat!(
 
 /// 256 rows that are all zero, then a hold whose rows take more than a byte.
 const LOW_FIRST: &str = concat!(zeros_124!(), zeros_124!(), eight_zeros!(), "0200|0300|");
+
+/// The same rows, then a head that another cell drops.
+const LOW_FIRST_DROPPED: &str = concat!(zeros_124!(), zeros_124!(), eight_zeros!(), "0200|0100|");
 
 /// Nine and eight heads in a column, each with its tail; the last one beside a tap.
 const NINTH: &str =

@@ -58,7 +58,7 @@ pub struct Chart<'a> {
 pub struct KeptChart<'a> {
     /// Minimised text.
     pub text: &'a [u8],
-    /// The tally, corrected over the pass's own rows.
+    /// The tally, which is that of the main call.
     pub stats: ArrowStats,
     /// For each measure how many of its minimised rows have a 1, 2 or 4.
     pub densities: &'a [u32],

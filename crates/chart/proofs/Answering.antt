@@ -1,10 +1,10 @@
 -- From the pass over a whole text to what the main call answers.
 use mathlib.Core.Path.{◌≡◌, refl, ap, ◌∙◌, subst}
 use mathlib.Core.List.{List, append-nil}
-use Prim.Native.Nat.{ℕ, ◌+◌, ◌-◌, ◌≤◌}
+use Prim.Native.Nat.{ℕ, ◌+◌, ◌≤◌}
 use native.Mathlib.Omega.{arith}
 use lib.Ieee.{Float, binary64, to_bits}
-use lib.ListN.{length, take}
+use lib.ListN.{length}
 use Rattle.definitions.specs.Lists.{joined, padded}
 use Rattle.definitions.specs.Lanes.{most_rows_in}
 use Rattle.definitions.specs.Lines.{Row}
@@ -23,7 +23,7 @@ use Rattle.slices.proofs.Zeroed.{zeroed-answer}
 use Rattle.definitions.specs.declared.ChartFigures.{ChartFigures}
 use Rattle.measure_walk.specs.Views.{noting}
 use Rattle.chart_pass.specs.declared.ChartPass.{ChartPass}
-use Rattle.chart_pass.specs.ChartPass.{kept_of, ChartAll}
+use Rattle.chart_pass.specs.ChartPass.{ChartAll}
 
 module _ (L : ℕ) (data-text : List ℕ) (p : ChartPass) (text densities : List ℕ) (beats : List Float) (slots : List ℕ) (x : ChartAll L data-text p text densities beats slots) where
   pub all-beats : (n : ℕ) → length beats ≡ n → most_rows_in L (length data-text) ≤ n → zeroed (f32 0) p.walk.run.row beats ≡ padded (f32 0) n (beats_of L data-text)

@@ -11,41 +11,11 @@ ghost use Rattle.definitions.specs.Beats.{f32, beats as beats_of};
 ghost use Rattle.definitions.specs.Notes.{notes as notes_of};
 ghost use Rattle.definitions.specs.Records.{records};
 ghost use Rattle.definitions.specs.Entries.{figures_of_chart, main_answer};
-ghost use Rattle.chart.specs.Ends.{ChartRead, ChartEnds};
 
-use chart_pass::ChartPass;
-use definitions::{ArrowStats, ChartFigures, Lanes, Refusal};
+use definitions::{ChartFigures, Lanes, Refusal};
 
-/// The end of the main call, once its tally is corrected: heads that are open are dropped, and zeros stand past each answer.
-pub fn end_chart(
-    pass: &ChartPass,
-    stats: ArrowStats,
-    text: &mut [u8],
-    densities: &mut [u32],
-    beats: &mut [f32],
-    slots: &mut [u8],
-) -> ChartFigures
-    requires { ChartRead pass.now text.old densities.old beats.old slots.old }
-    ensures { ChartEnds pass.now stats
-        text.old densities.old beats.old slots.old
-        result text.new densities.new beats.new slots.new }
-{
-    let notes = row_notes::finish(pass.walk.scratch(), slots);
-    let rows = pass.walk.run.row;
-    slices::zero_past(beats, rows as usize, 0.0);
-    let last = pass.walk.found;
-    ChartFigures {
-        bytes: pass.draft.out,
-        measures: pass.draft.finish(text, densities),
-        rows,
-        notes,
-        last_bits: beats::last_beat_bits(last),
-        last_row: beats::last_note_row(last),
-        stats,
-    }
-}
-
-/// The main call where it is accepted: the pass, the tally corrected over the minimised text read back, and zeros past each answer.
+/// The main call where it is accepted: the pass, the tally corrected over the minimised text read back, and the end: heads that are open are dropped,
+/// and zeros stand past each answer.
 pub fn chart_figures(
     data: &[u8],
     lanes: Lanes,
@@ -81,7 +51,19 @@ pub fn chart_figures(
         lanes,
         work,
     );
-    end_chart(&pass, stats, text, densities, beats, slots)
+    let notes = row_notes::finish(pass.walk.scratch(), slots);
+    let rows = pass.walk.run.row;
+    slices::zero_past(beats, rows as usize, 0.0);
+    let last = pass.walk.found;
+    ChartFigures {
+        bytes: pass.draft.out,
+        measures: pass.draft.finish(text, densities),
+        rows,
+        notes,
+        last_bits: beats::last_beat_bits(last),
+        last_row: beats::last_note_row(last),
+        stats,
+    }
 }
 
 /// The main call, the Rust's function of that name: minimised text in bytes, densities in steps a measure, row beats, note records of ten bytes each,

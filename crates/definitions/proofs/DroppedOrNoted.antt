@@ -17,7 +17,7 @@ use Rattle.definitions.specs.Correction.{is_opening, head_count}
 use Rattle.definitions.specs.Reduction.{minimised}
 use Rattle.definitions.specs.Notes.{effect_of, effect_at, cell_notes, row_notes, notes_from, notes}
 use Rattle.definitions.specs.Dropped.{fate_of, cell_drops, made_row, drops_from, dropped_heads}
-use Rattle.definitions.specs.DroppedOrNoted.{listed, noted, has_tail, above, rises, DroppedOrNoted}
+use Rattle.definitions.specs.DroppedOrNoted.{listed, noted, has_tail, before, rises, DroppedOrNoted}
 use Rattle.definitions.specs.declared.Cell.{Cell}
 use Rattle.definitions.specs.declared.Cell.TheVariants.{Empty, Tap, Hold, Tail, Roll, Mine, Lift, Fake, KeySound, LowerMine, LowerLift, LowerFake}
 use Rattle.definitions.specs.declared.Note.{Note}
@@ -220,7 +220,7 @@ rows-sum i (r ∷ rs) =
 -- ---- Their order
 
 abbrev Before : DroppedHead → DroppedHead → Type 0
-Before x y = above x.row x.column y.row y.column ≡ true
+Before x y = before x.row x.column y.row y.column ≡ true
 
 data Sorted : List DroppedHead → Type 0 where
   no_more : Sorted []

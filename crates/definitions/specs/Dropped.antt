@@ -14,7 +14,7 @@ use Rattle.definitions.specs.declared.Fate.{Fate}
 use Rattle.definitions.specs.declared.Fate.TheVariants.{ClosedAt, DroppedBy}
 use Rattle.definitions.specs.declared.DroppedHead.{DroppedHead}
 
--- What a cell at row i says of the head above it, given what the rows below that cell say. "A 3 closes the head, and it is a note; any other of them
+-- What a cell at row i says of the head before it, given what the rows after it say. "A 3 closes the head, and it is a note; any other of them
 -- drops it." "K and the empty cells tell nothing"
 abbrev pub decides : NoteEffect → ℕ → Fate → Fate
 decides Nothing i later = later
@@ -22,8 +22,8 @@ decides Closes i later = ClosedAt i
 decides (Single k) i later = DroppedBy (OtherCell i)
 decides (Head k) i later = DroppedBy (OtherHead i)
 
--- The fate of a head in column c, with these rows below it, numbered from i. "What becomes of a head is told by the first of 1 2 3 4 M L F m l f below
--- it in its column." "Where none of them stands below it the chart's end drops it."
+-- The fate of a head in column c, with these rows after it, numbered from i. "What becomes of a head is told by the first of 1 2 3 4 M L F m l f that
+-- follows it in its column." "Where none of them follows it the chart's end drops it."
 abbrev pub fate_of : ℕ → ℕ → List Row → Fate
 fate_of c i [] = DroppedBy ChartEnd
 fate_of c i (r ∷ rs) = decides (effect_at (byte_at c r)) i (fate_of c (suc i) rs)
@@ -42,7 +42,7 @@ cell_drops (Head k) i c f = if_dropped i c f
 
 -- What is made of rows, where `cell` says what a cell makes of its effect, its row and column, and the fate that a head there has.
 module _ {A : Type 0} (cell : NoteEffect → ℕ → ℕ → Fate → List A) where
-  -- of row i from column c on, with these rows below it
+  -- of row i from column c on, with these rows after it
   abbrev pub made_row : ℕ → ℕ → Row → List Row → List A
   made_row i c [] rs = []
   made_row i c (b ∷ bs) rs = cell (effect_at b) i c (fate_of c (suc i) rs) ++ made_row i (suc c) bs rs
@@ -52,7 +52,7 @@ module _ {A : Type 0} (cell : NoteEffect → ℕ → ℕ → Fate → List A) wh
   made_from i [] = []
   made_from i (r ∷ rs) = made_row i zero r rs ++ made_from (suc i) rs
 
--- the dropped heads of rows numbered from i: "They stand in rising row, and in a row in rising column."
+-- the dropped heads of rows numbered from i: "Its heads stand in rising row, and in a row in rising column."
 abbrev pub drops_from : ℕ → List Row → List DroppedHead
 drops_from i rows = made_from cell_drops i rows
 

@@ -23,15 +23,15 @@ abbrev pub has_tail : Tail → Bool
 has_tail Without = false
 has_tail (Row j) = true
 
--- a place stands above another by row, then column
-abbrev pub above : ℕ → ℕ → ℕ → ℕ → Bool
-above i c j d = nat_lt i j || (i == j && nat_lt c d)
+-- a place stands before another by row, then column
+abbrev pub before : ℕ → ℕ → ℕ → ℕ → Bool
+before i c j d = nat_lt i j || (i == j && nat_lt c d)
 
--- each stands above the next
+-- each stands before the next
 abbrev pub rises : List DroppedHead → Bool
 rises [] = true
 rises (x ∷ []) = true
-rises (x ∷ y ∷ ds) = above x.row x.column y.row y.column && rises (y ∷ ds)
+rises (x ∷ y ∷ ds) = before x.row x.column y.row y.column && rises (y ∷ ds)
 
 -- Of every text, at every row and column.
 pub record DroppedOrNoted (L : ℕ) (text : List ℕ) : Type 0 where
@@ -42,5 +42,5 @@ pub record DroppedOrNoted (L : ℕ) (text : List ℕ) : Type 0 where
   pub others : (i c : ℕ) → is_head (byte_in (joined (minimised L text)) i c) ≡ false → listed i c (dropped_heads L text) ≡ 0
   -- "the listed heads and the note records with a tail together are as many as the heads"
   pub sum : length (dropped_heads L text) + count_by (λ n. has_tail n.tail) (notes L text) ≡ head_count (joined (minimised L text))
-  -- "each listed head stands above the next, by row, then column"
+  -- "each listed head stands before the next, by row, then column"
   pub rising : rises (dropped_heads L text) ≡ true

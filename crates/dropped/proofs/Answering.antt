@@ -1,10 +1,11 @@
 -- From the pass over a whole text to what the call answers.
 use mathlib.Core.Path.{◌≡◌, refl, ap, ◌∙◌}
 use mathlib.Core.List.{List}
-use Prim.Native.Nat.{ℕ, ◌+◌, ◌-◌, ◌*◌, ◌≤◌}
-use native.Mathlib.Nat.{mul-le-mul_left, mul_comm, mul_assoc}
+use Prim.Native.Nat.{ℕ, ◌+◌, ◌-◌, ◌*◌, ◌≤◌, ◌<◌}
+use native.Mathlib.Nat.{div-le_self, mul-le-mul_left}
 use native.Mathlib.Omega.{arith}
 use lib.ListN.{length, take}
+use Rattle.definitions.specs.Sizes.{most_bytes}
 use Rattle.definitions.specs.Lists.{padded}
 use Rattle.definitions.specs.Lanes.{most_rows_in}
 use Rattle.definitions.specs.Figures.{minimised_text}
@@ -25,11 +26,15 @@ module _ (L : ℕ) (data-text : List ℕ) (p : TextPass) (text : List ℕ) (x : 
   pub some-text : SomeText L (take (p.draft.out - 0) text) p.rows
   some-text = record { chart = data-text; held = own-text }
 
+  pub rows-fit : length data-text ≤ most_bytes → p.rows < 4294967296
+  unfolding most_rows_in
+  rows-fit h = omega (arith, h, x.rows_few, div-le_self (length data-text + 1) (L + 1))
+
   -- the list has room for each cell of its rows
   pub list_room : (n : ℕ) → 10 * L * most_rows_in L (length data-text) ≤ n → L * p.rows * 10 ≤ n
   list_room n h =
       let most : 10 * L * p.rows ≤ 10 * L * most_rows_in L (length data-text) = mul-le-mul_left (10 * L) x.rows_few in
-      let same : L * p.rows * 10 ≡ 10 * L * p.rows = mul_comm (L * p.rows) 10 ∙ ap (λ k. k) (grind arith) in
+      let same : L * p.rows * 10 ≡ 10 * L * p.rows = grind arith in
       omega (arith, most, same, h)
 
   pub all-text : (n : ℕ) → length text ≡ n → length data-text + 1 ≤ n → zeroed 0 p.draft.out text ≡ padded 0 n (minimised_text L data-text)

@@ -7,6 +7,7 @@ use native.Mathlib.Omega.{arith}
 use lib.ListN.{length, take, drop, set, get_or}
 use lib.Seq.{sets, sets-eq, length-sets, drop_at, length-take-le, get_or-set_same, get_or-set_other}
 use Rattle.definitions.specs.Records.{fields}
+use Rattle.definitions.specs.Cells.{cell_of}
 use Rattle.definitions.specs.Notes.{effect_at}
 use Rattle.definitions.specs.Damage.{is_head}
 use Rattle.definitions.specs.Dropped.{decides, if_dropped, cell_drops, number_of_dropper, number_of_cause, encode_dropped, dropped_records}
@@ -88,3 +89,14 @@ module _ (b row column : ℕ) (s : Listing) (list : List ℕ) (size : length s.f
         others = λ c n. get_or-set_other s.fates column c _ _ n;
         heads = λ ds q. q ∙ ap (λ l. dropped_records (l ++ ds)) (sym (other-drops b row column later e));
       }
+
+-- a `0` tells nothing
+pub cell-zero : (row column : ℕ) (s : Listing) (list : List ℕ) → CellListed 48 row column s list s list
+unfolding effect_at cell_of
+cell-zero row column s list =
+    record {
+      longer = record { fewer = omega arith; one = omega arith; same_length = refl };
+      fate = refl;
+      others = λ c n. refl;
+      heads = λ ds q. q;
+    }

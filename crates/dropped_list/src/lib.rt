@@ -14,6 +14,9 @@ ghost use Rattle.dropped_list.specs.TextOf.{TextOf, SomeText};
 use definitions::{Cell, DropCause, Fate, Lanes};
 use note_records::put_record;
 
+// In a record, in place of the row that dropped a head, where the chart's end did.
+const NO_ROW: u32 = 4294967295;
+
 /// Of each column, of up to ten, the fate of a head above the rows that were read; and the number of the list's first record.
 #[derive(Clone, Copy)]
 pub struct Listing {
@@ -27,7 +30,7 @@ fn dropper_number(cause: DropCause) -> u32
 {
     match cause {
         DropCause::OtherHead(row) | DropCause::OtherCell(row) => row,
-        DropCause::ChartEnd => 4294967295,
+        DropCause::ChartEnd => NO_ROW,
     }
 }
 
@@ -72,7 +75,7 @@ fn is_head(b: u8) -> bool
 impl Listing {
     // A head with that fate: where it is dropped it gets a record in front of the list.
     fn put_head(&mut self, fate: Fate, row: u32, column: usize, list: &mut [u8])
-        requires column_bound { column < 10 }
+        requires column_narrow { column < 10 }
         requires some_room { 1 ≤ self.old.first }
         requires list_room { self.old.first * 10 ≤ length list.old }
         ensures listed { HeadListed fate row column self.old list.old self.new list.new }
@@ -92,7 +95,7 @@ impl Listing {
 
     // One cell of a row.
     fn list_cell(&mut self, b: u8, row: u32, column: usize, list: &mut [u8])
-        requires column_bound { column < 10 }
+        requires column_narrow { column < 10 }
         requires some_room { 1 ≤ self.old.first }
         requires list_room { self.old.first * 10 ≤ length list.old }
         ensures listed { CellListed b row column self.old list.old self.new list.new }
@@ -104,9 +107,9 @@ impl Listing {
         }
     }
 
-    /// The row above those that were read, its cells from the last on.
-    pub fn list_row(&mut self, row: &[u8], number: u32, list: &mut [u8])
-        requires width { length row.now ≤ 10 }
+    // The row above those that were read, its cells from the last on. Most of them are `0`, which tells nothing.
+    fn list_row(&mut self, row: &[u8], number: u32, list: &mut [u8])
+        requires narrow { length row.now ≤ 10 }
         requires some_room { length row.now ≤ self.old.first }
         requires list_room { self.old.first * 10 ≤ length list.old }
         ensures listed { (rows : List Row)
@@ -119,7 +122,10 @@ impl Listing {
         let mut column = row.len();
         while 0 < column {
             column -= 1;
-            self.list_cell(row[column], number, column, list);
+            match row[column] {
+                b'0' => {}
+                b => self.list_cell(b, number, column, list),
+            }
         }
     }
 }
@@ -169,7 +175,8 @@ pub fn list_heads(text: &[u8], rows: u32, lanes: Lanes, list: &mut [u8]) -> usiz
     ensures value { (chart : List ℕ) → TextOf lanes.count chart text.now rows
         → result ≡ length (dropped_heads lanes.count chart) }
     ensures list_after { (chart : List ℕ) → TextOf lanes.count chart text.now rows
-        → list.new ≡ padded 0 (length list.old) (dropped_records (dropped_heads lanes.count chart)) }
+        → list.new
+        ≡ padded 0 (length list.old) (dropped_records (dropped_heads lanes.count chart)) }
 {
     let most = lanes.count * rows as usize;
     let room = most * 10;

@@ -1,6 +1,7 @@
 -- Every figure of an accepted text, in its place among the 32 of its call, is below 2 ^ 64.
 use Rattle.std.proofs.Common.{ℕ, ◌+◌, ◌*◌, ◌/◌, ◌^◌, ◌<◌, ◌≤◌, Bool, true, List, length, length-append, All, le-div_iff_mul-le, mul-suc, mul_comm, mul-le-mul_right, arith}
 use Rattle.std.proofs.lemmas.List.Elements.{All-from_recursion}
+use Rattle.std.proofs.lemmas.List.Sums.{count_by-le-length}
 use native.Mathlib.Numerals.{add-one}
 use Rattle.definitions.specs.Sizes.{most_bytes}
 use Rattle.definitions.specs.Lists.{joined}
@@ -9,14 +10,18 @@ use Rattle.definitions.specs.Lines.{Row}
 use Rattle.definitions.specs.Reduction.{minimised}
 use Rattle.definitions.specs.Figures.{minimised_text}
 use Rattle.definitions.specs.Notes.{notes}
+use Rattle.definitions.specs.Dropped.{dropped_heads}
+use Rattle.definitions.specs.Tracker.{hold_at}
+use Rattle.definitions.specs.Correction.{is_opening}
 use Rattle.definitions.specs.Objects.{last48}
 use Rattle.definitions.specs.ReadBack.{rows_read_back, main_tally, kept_tally}
 use Rattle.definitions.specs.Judged.{judged_at, judged_rows, judged_tally, flagged_tally}
 use Rattle.definitions.specs.TimingRows.{timing_rows, timing_heads}
-use Rattle.definitions.specs.Entries.{measure_count, row_count, figures_of_chart, places_of_chart, figures_of_kept, places_of_kept, figures_of_timing, places_of_timing, places_of_measures, figures_of_last, places_of_last, places_of_judged}
+use Rattle.definitions.specs.Entries.{measure_count, row_count, figures_of_chart, places_of_chart, figures_of_kept, places_of_kept, figures_of_dropped, places_of_dropped, figures_of_timing, places_of_timing, places_of_measures, figures_of_last, places_of_last, places_of_judged}
 use Rattle.definitions.proofs.Lists.{All as Each, none, one, all_map, all-joined, one-le}
 use Rattle.definitions.proofs.ChartRows.{minimised-narrow, minimised-short}
 use Rattle.definitions.proofs.Counts.{measures-few, rows_few, notes-few}
+use Rattle.definitions.proofs.DroppedOrNoted.{dropped-or-noted}
 use Rattle.definitions.proofs.RowBounds.{read-narrow, read-few}
 use Rattle.beats.proofs.LastRows.{last48-most, last_bits-most}
 use Rattle.row_tally.specs.Bounds.{Below}
@@ -73,6 +78,13 @@ module _ (L : ℕ) (four : 4 ≤ L) (ten : L ≤ 10) (text : List ℕ) (short : 
       each-few none = omega arith
       each-few (one {a = r} {l = rs} w a) = omega (arith, length-append r (joined rs), each-few a)
 
+  -- at most one dropped head in a cell
+  heads-most : length (dropped_heads L text) < 2 ^ 64
+  unfolding timing_rows
+  heads-most =
+      let cells : List ℕ = joined (joined (minimised L text)) in
+      omega (arith, (dropped-or-noted L text).sum, count_by-le-length (λ b. is_opening (hold_at b)) cells, written-few)
+
   main-below : Below 167772170 (main_tally L text)
   unfolding main_tally
   main-below =
@@ -95,6 +107,10 @@ module _ (L : ℕ) (four : 4 ≤ L) (ten : L ≤ 10) (text : List ℕ) (short : 
   kept-fits =
       let tally = kept-below in
       All-from_recursion Fits (places_of_kept (figures_of_kept L text)) (omega (arith, bytes-few, measures-most, rows-most))
+
+  pub dropped-fits : AllFit (places_of_dropped (figures_of_dropped L text))
+  unfolding figures_of_dropped
+  dropped-fits = All-from_recursion Fits (places_of_dropped (figures_of_dropped L text)) (omega (arith, bytes-few, measures-most, rows-most, heads-most))
 
   pub timing-fits : AllFit (places_of_timing (figures_of_timing L text))
   unfolding figures_of_timing

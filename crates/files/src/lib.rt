@@ -10,8 +10,8 @@ ghost use Rattle.definitions.specs.SmFile.{without_end_blanks, type_of, lanes_of
 ghost use Rattle.files.specs.Tags.{after_first, after_tag};
 
 /// How many bytes stand before the first `b`, or in all.
-/// Byte by byte: `lines::find_byte` is left to the newline, since the compiler writes the one byte that it looks for into the loops of every other
-/// call.
+/// Byte by byte: `lines::next_line` alone calls the search `lines::find_byte`, for the newline, since the compiler writes the one byte that it looks
+/// for into the loops of every other call.
 #[tactic(auto, using(crate::proofs::Words::before_at))]
 pub fn before_byte(s: &[u8], b: u8) -> usize
     ensures { result ≡ length (up_to b s.now) }

@@ -164,8 +164,8 @@ fn judge(
     flags: Option<&[u8]>,
     work: &mut [u16],
 ) -> Result<ArrowStats, Refusal>
-    ensures value { result
-        ≡ judged_checked lanes «data».now work.old (tally_by flags.entry (lanes_of lanes) «data».now) }
+    ensures value { result ≡ judged_checked lanes «data».now work.old
+        (tally_by flags.entry (lanes_of lanes) «data».now) }
     ensures work_after { work.new ≡ leaves 0 result [] work.old }
 {
     let len = data.len();

@@ -6,7 +6,7 @@ ghost use Rattle.std.specs.Prelude.{ℕ, ◌≤◌, List, length};
 ghost use Rattle.definitions.specs.Sizes.{most_bytes};
 ghost use Rattle.definitions.specs.Lanes.{lanes_of};
 ghost use Rattle.definitions.specs.Judged.{judged_tally, flagged_tally};
-ghost use Rattle.definitions.specs.Entries.{measure_count, figures_of_chart, places_of_chart, figures_of_kept, places_of_kept, figures_of_timing, places_of_timing, places_of_measures, figures_of_last, places_of_last, places_of_judged};
+ghost use Rattle.definitions.specs.Entries.{measure_count, figures_of_chart, places_of_chart, figures_of_kept, places_of_kept, figures_of_dropped, places_of_dropped, figures_of_timing, places_of_timing, places_of_measures, figures_of_last, places_of_last, places_of_judged};
 ghost use Rattle.definitions.specs.Damage.{Differ, DamageStays};
 ghost use Rattle.definitions.specs.Halving.{ReduceHalved};
 ghost use Rattle.definitions.specs.ReadBack.{OwnRows, MainKeptAgree};
@@ -119,6 +119,7 @@ pub fn dropped_stays()
 pub fn figures_fit()
     ensures chart { FitsForAll (λ L text. places_of_chart (figures_of_chart L text)) }
     ensures kept { FitsForAll (λ L text. places_of_kept (figures_of_kept L text)) }
+    ensures dropped { FitsForAll (λ L text. places_of_dropped (figures_of_dropped L text)) }
     ensures timing { FitsForAll (λ L text. places_of_timing (figures_of_timing L text)) }
     ensures measures { FitsForAll (λ L text. places_of_measures (measure_count L text)) }
     ensures last { FitsForAll (λ L text. places_of_last (figures_of_last L text)) }

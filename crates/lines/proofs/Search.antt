@@ -7,7 +7,7 @@ use Rattle.lines.proofs.Trims.{part-all}
 use native.Mathlib.Nat.{sub-zero}
 use lib.ListN.{length-take}
 use Rattle.std.proofs.lemmas.Iterator.Adapters.{position_from-zero}
-use Rattle.std.specs.Prelude.{Option, Some, None, is_some, position, ◌==◌}
+use Rattle.std.specs.Prelude.{Option, Some, None, position, ◌==◌}
 use Rattle.std.specs.List.{position_from}
 use Rattle.std.proofs.lemmas.List.Sums.{sum_by-append, count_by-le-length}
 use Rattle.lines.specs.Search.{count_of}
@@ -24,30 +24,9 @@ from b k (x ∷ xs) = ap (cond (eqb x b) (Some k)) (rw add-one (from b (suc k) x
 pub found-position : (b : ℕ) (xs : List ℕ) → position (λ x. x == b) xs ≡ find_from b 0 xs
 found-position b xs = position_from-zero (λ x. eqb x b) xs ∙ from b 0 xs
 
--- std's search from a place on
+-- and the same from a place on
 pub found_from : (b k : ℕ) (xs : List ℕ) → position_from (λ x. x == b) k xs ≡ find_from b k xs
 found_from b k xs = from b k xs
-
--- a search of one list after another: the answer of the first where it has one, else that of the second
-over-step : (b k x : ℕ) (xs ys : List ℕ) (t : Bool)
-    → (is_some (find_from b (suc k) xs) ≡ true → find_from b (suc k) (xs ++ ys) ≡ find_from b (suc k) xs)
-    → is_some (cond t (Some k) (find_from b (suc k) xs)) ≡ true → cond t (Some k) (find_from b (suc k) (xs ++ ys)) ≡ cond t (Some k) (find_from b (suc k) xs)
-over-step b k x xs ys true ih e = refl
-over-step b k x xs ys false ih e = ih e
-
-pub found_in_first : (b k : ℕ) (xs ys : List ℕ) → is_some (find_from b k xs) ≡ true → find_from b k (xs ++ ys) ≡ find_from b k xs
-found_in_first b k [] ys e = cc
-found_in_first b k (x ∷ xs) ys e = over-step b k x xs ys (eqb x b) (found_in_first b (suc k) xs ys) e
-
-past-step : (b k x : ℕ) (xs ys : List ℕ) (t : Bool)
-    → (is_some (find_from b (suc k) xs) ≡ false → find_from b (suc k) (xs ++ ys) ≡ find_from b (suc k + length xs) ys)
-    → is_some (cond t (Some k) (find_from b (suc k) xs)) ≡ false → cond t (Some k) (find_from b (suc k) (xs ++ ys)) ≡ find_from b (k + suc (length xs)) ys
-past-step b k x xs ys true ih e = cc
-past-step b k x xs ys false ih e = ih e ∙ ap (λ (n : ℕ). find_from b n ys) (omega arith)
-
-pub found_past_first : (b k : ℕ) (xs ys : List ℕ) → is_some (find_from b k xs) ≡ false → find_from b k (xs ++ ys) ≡ find_from b (k + length xs) ys
-found_past_first b k [] ys e = ap (λ (n : ℕ). find_from b n ys) (omega arith)
-found_past_first b k (x ∷ xs) ys e = past-step b k x xs ys (eqb x b) (found_past_first b (suc k) xs ys) e
 
 -- b stands at i
 pub find-hit : (b : ℕ) (s : List ℕ) (i : ℕ) → i < length s → get_or s i 0 ≡ b → find_from b i (drop i s) ≡ Some i

@@ -3,7 +3,7 @@
 
 pub mod words;
 
-ghost use Rattle.std.specs.Prelude.{◌≡◌, ◌==◌, ◌≤◌, nat_le, length, take, drop, position};
+ghost use Rattle.std.specs.Prelude.{◌≡◌, ◌==◌, ◌<◌, ◌≤◌, Some, nat_le, length, take, drop, position};
 ghost use Rattle.std.specs.List.{position_from};
 ghost use Rattle.definitions.specs.Lists.{after};
 ghost use Rattle.definitions.specs.Lines.{is_blank_byte, trim};
@@ -72,14 +72,31 @@ pub fn count_byte(slice: &[u8], needle: u8) -> usize
     n
 }
 
-/// The first place from `from` on and before `to` where `slice` has `needle`: one byte after the other.
-fn find_between(slice: &[u8], needle: u8, from: usize, to: usize) -> Option<usize>
-    requires ordered { from ≤ to }
-    requires inside { to ≤ length slice.now }
-    ensures { result ≡ position_from (λ x. x == needle) from (drop from (take to slice.now)) }
+/// The place of the first of `near` bytes of `slice` that is `needle`, or `near`: one byte after the other.
+fn find_near(slice: &[u8], needle: u8, near: usize) -> usize
+    requires { near ≤ length slice.now }
+    ensures found { result < near → position (λ x. x == needle) slice.now ≡ Some result }
+    ensures passed { near ≤ result →
+        position (λ x. x == needle) slice.now
+        ≡ position_from (λ x. x == needle) near (drop near slice.now) }
+{
+    let mut i = 0;
+    while i < near {
+        if slice[i] == needle {
+            return i;
+        }
+        i += 1;
+    }
+    near
+}
+
+/// The first place from `from` on where `slice` has `needle`: one byte after the other.
+fn find_rest(slice: &[u8], needle: u8, from: usize) -> Option<usize>
+    requires { from ≤ length slice.now }
+    ensures { result ≡ position_from (λ x. x == needle) from (drop from slice.now) }
 {
     let mut i = from;
-    while i < to {
+    while i < slice.len() {
         if slice[i] == needle {
             return Some(i);
         }
@@ -94,9 +111,9 @@ pub fn find_byte(slice: &[u8], needle: u8) -> Option<usize>
     ensures { result ≡ position (λ x. x == needle) slice.now }
 {
     let near = usize::min(slice.len(), 16);
-    let found = find_between(slice, needle, 0, near);
-    if found.is_some() {
-        return found;
+    let first = find_near(slice, needle, near);
+    if first < near {
+        return Some(first);
     }
     let mut i = near;
     while i + 8 <= slice.len() {
@@ -107,7 +124,7 @@ pub fn find_byte(slice: &[u8], needle: u8) -> Option<usize>
         }
         i += 8;
     }
-    find_between(slice, needle, i, slice.len())
+    find_rest(slice, needle, i)
 }
 
 /// Whether none of the first `n` bytes is below 16, as newlines and carriage returns are: by a word of the first eight bytes, and one that ends with the

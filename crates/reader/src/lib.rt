@@ -12,7 +12,7 @@ ghost use Rattle.reader.specs.Reading.{LineWidth, just_row, near_row};
 
 use definitions::{Lanes, LineKind};
 
-// Whether one of some bytes is a carriage return.
+// Whether one of some bytes is a carriage return: by std's search, since `find_byte` is left to the newline.
 fn has_return(bytes: &[u8]) -> bool
     ensures { result ≡ among 13 bytes.now }
 {
@@ -53,7 +53,7 @@ fn is_just_row(part: &[u8], lanes: Lanes, width: usize) -> bool
     lines::starts_high(part, lanes.count) & (b'/' < first) & (first != b';') & (part[width] == 10)
 }
 
-// The same, and no near the text's end.
+// The same of any text: no look is taken near its end.
 fn is_near_row(part: &[u8], lanes: Lanes, width: usize) -> bool
     requires { LineWidth lanes.count width }
     ensures { result ≡ near_row lanes.count width part.now }

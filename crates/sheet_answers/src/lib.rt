@@ -30,8 +30,7 @@ fn judge_minimised(minimised: &[u8], lanes: Lanes, work: &mut [u16]) -> ArrowSta
     judged::judge_accepted(&minimised[..end], lanes, None, work)
 }
 
-/// All answers of an accepted text, and zeros past each in the lent slices. One pass over the text and one correction serve both calls: their
-/// tallies are the same.
+/// All answers of an accepted text, and zeros past each in the lent slices. The main call's serve the kept-row call too: their tallies are the same.
 pub fn sheet_answers(
     data: &[u8],
     lanes: Lanes,
@@ -63,25 +62,16 @@ pub fn sheet_answers(
     ensures notes_after { notes.new
         ≡ padded 0 (length notes.old) (records (notes_of lanes.count «data».now)) }
 {
-    let pass = chart_pass::read_chart(data, lanes, text, densities, beats, notes);
-    let bytes = pass.draft.out;
-    let stats = corrected_tally::corrected_stats(
-        pass.walk.run.stats,
-        pass.walk.phantoms(),
-        &text[0..bytes],
-        lanes,
-        work,
-    );
-    let judged = judge_minimised(&text[0..bytes], lanes, work);
+    let chart = chart::chart_figures(data, lanes, text, densities, beats, work, notes);
+    let judged = judge_minimised(&text[..chart.bytes], lanes, work);
     scans::spacing::fill_spacing(data, lanes, spacing);
-    let chart = chart::end_chart(&pass, stats, text, densities, beats, notes);
     SheetFigures {
         chart,
         kept: KeptFigures {
             bytes: chart.bytes,
             measures: chart.measures,
             rows: chart.rows,
-            stats,
+            stats: chart.stats,
         },
         judged,
     }

@@ -1,13 +1,13 @@
 -- `lines::find_byte` meets its contract: what the search of the rest finds is what the search of the whole finds. Assumes nothing.
-use Rattle.std.proofs.Common.{◌≡◌, ℕ, ◌+◌, ◌/◌, ◌<◌, ◌≤◌, true, false, List, ◌++◌, length, take, drop, sym, ap, ◌∙◌, arith, take_all, take-append-drop, length-take-le}
+use Rattle.std.proofs.Common.{◌≡◌, ℕ, ◌+◌, ◌/◌, ◌<◌, ◌≤◌, take, drop, sym, ap, ◌∙◌, arith}
 use lib.Count.{count_trailing_zeros, trailing_of_zero}
 use Rattle.lines.specs.Words.{first_in}
-use Rattle.std.specs.Prelude.{Some, is_some}
-use Rattle.lines.proofs.Search.{found-position, found_from, find_from, found_in_first, found_past_first}
+use Rattle.std.specs.Prelude.{Some}
+use Rattle.lines.proofs.Search.{found-position, found_from}
 use Rattle.lines.proofs.Hits.{trailing_lt}
 use Rattle.lines.proofs.SliceWords.{of_word, word_in, word_out}
 use Rattle.lines.proofs.find_byte.Goals as goal
-use Rattle.lines.proofs.find_byte.Goals.{After-find_between-found, After-byte_hits-hits}
+use Rattle.lines.proofs.find_byte.Goals.{After-byte_hits-hits}
 
 -- the place of the lowest bit is that of the first such byte
 first : (c : After-byte_hits-hits) → count_trailing_zeros 64 c.byte_hits-hits.result / 8 ≡ first_in c.args.needle (take 8 (drop c.loop-i.i c.args.slice.now))
@@ -15,33 +15,16 @@ first c =
     c.byte_hits-hits.ensures
     ∙ ap (first_in c.args.needle) (of_word c.args.needle c.args.slice.now c.loop-i.i c.loop-i-test.true c.word_at.result (λ k. (c.type_inv.slice k).fits) c.word_at.ensures)
 
--- what the first bytes are asked: the search of the part before `near`
-near-part : (c : After-find_between-found) → c.find_between-found.result ≡ find_from c.args.needle 0 (take c.min-near.result c.args.slice.now)
-near-part c = c.find_between-found.ensures ∙ found_from c.args.needle 0 _
-
-whole : (c : After-find_between-found) → take c.min-near.result c.args.slice.now ++ drop c.min-near.result c.args.slice.now ≡ c.args.slice.now
-whole c = take-append-drop c.min-near.result c.args.slice.now
-
-pub returns-then-is_some : goal.returns-then-is_some
-returns-then-is_some c =
-    let d = (goal.at.returns-then-is_some c).After-find_between-found in
-    let first = near-part d in
-    let hit : is_some (find_from c.args.needle 0 (take c.min-near.result c.args.slice.now)) ≡ true = ap is_some (sym first) ∙ sym c.is_some.ensures ∙ c.if-is_some.true in
-    first
-    ∙ sym (found_in_first c.args.needle 0 _ (drop c.min-near.result c.args.slice.now) hit)
-    ∙ ap (find_from c.args.needle 0) (whole d)
-    ∙ sym (found-position c.args.needle c.args.slice.now)
+pub returns-then-first-near : goal.returns-then-first-near
+returns-then-first-near c = sym (c.find_near-first.ensures.found c.if-first-near.true)
 
 pub loop-i-init : goal.loop-i-init
-loop-i-init c =
-    let d = (goal.at.loop-i-init c).After-find_between-found in
-    let inside : c.min-near.result ≤ length c.args.slice.now = omega (arith, c.min-near.ensures) in
-    let miss : is_some (find_from c.args.needle 0 (take c.min-near.result c.args.slice.now)) ≡ false = ap is_some (sym (near-part d)) ∙ sym c.is_some.ensures ∙ c.if-is_some.false in (
-      inside,
-      ap (find_from c.args.needle 0) (sym (whole d))
-          ∙ found_past_first c.args.needle 0 _ (drop c.min-near.result c.args.slice.now) miss
-          ∙ ap (λ (n : ℕ). find_from c.args.needle n (drop c.min-near.result c.args.slice.now)) (omega (arith, length-take-le c.min-near.result c.args.slice.now inside)),
-    )
+loop-i-init c = (
+  omega (arith, c.min-near.ensures),
+  sym (found-position c.args.needle c.args.slice.now)
+      ∙ c.find_near-first.ensures.passed c.if-first-near.false
+      ∙ found_from c.args.needle c.min-near.result _,
+)
 
 pub returns-then-hits-ne0 : goal.returns-then-hits-ne0
 returns-then-hits-ne0 c =
@@ -57,7 +40,6 @@ loop-i-preserved c =
 
 pub returns : goal.returns
 returns c =
-    c.find_between.ensures
+    c.find_rest.ensures
     ∙ found_from c.args.needle c.loop-i.i _
-    ∙ ap (λ (text : List ℕ). find_from c.args.needle c.loop-i.i (drop c.loop-i.i text)) (take_all (length c.args.slice.now) c.args.slice.now (omega arith))
     ∙ sym (found-position c.args.needle c.args.slice.now ∙ c.loop-i.invariant.1)

@@ -1,2 +1,0 @@
--- What the contracts of the main call cite, beside the definitions.
-pub mod Ends
