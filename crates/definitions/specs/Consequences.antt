@@ -163,7 +163,7 @@ ElevenSays =
     → ((k : ℕ) → (sm_number file k == 11) ≡ nat_le (length (blocks file)) k)
     × (find (λ k. sm_number file k == 11) (range_with_len 0 (suc (length (blocks file)))) ≡ Some (length (blocks file)))
 
--- ---- Of the examples: P1 to P11 and those of keysounds are there, with so many things that each says, and as many of SM files
+-- ---- Of the examples: P1 to P11 and K1 to K5 are there, with so many things that each says, and as many of SM files
 
 unfoldable pub ExamplesCounted : Type 0
 ExamplesCounted =

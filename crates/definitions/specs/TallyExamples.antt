@@ -1,5 +1,5 @@
--- Specification, Examples: examples of the keysounds as one table with a single claim, `tally-examples-hold`. "So are examples of the keysounds, as a
--- table of their own." In a text `|` is byte 10.
+-- Specification, Examples: K1 to K5, the third table, with a single claim, `tally-examples-hold`. "So is a third, K1 to K5, of keysounds." In a text
+-- `|` is byte 10.
 use Rattle.std.specs.Prelude.{◌≡◌, refl, List, [], ◌∷◌, map}
 use Rattle.std.specs.Float.Ieee.{to_bits, of_int, round, add, mul, div}
 use Rattle.definitions.specs.Lanes.{lanes_of}
@@ -18,9 +18,10 @@ use Rattle.definitions.specs.ReadBack.{rows_read_back, main_tally, kept_tally}
 use Rattle.definitions.specs.Judged.{judged_at, judged_sum, judge_row, open_before, judged_rows, judged_tally, flagged_tally}
 use Rattle.definitions.specs.Examples.{Example, arrows, steps, holding, keys, last, note_list, main, kept, judged, flagged, figure, whole_beat, ◌is◌, at4, given_by_definitions, said}
 
+-- K1 to K5
 unfoldable pub table : List Example
 table =
-    -- "cells K", in each tally; "A K is a keysound and is counted as nothing else."
+    -- K1: "cells K", in each tally; "A K is a keysound and is counted as nothing else."
     at4 "K000|K0K0|000K|0000"
     ((main keys is 4 ∷ [])
     ∷ (kept keys is 4 ∷ [])
@@ -29,11 +30,11 @@ table =
     ∷ (main steps is 0 ∷ [])
     ∷ (last is whole_beat 2)
     ∷ [])
-    -- k is an empty cell
+    -- K2: a k is an empty cell
     ∷ at4 "k000" ((main keys is 0 ∷ []) ∷ (judged keys is 0 ∷ []) ∷ [])
-    -- "In counting anew": the hold is not paired, and its column keeps its K
+    -- K3: "In counting anew" the head is an empty cell, and its column keeps its K
     ∷ at4 "2000|1000|K000" ((main arrows is 1 ∷ []) ∷ (main keys is 1 ∷ []) ∷ (kept keys is 1 ∷ []) ∷ (judged keys is 1 ∷ []) ∷ [])
-    -- P7: a K leaves the note of the hold that is open in its column, and what is held
+    -- K4: a K leaves the note of the hold that is open in its column, and what is held
     ∷ at4 "2000|K000|3000|0000"
     ((note_list is 0 ∷ 2 ∷ 0 ∷ 1 ∷ [])
     ∷ (main holding is 0 ∷ [])
@@ -41,7 +42,7 @@ table =
     ∷ (kept keys is 1 ∷ [])
     ∷ (judged keys is 1 ∷ [])
     ∷ [])
-    -- "On an unjudged row each 1, L, l, M, m, F, f and paired head is one fake, and nothing else is counted."
+    -- K5: "On an unjudged row each 1, L, l, M, m, F, f and paired head is one fake, and nothing else is counted."
     ∷ at4 "K000|K000"
     ((flagged (0 ∷ 1 ∷ []) keys is 1 ∷ [])
     ∷ (flagged (0 ∷ 0 ∷ []) keys is 0 ∷ [])

@@ -23,6 +23,7 @@ next : (c : After-tally_line) →
     let main = get_or c.fields_of-main.result i c.index-main-i.result in
     line_of_tally main.0 main.1 (get_or c.fields_of-kept.result i c.index-kept-i.result).1 (get_or c.fields_of-judged.result i c.index-judged-i.result).1
     ≡ line_of_tally (field_at f.chart.stats i).0 (field_at f.chart.stats i).1 (field_at f.kept.stats i).1 (field_at f.judged i).1
+unfolding field_count
 next c =
     rw (
       at _ _ _ c.index-main-i.result c.fields_of-main.ensures c.loop-i-test.true,
