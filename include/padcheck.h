@@ -179,7 +179,7 @@ static inline size_t padcheck_sheet_len(size_t len)
     return 42 * (len + 1) + 3000;
 }
 
-/* Places in `figures`, the same in every call. Those from 22 on are 0. */
+/* Places in `figures`, the same in every call. Those from 23 on are 0. */
 enum padcheck_figure {
     PADCHECK_TEXT_BYTES = 0,      /* bytes of the answer in the text slice */
     PADCHECK_MEASURES = 1,        /* measures */
@@ -202,7 +202,8 @@ enum padcheck_figure {
     PADCHECK_ROLLS = 18,
     PADCHECK_LIFTS = 19,
     PADCHECK_FAKES = 20,
-    PADCHECK_HOLDING = 21 /* the tally ends here */
+    PADCHECK_HOLDING = 21,
+    PADCHECK_KEYSOUNDS = 22 /* cells K, which are counted as nothing else; the tally ends here */
 };
 
 /* Places in `note`. A tail is PADCHECK_NO_TAIL where the note has none. */

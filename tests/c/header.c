@@ -92,8 +92,8 @@ static uint32_t ask_main(const uint8_t *data, size_t len, size_t text, size_t me
 /* A chart whose figures are all different and none 0, but for `holding`, which is 0 at the end of every text. It is in
    the stored sample too. */
 static const char chart[] =
-    "L133\n13M4\n3213\n1033\nL4M2\n1413\nL21M\n1M13\n1F4L\n,\n1030\n4144\nMF03\n3FL1\nMFFM\n11M1\n"
-    "1M3L\nM2L1\n,\n4010\n34L0\n3M14\n1030\n4M13\n141M\n110F\n";
+    "L13K\n13M4\n3213\n1K33\nL4M2\n1413\nL21M\n1M13\n1F4L\n,\n1K3K\n4144\nMFK3\n3FL1\nMFFM\n11M1\n"
+    "1M3L\nM2L1\n,\n4K1K\n34LK\n3M14\n1K3K\n4M13\n141M\n11KF\n";
 
 /* The sheet of the chart in this form, with so many bytes for it. */
 static uint32_t ask_sheet(size_t form, size_t sheet)
@@ -154,6 +154,7 @@ static void check_places(void)
         FIGURE(LIFTS, 8),
         FIGURE(FAKES, 6),
         FIGURE(HOLDING, 0),
+        FIGURE(KEYSOUNDS, 11),
     };
     CHECK_FIGURES("minimize_chart_count_rows_notes", ask_main(data, len, ROOM, ROOM, ROOM, ROOM, ROOM * 10),
                   main_figures);
@@ -161,7 +162,7 @@ static void check_places(void)
         FIGURE(TEXT_BYTES, 124), FIGURE(MEASURES, 3), FIGURE(ROWS, 24), FIGURE(TOTAL_ARROWS, 32), FIGURE(LEFT, 12),
         FIGURE(DOWN, 4),         FIGURE(UP, 9),       FIGURE(RIGHT, 7), FIGURE(TOTAL_STEPS, 22),  FIGURE(JUMPS, 10),
         FIGURE(HANDS, 2),        FIGURE(MINES, 13),   FIGURE(HOLDS, 1), FIGURE(ROLLS, 5),         FIGURE(LIFTS, 8),
-        FIGURE(FAKES, 6),        FIGURE(HOLDING, 0),
+        FIGURE(FAKES, 6),        FIGURE(HOLDING, 0),  FIGURE(KEYSOUNDS, 11),
     };
     CHECK_FIGURES(
         "process_chart_kept",
@@ -191,6 +192,7 @@ static void check_places(void)
         FIGURE(TOTAL_ARROWS, 40), FIGURE(LEFT, 15),  FIGURE(DOWN, 4),  FIGURE(UP, 12),     FIGURE(RIGHT, 9),
         FIGURE(TOTAL_STEPS, 22),  FIGURE(JUMPS, 16), FIGURE(HANDS, 3), FIGURE(MINES, 13),  FIGURE(HOLDS, 1),
         FIGURE(ROLLS, 5),         FIGURE(LIFTS, 8),  FIGURE(FAKES, 6), FIGURE(HOLDING, 0),
+        FIGURE(KEYSOUNDS, 11),
     };
     CHECK_FIGURES("process_rows_judgable", padcheck_process_rows_judgable(data, len, 4, room.work, ROOM, room.figures),
                   judged_figures);
@@ -198,6 +200,7 @@ static void check_places(void)
         FIGURE(TOTAL_ARROWS, 39), FIGURE(LEFT, 14),  FIGURE(DOWN, 4),  FIGURE(UP, 12),     FIGURE(RIGHT, 9),
         FIGURE(TOTAL_STEPS, 21),  FIGURE(JUMPS, 16), FIGURE(HANDS, 3), FIGURE(MINES, 13),  FIGURE(HOLDS, 1),
         FIGURE(ROLLS, 5),         FIGURE(LIFTS, 8),  FIGURE(FAKES, 7), FIGURE(HOLDING, 0),
+        FIGURE(KEYSOUNDS, 10),
     };
     CHECK_FIGURES("process_timing_rows",
                   padcheck_process_timing_rows(data, len, 4, flags, sizeof flags, room.work, ROOM, room.figures),
@@ -211,9 +214,9 @@ static void check_forms(void)
         const char *name, *begins;
         size_t form;
         uint64_t bytes;
-    } forms[] = {{"card", "measures 3\nrows 24\n", PADCHECK_SHEET_CARD, 709},
-                 {"print", "measures            3\n", PADCHECK_SHEET_PRINT, 1040},
-                 {"JSON", "{\"measures\":3,", PADCHECK_SHEET_JSON, 1443}};
+    } forms[] = {{"card", "measures 3\nrows 24\n", PADCHECK_SHEET_CARD, 717},
+                 {"print", "measures            3\n", PADCHECK_SHEET_PRINT, 1080},
+                 {"JSON", "{\"measures\":3,", PADCHECK_SHEET_JSON, 1488}};
     for (size_t i = 0; i < sizeof forms / sizeof forms[0]; i++) {
         uint32_t number = ask_sheet(forms[i].form, ROOM * 10);
         uint64_t bytes = room.figures[PADCHECK_SHEET_BYTES];

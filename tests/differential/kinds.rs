@@ -5,6 +5,7 @@ use crate::random;
 use oracle::asked::{chart_text, read_back_text};
 use oracle::calls::lanes_in_force;
 use oracle::dropped::{DroppedHead, NO_ROW, dropped_of};
+use oracle::keysounds::rows_read_back;
 use oracle::leaves::{self, Counted};
 
 /// What a kind asks of a text.
@@ -14,7 +15,7 @@ type Test = fn(&Facts) -> bool;
 const AS_IT_STANDS: usize = 0;
 const IN_ANOTHERS_PLACE: usize = 1;
 
-const KINDS: [(&str, Test); 62] = [
+const KINDS: [(&str, Test); 69] = [
     ("a text that the Rust is asked about", |f| f.as_it_stands),
     ("a text in whose place it is asked about another", |f| {
         !f.as_it_stands
@@ -73,7 +74,18 @@ const KINDS: [(&str, Test); 62] = [
     ("cell m", |f| f.cells[b'm' as usize]),
     ("cell l", |f| f.cells[b'l' as usize]),
     ("cell f", |f| f.cells[b'f' as usize]),
+    ("cell k", |f| f.cells[b'k' as usize]),
     ("a cell that is no letter", |f| f.other_cell),
+    ("a K in each column", |f| {
+        f.keysounds.columns[..f.lanes].iter().all(|&seen| seen)
+    }),
+    ("two K in a row", |f| f.keysounds.two),
+    ("a K beside a head", |f| f.keysounds.beside_head),
+    ("a K where the tally is counted anew", |f| {
+        f.cells[b'K' as usize] && !f.is_like(Pairing::None) && !f.is_like(Pairing::All)
+    }),
+    ("a K on an unjudged row", |f| f.keysounds.unjudged),
+    ("a K on a judged row, with flags", |f| f.keysounds.judged),
     ("a ninth head open in a column", |f| f.deepest > 8),
     ("heads that all pair", |f| f.is_like(Pairing::All)),
     ("more heads than tails, or fewer", |f| {
@@ -132,6 +144,16 @@ struct Refused {
     read_back_alone: bool,
 }
 
+/// Where K cells stand: in which columns of a chart's rows, beside what, and on which rows of the text read back.
+#[derive(Default)]
+struct Keysounds {
+    columns: [bool; 10],
+    two: bool,
+    beside_head: bool,
+    unjudged: bool,
+    judged: bool,
+}
+
 struct Facts {
     as_it_stands: bool,
     len: usize,
@@ -148,6 +170,7 @@ struct Facts {
     first_cell: [bool; 256],
     cells: [bool; 256],
     other_cell: bool,
+    keysounds: Keysounds,
     empty_line: bool,
     slash: bool,
     short_line: bool,
@@ -188,6 +211,7 @@ impl Facts {
             first_cell: [false; 256],
             cells: [false; 256],
             other_cell: false,
+            keysounds: Keysounds::default(),
             empty_line: false,
             slash: false,
             short_line: false,
@@ -208,6 +232,7 @@ impl Facts {
         };
         let rows = facts.read(text);
         facts.look_at_rows(&rows);
+        facts.look_for_keysounds(&rows, text);
         facts
     }
 
@@ -308,6 +333,26 @@ impl Facts {
         self.judged = (0..self.rows).filter(judged).count();
         self.pairing = pairing(&leaves::count_line(self.lanes, rows));
         self.look_at_drops(&dropped_of(rows.chunks_exact(self.lanes), self.lanes));
+    }
+
+    fn look_for_keysounds(&mut self, rows: &[u8], text: &[u8]) {
+        let is_keysound = |cell: &u8| *cell == b'K';
+        let keysounds = &mut self.keysounds;
+        for row in rows.chunks_exact(self.lanes) {
+            let count = row.iter().filter(|cell| is_keysound(cell)).count();
+            let has_head = row.contains(&b'2') || row.contains(&b'4');
+            keysounds.two |= count > 1;
+            keysounds.beside_head |= count > 0 && has_head;
+            for (seen, cell) in keysounds.columns.iter_mut().zip(row) {
+                *seen |= is_keysound(cell);
+            }
+        }
+        for (row, flag) in rows_read_back(text, self.lanes).zip(&self.flags) {
+            if row.contains(&b'K') {
+                keysounds.judged |= *flag != 0;
+                keysounds.unjudged |= *flag == 0;
+            }
+        }
     }
 
     fn look_at_drops(&mut self, heads: &[DroppedHead]) {

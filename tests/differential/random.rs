@@ -43,7 +43,7 @@ pub const STYLES: [&[u8]; 6] = [
     b"00000001",
     b"0011",
     b"0000123",
-    b"012344MLFKmlf",
+    b"012344MLFKmlfk",
     b"000000000000000000M",
     b"223",
 ];
@@ -52,7 +52,7 @@ pub const STYLES: [&[u8]; 6] = [
 pub const LONG: usize = 10_000;
 
 /// Bytes that mean something to the line reader, and some that do not.
-const MARKS: &[u8] = b"0000111234MLFKmlf\n\n\n\n\n\r\t\x0b\x0c  ,,;/x\x00\x80\xff";
+const MARKS: &[u8] = b"0000111234MLFKmlfk\n\n\n\n\n\r\t\x0b\x0c  ,,;/x\x00\x80\xff";
 
 pub const BLANKS: &[u8] = b"\t\x0c\r ";
 

@@ -185,7 +185,7 @@ fn loans(checks: &mut Checks) {
     checks.same("not lent", loan.spacing, vec![0xA5; 7]);
     let want = [10, 1, 2, 1, 2f64.to_bits(), 0, 96, 0];
     checks.same("figures", &loan.figures[..8], &want);
-    checks.same("figures kept for later", &loan.figures[22..], &[0; 10]);
+    checks.same("figures kept for later", &loan.figures[23..], &[0; 9]);
     let mut loan = Loan::marked(&lengths([0, 7, 0, 0, 0]));
     let number = enter(Call::EquallySpaced, b",\n0000", 4, &[], &mut loan);
     checks.same("spacing accepted", number, 0);

@@ -1,16 +1,17 @@
-//! The specification's examples P1 to P11 and its card, the wrong readings it names, and deep nests.
+//! The specification's examples P1 to P11 and its card, keysounds, the wrong readings it names, and deep nests.
 //! As there, `|` stands for byte 10.
 
 use crate::Checks;
 use oracle::calls::{self, Answer};
 use oracle::card::{CARD_LEN, card};
 use oracle::leaves;
-use oracle::sheet::note_lines;
+use oracle::sheet::{ChartFigures, Form, note_lines};
 
 pub fn run(checks: &mut Checks) {
     proved_one_to_four(checks);
     proved_five_to_eight(checks);
     proved_nine_to_eleven(checks);
+    keysounds(checks);
     card_sheet(checks);
     line_kinds(checks);
     corrected(checks);
@@ -27,6 +28,7 @@ const HANDS: usize = 7;
 const MINES: usize = 8;
 const HOLDS: usize = 9;
 const FAKES: usize = 12;
+const KEYSOUNDS: usize = 14;
 
 fn bytes(text: &str) -> Vec<u8> {
     text.replace('|', "\n").into_bytes()
@@ -131,11 +133,51 @@ fn proved_nine_to_eleven(checks: &mut Checks) {
     checks.same("P11 left", tally[LEFT], 1);
 }
 
+/// Cells K of all minimised rows, and of judged rows alone; K5 is of flags.
+fn keysounds(checks: &mut Checks) {
+    for (text, count) in [
+        ("K000|K0K0|000K|0000", 4),
+        ("k000", 0),
+        ("2000|1000|K000", 1),
+        ("2000|K000|3000|0000", 1),
+        ("2K00|K100|30K0|0K02", 4),
+        ("", 0),
+    ] {
+        let tallies = [
+            main_call(text).tally(),
+            kept_call(text).tally(),
+            judged_tally(text),
+        ];
+        checks.same(text, tallies.map(|tally| tally[KEYSOUNDS]), [count; 3]);
+    }
+    let none = main_call("K000|K0K0|000K|0000").tally();
+    checks.same("nothing else", none[..KEYSOUNDS].iter().sum(), 0);
+    // The text that is read back has other rows than the chart.
+    let text = "/K00| K00|,K00|K0\rK|K000\r|;K00|K000";
+    let counts = [main_call(text).tally(), judged_tally(text)].map(|tally| tally[KEYSOUNDS]);
+    checks.same("rows of a chart and rows read back", counts, [1, 4]);
+    let text = bytes("K000|K000");
+    for (flags, count) in [([0, 1], 1), ([0, 0], 0), ([1, 1], 2)] {
+        let tally = calls::process_timing_rows(&text, 4, &flags).tally();
+        checks.same("K5", tally[KEYSOUNDS], count);
+    }
+    for lanes in [4, 5, 8, 10] {
+        let row = vec![b'K'; lanes + 2];
+        let tally = calls::process_chart_kept(&row, lanes).tally();
+        checks.same("a row of keysounds", tally[KEYSOUNDS], lanes as u64);
+        let card = ChartFigures::of(&row, lanes).sheet(Form::Card);
+        let keys = format!("\nkeys {lanes}\n");
+        checks.same("keys on the card", card.contains(&keys), true);
+    }
+}
+
 fn card_sheet(checks: &mut Checks) {
-    let want = "measures 1|rows 2|arrows 2|steps 2|notes 2|last 96|m 0 2 1|n 0 0 0 -|n 1 1 0 -|";
+    let want =
+        "measures 1|rows 2|arrows 2|steps 2|keys 0|notes 2|last 96|m 0 2 1|n 0 0 0 -|n 1 1 0 -|";
     let sheet = card(&bytes("1000|0000|0100|0000|;|"));
     checks.same("card", sheet, want.replace('|', "\n"));
-    let want = "measures 2|rows 2|arrows 1|steps 1|notes 1|last 192|m 0 1 1|m 1 0 0|n 0 3 2 1|";
+    let want =
+        "measures 2|rows 2|arrows 1|steps 1|keys 0|notes 1|last 192|m 0 1 1|m 1 0 0|n 0 3 2 1|";
     let sheet = card(&bytes("0004|,|0003|"));
     checks.same("card with a tail", sheet, want.replace('|', "\n"));
     let sheet = card(&[b'\n'; CARD_LEN + 1]);
@@ -247,8 +289,8 @@ fn judged(checks: &mut Checks) {
     let rows = b"220033001000";
     checks.same(
         "rows alone",
-        leaves::process_timing_rows(4, rows, &[0]),
-        fakes,
+        &leaves::process_timing_rows(4, rows, &[0])[..],
+        &fakes[..KEYSOUNDS],
     );
     let through_tail = leaves::process_rows_judgable(4, b"22003310");
     checks.same("open through its tail's row", through_tail[HANDS], 1);

@@ -25,6 +25,7 @@ measures 2
 rows 6
 arrows 3
 steps 3
+keys 0
 notes 4
 last 288
 m 0 3 0
@@ -57,6 +58,7 @@ rolls               1        1        1
 lifts               0        0        0
 fakes               0        0        0
 holding             0        0        0
+keysounds           0        0        0
 
 densities, 16 measures to a line; = equally spaced, - not
       0:  3-  0-
@@ -70,7 +72,7 @@ roll        3        3        4
 fn forms(checks: &mut Checks) {
     checks.same("card", sheet(CHART, Form::Card), CARD.to_string());
     checks.same("print", sheet(CHART, Form::Print), PRINT.to_string());
-    let tally = r#"{"total_arrows":3,"left":1,"down":1,"up":0,"right":1,"total_steps":3,"jumps":0,"hands":0,"mines":1,"holds":1,"rolls":1,"lifts":0,"fakes":0,"holding":0}"#;
+    let tally = r#"{"total_arrows":3,"left":1,"down":1,"up":0,"right":1,"total_steps":3,"jumps":0,"hands":0,"mines":1,"holds":1,"rolls":1,"lifts":0,"fakes":0,"holding":0,"keysounds":0}"#;
     let json = format!(
         r#"{{"measures":2,"rows":6,"notes":4,"last_beat":{{"beats":6,"over_48":0,"in_48ths":288}},"main":{tally},"kept":{tally},"judged":{tally},"densities":[3,0],"equally_spaced":[false,false],"note_records":[[0,0,0,null],[2,1,1,3],[3,3,2,4],[5,3,3,null]]}}"#
     );
@@ -107,7 +109,7 @@ fn columns(checks: &mut Checks) {
     ]
     .concat();
     let print = sheet(&text, Form::Print);
-    let lines: Vec<&str> = print.lines().skip(22).collect();
+    let lines: Vec<&str> = print.lines().skip(23).collect();
     let zeros = "  0=".repeat(15);
     let want = [
         "densities, 16 measures to a line; = equally spaced, - not",
@@ -174,7 +176,8 @@ fn loans(checks: &mut Checks) {
         checks.same("nothing is written", loan.same(&before), true);
     }
     let (mut loan, sheet) = lent(data.len(), 4, 7);
-    let card = "measures 1\nrows 2\narrows 1\nsteps 1\nnotes 1\nlast 96\nm 0 1 0\nn 0 0 1 1\n";
+    let card =
+        "measures 1\nrows 2\narrows 1\nsteps 1\nkeys 0\nnotes 1\nlast 96\nm 0 1 0\nn 0 0 1 1\n";
     let bytes = enter(data, 4, 0, &mut loan, sheet);
     checks.same("sheet", bytes, Ok(card.as_bytes().to_vec()));
     checks.same("text", &loan.text[..], b"2000\n3000\n\0");

@@ -40,7 +40,7 @@ const fn flagged(name: &'static str, text: &'static str, flags: &'static [u8]) -
 }
 
 /// The chart whose figures are all different; `tests/c/header.c` reads them by name.
-pub const DIFFERENT: &str = "L133|13M4|3213|1033|L4M2|1413|L21M|1M13|1F4L|,|1030|4144|MF03|3FL1|MFFM|11M1|1M3L|M2L1|,|4010|34L0|3M14|1030|4M13|141M|110F|";
+pub const DIFFERENT: &str = "L13K|13M4|3213|1K33|L4M2|1413|L21M|1M13|1F4L|,|1K3K|4144|MFK3|3FL1|MFFM|11M1|1M3L|M2L1|,|4K1K|34LK|3M14|1K3K|4M13|141M|11KF|";
 
 macro_rules! eight {
     ($($text:tt)*) => {
@@ -292,6 +292,21 @@ pub const TEXTS: &[Deciding] = &[
         "1000|0000|,|2000|0000|1000|0000|",
     ),
     four("dropped: low byte first", LOW_FIRST_DROPPED),
+    // Keysounds
+    four("keysounds: K", "K0K0|0KK0|0000|"),
+    four("keysounds: k is none", "K000|k000|"),
+    four("keysounds: nothing else", "K000|11K0|"),
+    four("keysounds: beside heads", "2K00|K100|30K0|0K02|"),
+    four("keysounds: counted anew", "2000|1000|K000|"),
+    lanes("keysounds: five columns", 5, "K000K|0000K|"),
+    lanes("keysounds: eight columns", 8, "K000000K|"),
+    lanes("keysounds: ten columns", 10, "K0000000KK|"),
+    four("keysounds: minimised rows", "K000|;|K000|"),
+    four(
+        "keysounds: rows read back",
+        " K00|/K00|K000\r|K\r00|,K00|;K00|",
+    ),
+    flagged("keysounds: unjudged", "K000|KK00|000K|", &[0, 1]),
 ];
 
 macro_rules! eight_zeros {

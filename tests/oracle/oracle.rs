@@ -3,6 +3,7 @@
 //! - `asked`: the text that the Rust is asked about, which is another where a row would have a byte 13.
 //! - `calls`: the nine chart calls, each with its figures and the contents of its slices.
 //! - `dropped`: the heads that come to nothing, which the Rust does not list.
+//! - `keysounds`: the count of keysounds, which the Rust does not have.
 //! - `leaves`: the functions below them.
 //! - `timed`: the calls with nothing around them.
 //! - `entry`: the calls as they are met from outside, with their refusals.
@@ -17,6 +18,7 @@ pub mod card;
 pub mod deciding;
 pub mod dropped;
 pub mod entry;
+pub mod keysounds;
 pub mod sheet;
 pub mod sheet_entry;
 pub mod sm;

@@ -1,7 +1,9 @@
 //! The sheet of a chart in its three forms, each written from the figures that the Rust answers: the program card's lines, a print in
 //! columns, and a JSON object.
 
-use crate::calls::{self, Answer, LAST_BEAT_48THS, MEASURES, NOTES, ROWS, TALLY, TALLY_NAMES};
+use crate::calls::{
+    self, Answer, KEYSOUNDS, LAST_BEAT_48THS, MEASURES, NOTES, ROWS, TALLY, TALLY_NAMES,
+};
 use crate::entry::read_note;
 use std::fmt::Write;
 
@@ -56,6 +58,7 @@ impl ChartFigures {
             ("rows", ROWS),
             ("arrows", TALLY),
             ("steps", TALLY + 5),
+            ("keys", KEYSOUNDS),
             ("notes", NOTES),
             ("last", LAST_BEAT_48THS),
         ];

@@ -1,10 +1,10 @@
-"""The examples of the definitions, read out of the two tables, so that no answer is stated twice."""
+"""The examples of the definitions, read out of the three tables, so that no answer is stated twice."""
 
 import re
 
 import model
 
-FILES = ("crates/definitions/specs/Examples.antt", "crates/definitions/specs/RuleExamples.antt")
+FILES = tuple(f"crates/definitions/specs/{table}.antt" for table in ("Examples", "RuleExamples", "TallyExamples"))
 TOKEN = re.compile(r'--.*|"[^"]*"|\d+|[A-Za-z_][\w-]*|∷|\+\+|\[\]|[()]|\S')
 
 
@@ -33,8 +33,8 @@ def table(source):
     rows = source[source.index("\ntable =\n") + 9 :]
     rows = rows[: rows.index("\n\n")]
     found = []
-    for part in re.split(r"^ *-- (?=[PR]\d+\b)", rows, flags=re.M)[1:]:
-        name = re.match(r"[PR]\d+", part).group()
+    for part in re.split(r"^ *-- (?=[PRK]\d+\b)", rows, flags=re.M)[1:]:
+        name = re.match(r"[PRK]\d+", part).group()
         found.append(example(name, "-- " + part))
     return found
 

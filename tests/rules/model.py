@@ -6,7 +6,7 @@ from collections import defaultdict
 from fractions import Fraction
 
 NO_TAIL = 4294967295
-FIELDS = ("arrows", "left", "down", "up", "right", "steps", "jumps", "hands", "mines", "holds", "rolls", "lifts", "fakes", "holding")
+FIELDS = ("arrows", "left", "down", "up", "right", "steps", "jumps", "hands", "mines", "holds", "rolls", "lifts", "fakes", "holding", "keys")
 
 
 def lanes_of(number):
@@ -269,6 +269,7 @@ def add_cells(t, row, arrow_cells):
     t["mines"] += count(row, b"Mm")
     t["lifts"] += count(row, b"Ll")
     t["fakes"] += count(row, b"Ff")
+    t["keys"] += count(row, b"K")
     return len(columns)
 
 

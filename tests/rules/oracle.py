@@ -81,7 +81,7 @@ def notes(lines):
 def tally(lines):
     """The tally's fields in their order."""
     at = next(i for i, line in enumerate(lines) if line.startswith("total_arrows "))
-    return [int(line.split(" ")[1]) for line in lines[at : at + 14]]
+    return [int(line.split(" ")[1]) for line in lines[at : at + 15]]
 
 
 def random_text(draw):

@@ -134,6 +134,7 @@ fn compare(old: &Read, new: &Read, out: &mut dyn Write) -> io::Result<()> {
         both(old.figures.row_count(), new.figures.row_count())
     )?;
     let differing = measures(old, new, out)?;
+    tallies(&old.figures, &new.figures, out)?;
     let ends = old.lines.ends != new.lines.ends;
     if ends {
         writeln!(out, "the lines that end measures differ")?;
@@ -175,6 +176,19 @@ fn measures(old: &Read, new: &Read, out: &mut dyn Write) -> io::Result<Vec<usize
         }
     }
     Ok(differing)
+}
+
+/// A line for each field in which the tallies differ.
+fn tallies(old: &Figures, new: &Figures, out: &mut dyn Write) -> io::Result<()> {
+    let fields = old.tally().zip(new.tally());
+    let mut fields = fields.filter(|(old, new)| old != new).peekable();
+    if fields.peek().is_some() {
+        writeln!(out, "the tallies differ")?;
+    }
+    for ((name, count), (_, other)) in fields {
+        writeln!(out, "  {name} {count} and {other}")?;
+    }
+    Ok(())
 }
 
 /// The figures by which a measure differs.
@@ -268,15 +282,23 @@ mod tests {
         let head = "lanes 4, measures 2, rows 2 and 3\n\
                     measure 1 differs by its lines and figures\n  \
                     rows 1 and 2\n  density 1 and 2\n\
+                    the tallies differ\n  \
+                    total_arrows 2 and 3\n  up 0 and 1\n  total_steps 2 and 3\n\
                     only lines of measure 1 differ; the damage theorem on these two:\n";
         assert!(told.starts_with(head), "{told}");
-        assert!(!told.contains("VIOLATED") && told.lines().count() == 14);
+        assert!(!told.contains("VIOLATED") && told.lines().count() == 18);
         let told = said(b"1000\n0001\n", b"1000\n00x1\n");
         assert!(told.contains("\n  1 of 2 rows, first its row 1: 0001 and 00x1\nonly lines"));
+        let told = said(b"1000\n0001\n", b"1000\nK0K1\n");
+        assert!(told.contains(": 0001 and K0K1\nthe tallies differ\n  keysounds 0 and 2\nonly"));
         let told = said(b"1000\n", b"// x\n1000\n");
         assert!(told.contains("\nmeasure 0 differs by its lines alone\nonly lines"));
         let told = said(b"1000\n", b"M000\n");
-        assert!(told.contains("\n  density 1 and 0\n  equally spaced in old alone\n"));
+        assert!(
+            told.contains(
+                "\n  density 1 and 0\n  equally spaced in old alone\nthe tallies differ\n"
+            )
+        );
     }
 
     #[test]

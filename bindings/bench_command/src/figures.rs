@@ -6,6 +6,25 @@ use crate::slices::Slices;
 use padcheck::{NOTE_BYTES, ParsedChartNote, lanes_in_force, read_note};
 use std::ops::Range;
 
+/// The fields of a tally.
+const FIELDS: [&str; 15] = [
+    "total_arrows",
+    "left",
+    "down",
+    "up",
+    "right",
+    "total_steps",
+    "jumps",
+    "hands",
+    "mines",
+    "holds",
+    "rolls",
+    "lifts",
+    "fakes",
+    "holding",
+    "keysounds",
+];
+
 /// The figures of a chart.
 pub struct Figures {
     /// The answers of the main call, and the spacing.
@@ -78,6 +97,11 @@ impl Figures {
         self.chart.spacing().get(measure).map(|&spaced| spaced == 1)
     }
 
+    /// The fields of the main tally, each with its count.
+    pub fn tally(&self) -> impl Iterator<Item = (&'static str, u64)> {
+        FIELDS.into_iter().zip(self.chart.tally().iter().copied())
+    }
+
     /// The notes.
     pub fn notes(&self) -> impl Iterator<Item = ParsedChartNote> {
         let records = self.chart.records();
@@ -100,6 +124,7 @@ impl Figures {
 mod tests {
     use super::*;
     use crate::lines::{LineKind, MeasureLines, line_kind};
+    use padcheck::ArrowStats;
 
     #[test]
     fn each_measure_has_its_own_rows() {
@@ -121,6 +146,21 @@ mod tests {
             [Some(2), Some(0), Some(1), None]
         );
         assert_eq!(figures.spacing(1), Some(true));
+    }
+
+    #[test]
+    fn the_fields_are_the_tallys() {
+        let figures = Figures::of(b"2K00\n1000\n0M00\nK0kK\n", 4).unwrap();
+        let counts: Vec<_> = figures.tally().filter(|(_, count)| *count != 0).collect();
+        let steps = [("total_arrows", 1), ("left", 1), ("total_steps", 2)];
+        assert_eq!(
+            counts,
+            [&steps[..], &[("mines", 1), ("keysounds", 3)]].concat()
+        );
+        let named = figures.tally().map(|(name, _)| format!("{name}: 0"));
+        let fields = named.collect::<Vec<_>>().join(", ");
+        let tally = format!("{:?}", ArrowStats::default());
+        assert_eq!(tally, format!("ArrowStats {{ {fields} }}"));
     }
 
     #[test]

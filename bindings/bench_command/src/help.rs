@@ -59,8 +59,9 @@ other number means 4.
 
   --form print   for paper, 80 columns: file name, length and the checksum that `cksum`
                  prints, all figures, and a line to initial (this is the default)
-  --form card    the lines of the program card: m MEASURE DENSITY SPACING, and
-                 n ROW COLUMN KIND TAIL with kinds 0 tap, 1 hold, 2 roll, 3 mine,
+  --form card    the lines of the program card: of these `keys` counts the cells K,
+                 which the other forms have as `keysounds`; m MEASURE DENSITY SPACING,
+                 and n ROW COLUMN KIND TAIL with kinds 0 tap, 1 hold, 2 roll, 3 mine,
                  4 lift, 5 fake
   --form json    one object a chart, each on one line
   --force        prints doubtful note data all the same
@@ -121,8 +122,8 @@ padcheck diff OLD NEW [--chart K] [--force]
 padcheck diff OLD NEW --lanes N [--force]
 
 Says which measures of a chart differ between two files, by their lines and by their
-figures: of every chart of two SM files, of chart K alone, or with --lanes of bare
-note data. Where the lines of one measure alone differ, it says what the damage
+figures, and which fields of its tally: of every chart of two SM files, of chart K
+alone, or with --lanes of bare note data. Where the lines of one measure alone differ, it says what the damage
 theorem says of the rest, and checks each of it on the two files.
 
   --force   takes doubtful note data all the same (see padcheck sheet --help)

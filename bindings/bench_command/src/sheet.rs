@@ -173,7 +173,7 @@ mod tests {
             Selection::Bare(4),
             SheetForm::Card,
         );
-        let lines = "measures 1\nrows 2\narrows 2\nsteps 2\nnotes 2\nlast 96\nm 0 2 1\nn 0 0 0 -\nn 1 1 0 -\n";
+        let lines = "measures 1\nrows 2\narrows 2\nsteps 2\nkeys 0\nnotes 2\nlast 96\nm 0 2 1\nn 0 0 0 -\nn 1 1 0 -\n";
         assert_eq!((&*sheet, status), (lines, Status::Done));
     }
 

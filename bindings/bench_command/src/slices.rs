@@ -120,6 +120,11 @@ impl Slices {
         &self.notes[..NOTE_BYTES * self.count(place::NOTES)]
     }
 
+    /// The counts of the main tally, in the order of its fields.
+    pub fn tally(&self) -> &[u64] {
+        &self.figures[place::TALLY..=place::KEYSOUNDS]
+    }
+
     /// The last beat, by its bits.
     pub fn last_bits(&self) -> u64 {
         self.figures[place::LAST_BEAT]

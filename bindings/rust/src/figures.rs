@@ -18,16 +18,18 @@ pub mod place {
     pub const LAST_BEAT_48THS: usize = 6;
     /// Bytes of the sheet.
     pub const SHEET_BYTES: usize = 7;
-    /// The first of the fourteen fields of [`ArrowStats`](crate::ArrowStats), in their order.
+    /// The first of the fifteen fields of [`ArrowStats`](crate::ArrowStats), in their order.
     pub const TALLY: usize = 8;
+    /// The last of them: cells K.
+    pub const KEYSOUNDS: usize = 22;
 }
 
 /// What a chart call answers in numbers; [`place`] says what stands where.
 pub type Figures = [u64; 32];
 
-/// The tally of a chart.
+/// The tally of a chart: the fields of rssp's, in their order, and the keysounds.
 #[derive(Debug, Default, Clone, PartialEq, Eq)]
-#[expect(missing_docs, reason = "the fields are rssp's and say what they count")]
+#[expect(missing_docs, reason = "the fields say what they count")]
 pub struct ArrowStats {
     pub total_arrows: u32,
     pub left: u32,
@@ -43,6 +45,7 @@ pub struct ArrowStats {
     pub lifts: u32,
     pub fakes: u32,
     pub holding: i32,
+    pub keysounds: u32,
 }
 
 impl ArrowStats {
@@ -66,6 +69,7 @@ impl ArrowStats {
             lifts: field(11),
             fakes: field(12),
             holding: field(13) as i32,
+            keysounds: figures[place::KEYSOUNDS] as u32,
         }
     }
 }
@@ -85,6 +89,6 @@ mod tests {
         assert_eq!(texts, [0, 1, 2, 3]);
         let beats = [LAST_BEAT, HAS_HEADS, LAST_BEAT_48THS];
         assert_eq!(beats, [4, 5, 6]);
-        assert_eq!((SHEET_BYTES, TALLY), (7, 8));
+        assert_eq!((SHEET_BYTES, TALLY, KEYSOUNDS), (7, 8, 22));
     }
 }

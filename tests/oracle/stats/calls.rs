@@ -1,12 +1,13 @@
-//! The nine chart calls of the outside interface, each as the Rust answers it, which is asked about the text that `asked` says; the list of
-//! dropped heads, which the Rust does not have, as a plain reference does (`dropped`).
+//! The nine chart calls of the outside interface, each as the Rust answers it, which is asked about the text that `asked` says; what the Rust
+//! does not have by a plain reference: the list of dropped heads (`dropped`) and a tally's keysounds (`keysounds`).
 //! A text that a call would refuse is answered here all the same; `entry` has the refusals.
 
 use super::*;
 use crate::asked::{chart_text, read_back_text};
-use crate::dropped::{DroppedHead, dropped_heads};
+use crate::dropped::{DroppedHead, dropped_heads, text_rows};
+use crate::keysounds::{keysounds, rows_read_back};
 
-/// Places in `figures`; the tally takes the fourteen places from `TALLY` on.
+/// Places in `figures`; the tally takes those from `TALLY` to `KEYSOUNDS`.
 pub const TEXT_BYTES: usize = 0;
 pub const MEASURES: usize = 1;
 pub const ROWS: usize = 2;
@@ -15,6 +16,7 @@ pub const LAST_BEAT: usize = 4;
 pub const HAS_HEADS: usize = 5;
 pub const LAST_BEAT_48THS: usize = 6;
 pub const TALLY: usize = 8;
+pub const KEYSOUNDS: usize = 22;
 
 /// Bytes of a note record, and the tail that stands for none.
 pub const NOTE_BYTES: usize = 10;
@@ -22,10 +24,13 @@ pub const NO_TAIL: u32 = NO_TAIL_ROW;
 
 pub type Figures = [u64; 32];
 
-/// The fields of `ArrowStats` in their order.
-pub type Tally = [u64; 14];
+/// The fields of a tally in their order: those of the Rust's `ArrowStats`, and the keysounds.
+pub type Tally = [u64; 15];
 
-pub const TALLY_NAMES: [&str; 14] = [
+/// The Rust's fields alone.
+pub type RustTally = [u64; 14];
+
+pub const TALLY_NAMES: [&str; 15] = [
     "total_arrows",
     "left",
     "down",
@@ -40,6 +45,7 @@ pub const TALLY_NAMES: [&str; 14] = [
     "lifts",
     "fakes",
     "holding",
+    "keysounds",
 ];
 
 /// The chart calls in the order of the interface's table.
@@ -105,12 +111,13 @@ impl Answer {
     #[must_use]
     pub fn tally(&self) -> Tally {
         let mut tally = Tally::default();
-        tally.copy_from_slice(&self.figures[TALLY..TALLY + 14]);
+        tally.copy_from_slice(&self.figures[TALLY..=KEYSOUNDS]);
         tally
     }
 
-    fn set_tally(&mut self, stats: &ArrowStats) {
-        self.figures[TALLY..TALLY + 14].copy_from_slice(&tally_of(stats));
+    fn set_tally(&mut self, stats: &ArrowStats, keysounds: u64) {
+        self.figures[TALLY..KEYSOUNDS].copy_from_slice(&tally_of(stats));
+        self.figures[KEYSOUNDS] = keysounds;
     }
 
     fn set_text(&mut self, text: Vec<u8>) {
@@ -157,14 +164,15 @@ pub fn lanes_in_force(lanes: usize) -> usize {
 #[must_use]
 pub fn minimize_chart_count_rows_notes(data: &[u8], lanes: usize) -> Answer {
     let mut chart_notes = ChartNotesScratch::default();
-    let data = &chart_text(data, lanes_in_force(lanes));
+    let width = lanes_in_force(lanes);
+    let data = &chart_text(data, width);
     let (text, stats, densities, beats, last) =
         super::minimize_chart_count_rows_notes(data, lanes, &mut chart_notes);
     let mut answer = Answer::default();
     answer.figures[ROWS] = beats.len() as u64;
     answer.figures[NOTES] = chart_notes.notes.len() as u64;
+    answer.set_tally(&stats, keysounds(text_rows(&text, width)));
     answer.set_text(text);
-    answer.set_tally(&stats);
     answer.set_densities(&densities);
     answer.set_last_beat(last);
     answer.beats = beats;
@@ -190,8 +198,8 @@ fn kept<const L: usize>(data: &[u8]) -> Answer {
     );
     let mut answer = Answer::default();
     answer.figures[ROWS] = rows.len() as u64;
+    answer.set_tally(&stats, keysounds(text_rows(&text, L)));
     answer.set_text(text);
-    answer.set_tally(&stats);
     answer.set_densities(&densities);
     answer
 }
@@ -251,8 +259,10 @@ pub fn chart_last_beat(data: &[u8], lanes: usize) -> Answer {
 /// The judged tally without flags, over the rows that `parse_minimized_rows` reads.
 #[must_use]
 pub fn process_rows_judgable(data: &[u8], lanes: usize) -> Answer {
-    let data = &read_back_text(data, lanes_in_force(lanes));
-    tally_alone(&dispatch_lanes!(lanes, judged_rows(data)))
+    let width = lanes_in_force(lanes);
+    let asked = &read_back_text(data, width);
+    let stats = dispatch_lanes!(lanes, judged_rows(asked));
+    tally_alone(&stats, keysounds(rows_read_back(data, width)))
 }
 
 fn judged_rows<const L: usize>(data: &[u8]) -> ArrowStats {
@@ -262,8 +272,12 @@ fn judged_rows<const L: usize>(data: &[u8]) -> ArrowStats {
 /// The judged tally with one flag a row: 0 unjudged, else judged, past the flags judged.
 #[must_use]
 pub fn process_timing_rows(data: &[u8], lanes: usize, flags: &[u8]) -> Answer {
-    let data = &read_back_text(data, lanes_in_force(lanes));
-    tally_alone(&dispatch_lanes!(lanes, judged_by_flags(data, flags)))
+    let width = lanes_in_force(lanes);
+    let asked = &read_back_text(data, width);
+    let stats = dispatch_lanes!(lanes, judged_by_flags(asked, flags));
+    let rows = rows_read_back(data, width).enumerate();
+    let judged = rows.filter_map(|(i, row)| is_judged(flags, i).then_some(row));
+    tally_alone(&stats, keysounds(judged))
 }
 
 fn judged_by_flags<const L: usize>(data: &[u8], flags: &[u8]) -> ArrowStats {
@@ -285,9 +299,9 @@ pub fn dropped_holds(data: &[u8], lanes: usize) -> Answer {
     answer
 }
 
-fn tally_alone(stats: &ArrowStats) -> Answer {
+fn tally_alone(stats: &ArrowStats, keysounds: u64) -> Answer {
     let mut answer = Answer::default();
-    answer.set_tally(stats);
+    answer.set_tally(stats, keysounds);
     answer
 }
 
@@ -295,7 +309,7 @@ pub(super) fn is_judged(flags: &[u8], row: usize) -> bool {
     flags.get(row).is_none_or(|&flag| flag != 0)
 }
 
-pub(super) fn tally_of(stats: &ArrowStats) -> Tally {
+pub(super) fn tally_of(stats: &ArrowStats) -> RustTally {
     [
         stats.total_arrows.into(),
         stats.left.into(),

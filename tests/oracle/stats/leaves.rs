@@ -1,7 +1,7 @@
 //! The functions below the chart calls, for runs against their ports one by one.
 //! Rows pass as bytes back to back, L bytes a row; anything else but whole rows is a panic.
 
-use super::calls::{Tally, in_48ths, is_judged, note_record, tally_of};
+use super::calls::{RustTally, in_48ths, is_judged, note_record, tally_of};
 use super::{compact_output_rows as compact_in_text, reduce_output_measure as reduce_in_text, *};
 
 // Line reader
@@ -175,7 +175,7 @@ fn pairs<const L: usize>(rows: &[u8]) -> Vec<(usize, usize, usize)> {
 /// What `count_line` leaves after the last of a list of rows, and its two answers for each row.
 #[derive(Clone, Debug, Default, PartialEq, Eq)]
 pub struct Counted {
-    pub tally: Tally,
+    pub tally: RustTally,
     pub holds: u32,
     pub ends: u32,
     /// A 1, M, L or F was met at a phantom depth that is not 0; depths left over are not in it.
@@ -244,11 +244,11 @@ fn noted<const L: usize>(rows: &[u8]) -> Vec<u8> {
 
 /// The tally of rows with a phantom mask each; a row past the masks has none.
 #[must_use]
-pub fn count_line_masked(lanes: usize, rows: &[u8], masks: &[u16]) -> Tally {
+pub fn count_line_masked(lanes: usize, rows: &[u8], masks: &[u16]) -> RustTally {
     dispatch_lanes!(lanes, counted_masked(rows, masks))
 }
 
-fn counted_masked<const L: usize>(rows: &[u8], masks: &[u16]) -> Tally {
+fn counted_masked<const L: usize>(rows: &[u8], masks: &[u16]) -> RustTally {
     let mut stats = ArrowStats::default();
     for (i, row) in whole_rows::<L>(rows).iter().enumerate() {
         super::count_line_masked(row, &mut stats, masks.get(i).copied().unwrap_or(0));
@@ -258,31 +258,31 @@ fn counted_masked<const L: usize>(rows: &[u8], masks: &[u16]) -> Tally {
 
 /// The tally counted anew with only tracker-paired heads; `total_steps` is its own.
 #[must_use]
-pub fn recalc_phantom_stats(lanes: usize, rows: &[u8]) -> Tally {
+pub fn recalc_phantom_stats(lanes: usize, rows: &[u8]) -> RustTally {
     dispatch_lanes!(lanes, recalculated(rows))
 }
 
-fn recalculated<const L: usize>(rows: &[u8]) -> Tally {
+fn recalculated<const L: usize>(rows: &[u8]) -> RustTally {
     tally_of(&super::recalc_phantom_stats(whole_rows::<L>(rows)))
 }
 
 /// The judged tally of given rows, all judged.
 #[must_use]
-pub fn process_rows_judgable(lanes: usize, rows: &[u8]) -> Tally {
+pub fn process_rows_judgable(lanes: usize, rows: &[u8]) -> RustTally {
     dispatch_lanes!(lanes, judged(rows))
 }
 
-fn judged<const L: usize>(rows: &[u8]) -> Tally {
+fn judged<const L: usize>(rows: &[u8]) -> RustTally {
     tally_of(&super::process_rows_judgable(whole_rows::<L>(rows)))
 }
 
 /// The judged tally of given rows with flags.
 #[must_use]
-pub fn process_timing_rows(lanes: usize, rows: &[u8], flags: &[u8]) -> Tally {
+pub fn process_timing_rows(lanes: usize, rows: &[u8], flags: &[u8]) -> RustTally {
     dispatch_lanes!(lanes, judged_by_flags(rows, flags))
 }
 
-fn judged_by_flags<const L: usize>(rows: &[u8], flags: &[u8]) -> Tally {
+fn judged_by_flags<const L: usize>(rows: &[u8], flags: &[u8]) -> RustTally {
     let rows = whole_rows::<L>(rows);
     tally_of(&super::process_timing_rows(rows, |row| {
         is_judged(flags, row)
