@@ -84,7 +84,17 @@ pub extern "C" fn leaves_tap_sum(mask: u8, sum: &mut [u32; 12])
 {
     let s = TapTable::for_lanes(Lanes { count: 8 }).sum(mask as u16);
     *sum = [
-        s.arrows, s.left, s.down, s.up, s.right, s.holds, s.rolls, s.tails, s.mines, s.lifts,
-        s.fakes, s.keysounds,
+        s.arrows,
+        s.left,
+        s.down,
+        s.up,
+        s.right,
+        s.holds,
+        s.rolls,
+        s.tails,
+        s.mines,
+        s.lifts,
+        s.fakes,
+        s.keysounds,
     ];
 }
