@@ -24,3 +24,4 @@ pub mod BeatsNear
 pub mod Consequences
 pub mod Refusals
 pub mod DroppedOrNoted
+pub mod Directions

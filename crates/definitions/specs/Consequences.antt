@@ -163,10 +163,10 @@ ElevenSays =
     → ((k : ℕ) → (sm_number file k == 11) ≡ nat_le (length (blocks file)) k)
     × (find (λ k. sm_number file k == 11) (range_with_len 0 (suc (length (blocks file)))) ≡ Some (length (blocks file)))
 
--- ---- Of the examples: P1 to P11 and K1 to K5 are there, with so many things that each says, and as many of SM files
+-- ---- Of the examples: P1 to P11, K1 to K5 and S1 to S6 are there, with so many things that each says, and as many of SM files
 
 unfoldable pub ExamplesCounted : Type 0
 ExamplesCounted =
     (map (λ (e : texts.Example). length e.says) texts.table ≡ 5 ∷ 4 ∷ 1 ∷ 5 ∷ 3 ∷ 4 ∷ 2 ∷ 3 ∷ 6 ∷ 1 ∷ 2 ∷ [])
-    × (map (λ (e : texts.Example). length e.says) tallies.table ≡ 6 ∷ 2 ∷ 4 ∷ 5 ∷ 3 ∷ [])
-    × (length requests.table ≡ 16)
+    × (map (λ (e : texts.Example). length e.says) tallies.table ≡ 6 ∷ 2 ∷ 4 ∷ 5 ∷ 3 ∷ 8 ∷ 8 ∷ 6 ∷ 3 ∷ 2 ∷ 4 ∷ [])
+    × (length requests.table ≡ 18)

@@ -29,14 +29,14 @@ use Rattle.definitions.specs.declared.Note.{Note}
 
 -- the places of the tally in a call that answers none: "An accepted call sets each place that it does not answer to 0."
 abbrev pub no_tally : List ℕ
-no_tally = replicate 15 0
+no_tally = replicate 17 0
 
 -- The 32 figures. Places 0 to 7: "bytes in the text slice", "measures", "minimised rows", "note records", "the last beat, the bits of its float", "1
 -- where a timing row has a 2 or 4, else 0", "the last beat in 48ths" and "bytes of the sheet"; from place 8 on "the tally, its fields in their
 -- order", and zeros.
 abbrev pub figures : ℕ → ℕ → ℕ → ℕ → ℕ → ℕ → ℕ → List ℕ → List ℕ
 figures bytes measures rows records bits_of_last_beat heads last tally =
-    bytes ∷ measures ∷ rows ∷ records ∷ bits_of_last_beat ∷ heads ∷ last ∷ 0 ∷ (tally ++ replicate 9 0)
+    bytes ∷ measures ∷ rows ∷ records ∷ bits_of_last_beat ∷ heads ∷ last ∷ 0 ∷ (tally ++ replicate 7 0)
 
 -- how many measures a text has
 abbrev pub measure_count : ℕ → List ℕ → ℕ

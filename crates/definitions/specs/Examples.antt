@@ -18,7 +18,7 @@ use Rattle.definitions.specs.Objects.{object_at, last_object, last48, last_beat_
 use Rattle.definitions.specs.Tracker.{hold_at, pairs}
 use Rattle.definitions.specs.Notes.{effect_at, notes}
 use Rattle.definitions.specs.Records.{records, note_of_record}
-use Rattle.definitions.specs.Tally.{row_sum_by, row_sum, tally_with_row, tally, tally_figures}
+use Rattle.definitions.specs.Tally.{direction, row_sum_by, row_sum, tally_with_row, tally, tally_figures}
 use Rattle.definitions.specs.Correction.{corrects, paired_only, corrected}
 use Rattle.definitions.specs.ReadBack.{rows_read_back, main_tally, kept_tally}
 use Rattle.definitions.specs.Judged.{judged_sum, judge_row, open_before, judged_rows, judged_tally, flagged_tally}
@@ -35,12 +35,17 @@ bytes (◌then◌ c s) = (if code c == 124 then 10 else if code c == 94 then 13 
 
 -- The fields of a tally that an example speaks of; `every` stands for all of them in their order.
 pub data Field : Type 0 where
-  arrows left steps mines holds holding keys every : Field
+  arrows left down up right up_left up_right steps mines holds holding keys every : Field
 
 -- the value of that field
 abbrev pub field : Field → ArrowStats → List ℕ
 field arrows t = t.total_arrows ∷ []
 field left t = t.left ∷ []
+field down t = t.down ∷ []
+field up t = t.up ∷ []
+field right t = t.right ∷ []
+field up_left t = t.up_left ∷ []
+field up_right t = t.up_right ∷ []
 field steps t = t.total_steps ∷ []
 field mines t = t.mines ∷ []
 field holds t = t.holds ∷ []
@@ -195,5 +200,5 @@ abbrev pub said : Example → List (List ℕ)
 said e = map (λ (s : Says). s.value) e.says
 
 pub examples-hold : map given_by_definitions table ≡ map said table
-unfolding table figure lanes_of minimised_text densities spacings is_step beats measure_beats beat_of_row fused step beat whole last_row row_to_beat last_beat_of last48 last_object object_at notes effect_at main_tally kept_tally judged_tally judged_rows open_before judge_row judged_sum corrected corrects paired_only pairs hold_at tally tally_with_row row_sum row_sum_by rows_read_back minimised reduce stride chart line_kind kind_of is_row_line is_blank_byte cell_of to_bits of_int round add mul div
+unfolding table figure lanes_of minimised_text densities spacings is_step beats measure_beats beat_of_row fused step beat whole last_row row_to_beat last_beat_of last48 last_object object_at notes effect_at main_tally kept_tally judged_tally judged_rows open_before judge_row judged_sum corrected corrects paired_only pairs hold_at tally tally_with_row row_sum row_sum_by direction rows_read_back minimised reduce stride chart line_kind kind_of is_row_line is_blank_byte cell_of to_bits of_int round add mul div
 examples-hold = refl

@@ -22,7 +22,8 @@ abbrev pub trim : List ℕ → List ℕ
 trim [] = []
 trim (b ∷ s) = if is_blank_byte b then trim s else b ∷ s
 
--- "has at least L bytes, and no byte 13 among its first L": the row test, of a line that is nothing else
+-- "has at least L bytes, and no byte 13 among its first L": the row test, of a line that is nothing else. "So a line that ends with bytes 13 and 10
+-- is a row only where L bytes stand before the 13."
 unfoldable pub is_row_line : ℕ → List ℕ → Bool
 is_row_line L l = nat_le L (length l) && not (among 13 (take L l))
 

@@ -40,6 +40,9 @@ table =
     -- "its `;` included where there is one"
     ∷ chart "#NOTES:dance-single:a:b:1:0,0:|1000|0100|;|" 0 4 30 "|1000|0100|;"
     ∷ chart "#NOTES:pump-double:::::|1" 0 10 23 "|1"
+    -- a type of six lanes, and a name that is none
+    ∷ chart "#NOTES:dance-solo:::::" 0 6 22 ""
+    ∷ refused "#NOTES:dance-threepanel:::::" 0 10
     -- "past its blanks", and "without the blanks at its start and end": byte 10 is one of them, in the type's field alone
     ∷ chart "#TITLE:x;^| ^#NOTES:^|     pump-single ^:|:|:|:|:;" 0 5 49 ";"
     ∷ chart "#NOTES:|dance-single:::::" 0 4 25 ""

@@ -16,7 +16,7 @@ use Rattle.definitions.specs.Objects.{object_at, last_object, last48, last_beat_
 use Rattle.definitions.specs.Tracker.{hold_at, pairs}
 use Rattle.definitions.specs.Notes.{effect_at, notes}
 use Rattle.definitions.specs.Records.{word, fields, encode, records, note_of, note_of_record}
-use Rattle.definitions.specs.Tally.{row_sum_by, row_sum, tally_with_row, tally}
+use Rattle.definitions.specs.Tally.{direction, row_sum_by, row_sum, tally_with_row, tally}
 use Rattle.definitions.specs.Correction.{corrects, paired_only, corrected}
 use Rattle.definitions.specs.ReadBack.{rows_read_back, main_tally, kept_tally}
 use Rattle.definitions.specs.Judged.{judged_at, judged_sum, judge_row, open_before, judged_rows, judged_tally, flagged_tally}
@@ -28,9 +28,9 @@ use Rattle.definitions.specs.Examples.{Example, steps, holds, holding, every, te
 abbrev pub none : ℕ
 none = 4294967295
 
--- the counts of a tally in the order of `tally_fields`
+-- the counts of a tally in the order of `tally_fields`, without an arrow up-left or up-right
 abbrev pub counts : ℕ → ℕ → ℕ → ℕ → ℕ → ℕ → ℕ → ℕ → ℕ → ℕ → ℕ → ℕ → ℕ → ℕ → ℕ → List ℕ
-counts a l d u r s j h m ho ro li f hg k = a ∷ l ∷ d ∷ u ∷ r ∷ s ∷ j ∷ h ∷ m ∷ ho ∷ ro ∷ li ∷ f ∷ hg ∷ k ∷ []
+counts a l d u r s j h m ho ro li f hg k = a ∷ l ∷ d ∷ u ∷ r ∷ s ∷ j ∷ h ∷ m ∷ ho ∷ ro ∷ li ∷ f ∷ hg ∷ k ∷ 0 ∷ 0 ∷ []
 
 -- a record's ten bytes: four of the row, four of the tail, the column and the kind
 abbrev pub ten : ℕ → ℕ → ℕ → ℕ → ℕ → ℕ → ℕ → ℕ → ℕ → ℕ → List ℕ
@@ -43,7 +43,7 @@ zero_rows n = joined (replicate n (bytes "0000|"))
 -- R1 to R35
 pub table : List Example
 table =
-    -- R1: another lane number than 5, 8 and 10 is 4; a 2 is a head of the timing rows
+    -- R1: another lane number than 5, 6, 8 and 10 is 4; a 2 is a head of the timing rows
     at 9 (bytes "00011|2000")
     ((text is bytes "0001|2000|")
     ∷ (main steps is 2 ∷ [])
@@ -305,5 +305,5 @@ table =
     ∷ []
 
 pub rule-examples-hold : map given_by_definitions table ≡ map said table
-unfolding table figure lanes_of minimised_text densities spacings is_step beats measure_beats beat_of_row fused step beat whole last_row row_to_beat last_beat_of last48 last_object object_at notes effect_at records encode fields note_of_record note_of word main_answer long_text short_text short_measures short_beats short_work short_notes most_rows_in main_tally kept_tally judged_tally flagged_tally judged_rows judged_at open_before judge_row judged_sum corrected corrects paired_only pairs hold_at tally tally_with_row row_sum row_sum_by rows_read_back timing_rows timing_heads minimised reduce stride chart line_kind kind_of is_row_line is_blank_byte cell_of to_bits of_int round add mul div
+unfolding table figure lanes_of minimised_text densities spacings is_step beats measure_beats beat_of_row fused step beat whole last_row row_to_beat last_beat_of last48 last_object object_at notes effect_at records encode fields note_of_record note_of word main_answer long_text short_text short_measures short_beats short_work short_notes most_rows_in main_tally kept_tally judged_tally flagged_tally judged_rows judged_at open_before judge_row judged_sum corrected corrects paired_only pairs hold_at tally tally_with_row row_sum row_sum_by direction rows_read_back timing_rows timing_heads minimised reduce stride chart line_kind kind_of is_row_line is_blank_byte cell_of to_bits of_int round add mul div
 rule-examples-hold = refl

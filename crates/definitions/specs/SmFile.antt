@@ -88,6 +88,7 @@ unfoldable pub lanes_of_type : List ℕ → Option ℕ
 lanes_of_type name =
     if bytes_eq name (codes "dance-single") then Some 4
     else if bytes_eq name (codes "pump-single") then Some 5
+    else if bytes_eq name (codes "dance-solo") then Some 6
     else if bytes_eq name (codes "dance-double") then Some 8
     else if bytes_eq name (codes "pump-double") then Some 10
     else None

@@ -1,5 +1,5 @@
 -- Specification, Tally: what one row adds up to, and the plain tally of rows.
-use Rattle.std.specs.Prelude.{Bool, ◌&&◌, List, [], ◌∷◌, ℕ, suc, ◌+◌, ◌-◌, ◌%◌, ◌==◌, nat_le, count_by, length, codes, map}
+use Rattle.std.specs.Prelude.{if◌then◌else◌, Bool, ◌&&◌, List, [], ◌∷◌, ℕ, suc, ◌+◌, ◌-◌, ◌%◌, ◌==◌, nat_le, count_by, length, slice_index, codes, map}
 use Rattle.definitions.specs.Lists.{number_of_bool}
 use Rattle.definitions.specs.Lines.{Row}
 use Rattle.definitions.specs.Cells.{cell_of, is_arrow, effects_of, CountKind, nothing, hold, roll, tail, mine, lift, fake, keysound}
@@ -32,15 +32,21 @@ abbrev pub count_from : (ℕ → Cell → Bool) → ℕ → Row → ℕ
 count_from p c [] = 0
 count_from p c (b ∷ r) = number_of_bool (p c (cell_of b)) + count_from p (suc c) r
 
--- The direction of a column in a layout of L columns. "The direction of an arrow is its column mod 4": 0, 1, 2, 3, in each layout so far.
-abbrev pub direction : ℕ → ℕ → ℕ
-direction L c = c % 4
+-- the directions of six columns: "at 6 lanes the columns are left, up-left, down, up, up-right, right"
+abbrev pub six_columns : List ℕ
+six_columns = 0 ∷ 4 ∷ 1 ∷ 2 ∷ 5 ∷ 3 ∷ []
+
+-- The direction of a column of L, a table for each layout. "The direction of an arrow is its column mod 4, but at 6 lanes the columns are left,
+-- up-left, down, up, up-right, right."
+unfoldable pub direction : ℕ → ℕ → ℕ
+direction L c = if L == 6 then slice_index six_columns c else c % 4
 
 -- the arrows of a row in the columns of direction d: "arrows of that direction"
 abbrev pub arrows_towards : ℕ → (Cell → Bool) → Row → ℕ
 arrows_towards d arrow r = count_from (λ c x. arrow x && direction (length r) c == d) 0 r
 
--- What the cells of a row add up to, where `arrow` says which of them are arrows; directions are "0 left, 1 down, 2 up, 3 right".
+-- What the cells of a row add up to, where `arrow` says which of them are arrows; "The directions are 0 left, 1 down, 2 up, 3 right, 4
+-- up-left and 5 up-right."
 abbrev pub sum_of_cells : (Cell → Bool) → Row → RowSum
 sum_of_cells arrow r =
     record {
@@ -56,6 +62,8 @@ sum_of_cells arrow r =
       lifts = counted lift r;
       fakes = counted fake r;
       keysounds = counted keysound r;
+      up_left = arrows_towards 4 arrow r;
+      up_right = arrows_towards 5 arrow r;
     }
 
 -- the same, as a word that is opened only where it is named
@@ -85,6 +93,8 @@ sum_counts s =
     ∷ s.lifts
     ∷ s.fakes
     ∷ s.keysounds
+    ∷ s.up_left
+    ∷ s.up_right
     ∷ []
 
 -- the tally of no rows: "a tally of zeros"
@@ -106,6 +116,8 @@ empty_stats =
       fakes = 0;
       holding = 0;
       keysounds = 0;
+      up_left = 0;
+      up_right = 0;
     }
 
 -- "the tally, its fields in their order", each with its name: the one list of them.
@@ -126,6 +138,8 @@ tally_fields t =
     ∷ (codes "fakes", t.fakes)
     ∷ (codes "holding", t.holding)
     ∷ (codes "keysounds", t.keysounds)
+    ∷ (codes "up_left", t.up_left)
+    ∷ (codes "up_right", t.up_right)
     ∷ []
 
 -- the counts of a tally in that order
@@ -152,6 +166,8 @@ tally_with_sum t s hand holding =
       fakes = t.fakes + s.fakes;
       holding = holding;
       keysounds = t.keysounds + s.keysounds;
+      up_left = t.up_left + s.up_left;
+      up_right = t.up_right + s.up_right;
     }
 
 -- "A hand is a step whose arrows and the `holding` before it make 3 or more together. After a row `holding` is the larger of 0 and `holding` + the

@@ -1,5 +1,5 @@
--- Specification, Examples: K1 to K5, the third table, with a single claim, `tally-examples-hold`. "So is a third, K1 to K5, of keysounds." In a text
--- `|` is byte 10.
+-- Specification, Examples: K1 to K5 and S1 to S6, the third table, with a single claim, `tally-examples-hold`. "So is a third, K1 to K5 of keysounds
+-- and S1 to S6 of six lanes." In a text `|` is byte 10.
 use Rattle.std.specs.Prelude.{◌≡◌, refl, List, [], ◌∷◌, map}
 use Rattle.std.specs.Float.Ieee.{to_bits, of_int, round, add, mul, div}
 use Rattle.definitions.specs.Lanes.{lanes_of}
@@ -12,13 +12,13 @@ use Rattle.definitions.specs.Beats.{beat, whole, last_row, row_to_beat}
 use Rattle.definitions.specs.Objects.{object_at, last_object, last48, last_beat_of}
 use Rattle.definitions.specs.Tracker.{hold_at, pairs}
 use Rattle.definitions.specs.Notes.{effect_at, notes}
-use Rattle.definitions.specs.Tally.{row_sum_by, row_sum, tally_with_row, tally}
+use Rattle.definitions.specs.Tally.{direction, row_sum_by, row_sum, tally_with_row, tally}
 use Rattle.definitions.specs.Correction.{corrects, paired_only, corrected}
 use Rattle.definitions.specs.ReadBack.{rows_read_back, main_tally, kept_tally}
 use Rattle.definitions.specs.Judged.{judged_at, judged_sum, judge_row, open_before, judged_rows, judged_tally, flagged_tally}
-use Rattle.definitions.specs.Examples.{Example, arrows, steps, holding, keys, last, note_list, main, kept, judged, flagged, figure, whole_beat, ◌is◌, at4, given_by_definitions, said}
+use Rattle.definitions.specs.Examples.{Example, arrows, left, down, up, right, up_left, up_right, steps, holding, keys, last, note_list, main, kept, judged, flagged, figure, bytes, whole_beat, ◌is◌, at, at4, given_by_definitions, said}
 
--- K1 to K5
+-- K1 to K5, S1 to S6
 unfoldable pub table : List Example
 table =
     -- K1: "cells K", in each tally; "A K is a keysound and is counted as nothing else."
@@ -48,8 +48,50 @@ table =
     ∷ (flagged (0 ∷ 0 ∷ []) keys is 0 ∷ [])
     ∷ (flagged (1 ∷ 1 ∷ []) keys is 2 ∷ [])
     ∷ [])
+    -- S1: "at 6 lanes the columns are left, up-left, down, up, up-right, right"
+    ∷ at 6 (bytes "100000|010000|001000|000100|000010|000001")
+    ((main arrows is 6 ∷ [])
+    ∷ (main left is 1 ∷ [])
+    ∷ (main up_left is 1 ∷ [])
+    ∷ (main down is 1 ∷ [])
+    ∷ (main up is 1 ∷ [])
+    ∷ (main up_right is 1 ∷ [])
+    ∷ (main right is 1 ∷ [])
+    ∷ (main steps is 6 ∷ [])
+    ∷ [])
+    -- S2: the same text at 4 lanes, which reads the first four bytes of each row
+    ∷ at4 "100000|010000|001000|000100|000010|000001"
+    ((main arrows is 4 ∷ [])
+    ∷ (main left is 1 ∷ [])
+    ∷ (main up_left is 0 ∷ [])
+    ∷ (main down is 1 ∷ [])
+    ∷ (main up is 1 ∷ [])
+    ∷ (main up_right is 0 ∷ [])
+    ∷ (main right is 1 ∷ [])
+    ∷ (main steps is 4 ∷ [])
+    ∷ [])
+    -- S3: a column has its own direction, in each tally
+    ∷ at 6 (bytes "010000")
+    ((main up_left is 1 ∷ [])
+    ∷ (kept up_left is 1 ∷ [])
+    ∷ (judged up_left is 1 ∷ [])
+    ∷ (flagged (1 ∷ []) up_left is 1 ∷ [])
+    ∷ (flagged (0 ∷ []) up_left is 0 ∷ [])
+    ∷ (main left is 0 ∷ [])
+    ∷ [])
+    -- S4: column 4 is up-right, and not left as at 5 and 8 lanes
+    ∷ at 6 (bytes "000010") ((main up_right is 1 ∷ []) ∷ (judged up_right is 1 ∷ []) ∷ (main left is 0 ∷ []) ∷ [])
+    -- S5: a hold in the last column
+    ∷ at 6 (bytes "000002|000003") ((note_list is 0 ∷ 1 ∷ 5 ∷ 1 ∷ []) ∷ (main right is 1 ∷ []) ∷ [])
+    -- S6: no arrow of another layout is up-left or up-right
+    ∷ at 8 (bytes "01001100")
+    ((main up_left is 0 ∷ [])
+    ∷ (main up_right is 0 ∷ [])
+    ∷ (main left is 1 ∷ [])
+    ∷ (main down is 2 ∷ [])
+    ∷ [])
     ∷ []
 
 pub tally-examples-hold : map given_by_definitions table ≡ map said table
-unfolding table figure lanes_of minimised_text is_step beat whole last_row row_to_beat last_beat_of last48 last_object object_at notes effect_at main_tally kept_tally judged_tally flagged_tally judged_rows judged_at open_before judge_row judged_sum corrected corrects paired_only pairs hold_at tally tally_with_row row_sum row_sum_by rows_read_back minimised reduce stride chart line_kind kind_of is_row_line is_blank_byte cell_of to_bits of_int round add mul div
+unfolding table figure lanes_of minimised_text is_step beat whole last_row row_to_beat last_beat_of last48 last_object object_at notes effect_at main_tally kept_tally judged_tally flagged_tally judged_rows judged_at open_before judge_row judged_sum corrected corrects paired_only pairs hold_at tally tally_with_row row_sum row_sum_by direction rows_read_back minimised reduce stride chart line_kind kind_of is_row_line is_blank_byte cell_of to_bits of_int round add mul div
 tally-examples-hold = refl

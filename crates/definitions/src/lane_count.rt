@@ -1,11 +1,19 @@
 ghost use Rattle.std.specs.Prelude.{◌≡◌, ◌≤◌};
 ghost use Rattle.definitions.specs.Tally.{direction as direction_of};
 
-/// The direction of a column of so many: 0 left, 1 down, 2 up, 3 right. It goes by fours in every layout so far.
+// The directions of six columns: left, up-left, down, up, up-right, right.
+const SIX_COLUMNS: [usize; 6] = [0, 4, 1, 2, 5, 3];
+
+/// The direction of a column of so many: 0 left, 1 down, 2 up, 3 right, 4 up-left, 5 up-right. But for six columns it goes by fours.
+#[tactic(auto, unfolding(crate::specs::Tally::direction))]
 pub fn direction(columns: usize, column: usize) -> usize
     ensures { result ≡ direction_of columns column }
 {
-    column % 4
+    if columns == 6 {
+        if column < 6 { SIX_COLUMNS[column] } else { 0 }
+    } else {
+        column % 4
+    }
 }
 
 /// The lane count in force: how many columns a row has.
@@ -18,7 +26,7 @@ pub struct Lanes {
 impl Lanes {
     ghost use Rattle.definitions.specs.Lanes.{lanes_of};
 
-    /// 5, 8 or 10 where the caller gives that number, otherwise 4.
+    /// 5, 6, 8 or 10 where the caller gives that number, otherwise 4.
     #[tactic(auto, unfolding(crate::specs::Lanes::lanes_of))]
     pub fn in_force(given: usize) -> Lanes
         ensures { result.count ≡ lanes_of given }
@@ -26,6 +34,7 @@ impl Lanes {
         // The numbers stand here one by one, so that the compiler knows each of them where it writes a loop over a row's cells.
         let count = match given {
             5 => 5,
+            6 => 6,
             8 => 8,
             10 => 10,
             _ => 4,

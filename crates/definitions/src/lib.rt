@@ -116,7 +116,7 @@ pub struct DroppedHead {
     pub cause: DropCause,
 }
 
-/// What one row adds to a tally. `arrows` counts the row's arrows, and the four after it those of each direction.
+/// What one row adds to a tally. `arrows` counts the row's arrows; `left`, `down`, `up`, `right`, `up_left` and `up_right` those of each direction.
 #[derive(Clone, Copy, Default)]
 pub struct RowSum {
     pub arrows: u32,
@@ -131,9 +131,11 @@ pub struct RowSum {
     pub lifts: u32,
     pub fakes: u32,
     pub keysounds: u32,
+    pub up_left: u32,
+    pub up_right: u32,
 }
 
-/// The tally, with the fields of the Rust's `ArrowStats` in their order, and then the keysounds, which the Rust does not count.
+/// The tally, with the fields of the Rust's `ArrowStats` in their order, and then the keysounds and two directions, which the Rust does not count.
 #[derive(Clone, Copy, Default)]
 pub struct ArrowStats {
     pub total_arrows: u32,
@@ -151,6 +153,8 @@ pub struct ArrowStats {
     pub fakes: u32,
     pub holding: u32,
     pub keysounds: u32,
+    pub up_left: u32,
+    pub up_right: u32,
 }
 
 /// Why a call is refused (Specification, Refusals). Printed, a refusal says what is wrong and who caused it.

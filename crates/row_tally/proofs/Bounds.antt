@@ -45,6 +45,8 @@ module _ (k : ℕ) (s : RowSum) (d : ℕ) (arrow : Bool) (u : Under k s) where
       let n = one-le (arrow && eqb d 1) in
       let p = one-le (arrow && eqb d 2) in
       let r = one-le (arrow && eqb d 3) in
+      let v = one-le (arrow && eqb d 4) in
+      let w = one-le (arrow && eqb d 5) in
       let h = one-le (eqb (place (counted_as x)) 1) in
       let o = one-le (eqb (place (counted_as x)) 2) in
       let b = heads-le (place (counted_as x)) in

@@ -45,7 +45,7 @@ module _ (r : Row) (m : ℕ) (e : mask_of_line r ≡ Mask m) where
   same_sum : row_sum_by is_judged_arrow r ≡ row_sum_by is_arrow r
   unfolding row_sum_by
   same_sum =
-      rw (count_same (λ c x. is_judged_arrow x) (λ c x. is_arrow x) 0 r (λ d k. same-arrow k), towards 0, towards 1, towards 2, towards 3)
+      rw (count_same (λ c x. is_judged_arrow x) (λ c x. is_arrow x) 0 r (λ d k. same-arrow k), towards 0, towards 1, towards 2, towards 3, towards 4, towards 5)
     where
       towards : (n : ℕ) → count_from (λ c x. is_judged_arrow x && eqb (direction (length r) c) n) 0 r ≡ count_from (λ c x. is_arrow x && eqb (direction (length r) c) n) 0 r
       towards n =

@@ -43,7 +43,7 @@ module _ (r : Row) (z : all_zero r ≡ true) where
   pub zero-sum : (arrow : Cell → Bool) → arrow Empty ≡ false → row_sum_by arrow r ≡ sum_of_fakes 0
   unfolding row_sum_by cell_of
   zero-sum arrow n =
-      rw (zero-from (λ c x. arrow x) (λ c. n) 0 r z, towards 0, towards 1, towards 2, towards 3, others 1 refl, others 2 refl, others 3 refl, others 4 refl, others 5 refl, others 6 refl, others 7 refl)
+      rw (zero-from (λ c x. arrow x) (λ c. n) 0 r z, towards 0, towards 1, towards 2, towards 3, towards 4, towards 5, others 1 refl, others 2 refl, others 3 refl, others 4 refl, others 5 refl, others 6 refl, others 7 refl)
     where
       towards : (d : ℕ) → count_from (λ c x. arrow x && eqb (direction (length r) c) d) 0 r ≡ 0
       towards d = zero-from (λ c x. arrow x && eqb (direction (length r) c) d) (λ c. ap (λ t. t && eqb (direction (length r) c) d) n) 0 r z

@@ -23,6 +23,8 @@ add_counts s arrows towards of =
       lifts = s.lifts + of lift;
       fakes = s.fakes + of fake;
       keysounds = s.keysounds + of keysound;
+      up_left = s.up_left + towards 4;
+      up_right = s.up_right + towards 5;
     }
 
 abbrev one_of : CountKind → Cell → ℕ

@@ -25,7 +25,7 @@ pub fn no_sum() -> RowSum
     RowSum::default()
 }
 
-// With an arrow of a direction: left, down, up, right. A cell may have raised another count by one before.
+// With an arrow of a direction: left, down, up, right, up-left, up-right. A cell may have raised another count by one before.
 #[tactic(auto, unfolding(crate::specs::Sums::sum_with_cell))]
 fn bump_dir(mut s: RowSum, direction: usize) -> RowSum
     requires { Under 11 s }
@@ -37,6 +37,8 @@ fn bump_dir(mut s: RowSum, direction: usize) -> RowSum
         1 => s.down += 1,
         2 => s.up += 1,
         3 => s.right += 1,
+        4 => s.up_left += 1,
+        5 => s.up_right += 1,
         _ => {}
     }
     s
@@ -126,6 +128,8 @@ fn add_sum(mut t: ArrowStats, s: RowSum, hand: bool, holding: u32) -> ArrowStats
     t.fakes += s.fakes;
     t.holding = holding;
     t.keysounds += s.keysounds;
+    t.up_left += s.up_left;
+    t.up_right += s.up_right;
     t
 }
 

@@ -1,6 +1,6 @@
 -- The masks of rows of taps alone, and that a mask's counts are its row's sum.
 use mathlib.Core.Path.{◌≡◌, refl, ap, ap₂, sym, subst, ◌∙◌}
-use mathlib.Core.Bool.{Bool, true, false, cond, ◌||◌, ◌&&◌, not}
+use mathlib.Core.Bool.{Bool, true, false, cond, ◌||◌, ◌&&◌, not, false≢true}
 use mathlib.Core.List.{[], ◌∷◌, ◌++◌}
 use Prim.Native.Nat.{ℕ, zero, suc, ◌+◌, ◌*◌, ◌-◌, ◌/◌, ◌%◌, ◌^◌, ◌<◌, ◌≤◌}
 use native.Mathlib.Nat.{suc-add, pow-suc, pow-succ', mul_assoc, div-one, div-div-eq-div-mul, div-eq_of_lt, pow-le-pow_right}
@@ -10,7 +10,7 @@ use lib.Bits.{bit_and, and_mask}
 use lib.Dec.{eqb}
 use lib.ListN.{length}
 use lib.Pow.{pow-lt}
-use borrow.Author.Tests.{eqb-true}
+use borrow.Author.Tests.{eqb-true, ne_eqb}
 use Rattle.definitions.specs.Lines.{Row}
 use Rattle.definitions.specs.Cells.{cell_of, is_arrow}
 use Rattle.std.specs.List.{count_by}
@@ -69,6 +69,10 @@ mask-few k r m h e =
 abbrev pub row_of : ℕ → ℕ → Row
 row_of zero m = []
 row_of (suc w) m = (48 + m % 2) ∷ row_of w (m / 2)
+
+row-wide : (w m : ℕ) → length (row_of w m) ≡ w
+row-wide zero m = refl
+row-wide (suc w) m = ap suc (row-wide w (m / 2))
 
 row_back : (r : Row) (m : ℕ) → tap_mask r ≡ Mask m → r ≡ row_of (length r) m
 unfolding tap_mask
@@ -226,40 +230,49 @@ module _ (w m : ℕ) (short : w ≤ 10) (few : m < 2 ^ w) where
       go : (a l d u r : ℕ) → a ≤ 10 → l ≤ 3 → d ≤ 3 → u ≤ 3 → r ≤ 3 → a + (2 ^ 4 * l + 2 ^ 6 * d + 2 ^ 8 * u + 2 ^ 10 * r) < 4096
       go a l d u r h₁ h₂ h₃ h₄ h₅ = omega arith
 
-  pub sum_row : row_sum (row_of w m) ≡ unpack (mask_counts m)
-  unfolding row_sum row_sum_by mask_counts cell_of
-  sum_row =
-      rw (
-        counts (λ c x. is_arrow x) (λ c. true) (λ c. refl) (λ c. refl) ∙ ten-bits,
-        ways 0 ∙ lefts,
-        ways 1 ∙ downs,
-        ways 2 ∙ ups,
-        ways 3 ∙ rights,
-        others 1 refl,
-        others 2 refl,
-        others 3 refl,
-        others 4 refl,
-        others 5 refl,
-        others 6 refl,
-        others 7 refl,
-      )
-      (packed (sum_columns 10 (λ c. bit c m)) (towards 0 m) (towards 1 m) (towards 2 m) (towards 3 m)
-      (subst (λ n. n ≤ 10) ten-bits (few_bits (λ c. true) m 0 10)) (few-towards 0) (few-towards 1) (few-towards 2) (few-towards 3))
-    where
-      ways : (d : ℕ) → arrows_towards d is_arrow (row_of w m) ≡ sum_bits (λ c. eqb (c % 4) d) m 0 10
-      ways d = counts (λ c x. is_arrow x && eqb (direction (length (row_of w m)) c) d) (λ c. eqb (c % 4) d) (λ c. refl) (λ c. refl)
+  -- of a width whose columns go by fours
+  module _ (fours : eqb w 6 ≡ false) where
+    by-fours : (c : ℕ) → direction (length (row_of w m)) c ≡ c % 4
+    unfolding direction
+    by-fours c = rw (row-wide w m, fours) refl
 
-      -- a tap is counted as an arrow and as nothing else
-      others : (k : ℕ) → eqb 0 k ≡ false → count_by (λ b. eqb (place (counted_as (cell_of b))) k) (row_of w m) ≡ 0
-      others k n = counts-none _ n n w m
+    ways : (d : ℕ) (q : ℕ → Bool) → ((c : ℕ) → eqb (c % 4) d ≡ q c) → arrows_towards d is_arrow (row_of w m) ≡ sum_bits q m 0 10
+    ways d q e =
+        counts (λ c x. is_arrow x && eqb (direction (length (row_of w m)) c) d) q (λ c. refl) (λ c. ap (λ k. eqb k d) (by-fours c) ∙ e c)
 
--- A row of taps alone adds up to what its mask's counts stand for.
-tap-row-sum : (r : Row) (m : ℕ) → length r ≤ 10 → tap_mask r ≡ Mask m → row_sum r ≡ unpack (mask_counts m)
-tap-row-sum r m h e = ap row_sum (row_back r m e) ∙ sum_row (length r) m h (mask_lt r m e)
+    pub sum_row : row_sum (row_of w m) ≡ unpack (mask_counts m)
+    unfolding row_sum row_sum_by mask_counts cell_of
+    sum_row =
+        rw (
+          counts (λ c x. is_arrow x) (λ c. true) (λ c. refl) (λ c. refl) ∙ ten-bits,
+          ways 0 (λ c. eqb (c % 4) 0) (λ c. refl) ∙ lefts,
+          ways 1 (λ c. eqb (c % 4) 1) (λ c. refl) ∙ downs,
+          ways 2 (λ c. eqb (c % 4) 2) (λ c. refl) ∙ ups,
+          ways 3 (λ c. eqb (c % 4) 3) (λ c. refl) ∙ rights,
+          ways 4 (λ c. false) (λ c. ne_eqb (c % 4) 4 (λ q. omega arith)),
+          ways 5 (λ c. false) (λ c. ne_eqb (c % 4) 5 (λ q. omega arith)),
+          others 1 refl,
+          others 2 refl,
+          others 3 refl,
+          others 4 refl,
+          others 5 refl,
+          others 6 refl,
+          others 7 refl,
+        )
+        (packed (sum_columns 10 (λ c. bit c m)) (towards 0 m) (towards 1 m) (towards 2 m) (towards 3 m)
+        (subst (λ n. n ≤ 10) ten-bits (few_bits (λ c. true) m 0 10)) (few-towards 0) (few-towards 1) (few-towards 2) (few-towards 3))
+      where
+        -- a tap is counted as an arrow and as nothing else
+        others : (k : ℕ) → eqb 0 k ≡ false → count_by (λ b. eqb (place (counted_as (cell_of b))) k) (row_of w m) ≡ 0
+        others k n = counts-none _ n n w m
+
+-- A row of taps alone adds up to what its mask's counts stand for, where its columns go by fours.
+tap-row-sum : (r : Row) (m : ℕ) → length r ≤ 10 → eqb (length r) 6 ≡ false → tap_mask r ≡ Mask m → row_sum r ≡ unpack (mask_counts m)
+tap-row-sum r m h fours e = ap row_sum (row_back r m e) ∙ sum_row (length r) m h (mask_lt r m e) fours
 
 -- every mask is that of a row of ten cells
 pub mask-row : (m : ℕ) → m < 1024 → row_sum (row_of 10 m) ≡ unpack (mask_counts m)
-mask-row m h = sum_row 10 m (omega arith) h
+mask-row m h = sum_row 10 m (omega arith) h refl
 
 -- ---- Rows of the widths that have masks
 
@@ -273,6 +286,14 @@ width n e = go (eqb n 4) (eqb n 8) (eqb n 5) (eqb n 10) (eqb-true n 4) (eqb-true
     go false false true t a b c d f = let k = c refl in (omega arith, omega arith)
     go false false false true a b c d f = let k = d refl in (omega arith, omega arith)
     go false false false false a b c d f = let z : ◌≡◌ {A = ℕ} 0 1 = cc in absurd (omega arith)
+
+-- and their columns go by fours
+width-fours : (n : ℕ) → has_mask n ≡ true → eqb n 6 ≡ false
+width-fours n e = go (eqb n 6) (eqb-true n 6)
+  where
+    go : (t : Bool) → (t ≡ true → n ≡ 6) → t ≡ false
+    go true f = absurd (false≢true (subst (λ k. has_mask k ≡ true) (f refl) e))
+    go false f = refl
 
 module _ (r : Row) where
   -- a row of such a width has the mask of its cells
@@ -300,7 +321,7 @@ module _ (r : Row) where
     line-width = width (length r) line-told.0
 
     pub tap-line-sum : row_sum r ≡ unpack (mask_counts m)
-    tap-line-sum = tap-row-sum r m line-width.1 line-taps
+    tap-line-sum = tap-row-sum r m line-width.1 (width-fours (length r) line-told.0) line-taps
 
     pub line-below : m < 2 ^ length r
     line-below = mask_lt r m line-taps

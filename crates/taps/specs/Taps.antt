@@ -76,7 +76,7 @@ unlike_mask n l = unlike_from n l 0 10
 abbrev pub towards : ℕ → ℕ → ℕ
 towards d m = bit d m + bit (d + 4) m + bit (d + 8) m
 
--- "in bits 0 to 3 how many bits the mask has, from bit 4 on two bits for each direction, in their order", of up to ten columns
+-- "in bits 0 to 3 how many bits the mask has, from bit 4 on two bits for each of the directions 0 to 3, in their order", of up to ten columns
 unfoldable pub mask_counts : ℕ → ℕ
 mask_counts m =
     sum_columns 10 (λ c. bit c m)
