@@ -16,17 +16,11 @@ mkdir -p "$parts"
 # A table of the output by the start of its first line; the first such one.
 table() { awk -v head="$1" 'index($0, head) == 1 { on = 1 } on && !/^\|/ { exit } on' "$tables"; }
 
-# The lines from a first one up to another, without the blank one before that.
-between() { awk -v from="$1" -v to="$2" 'index($0, from) == 1 { on = 1 } index($0, to) == 1 { exit } on' "$tables" | sed '$d'; }
-
-between 'Under 1.00, ' 'Under 1.00 by the zeros' >"$parts/worst"
-sed -n '/^Under 1.00 by the zeros/p' "$tables" >"$parts/zeros"
 table '| call | entry |' >"$parts/ranges"
 # Of the entries alone, without the first column, and a call's name once.
 table '| way | call | text | LF 4 |' | sed -n '1s/^| way |/|/p; 2s/^|---|/|/p; s/^| entry |/|/p' |
     awk -F'|' '$2 == call { sub(/`[a-z_]*` /, "") } { if ($2 ~ /`/) call = $2; print }' >"$parts/ratios"
 cp "$growth" "$parts/growth"
-target/bench/bench --memory >"$parts/memory"
 
 awk -v parts="$parts" '
     /^<!-- end -->$/ { inside = 0 }

@@ -17,7 +17,7 @@ const IN_ANOTHERS_PLACE: usize = 1;
 
 const KINDS: [(&str, Test); 69] = [
     ("a text that the Rust is asked about", |f| f.as_it_stands),
-    ("a text about which the Rust is asked another", |f| {
+    ("a text in whose place it is asked about another", |f| {
         !f.as_it_stands
     }),
     ("an empty text", |f| f.len == 0),
