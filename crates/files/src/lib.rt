@@ -71,6 +71,8 @@ pub fn type_lanes(name: &[u8]) -> Option<usize>
         Some(4)
     } else if name == b"pump-single".as_slice() {
         Some(5)
+    } else if name == b"dance-solo".as_slice() {
+        Some(6)
     } else if name == b"dance-double".as_slice() {
         Some(8)
     } else if name == b"pump-double".as_slice() {

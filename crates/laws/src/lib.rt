@@ -7,6 +7,7 @@ ghost use Rattle.definitions.specs.Sizes.{most_bytes};
 ghost use Rattle.definitions.specs.Lanes.{lanes_of};
 ghost use Rattle.definitions.specs.Judged.{judged_tally, flagged_tally};
 ghost use Rattle.definitions.specs.Entries.{measure_count, figures_of_chart, places_of_chart, figures_of_kept, places_of_kept, figures_of_dropped, places_of_dropped, figures_of_timing, places_of_timing, places_of_measures, figures_of_last, places_of_last, places_of_judged};
+ghost use Rattle.definitions.specs.Directions.{DirectionsSum};
 ghost use Rattle.definitions.specs.Damage.{Differ, DamageStays};
 ghost use Rattle.definitions.specs.Halving.{ReduceHalved};
 ghost use Rattle.definitions.specs.ReadBack.{OwnRows, MainKeptAgree};
@@ -35,7 +36,7 @@ pub fn rule_examples_hold()
     ensures { RuleExamplesHold }
 {}
 
-/// What the examples of keysounds say of their texts is what the definitions give.
+/// What the examples of keysounds and of six lanes say of their texts is what the definitions give.
 pub fn tally_examples_hold()
     ensures { TallyExamplesHold }
 {}
@@ -83,6 +84,11 @@ pub fn own_rows()
 /// The main and the kept tally of a text are the same.
 pub fn main_kept_agree()
     ensures { MainKeptAgree }
+{}
+
+/// The arrows of each tally are those of its six directions.
+pub fn directions_sum()
+    ensures { (L : ℕ) (text flags : List ℕ) → DirectionsSum L text flags }
 {}
 
 /// Where two texts differ only in lines of one measure, the rest of every answer is the same.
@@ -277,7 +283,7 @@ pub fn rest_in_order()
     ensures { RestInOrder }
 {}
 
-/// The tables have all of P1 to P11, with as many things as each says, and 16 examples of SM files.
+/// The tables have all of P1 to P11, with as many things as each says, and 18 examples of SM files.
 pub fn examples_counted()
     ensures { ExamplesCounted }
 {}

@@ -79,12 +79,24 @@ pub extern "C" fn leaves_tap_mask8(row: &[u8]) -> u32
 
 /// The sum's fields in their order.
 #[unsafe(no_mangle)]
-pub extern "C" fn leaves_tap_sum(mask: u8, sum: &mut [u32; 12])
+pub extern "C" fn leaves_tap_sum(mask: u8, sum: &mut [u32; 14])
     ensures { sum.new ≡ sum_counts (unpack (mask_counts mask)) }
 {
     let s = TapTable::for_lanes(Lanes { count: 8 }).sum(mask as u16);
     *sum = [
-        s.arrows, s.left, s.down, s.up, s.right, s.holds, s.rolls, s.tails, s.mines, s.lifts,
-        s.fakes, s.keysounds,
+        s.arrows,
+        s.left,
+        s.down,
+        s.up,
+        s.right,
+        s.holds,
+        s.rolls,
+        s.tails,
+        s.mines,
+        s.lifts,
+        s.fakes,
+        s.keysounds,
+        s.up_left,
+        s.up_right,
     ];
 }

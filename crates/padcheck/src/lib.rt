@@ -1,7 +1,7 @@
 // The entries for callers in Rust and C, each thin over the proved call of the same work: Specification, Calls. "What a call is lent comes in the
 // order of this table." Specification, Contracts: "An entry's contract says, for every input, all of its answer and all that each slice holds after
-// it, refused calls too." "No entry asks anything of its caller." `lanes` is the lane number as the caller has it: 5, 8 and 10 are these, any other
-// is 4. An entry returns 0 for accepted, else the number of a refusal, and then it has written nothing; 1 to 6, 19 and 20 are mistakes of whoever
+// it, refused calls too." "No entry asks anything of its caller." `lanes` is the lane number as the caller has it: 5, 6, 8 and 10 are these, any
+// other is 4. An entry returns 0 for accepted, else the number of a refusal, and then it has written nothing; 1 to 6, 19 and 20 are mistakes of whoever
 // wires up the call. After an accepted call zeros follow each answer in its slice. Specification, Figures, has the places of `figures`, and Slices
 // those of `note` and `chart`.
 #![tactic(auto)]

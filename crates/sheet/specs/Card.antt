@@ -12,7 +12,7 @@ use Rattle.definitions.specs.Beats.{beat, whole, last_row}
 use Rattle.definitions.specs.Objects.{object_at, last_object, last48}
 use Rattle.definitions.specs.Tracker.{hold_at, pairs}
 use Rattle.definitions.specs.Notes.{effect_at, notes}
-use Rattle.definitions.specs.Tally.{row_sum_by, row_sum, tally_with_row, tally}
+use Rattle.definitions.specs.Tally.{direction, row_sum_by, row_sum, tally_with_row, tally}
 use Rattle.definitions.specs.Correction.{corrects, paired_only, corrected}
 use Rattle.definitions.specs.ReadBack.{rows_read_back, main_tally}
 use Rattle.definitions.specs.Entries.{measure_count, figures_of_chart}
@@ -40,5 +40,5 @@ card text = if nat_lt 4095 (length text) then bytes "refused 1|" else sheet 4 te
 -- "For `1000|0000|0100|0000|;|`, where | is byte 10, it prints this."
 pub card-example : card (bytes "1000|0000|0100|0000|;|")
     ≡ bytes "measures 1|rows 2|arrows 2|steps 2|keys 0|notes 2|last 96|m 0 2 1|n 0 0 0 -|n 1 1 0 -|"
-unfolding card sheet figures_of_chart note_lines lines_of_head line_of_figure line_of_measure line_of_note number_field digits minimised_text densities spacings is_step beat whole last_row last48 last_object object_at notes effect_at main_tally corrected corrects paired_only pairs hold_at tally tally_with_row row_sum row_sum_by rows_read_back minimised reduce stride chart line_kind kind_of is_row_line is_blank_byte cell_of of_int round add mul div
+unfolding card sheet figures_of_chart note_lines lines_of_head line_of_figure line_of_measure line_of_note number_field digits minimised_text densities spacings is_step beat whole last_row last48 last_object object_at notes effect_at main_tally corrected corrects paired_only pairs hold_at tally tally_with_row row_sum row_sum_by direction rows_read_back minimised reduce stride chart line_kind kind_of is_row_line is_blank_byte cell_of of_int round add mul div
 card-example = refl

@@ -16,7 +16,7 @@ named_fields t = tally_fields t
 
 -- how many they are
 unfoldable pub field_count : ℕ
-field_count = 15
+field_count = 17
 
 -- one of them
 abbrev pub field_at : ArrowStats → ℕ → List ℕ × ℕ

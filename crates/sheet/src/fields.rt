@@ -6,7 +6,7 @@ use definitions::ArrowStats;
 use std::marker::Model;
 
 /// How many fields a tally has.
-pub const FIELD_COUNT: usize = 15;
+pub const FIELD_COUNT: usize = 17;
 
 /// A field of a tally: its name and its count.
 #[derive(Drop)]
@@ -57,5 +57,7 @@ pub fn fields_of(stats: &ArrowStats) -> [Field; FIELD_COUNT]
         Field("fakes", stats.fakes),
         Field("holding", stats.holding),
         Field("keysounds", stats.keysounds),
+        Field("up_left", stats.up_left),
+        Field("up_right", stats.up_right),
     ]
 }

@@ -47,7 +47,7 @@ first_fields f n =
 unfoldable pub head_of_tally : List ℕ
 head_of_tally = codes "\n                 main     kept   judged\n"
 
--- all fields: "The line of `total_arrows` is one of fifteen, one for each field of the tallies in their order"
+-- all fields: "The line of `total_arrows` is one of seventeen, one for each field of the tallies in their order"
 unfoldable pub lines_of_tally : SheetFigures → List ℕ
 lines_of_tally f = first_fields f field_count
 
