@@ -144,10 +144,10 @@ static inline const char *padcheck_caused_by(uint32_t number)
 #define PADCHECK_NOTE_FIGURES 4
 #define PADCHECK_CHART_FIGURES 3
 
-/* L, the lane count in force: 5, 8 or 10 where the caller gives that number, otherwise 4. */
+/* L, the lane count in force: 5, 6, 8 or 10 where the caller gives that number, otherwise 4. */
 static inline size_t padcheck_lanes_in_force(size_t lanes)
 {
-    return lanes == 5 || lanes == 8 || lanes == 10 ? lanes : 4;
+    return lanes == 5 || lanes == 6 || lanes == 8 || lanes == 10 ? lanes : 4;
 }
 
 /*
@@ -179,7 +179,7 @@ static inline size_t padcheck_sheet_len(size_t len)
     return 42 * (len + 1) + 3000;
 }
 
-/* Places in `figures`, the same in every call. Those from 23 on are 0. */
+/* Places in `figures`, the same in every call. Those from 25 on are 0. */
 enum padcheck_figure {
     PADCHECK_TEXT_BYTES = 0,      /* bytes of the answer in the text slice */
     PADCHECK_MEASURES = 1,        /* measures */
@@ -203,7 +203,9 @@ enum padcheck_figure {
     PADCHECK_LIFTS = 19,
     PADCHECK_FAKES = 20,
     PADCHECK_HOLDING = 21,
-    PADCHECK_KEYSOUNDS = 22 /* cells K, which are counted as nothing else; the tally ends here */
+    PADCHECK_KEYSOUNDS = 22, /* cells K, which are counted as nothing else */
+    PADCHECK_UP_LEFT = 23,   /* arrows of six lanes, 0 at any other; the tally ends with the next */
+    PADCHECK_UP_RIGHT = 24
 };
 
 /* Places in `note`. A tail is PADCHECK_NO_TAIL where the note has none. */

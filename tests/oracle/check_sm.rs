@@ -159,7 +159,7 @@ fn types(checks: &mut Checks) {
         " ",
         "\r\n",
         "lights-cabinet",
-        "dance-solo",
+        "dance-threepanel",
         "//dance-single",
     ] {
         answers(checks, &format!("#NOTES:{other}:::::1;"), &[Err(10)]);

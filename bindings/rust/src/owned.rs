@@ -76,7 +76,7 @@ pub fn process_chart_kept(
     })
 }
 
-/// Minimised rows, their beats, and whether any has a 2 or 4. `L` is 4, 5, 8 or 10; another does not compile.
+/// Minimised rows, their beats, and whether any has a 2 or 4. `L` is 4, 5, 6, 8 or 10; another does not compile.
 ///
 /// ```
 /// let (rows, beats, has_heads) = padcheck::minimize_timing_rows::<4>(b"2000\n0000\n3000\n0000\n")?;
@@ -99,7 +99,7 @@ pub fn minimize_timing_rows<const L: usize>(
     const {
         assert!(
             crate::lanes_in_force(L) == L,
-            "a row has 4, 5, 8 or 10 lanes"
+            "a row has 4, 5, 6, 8 or 10 lanes"
         )
     };
     let lengths = Lengths::of(data.len(), L);
