@@ -26,7 +26,10 @@ fn bytes(text: &str) -> Vec<u8> {
 /// The main and the kept tally.
 fn charts(checks: &mut Checks) {
     for (text, want) in [
-        ("111111|011111|001111|000111|000011|000001", [1, 3, 4, 6, 2, 5]),
+        (
+            "111111|011111|001111|000111|000011|000001",
+            [1, 3, 4, 6, 2, 5],
+        ),
         ("010000", [0, 0, 0, 0, 1, 0]),
         ("000010", [0, 0, 0, 0, 0, 1]),
         ("000002|000003", [0, 0, 0, 1, 0, 0]),
@@ -45,7 +48,11 @@ fn charts(checks: &mut Checks) {
         let main = calls::minimize_chart_count_rows_notes(&text, 6);
         let kept = calls::process_chart_kept(&text, 6);
         let what = text.escape_ascii().to_string();
-        checks.same(&what, [main, kept].map(|answer| directions(&answer)), [want; 2]);
+        checks.same(
+            &what,
+            [main, kept].map(|answer| directions(&answer)),
+            [want; 2],
+        );
     }
     let nest = |tails| ["020000|".repeat(9), "030000|".repeat(tails)].concat();
     for (tails, count) in [(9, 9), (10, 8)] {
@@ -60,7 +67,11 @@ fn judged(checks: &mut Checks) {
         ("020000|000040|030000", &[], [0, 0, 0, 0, 1, 0]),
         ("010000|000010|100000", &[0, 1], [1, 0, 0, 0, 0, 1]),
         ("020000|030000", &[0], [0; 6]),
-        (" 10000|/10000|010000\r|01000\r|,00001|;00001", &[], [0, 0, 0, 0, 3, 0]),
+        (
+            " 10000|/10000|010000\r|01000\r|,00001|;00001",
+            &[],
+            [0, 0, 0, 0, 3, 0],
+        ),
     ] {
         let text = bytes(text);
         let answer = calls::process_timing_rows(&text, 6, flags);
@@ -103,6 +114,10 @@ fn beside_the_rust(checks: &mut Checks) {
         let what = format!("text {i}");
         checks.same(&what, answers.each_ref().map(directions), want);
         let arrows = answers.map(|answer| answer.figures[TALLY]);
-        checks.same(&what, arrows, want.map(|directions| directions.iter().sum()));
+        checks.same(
+            &what,
+            arrows,
+            want.map(|directions| directions.iter().sum()),
+        );
     }
 }
