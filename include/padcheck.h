@@ -365,8 +365,8 @@ uint32_t padcheck_read_note(const uint8_t *records, size_t records_len, size_t i
  * A chart is a block: it starts at a line that begins, after blanks, with `#NOTES:` and whose first byte lies in no
  * earlier block, and runs through the first `;` after that tag, or to the end of the file. Five fields follow the tag,
  * each ended by `:`; the first, without the blanks at its ends, is the type: dance-single is 4 lanes, pump-single 5,
- * dance-double 8, pump-double 10. The data is what follows the fifth, the `;` too. Lines end with byte 10, blanks are
- * the bytes 9, 10, 12, 13 and 32. Comments are not known: a `;` or `:` counts wherever it stands in a block.
+ * dance-solo 6, dance-double 8, pump-double 10. The data is what follows the fifth, the `;` too. Lines end with byte 10,
+ * blanks are the bytes 9, 10, 12, 13 and 32. Comments are not known: a `;` or `:` counts wherever it stands in a block.
  * Refusals, in this order: 1, 11 where the file has no more than k blocks, 9 where fewer than five `:` stand in the
  * block after its tag, 10 for another type. An accepted call sets the 3 numbers of `chart`.
  */
