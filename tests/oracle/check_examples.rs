@@ -143,7 +143,11 @@ fn keysounds(checks: &mut Checks) {
         ("2K00|K100|30K0|0K02", 4),
         ("", 0),
     ] {
-        let tallies = [main_call(text).tally(), kept_call(text).tally(), judged_tally(text)];
+        let tallies = [
+            main_call(text).tally(),
+            kept_call(text).tally(),
+            judged_tally(text),
+        ];
         checks.same(text, tallies.map(|tally| tally[KEYSOUNDS]), [count; 3]);
     }
     let none = main_call("K000|K0K0|000K|0000").tally();
@@ -168,10 +172,12 @@ fn keysounds(checks: &mut Checks) {
 }
 
 fn card_sheet(checks: &mut Checks) {
-    let want = "measures 1|rows 2|arrows 2|steps 2|keys 0|notes 2|last 96|m 0 2 1|n 0 0 0 -|n 1 1 0 -|";
+    let want =
+        "measures 1|rows 2|arrows 2|steps 2|keys 0|notes 2|last 96|m 0 2 1|n 0 0 0 -|n 1 1 0 -|";
     let sheet = card(&bytes("1000|0000|0100|0000|;|"));
     checks.same("card", sheet, want.replace('|', "\n"));
-    let want = "measures 2|rows 2|arrows 1|steps 1|keys 0|notes 1|last 192|m 0 1 1|m 1 0 0|n 0 3 2 1|";
+    let want =
+        "measures 2|rows 2|arrows 1|steps 1|keys 0|notes 1|last 192|m 0 1 1|m 1 0 0|n 0 3 2 1|";
     let sheet = card(&bytes("0004|,|0003|"));
     checks.same("card with a tail", sheet, want.replace('|', "\n"));
     let sheet = card(&[b'\n'; CARD_LEN + 1]);

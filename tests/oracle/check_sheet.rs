@@ -178,7 +178,8 @@ fn loans(checks: &mut Checks) {
         checks.same("nothing is written", loan.same(&before), true);
     }
     let (mut loan, sheet) = lent(data.len(), 4, 7);
-    let card = "measures 1\nrows 2\narrows 1\nsteps 1\nkeys 0\nnotes 1\nlast 96\nm 0 1 0\nn 0 0 1 1\n";
+    let card =
+        "measures 1\nrows 2\narrows 1\nsteps 1\nkeys 0\nnotes 1\nlast 96\nm 0 1 0\nn 0 0 1 1\n";
     let bytes = enter(data, 4, 0, &mut loan, sheet);
     checks.same("sheet", bytes, Ok(card.as_bytes().to_vec()));
     checks.same("text", &loan.text[..], b"2000\n3000\n\0");

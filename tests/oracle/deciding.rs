@@ -303,7 +303,10 @@ pub const TEXTS: &[Deciding] = &[
     lanes("keysounds: eight columns", 8, "K000000K|"),
     lanes("keysounds: ten columns", 10, "K0000000KK|"),
     four("keysounds: minimised rows", "K000|;|K000|"),
-    four("keysounds: rows read back", " K00|/K00|K000\r|K\r00|,K00|;K00|"),
+    four(
+        "keysounds: rows read back",
+        " K00|/K00|K000\r|K\r00|,K00|;K00|",
+    ),
     flagged("keysounds: unjudged", "K000|KK00|000K|", &[0, 1]),
     // Directions of six lanes
     lanes("six columns: directions", 6, "111111|011111|001111|000111|000011|000001|"),

@@ -294,7 +294,11 @@ mod tests {
         let told = said(b"1000\n", b"// x\n1000\n");
         assert!(told.contains("\nmeasure 0 differs by its lines alone\nonly lines"));
         let told = said(b"1000\n", b"M000\n");
-        assert!(told.contains("\n  density 1 and 0\n  equally spaced in old alone\nthe tallies differ\n"));
+        assert!(
+            told.contains(
+                "\n  density 1 and 0\n  equally spaced in old alone\nthe tallies differ\n"
+            )
+        );
     }
 
     #[test]

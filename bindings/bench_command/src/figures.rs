@@ -125,8 +125,8 @@ impl Figures {
 #[cfg(test)]
 mod tests {
     use super::*;
-    use padcheck::ArrowStats;
     use crate::lines::{LineKind, MeasureLines, line_kind};
+    use padcheck::ArrowStats;
 
     #[test]
     fn each_measure_has_its_own_rows() {
@@ -155,7 +155,10 @@ mod tests {
         let figures = Figures::of(b"2K00\n1000\n0M00\nK0kK\n", 4).unwrap();
         let counts: Vec<_> = figures.tally().filter(|(_, count)| *count != 0).collect();
         let steps = [("total_arrows", 1), ("left", 1), ("total_steps", 2)];
-        assert_eq!(counts, [&steps[..], &[("mines", 1), ("keysounds", 3)]].concat());
+        assert_eq!(
+            counts,
+            [&steps[..], &[("mines", 1), ("keysounds", 3)]].concat()
+        );
         let named = figures.tally().map(|(name, _)| format!("{name}: 0"));
         let fields = named.collect::<Vec<_>>().join(", ");
         let tally = format!("{:?}", ArrowStats::default());

@@ -123,8 +123,9 @@ padcheck diff OLD NEW --lanes N [--force]
 
 Says which measures of a chart differ between two files, by their lines and by their
 figures, and which fields of its tally: of every chart of two SM files, of chart K
-alone, or with --lanes of bare note data. Where the lines of one measure alone differ, it says what the damage
-theorem says of the rest, and checks each of it on the two files.
+alone, or with --lanes of bare note data. Where the lines of one measure alone differ,
+it says what the damage theorem says of the rest, and checks each of it on the two
+files.
 
   --force   takes doubtful note data all the same (see padcheck sheet --help)
 

@@ -19,8 +19,7 @@ fn sheet(data: &[u8], lanes: usize, form: SheetForm) -> String {
 
 #[test]
 fn the_card_of_each_example() {
-    let lines =
-        "measures 1\nrows 2\narrows 2\nsteps 2\nkeys 0\nnotes 2\nlast 96\nm 0 2 1\nn 0 0 0 -\nn 1 1 0 -\n";
+    let lines = "measures 1\nrows 2\narrows 2\nsteps 2\nkeys 0\nnotes 2\nlast 96\nm 0 2 1\nn 0 0 0 -\nn 1 1 0 -\n";
     assert_eq!(sheet(DATA, 4, SheetForm::Card), lines);
     let lines = include_str!("../../../examples/first-steps.sheet.txt");
     assert_eq!(sheet(FIRST_STEPS, 4, SheetForm::Card), lines);
