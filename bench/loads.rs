@@ -3,8 +3,11 @@
 use crate::chart::{self, Kind};
 use oracle::entry::MAX_LEN;
 
-/// The lane counts (Specification, Lanes).
+/// The lane counts of the tables.
 pub const LANES: [usize; 4] = [4, 5, 8, 10];
+
+/// Those that can be asked for. Six lanes are a case of their own: the Rust reads them as four, and is asked by its functions over a const L.
+pub const EVERY_LANES: [usize; 5] = [4, 5, 6, 8, 10];
 
 /// How many charts a pack has, and their bytes.
 const PACK: (u64, usize) = (2000, 20_000);

@@ -3,7 +3,7 @@
 //! For `sm_chart` these are the call, the file, line ends, 4 lanes, and the file's lines.
 
 use crate::entries::ENTRIES;
-use crate::loads::{LANES, Lines, Load, Text};
+use crate::loads::{EVERY_LANES, Lines, Load, Text};
 use crate::loans::lent;
 use crate::sm_files::{self, File};
 
@@ -45,7 +45,7 @@ fn run_files() {
 fn run_texts() {
     for entry in ENTRIES {
         for (text, lines) in TEXTS {
-            for lanes in LANES {
+            for lanes in EVERY_LANES {
                 let load = Load::of(1, LEN, text.kind(), lines, lanes);
                 let data = &load.texts[0];
                 let mut loan = lent(entry.call, LEN, lanes);

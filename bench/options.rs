@@ -1,7 +1,7 @@
 //! What is asked for: which ways, calls, texts, line ends and lane counts, and in which form.
 
 use crate::clock::Clock;
-use crate::loads::{LANES, Lines, Text};
+use crate::loads::{EVERY_LANES, LANES, Lines, Text};
 use crate::ways::Way;
 use oracle::calls::{CALLS, Call};
 
@@ -23,7 +23,7 @@ A LIST has its words parted by commas, and leaves out the others:
            stats     padcheck::stats, the Rust's own signatures, one scratch for all charts
            anew      the functions of bindings/rust that allocate what they answer; the Rust with nothing kept
            first     the same where the thread has kept nothing from an earlier call
-  --lanes  4 5 8 10
+  --lanes  4 5 8 10, and 6 where it is named: there the Rust is its functions over a const L, which reads lane number 6 as 4
   --texts  long      one text of 16,777,215 bytes
            sparse    as long; 6 rows in 10 are empty, 7 measures in 10 minimise to half or less
            pack      2,000 charts of 20,000 bytes, one after the other
@@ -85,7 +85,7 @@ pub fn parse(mut args: impl Iterator<Item = String>) -> Result<Option<Options>, 
             "--help" | "-h" => return Ok(None),
             "--runs" => options.runs = number(args.next())?,
             "--ways" => options.ways = listed(&list()?, &Way::ALL, |way| way.name().into())?,
-            "--lanes" => options.lanes = listed(&list()?, &LANES, usize::to_string)?,
+            "--lanes" => options.lanes = listed(&list()?, &EVERY_LANES, usize::to_string)?,
             "--texts" => options.texts = listed(&list()?, &Text::ALL, |text| text.name().into())?,
             "--lines" => {
                 options.lines = listed(&list()?, &Lines::ALL, |lines| lines.name().to_lowercase())?;

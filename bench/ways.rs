@@ -233,6 +233,7 @@ fn anew(call: Call, data: &[u8], lanes: usize, flags: &[u8]) {
         Call::ProcessChartKept => padcheck::process_chart_kept(data, lanes).map(take),
         Call::MinimizeTimingRows => match lanes {
             5 => padcheck::minimize_timing_rows::<5>(data).map(take),
+            6 => padcheck::minimize_timing_rows::<6>(data).map(take),
             8 => padcheck::minimize_timing_rows::<8>(data).map(take),
             10 => padcheck::minimize_timing_rows::<10>(data).map(take),
             _ => padcheck::minimize_timing_rows::<4>(data).map(take),

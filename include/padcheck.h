@@ -144,10 +144,10 @@ static inline const char *padcheck_caused_by(uint32_t number)
 #define PADCHECK_NOTE_FIGURES 4
 #define PADCHECK_CHART_FIGURES 3
 
-/* L, the lane count in force: 5, 8 or 10 where the caller gives that number, otherwise 4. */
+/* L, the lane count in force: 5, 6, 8 or 10 where the caller gives that number, otherwise 4. */
 static inline size_t padcheck_lanes_in_force(size_t lanes)
 {
-    return lanes == 5 || lanes == 8 || lanes == 10 ? lanes : 4;
+    return lanes == 5 || lanes == 6 || lanes == 8 || lanes == 10 ? lanes : 4;
 }
 
 /*
@@ -179,7 +179,7 @@ static inline size_t padcheck_sheet_len(size_t len)
     return 42 * (len + 1) + 3000;
 }
 
-/* Places in `figures`, the same in every call. Those from 23 on are 0. */
+/* Places in `figures`, the same in every call. Those from 25 on are 0. */
 enum padcheck_figure {
     PADCHECK_TEXT_BYTES = 0,      /* bytes of the answer in the text slice */
     PADCHECK_MEASURES = 1,        /* measures */
@@ -203,7 +203,9 @@ enum padcheck_figure {
     PADCHECK_LIFTS = 19,
     PADCHECK_FAKES = 20,
     PADCHECK_HOLDING = 21,
-    PADCHECK_KEYSOUNDS = 22 /* cells K, which are counted as nothing else; the tally ends here */
+    PADCHECK_KEYSOUNDS = 22, /* cells K, which are counted as nothing else */
+    PADCHECK_UP_LEFT = 23,   /* arrows of six lanes, 0 at any other; the tally ends with the next */
+    PADCHECK_UP_RIGHT = 24
 };
 
 /* Places in `note`. A tail is PADCHECK_NO_TAIL where the note has none. */
@@ -363,8 +365,8 @@ uint32_t padcheck_read_note(const uint8_t *records, size_t records_len, size_t i
  * A chart is a block: it starts at a line that begins, after blanks, with `#NOTES:` and whose first byte lies in no
  * earlier block, and runs through the first `;` after that tag, or to the end of the file. Five fields follow the tag,
  * each ended by `:`; the first, without the blanks at its ends, is the type: dance-single is 4 lanes, pump-single 5,
- * dance-double 8, pump-double 10. The data is what follows the fifth, the `;` too. Lines end with byte 10, blanks are
- * the bytes 9, 10, 12, 13 and 32. Comments are not known: a `;` or `:` counts wherever it stands in a block.
+ * dance-solo 6, dance-double 8, pump-double 10. The data is what follows the fifth, the `;` too. Lines end with byte 10,
+ * blanks are the bytes 9, 10, 12, 13 and 32. Comments are not known: a `;` or `:` counts wherever it stands in a block.
  * Refusals, in this order: 1, 11 where the file has no more than k blocks, 9 where fewer than five `:` stand in the
  * block after its tag, 10 for another type. An accepted call sets the 3 numbers of `chart`.
  */

@@ -116,7 +116,7 @@ struct figure {
 
 static void check_figures(const char *call, uint32_t number, const struct figure *figures, size_t count)
 {
-    check(number == 0, "%s of the chart of different figures: returns %u", call, number);
+    check(number == 0, "%s of a chart of different figures: returns %u", call, number);
     for (size_t i = 0; i < count; i++)
         check(room.figures[figures[i].place] == figures[i].want, "%s: %s is %llu, should be %llu", call,
               figures[i].name, (unsigned long long)room.figures[figures[i].place], (unsigned long long)figures[i].want);
@@ -207,6 +207,24 @@ static void check_places(void)
                   flagged_figures);
 }
 
+/* The six directions of a chart of six lanes, in the order of its columns. */
+static void check_six_lanes(void)
+{
+    static const char text[] = "111111\n011111\n001111\n000111\n000011\n000001\n";
+    const uint8_t *data = (const uint8_t *)text;
+    const size_t len = sizeof text - 1;
+    static const struct figure figures[] = {
+        FIGURE(LEFT, 1), FIGURE(UP_LEFT, 2),  FIGURE(DOWN, 3),          FIGURE(UP, 4),
+        FIGURE(RIGHT, 6), FIGURE(UP_RIGHT, 5), FIGURE(TOTAL_ARROWS, 21),
+    };
+    CHECK_FIGURES(
+        "process_chart_kept of six lanes",
+        padcheck_process_chart_kept(data, len, 6, room.text, ROOM, room.densities, ROOM, room.work, ROOM, room.figures),
+        figures);
+    CHECK_FIGURES("process_rows_judgable of six lanes",
+                  padcheck_process_rows_judgable(data, len, 6, room.work, ROOM, room.figures), figures);
+}
+
 /* The sheet of the chart in each form, known by its first bytes and its length. */
 static void check_forms(void)
 {
@@ -215,8 +233,8 @@ static void check_forms(void)
         size_t form;
         uint64_t bytes;
     } forms[] = {{"card", "measures 3\nrows 24\n", PADCHECK_SHEET_CARD, 717},
-                 {"print", "measures            3\n", PADCHECK_SHEET_PRINT, 1080},
-                 {"JSON", "{\"measures\":3,", PADCHECK_SHEET_JSON, 1488}};
+                 {"print", "measures            3\n", PADCHECK_SHEET_PRINT, 1160},
+                 {"JSON", "{\"measures\":3,", PADCHECK_SHEET_JSON, 1563}};
     for (size_t i = 0; i < sizeof forms / sizeof forms[0]; i++) {
         uint32_t number = ask_sheet(forms[i].form, ROOM * 10);
         uint64_t bytes = room.figures[PADCHECK_SHEET_BYTES];
@@ -329,9 +347,9 @@ static void check_lengths(void)
 {
     static const struct {
         size_t lanes, in_force;
-    } lane_counts[] = {{0, 4}, {1, 4}, {2, 4}, {3, 4},   {4, 4},  {5, 5},       {6, 4},
+    } lane_counts[] = {{0, 4}, {1, 4}, {2, 4}, {3, 4},   {4, 4},  {5, 5},       {6, 6},
                        {7, 4}, {8, 8}, {9, 4}, {10, 10}, {11, 4}, {SIZE_MAX, 4}};
-    static const size_t lens[] = {1, 2, 3, 4, 9, 10, 11, 23, 54, 55, 87, 88};
+    static const size_t lens[] = {1, 2, 3, 4, 5, 6, 9, 10, 11, 12, 13, 23, 54, 55, 87, 88};
     uint8_t data[88];
     memset(data, '1', sizeof data);
     for (size_t i = 0; i < sizeof lane_counts / sizeof lane_counts[0]; i++) {
@@ -439,6 +457,7 @@ void check_header(void)
 {
     check_version();
     check_places();
+    check_six_lanes();
     check_forms();
     check_figure_count();
     check_kinds();

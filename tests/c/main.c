@@ -157,6 +157,8 @@ static const char print[] = "measures            1\n"
                             "fakes               0        0        0\n"
                             "holding             0        0        0\n"
                             "keysounds           0        0        0\n"
+                            "up_left             0        0        0\n"
+                            "up_right            0        0        0\n"
                             "\n"
                             "densities, 16 measures to a line; = equally spaced, - not\n"
                             "      0:  2=\n"
@@ -167,7 +169,7 @@ static const char print[] = "measures            1\n"
 /* The tally of the example, the same in all three. */
 #define TALLY                                                                                                          \
     "{\"total_arrows\":2,\"left\":1,\"down\":1,\"up\":0,\"right\":0,\"total_steps\":2,\"jumps\":0,\"hands\":0,"        \
-    "\"mines\":0,\"holds\":0,\"rolls\":0,\"lifts\":0,\"fakes\":0,\"holding\":0,\"keysounds\":0}"
+    "\"mines\":0,\"holds\":0,\"rolls\":0,\"lifts\":0,\"fakes\":0,\"holding\":0,\"keysounds\":0,\"up_left\":0,\"up_right\":0}"
 
 static const char json[] = "{\"measures\":1,\"rows\":2,\"notes\":2,"
                            "\"last_beat\":{\"beats\":2,\"over_48\":0,\"in_48ths\":96},"

@@ -199,7 +199,7 @@ fn count_byte(case: &Case, compared: &mut Compare) {
 fn tap_sum(case: &Case, compared: &mut Compare) {
     let mask = case.seed as u8;
     let counts = u32::from(leaves::tap_mask_counts(mask));
-    let mut want = [0; 12];
+    let mut want = [0; 14];
     want[0] = counts & 15;
     for direction in 0..4 {
         want[1 + direction] = (counts >> (4 + 2 * direction)) & 3;

@@ -9,17 +9,17 @@ const SHOWN: u64 = 3;
 const SHRINKING: Duration = Duration::from_secs(3);
 
 /// The lane counts, and one more than the greatest number that an entry can return: 0 for accepted, the refusals 1 to 11, 19 and 20.
-pub const LANE_COUNTS: [usize; 4] = [4, 5, 8, 10];
+pub const LANE_COUNTS: [usize; 5] = [4, 5, 6, 8, 10];
 pub const NUMBERS: usize = 21;
 
 /// How often an entry returned each number, for each lane count.
 pub type Answers = [[u64; NUMBERS]; LANE_COUNTS.len()];
 
-/// The place of the lane count in force among the four.
+/// The place of the lane count in force among these.
 pub fn lane_place(lanes: usize) -> usize {
     let in_force = lanes_in_force(lanes);
     let place = LANE_COUNTS.iter().position(|&count| count == in_force);
-    place.expect("one of the four lane counts is in force")
+    place.expect("one of these lane counts is in force")
 }
 
 /// A text, or rows back to back, with a lane number. All else that a check draws comes from the seed.

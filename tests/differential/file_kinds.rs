@@ -89,9 +89,10 @@ const KINDS: [(&str, Test); 31] = [
 ];
 
 /// Kinds of block: a file is of such a kind where one of its blocks is.
-const BLOCK_KINDS: [(&str, BlockTest); 62] = [
+const BLOCK_KINDS: [(&str, BlockTest); 63] = [
     ("a chart of dance-single", |p| p.is_of(b"dance-single")),
     ("a chart of pump-single", |p| p.is_of(b"pump-single")),
+    ("a chart of dance-solo", |p| p.is_of(b"dance-solo")),
     ("a chart of dance-double", |p| p.is_of(b"dance-double")),
     ("a chart of pump-double", |p| p.is_of(b"pump-double")),
     ("a block of lights-cabinet", |p| {

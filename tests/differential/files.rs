@@ -6,7 +6,7 @@ use crate::random::{Rng, STYLES};
 use oracle::sm::TYPES;
 
 /// What a file is strung together from; a token that stands twice is drawn twice as often.
-const TOKENS: [&[u8]; 46] = [
+const TOKENS: [&[u8]; 47] = [
     b"#NOTES:",
     b"#NOTES:",
     b"#NOTES:",
@@ -41,6 +41,7 @@ const TOKENS: [&[u8]; 46] = [
     b"pump-single",
     b"dance-double",
     b"pump-double",
+    b"dance-solo",
     b"lights-cabinet",
     b"Dance-Single",
     b"pump-",
@@ -57,11 +58,11 @@ const TOKENS: [&[u8]; 46] = [
 
 const BLANKS: &[u8] = b"\t\n\x0c\r ";
 
-/// Type names that are none of the four, some of them nearly.
+/// Type names that are none of the five, some of them nearly.
 const OTHER_TYPES: [&[u8]; 12] = [
     b"lights-cabinet",
     b"",
-    b"dance-solo",
+    b"dance-threepanel",
     b"Dance-Single",
     b"PUMP-DOUBLE",
     b"dance-singl",
@@ -149,7 +150,7 @@ fn blanks(rng: &mut Rng, file: &mut Vec<u8>) {
     }
 }
 
-/// A type name and its lane count; one of the four more often than not.
+/// A type name and its lane count; one of the five more often than not.
 fn type_name(rng: &mut Rng) -> (&'static [u8], usize) {
     if rng.one_in(4) {
         (rng.pick(&OTHER_TYPES), 6)

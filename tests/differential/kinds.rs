@@ -15,7 +15,7 @@ type Test = fn(&Facts) -> bool;
 const AS_IT_STANDS: usize = 0;
 const IN_ANOTHERS_PLACE: usize = 1;
 
-const KINDS: [(&str, Test); 69] = [
+const KINDS: [(&str, Test); 71] = [
     ("a text that the Rust is asked about", |f| f.as_it_stands),
     ("a text in whose place it is asked about another", |f| {
         !f.as_it_stands
@@ -76,6 +76,12 @@ const KINDS: [(&str, Test); 69] = [
     ("cell f", |f| f.cells[b'f' as usize]),
     ("cell k", |f| f.cells[b'k' as usize]),
     ("a cell that is no letter", |f| f.other_cell),
+    ("an arrow in each column", |f| {
+        f.arrows[..f.lanes].iter().all(|&seen| seen)
+    }),
+    ("a lift in each column", |f| {
+        f.lifts[..f.lanes].iter().all(|&seen| seen)
+    }),
     ("a K in each column", |f| {
         f.keysounds.columns[..f.lanes].iter().all(|&seen| seen)
     }),
@@ -170,6 +176,9 @@ struct Facts {
     first_cell: [bool; 256],
     cells: [bool; 256],
     other_cell: bool,
+    /// In which columns a chart has a 1, 2 or 4, and in which an L or l.
+    arrows: [bool; 10],
+    lifts: [bool; 10],
     keysounds: Keysounds,
     empty_line: bool,
     slash: bool,
@@ -211,6 +220,8 @@ impl Facts {
             first_cell: [false; 256],
             cells: [false; 256],
             other_cell: false,
+            arrows: [false; 10],
+            lifts: [false; 10],
             keysounds: Keysounds::default(),
             empty_line: false,
             slash: false,
@@ -317,7 +328,9 @@ impl Facts {
     fn look_at_rows(&mut self, rows: &[u8]) {
         let mut depths = [0; 10];
         for row in rows.chunks_exact(self.lanes) {
-            for (depth, &cell) in depths.iter_mut().zip(row) {
+            for (column, (depth, &cell)) in depths.iter_mut().zip(row).enumerate() {
+                self.arrows[column] |= b"124".contains(&cell);
+                self.lifts[column] |= b"Ll".contains(&cell);
                 self.cells[cell as usize] = true;
                 self.other_cell |= !b"01234MLFKmlf".contains(&cell);
                 match cell {

@@ -1,4 +1,4 @@
-//! Texts that are not drawn: every short text over a few letters, every byte at every place of a row's line, texts for each case of the correction,
+//! Texts that are not drawn: every short text over a few letters, every row of six cells over some, every byte at every place of a row's line, texts for each case of the correction,
 //! a few texts for each lane number whose slices are lent too short, and texts of the greatest length and one byte more.
 
 use crate::case::{Case, Check, LANE_COUNTS};
@@ -14,21 +14,23 @@ const ALPHABETS: [(&[u8], u32); 4] = [
     (b"\t\n\x0b\x0c\r /,;0", 4),
 ];
 
-/// Lane numbers that the short texts are read by.
+/// Lane numbers that the short texts are read by in turn, and one that all are read by: the Rust alone answers none of six lanes.
 const LANES: [usize; 3] = [4, 5, 0];
+const SIX: usize = 6;
 
 pub fn short_texts(checks: &mut [Check], kinds: &mut Kinds) {
     for (letters, longest) in ALPHABETS {
         for len in 0..=longest {
             for number in 0..letters.len().pow(len) {
-                let text = word(letters, len, number);
-                let case = Case {
-                    seed: number as u64,
-                    lanes: LANES[number % LANES.len()],
-                    bytes: text,
-                };
-                kinds.note(&case);
-                checks.iter_mut().for_each(|check| check.run(&case));
+                for lanes in [LANES[number % LANES.len()], SIX] {
+                    let case = Case {
+                        seed: number as u64,
+                        lanes,
+                        bytes: word(letters, len, number),
+                    };
+                    kinds.note(&case);
+                    checks.iter_mut().for_each(|check| check.run(&case));
+                }
             }
         }
     }
@@ -43,6 +45,23 @@ fn word(letters: &[u8], len: u32, number: usize) -> Vec<u8> {
             letter
         })
         .collect()
+}
+
+/// Every row of six cells over four letters, with a row of tails after it or without.
+pub fn six_cells(checks: &mut [Check], kinds: &mut Kinds) {
+    const LETTERS: &[u8] = b"012L";
+    for number in 0..LETTERS.len().pow(6) {
+        let row = word(LETTERS, 6, number);
+        for (seed, tails) in [&b"\n333333"[..], b""].into_iter().enumerate() {
+            let case = Case {
+                seed: seed as u64,
+                lanes: SIX,
+                bytes: [&row, tails].concat(),
+            };
+            kinds.note(&case);
+            checks.iter_mut().for_each(|check| check.run(&case));
+        }
+    }
 }
 
 /// Every byte at every place of the second of three rows' lines, and right after it, where lines end with byte 10 and with bytes 13 and 10: the readers
@@ -131,9 +150,10 @@ pub fn every_lane(checks: &mut [Check]) {
 
 /// Texts of the greatest length and of one byte more; the seeds lend exact slices and others.
 pub fn long_texts(checks: &mut [Check]) {
-    let patterns: [(usize, &[u8]); 6] = [
+    let patterns: [(usize, &[u8]); 7] = [
         (4, b"1000\n0000\n0200\n0300\n,\n"),
         (5, b"00001\n20000\n30000\n00000\n00M00\n0K000\n,\n"),
+        (6, b"010000\n200010\n0M0001\n300000\n,\n"),
         (8, b"00000000\n00000001\n,\n"),
         (10, b"0000000000\n2222222222\n3333333333\n4000000000\n"),
         (4, b",\n"),

@@ -1,5 +1,6 @@
 //! The differential run: libpadcheck.a and libleaves.a beside the Rust, in one process, on random, short and long texts and SM files.
-//! Where a row would have a byte 13 the Rust is asked about another text (`tests/oracle/asked.rs`).
+//! At six lanes, which the Rust reads as four, it is asked by its functions over a const L, and the directions of a tally are those of a plain
+//! reference (`tests/oracle/directions.rs`). Where a row would have a byte 13 the Rust is asked about another text (`tests/oracle/asked.rs`).
 //! Ends with `N passed, M failed`; the exit status is not 0 if anything differs or was left out.
 
 mod beat_checks;
@@ -33,10 +34,12 @@ use std::process::ExitCode;
 const HELP: &str = "\
 differential [--long | --cases N] [--at-least COUNT] [SEED..]
 
-Compares the exported entries and the leaves with the Rust. For each SEED (1 where none is given): N random
-texts, N random lists of rows, which are read as texts too, N beats, and random texts of 10,000 to 1,000,000
-bytes. Then every short text over a few letters, every byte at every place of a row's line, texts for each
-case of the correction, each entry with every combination of its slices one entry too short, and texts of the
+Compares the exported entries and the leaves with the Rust, and at 6 lanes, which it reads as 4, with its
+functions over a const L and a plain count of each direction's arrows. For each SEED (1 where none is given):
+N random texts, N random lists of rows, which are read as texts too, N beats, and random texts of 10,000 to
+1,000,000 bytes. Then every short text over a few letters, every row of six cells over four, every byte at
+every place of a row's line, texts for each case of the correction, each entry with every combination of its
+slices one entry too short, and texts of the
 greatest length. The search for a byte is made with it at every place of short slices, beside bytes that
 differ from it in one bit. The main and the kept tally are compared with each other too. Where a line has a
 byte 13 among its first L bytes, which is a row for the Rust alone, it is asked about a text in which that
@@ -140,6 +143,7 @@ fn run(options: &Options) -> ExitCode {
     places.iter_mut().for_each(places::every_place);
     texts.push(sheet);
     limits::short_texts(&mut texts, &mut kinds);
+    limits::six_cells(&mut texts, &mut kinds);
     limits::bytes_in_rows(&mut texts, &mut kinds);
     limits::corrections(&mut texts, &mut kinds);
     let mut shortages: Vec<_> = text_checks::shortages().collect();

@@ -88,8 +88,8 @@ pub fn tap_mask8(row: &[u8]) -> u32 {
     unsafe { leaves_tap_mask8(row.as_ptr(), row.len()) }
 }
 
-pub fn tap_sum(mask: u8) -> [u32; 12] {
-    let mut sum = [u32::MAX; 12];
+pub fn tap_sum(mask: u8) -> [u32; 14] {
+    let mut sum = [u32::MAX; 14];
     unsafe { leaves_tap_sum(mask, sum.as_mut_ptr()) };
     sum
 }

@@ -1,6 +1,6 @@
 //! Random texts, rows, lane numbers, flags and loans, all from a seed.
 
-use crate::case::Case;
+use crate::case::{Case, LANE_COUNTS};
 use oracle::calls::{Call, lanes_in_force};
 use oracle::entry::{Lengths, Loan, refusals};
 
@@ -56,14 +56,16 @@ const MARKS: &[u8] = b"0000111234MLFKmlfk\n\n\n\n\n\r\t\x0b\x0c  ,,;/x\x00\x80\x
 
 pub const BLANKS: &[u8] = b"\t\x0c\r ";
 
-const HUGE_LANES: [usize; 8] = [
+const HUGE_LANES: [usize; 10] = [
     usize::MAX,
     usize::MAX - 1,
     (1 << 62) - 1,
     1 << 63,
     (1 << 32) + 5,
+    (1 << 32) + 6,
     (1 << 32) + 8,
     260,
+    262,
     266,
 ];
 
@@ -71,7 +73,7 @@ pub fn lanes(rng: &mut Rng) -> usize {
     match rng.below(20) {
         0 => rng.pick(&HUGE_LANES),
         1..=6 => rng.below(13),
-        _ => rng.pick(&[4, 5, 8, 10]),
+        _ => rng.pick(&LANE_COUNTS),
     }
 }
 
@@ -156,9 +158,9 @@ fn end_line(rng: &mut Rng, mark: u8, text: &mut Vec<u8>) {
     text.push(b'\n');
 }
 
-/// Rows back to back, of one of the four lane counts: all cells, nests deeper than eight, and any bytes.
+/// Rows back to back, of one of the lane counts: all cells, nests deeper than eight, and any bytes.
 pub fn rows(rng: &mut Rng) -> (usize, Vec<u8>) {
-    let lanes = rng.pick(&[4, 5, 8, 10]);
+    let lanes = rng.pick(&LANE_COUNTS);
     let count = rng.pick(&[0, 1, 2, 3, 4, 5, 6, 8, 8, 12, 16, 16, 24, 32]);
     let cells = rng.pick(&STYLES);
     let zeros = rng.pick(&[0, 0, 2, 3, 3]);

@@ -1,6 +1,7 @@
-//! Self-check of the oracle: the specification's examples, refusals, leaves, dropped heads, sheets, the charts inside an SM file, and the stored samples.
+//! Self-check of the oracle: the specification's examples, refusals, leaves, directions, dropped heads, sheets, the charts inside an SM file, and the stored samples.
 //! Ends with `N passed, M failed`; the exit status is not 0 if anything failed.
 
+mod check_directions;
 mod check_dropped;
 mod check_examples;
 mod check_files;
@@ -72,6 +73,7 @@ fn main() -> ExitCode {
     checks.group("reduction", reduction);
     checks.group("beats", beats);
     checks.group("object rows", object_rows);
+    checks.group("directions", check_directions::run);
     checks.group("dropped heads", check_dropped::run);
     checks.group("sheets", check_sheet::run);
     checks.group("charts in files", check_sm::run);
@@ -81,13 +83,13 @@ fn main() -> ExitCode {
     ExitCode::from(u8::from(checks.failed != 0))
 }
 
-/// L is 5, 8 or 10 where the caller gives that number, otherwise 4.
+/// L is 5, 6, 8 or 10 where the caller gives that number, otherwise 4.
 fn lane_numbers(checks: &mut Checks) {
     let in_force: Vec<usize> = (0..13).map(lanes_in_force).collect();
     checks.same(
         "lanes in force",
         in_force,
-        vec![4, 4, 4, 4, 4, 5, 4, 4, 8, 4, 10, 4, 4],
+        vec![4, 4, 4, 4, 4, 5, 6, 4, 8, 4, 10, 4, 4],
     );
     // The unchanged function divides by zero there; the oracle answers as for 4 lanes.
     for lanes in [(1 << 62) - 1, usize::MAX] {
@@ -144,6 +146,8 @@ fn refusals(checks: &mut Checks) {
         (20, 10, [21, 11, 1, 1, 100]),
         (17, 8, [18, 10, 2, 2, 160]),
         (11, 5, [12, 7, 2, 2, 100]),
+        (13, 6, [14, 8, 2, 2, 120]),
+        (12, 6, [13, 7, 1, 1, 60]),
         (0, 7, [1, 1, 0, 0, 0]),
     ] {
         for (call, numbers) in WHEN_SHORT {
@@ -185,7 +189,7 @@ fn loans(checks: &mut Checks) {
     checks.same("not lent", loan.spacing, vec![0xA5; 7]);
     let want = [10, 1, 2, 1, 2f64.to_bits(), 0, 96, 0];
     checks.same("figures", &loan.figures[..8], &want);
-    checks.same("figures kept for later", &loan.figures[23..], &[0; 9]);
+    checks.same("figures kept for later", &loan.figures[25..], &[0; 7]);
     let mut loan = Loan::marked(&lengths([0, 7, 0, 0, 0]));
     let number = enter(Call::EquallySpaced, b",\n0000", 4, &[], &mut loan);
     checks.same("spacing accepted", number, 0);

@@ -64,7 +64,7 @@ fn letters(checks: &mut Checks) {
 
 /// A row of heads is listed by its columns, and those beyond the lanes are not read.
 fn columns(checks: &mut Checks) {
-    for lanes in [4, 5, 8, 10, 0, 7] {
+    for lanes in [4, 5, 6, 8, 10, 0, 7] {
         let want: Vec<_> = (0..lanes_in_force(lanes) as u8)
             .map(|column| (0, column, None, 2))
             .collect();

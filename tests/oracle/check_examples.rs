@@ -161,7 +161,7 @@ fn keysounds(checks: &mut Checks) {
         let tally = calls::process_timing_rows(&text, 4, &flags).tally();
         checks.same("K5", tally[KEYSOUNDS], count);
     }
-    for lanes in [4, 5, 8, 10] {
+    for lanes in [4, 5, 6, 8, 10] {
         let row = vec![b'K'; lanes + 2];
         let tally = calls::process_chart_kept(&row, lanes).tally();
         checks.same("a row of keysounds", tally[KEYSOUNDS], lanes as u64);

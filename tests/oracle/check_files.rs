@@ -69,7 +69,7 @@ fn coverage(checks: &mut Checks, files: &[Vec<u8>]) {
         .iter()
         .flat_map(|file| (0..=blocks(file).len()).map(|k| sm_chart(file, k)))
         .collect();
-    for lanes in [4, 5, 8, 10] {
+    for lanes in [4, 5, 6, 8, 10] {
         let is_here = |answer: &&Result<SmChart, u32>| {
             answer.as_ref().is_ok_and(|chart| chart.lanes == lanes)
         };

@@ -59,6 +59,8 @@ lifts               0        0        0
 fakes               0        0        0
 holding             0        0        0
 keysounds           0        0        0
+up_left             0        0        0
+up_right            0        0        0
 
 densities, 16 measures to a line; = equally spaced, - not
       0:  3-  0-
@@ -72,7 +74,7 @@ roll        3        3        4
 fn forms(checks: &mut Checks) {
     checks.same("card", sheet(CHART, Form::Card), CARD.to_string());
     checks.same("print", sheet(CHART, Form::Print), PRINT.to_string());
-    let tally = r#"{"total_arrows":3,"left":1,"down":1,"up":0,"right":1,"total_steps":3,"jumps":0,"hands":0,"mines":1,"holds":1,"rolls":1,"lifts":0,"fakes":0,"holding":0,"keysounds":0}"#;
+    let tally = r#"{"total_arrows":3,"left":1,"down":1,"up":0,"right":1,"total_steps":3,"jumps":0,"hands":0,"mines":1,"holds":1,"rolls":1,"lifts":0,"fakes":0,"holding":0,"keysounds":0,"up_left":0,"up_right":0}"#;
     let json = format!(
         r#"{{"measures":2,"rows":6,"notes":4,"last_beat":{{"beats":6,"over_48":0,"in_48ths":288}},"main":{tally},"kept":{tally},"judged":{tally},"densities":[3,0],"equally_spaced":[false,false],"note_records":[[0,0,0,null],[2,1,1,3],[3,3,2,4],[5,3,3,null]]}}"#
     );
@@ -109,7 +111,7 @@ fn columns(checks: &mut Checks) {
     ]
     .concat();
     let print = sheet(&text, Form::Print);
-    let lines: Vec<&str> = print.lines().skip(23).collect();
+    let lines: Vec<&str> = print.lines().skip(25).collect();
     let zeros = "  0=".repeat(15);
     let want = [
         "densities, 16 measures to a line; = equally spaced, - not",
@@ -147,7 +149,7 @@ fn lent(len: usize, lanes: usize, short: usize) -> (Loan, usize) {
 fn refusals(checks: &mut Checks) {
     checks.same("the sheet of no text", sheet_len(0), 3042);
     checks.same("of the longest", sheet_len(MAX_LEN), 704_646_072);
-    for (len, lanes) in [(9, 4), (11, 5), (17, 8), (21, 10), (40, 7)] {
+    for (len, lanes) in [(9, 4), (11, 5), (13, 6), (17, 8), (21, 10), (40, 7)] {
         let what = format!("length {len}, {lanes} lanes");
         for (short, number) in [2, 3, 3, 4, 5, 6, 19, 0].into_iter().enumerate() {
             let (loan, sheet) = lent(len, lanes, short);

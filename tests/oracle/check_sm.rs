@@ -121,11 +121,12 @@ fn fields(checks: &mut Checks) {
     answers(checks, "#NOTES:dance-single:a:bb:c\n:dd:e:f;", &[chart]);
 }
 
-/// The type is the first field without blanks at either end, byte for byte one of the four.
+/// The type is the first field without blanks at either end, byte for byte one of the five.
 fn types(checks: &mut Checks) {
     for (name, lanes) in [
         ("dance-single", 4),
         ("pump-single", 5),
+        ("dance-solo", 6),
         ("dance-double", 8),
         ("pump-double", 10),
     ] {
@@ -159,7 +160,7 @@ fn types(checks: &mut Checks) {
         " ",
         "\r\n",
         "lights-cabinet",
-        "dance-solo",
+        "dance-threepanel",
         "//dance-single",
     ] {
         answers(checks, &format!("#NOTES:{other}:::::1;"), &[Err(10)]);

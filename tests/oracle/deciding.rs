@@ -93,7 +93,8 @@ pub const TEXTS: &[Deciding] = &[
     lanes("lanes 8", 8, "00000001|"),
     lanes("lanes 10", 10, "0000000001|"),
     lanes("lanes 9 are 4", 9, "000110000|"),
-    lanes("lanes 6 are 4", 6, "000110|"),
+    lanes("lanes 6", 6, "000011|"),
+    lanes("lanes 7 are 4", 7, "0001100|"),
     // Minimising
     four("stride: off its multiples", "1000|0100|0000|0000|"),
     four("stride: every row off", "1000|0000|0000|0100|"),
@@ -307,6 +308,24 @@ pub const TEXTS: &[Deciding] = &[
         " K00|/K00|K000\r|K\r00|,K00|;K00|",
     ),
     flagged("keysounds: unjudged", "K000|KK00|000K|", &[0, 1]),
+    // Directions of six lanes
+    lanes("six columns: directions", 6, "111111|011111|001111|000111|000011|000001|"),
+    lanes("six columns: by fours no more", 6, "000010|000001|"),
+    lanes("six columns: paired heads", 6, "020040|030030|"),
+    lanes("six columns: heads and tails", 6, SIX_NINE_TEN),
+    lanes("six columns: a blocker met", 6, "020000|010000|030000|"),
+    lanes("six columns: a depth left over", 6, "030000|020000|"),
+    lanes("six columns: as many heads", 6, SIX_NINE_NINE),
+    lanes("six columns: what empties a stack", 6, "222000|MLF000|333000|"),
+    lanes("six columns: what leaves it", 6, "222200|Kmlf00|333300|000020|"),
+    lanes("six columns: judged", 6, "0L0010|00l020|000030|040000|"),
+    Deciding {
+        name: "six columns: flags",
+        lanes: 6,
+        text: "010000|000010|100000|",
+        flags: &[0, 1],
+    },
+    lanes("six columns: rows read back", 6, " 10000|/10000|010000\r|,00001|;00001|"),
 ];
 
 macro_rules! eight_zeros {
@@ -364,3 +383,12 @@ const EIGHTH: &str =
 
 /// The same nine heads with a tail too many.
 const NINE_HEADS_TEN_TAILS: &str = concat!(nine_heads!(""), "3000|");
+
+/// Nine heads and as many tails in the second column of six lanes, and with a tail too many.
+const SIX_NINE_NINE: &str = concat!("020000|", eight!("020000|"), "030000|", eight!("030000|"));
+const SIX_NINE_TEN: &str = concat!(
+    "020000|",
+    eight!("020000|"),
+    "030000|030000|",
+    eight!("030000|")
+);

@@ -61,7 +61,7 @@ pub fn text_rows(text: &[u8], lanes: usize) -> impl Iterator<Item = &[u8]> {
             rest = after;
         }
         let row = rest.get(..lanes)?;
-        rest = &rest[lanes + 1..];
+        rest = rest.get(lanes + 1..).unwrap_or_default();
         Some(row)
     })
 }

@@ -2,6 +2,7 @@
 //!
 //! - `asked`: the text that the Rust is asked about, which is another where a row would have a byte 13.
 //! - `calls`: the nine chart calls, each with its figures and the contents of its slices.
+//! - `directions`: the directions of a tally's arrows at six lanes, which the Rust does not have.
 //! - `dropped`: the heads that come to nothing, which the Rust does not list.
 //! - `keysounds`: the count of keysounds, which the Rust does not have.
 //! - `leaves`: the functions below them.
@@ -16,6 +17,7 @@
 pub mod asked;
 pub mod card;
 pub mod deciding;
+pub mod directions;
 pub mod dropped;
 pub mod entry;
 pub mod keysounds;

@@ -9,9 +9,10 @@ pub const TAG: &[u8] = b"#NOTES:";
 pub const FIELDS: usize = 5;
 
 /// The type names and their lane counts.
-pub const TYPES: [(&[u8], usize); 4] = [
+pub const TYPES: [(&[u8], usize); 5] = [
     (b"dance-single", 4),
     (b"pump-single", 5),
+    (b"dance-solo", 6),
     (b"dance-double", 8),
     (b"pump-double", 10),
 ];

@@ -172,6 +172,7 @@ pub const FILES: &[Deciding] = &[
     // Types
     file("dance-single", "#NOTES:dance-single:a:b:1:0:1000|;"),
     file("pump-single", "#NOTES:pump-single:a:b:1:0:10000|;"),
+    file("dance-solo", "#NOTES:dance-solo:a:b:1:0:100000|;"),
     file("dance-double", "#NOTES:dance-double:a:b:1:0:10000000|;"),
     file("pump-double", "#NOTES:pump-double:a:b:1:0:1000000000|;"),
     file(
@@ -253,6 +254,10 @@ pub const FILES: &[Deciding] = &[
     file(
         "last byte of pump-single",
         "#NOTES:pump-singl_:a:b:1:0:10000|;",
+    ),
+    file(
+        "last byte of dance-solo",
+        "#NOTES:dance-sol0:a:b:1:0:100000|;",
     ),
     file(
         "last byte of dance-double",

@@ -115,7 +115,7 @@ fn edited() -> Vec<Vec<u8>> {
         // A byte order mark is no blank.
         format!("\u{FEFF}#NOTES:dance-single:::::{ROWS};\n{single}"),
         format!("{SONG}{}{all}", block("lights-cabinet")),
-        format!("{SONG}{}{single}", block("dance-solo")),
+        format!("{SONG}{}{single}", block("dance-threepanel")),
         // The last block has no end; the first has none, and takes the others in.
         format!("{SONG}{all}{}", edited_block("pump-single", "")),
         format!("{SONG}{}{all}", edited_block("pump-single", "\n")),
@@ -148,7 +148,7 @@ fn shifted(by: usize) -> Vec<u8> {
 }
 
 /// Names to draw from; more of those that are known.
-const NAMES: [&str; 12] = [
+const NAMES: [&str; 14] = [
     "dance-single",
     "dance-single",
     "pump-single",
@@ -158,6 +158,8 @@ const NAMES: [&str; 12] = [
     "pump-double",
     "pump-double",
     "dance-solo",
+    "dance-solo",
+    "dance-threepanel",
     "Dance-single",
     "dance-singlf",
     "",

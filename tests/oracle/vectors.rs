@@ -20,13 +20,14 @@ pub struct Sample {
     pub flags: Vec<u8>,
 }
 
-const LANE_COUNTS: [usize; 4] = [4, 5, 8, 10];
+const LANE_COUNTS: [usize; 5] = [4, 5, 6, 8, 10];
 
-/// Numbers that give 5, 8 or 10 when cut to 8, 16 or 32 bits, and those near the ends.
-const HUGE_LANES: [usize; 10] = [
+/// Numbers that give 5, 6, 8 or 10 when cut to 8, 16 or 32 bits, and those near the ends.
+const HUGE_LANES: [usize; 11] = [
     0x105,
     0x1_0008,
     0x1_0000_0005,
+    0x1_0000_0006,
     0x1_0000_0008,
     0x1_0000_000A,
     (1 << 62) - 1,
@@ -168,8 +169,8 @@ pub fn samples(seed: u64) -> Vec<Sample> {
         texts.push((lanes, long_rows()));
         texts.push((lanes, mixed_text(&mut numbers, lanes_in_force(lanes), 12)));
     }
-    for i in 0..72 {
-        let lanes = LANE_COUNTS[i % 4];
+    for i in 0..90 {
+        let lanes = LANE_COUNTS[i % LANE_COUNTS.len()];
         let lines = numbers.below(1800 / (lanes + 1)) + 1;
         texts.push((lanes, mixed_text(&mut numbers, lanes, lines)));
     }

@@ -33,8 +33,8 @@ def table(source):
     rows = source[source.index("\ntable =\n") + 9 :]
     rows = rows[: rows.index("\n\n")]
     found = []
-    for part in re.split(r"^ *-- (?=[PRK]\d+\b)", rows, flags=re.M)[1:]:
-        name = re.match(r"[PRK]\d+", part).group()
+    for part in re.split(r"^ *-- (?=[PRKS]\d+\b)", rows, flags=re.M)[1:]:
+        name = re.match(r"[PRKS]\d+", part).group()
         found.append(example(name, "-- " + part))
     return found
 
@@ -64,7 +64,8 @@ def argument(x):
 
 
 def numbers(x):
-    """A list of numbers: digits, strings (`|` is byte 10 and `^` byte 13), and the tables' words for whole beats, no tail and repeats."""
+    """A list of numbers: digits, strings (`|` is byte 10 and `^` byte 13), and the tables' words for whole beats, no tail,
+    repeats, and the counts of a tally without an arrow up-left or up-right."""
     if isinstance(x, str):
         if x.startswith('"'):
             return [{124: 10, 94: 13}.get(byte, byte) for byte in x[1:-1].encode("ascii")]
@@ -74,6 +75,8 @@ def numbers(x):
         return [model.bits32(number) for number in inside]
     if "whole_beat" in x:
         return [model.bits64(number) for number in inside]
+    if "counts" in x:
+        return inside + [0, 0]
     if "replicate" in x:
         return inside[0] * inside[1:]
     if "zero_rows" in x:

@@ -6,12 +6,15 @@ from collections import defaultdict
 from fractions import Fraction
 
 NO_TAIL = 4294967295
-FIELDS = ("arrows", "left", "down", "up", "right", "steps", "jumps", "hands", "mines", "holds", "rolls", "lifts", "fakes", "holding", "keys")
+FIELDS = (
+    *("arrows", "left", "down", "up", "right", "steps", "jumps", "hands", "mines", "holds", "rolls", "lifts", "fakes", "holding"),
+    *("keys", "up_left", "up_right"),
+)
 
 
 def lanes_of(number):
     """The lane count in force."""
-    return number if number in (5, 8, 10) else 4
+    return number if number in (5, 6, 8, 10) else 4
 
 
 # Refusals, Slices
@@ -258,12 +261,18 @@ def count(row, cells):
     return sum(byte in cells for byte in row)
 
 
+def direction(L, c):
+    """The direction of an arrow in column c."""
+    six = ("left", "up_left", "down", "up", "up_right", "right")
+    return six[c] if L == 6 else ("left", "down", "up", "right")[c % 4]
+
+
 def add_cells(t, row, arrow_cells):
     """Adds a row's cells to a tally, and answers its arrows."""
     columns = [c for c, byte in enumerate(row) if byte in arrow_cells]
     t["arrows"] += len(columns)
     for c in columns:
-        t[("left", "down", "up", "right")[c % 4]] += 1
+        t[direction(len(row), c)] += 1
     t["holds"] += count(row, b"2")
     t["rolls"] += count(row, b"4")
     t["mines"] += count(row, b"Mm")

@@ -81,13 +81,13 @@ def notes(lines):
 def tally(lines):
     """The tally's fields in their order."""
     at = next(i for i, line in enumerate(lines) if line.startswith("total_arrows "))
-    return [int(line.split(" ")[1]) for line in lines[at : at + 15]]
+    return [int(line.split(" ")[1]) for line in lines[at : at + 17]]
 
 
 def random_text(draw):
     """A lane number, flags and a text of a few lines, most of them rows."""
-    lanes = draw.choice((4, 4, 5, 8, 10, 10, 0, 6, 9))
-    width = lanes if lanes in (5, 8, 10) else 4
+    lanes = draw.choice((4, 4, 5, 6, 6, 8, 10, 10, 0, 7, 9))
+    width = lanes if lanes in (5, 6, 8, 10) else 4
     cells = draw.choice(("01", "0001234", "0012344MLFKmlf", "002233", "0000MLFKmlf123", "0001234\r", "0123456789MLFKmlfxX \r"))
     marks = draw.choice((0.0, 0.1, 0.4))
     zeros = draw.choice((0.0, 0.3, 0.8))

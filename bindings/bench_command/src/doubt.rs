@@ -249,8 +249,10 @@ mod tests {
         ));
         assert_eq!(data_doubt(b"", b"10000\n0000\n", 4), None);
         assert_eq!(data_doubt(b"", b"10000\n00100\n", 5), None);
+        assert_eq!(data_doubt(b"", b"100000\n", 6), None);
+        assert!(data_doubt(b"", b"1000000\n", 6).is_some_and(|why| why.contains("past 6 lanes")));
         // Another lane number means 4.
-        assert!(data_doubt(b"", b"100000\n", 6).is_some_and(|why| why.contains("past 4 lanes")));
+        assert!(data_doubt(b"", b"1000000\n", 7).is_some_and(|why| why.contains("past 4 lanes")));
     }
 
     #[test]

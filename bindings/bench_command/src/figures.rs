@@ -7,7 +7,7 @@ use padcheck::{NOTE_BYTES, ParsedChartNote, lanes_in_force, read_note};
 use std::ops::Range;
 
 /// The fields of a tally.
-const FIELDS: [&str; 15] = [
+const FIELDS: [&str; 17] = [
     "total_arrows",
     "left",
     "down",
@@ -23,6 +23,8 @@ const FIELDS: [&str; 15] = [
     "fakes",
     "holding",
     "keysounds",
+    "up_left",
+    "up_right",
 ];
 
 /// The figures of a chart.

@@ -178,6 +178,15 @@ mod tests {
     }
 
     #[test]
+    fn six_lanes_are_a_layout() {
+        let data = b"000010\n010010\n";
+        let (sheet, status) = printed(data, Selection::Bare(6), SheetForm::Print);
+        assert_eq!(status, Status::Done);
+        assert!(sheet.contains("\nlanes               6\n"));
+        assert!(sheet.contains("\nup_left             1        1        1\nup_right            2        2        2\n"));
+    }
+
+    #[test]
     fn a_doubtful_chart_prints_nothing_of_a_sheet() {
         for form in [SheetForm::Card, SheetForm::Print, SheetForm::Json] {
             let printed = printed(b"100\n", Selection::Bare(4), form);

@@ -122,7 +122,7 @@ impl Slices {
 
     /// The counts of the main tally, in the order of its fields.
     pub fn tally(&self) -> &[u64] {
-        &self.figures[place::TALLY..=place::KEYSOUNDS]
+        &self.figures[place::TALLY..=place::UP_RIGHT]
     }
 
     /// The last beat, by its bits.

@@ -3,9 +3,9 @@
 # 16,777,215 bytes are 3,355,443 rows of 4 lanes, a tap each; one byte more is refused.
 yes 1000 | head -c 16777215 >"$out/longest"
 run 0 sheet "$out/longest" --lanes 4 --form card
-printf 'measures 1\nrows 3355443\narrows 3355443\nsteps 3355443\nnotes 3355443\nlast 192\nm 0 3355443 1\n' >"$out/wanted"
-head -n 7 "$out/stdout" | diff "$out/wanted" - || failed "the longest text"
-awk 'NR > 7 && $0 != "n " NR - 8 " 0 0 -" { exit 1 } END { if (NR != 3355450) exit 1 }' "$out/stdout" ||
+printf 'measures 1\nrows 3355443\narrows 3355443\nsteps 3355443\nkeys 0\nnotes 3355443\nlast 192\nm 0 3355443 1\n' >"$out/wanted"
+head -n 8 "$out/stdout" | diff "$out/wanted" - || failed "the longest text"
+awk 'NR > 8 && $0 != "n " NR - 9 " 0 0 -" { exit 1 } END { if (NR != 3355451) exit 1 }' "$out/stdout" ||
     failed "the notes of the longest text"
 printf '\n' >>"$out/longest"
 printed 1 "refused 1: len is over 16,777,215, by whoever wires up the call" sheet "$out/longest" --lanes 4

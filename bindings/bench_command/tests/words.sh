@@ -10,6 +10,7 @@ stored 0 sheet.lanes sheet "$chart" --lanes 4
 stored 0 sheet.chart sheet "$sm" --chart 2
 stored 0 sheet.json sheet "$sm" --form json
 stored 0 sheet.lanes.json sheet "$chart" --lanes=4 --form=json
+stored 0 sheet.solo sheet bindings/bench_command/tests/given/solo.sm
 holds=bindings/bench_command/tests/given/holds.sm
 stored 0 dropped dropped "$sm" "$holds"
 stored 0 dropped dropped "$sm" --form print "$holds"

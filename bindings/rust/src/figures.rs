@@ -18,16 +18,21 @@ pub mod place {
     pub const LAST_BEAT_48THS: usize = 6;
     /// Bytes of the sheet.
     pub const SHEET_BYTES: usize = 7;
-    /// The first of the fifteen fields of [`ArrowStats`](crate::ArrowStats), in their order.
+    /// The first of the seventeen fields of [`ArrowStats`](crate::ArrowStats), in their order.
     pub const TALLY: usize = 8;
-    /// The last of them: cells K.
+    /// Of them, cells K.
     pub const KEYSOUNDS: usize = 22;
+    /// Of them, arrows up-left.
+    pub const UP_LEFT: usize = 23;
+    /// The last of them: arrows up-right.
+    pub const UP_RIGHT: usize = 24;
 }
 
 /// What a chart call answers in numbers; [`place`] says what stands where.
 pub type Figures = [u64; 32];
 
-/// The tally of a chart: the fields of rssp's, in their order, and the keysounds.
+/// The tally of a chart: the fields of rssp's, in their order, then the keysounds and the two directions that
+/// six lanes alone have.
 #[derive(Debug, Default, Clone, PartialEq, Eq)]
 #[expect(missing_docs, reason = "the fields say what they count")]
 pub struct ArrowStats {
@@ -46,6 +51,8 @@ pub struct ArrowStats {
     pub fakes: u32,
     pub holding: i32,
     pub keysounds: u32,
+    pub up_left: u32,
+    pub up_right: u32,
 }
 
 impl ArrowStats {
@@ -69,7 +76,9 @@ impl ArrowStats {
             lifts: field(11),
             fakes: field(12),
             holding: field(13) as i32,
-            keysounds: figures[place::KEYSOUNDS] as u32,
+            keysounds: field(14),
+            up_left: field(15),
+            up_right: field(16),
         }
     }
 }
@@ -90,5 +99,6 @@ mod tests {
         let beats = [LAST_BEAT, HAS_HEADS, LAST_BEAT_48THS];
         assert_eq!(beats, [4, 5, 6]);
         assert_eq!((SHEET_BYTES, TALLY, KEYSOUNDS), (7, 8, 22));
+        assert_eq!((UP_LEFT, UP_RIGHT), (23, 24));
     }
 }

@@ -13,15 +13,15 @@ pub const DROPPED_BYTES: usize = 10;
 const SHEET_BYTES: usize = 42;
 const SHEET_HEAD: usize = 3000;
 
-/// L, the lane count in force: 5, 8 or 10 where the caller gives that number, otherwise 4.
+/// L, the lane count in force: 5, 6, 8 or 10 where the caller gives that number, otherwise 4.
 ///
 /// ```
-/// assert_eq!([4, 5, 8, 10, 0, 7].map(padcheck::lanes_in_force), [4, 5, 8, 10, 4, 4]);
+/// assert_eq!([4, 5, 6, 8, 10, 0, 7].map(padcheck::lanes_in_force), [4, 5, 6, 8, 10, 4, 4]);
 /// ```
 #[must_use]
 pub const fn lanes_in_force(lanes: usize) -> usize {
     match lanes {
-        5 | 8 | 10 => lanes,
+        5 | 6 | 8 | 10 => lanes,
         _ => 4,
     }
 }

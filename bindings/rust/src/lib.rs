@@ -18,7 +18,7 @@
 //! [`sm_chart`] and [`sm_charts`] find what any of these is given: the note data of each chart inside an SM file, and its
 //! lane count. They copy nothing, and what they refuse is a [`Refusal`] too; [`sm_blocks`] says besides where each starts.
 //!
-//! `lanes` is the lane number as the caller has it: 5, 8 and 10 are taken as such, every other number as 4.
+//! `lanes` is the lane number as the caller has it: 5, 6, 8 and 10 are taken as such, every other number as 4.
 //!
 //! # Linking
 //!

@@ -76,7 +76,7 @@ pub fn process_chart_kept(
     })
 }
 
-/// Minimised rows, their beats, and whether any has a 2 or 4. `L` is 4, 5, 8 or 10; another does not compile.
+/// Minimised rows, their beats, and whether any has a 2 or 4. `L` is 4, 5, 6, 8 or 10; another does not compile.
 ///
 /// ```
 /// let (rows, beats, has_heads) = padcheck::minimize_timing_rows::<4>(b"2000\n0000\n3000\n0000\n")?;
@@ -99,7 +99,7 @@ pub fn minimize_timing_rows<const L: usize>(
     const {
         assert!(
             crate::lanes_in_force(L) == L,
-            "a row has 4, 5, 8 or 10 lanes"
+            "a row has 4, 5, 6, 8 or 10 lanes"
         )
     };
     let lengths = Lengths::of(data.len(), L);
@@ -220,7 +220,7 @@ pub fn dropped_holds(data: &[u8], lanes: usize) -> Result<Vec<DroppedHead>, Refu
 ///
 /// let data = b"1000\n0000\n0100\n0000\n;\n";
 /// let card = chart_sheet(data, 4, SheetForm::Card)?;
-/// assert_eq!(card, b"measures 1\nrows 2\narrows 2\nsteps 2\nnotes 2\nlast 96\nm 0 2 1\nn 0 0 0 -\nn 1 1 0 -\n");
+/// assert_eq!(card, b"measures 1\nrows 2\narrows 2\nsteps 2\nkeys 0\nnotes 2\nlast 96\nm 0 2 1\nn 0 0 0 -\nn 1 1 0 -\n");
 /// let print = chart_sheet(data, 4, SheetForm::Print)?;
 /// assert!(print.starts_with(b"measures            1\nrows                2\n"));
 /// let json = chart_sheet(data, 4, SheetForm::Json)?;

@@ -41,7 +41,7 @@ pub enum Refusal {
     BadRecord = 8,
     /// Fewer than five `:` stand in the chart's block of the SM file after its tag.
     FewFields = 9,
-    /// The chart's type in the SM file is not `dance-single`, `pump-single`, `dance-double` or `pump-double`.
+    /// The chart's type in the SM file is not `dance-single`, `pump-single`, `dance-solo`, `dance-double` or `pump-double`.
     OtherType = 10,
     /// The asked chart's number is not below the number of blocks in the SM file.
     NoChart = 11,

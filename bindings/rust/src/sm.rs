@@ -6,7 +6,7 @@ use std::iter::FusedIterator;
 /// A chart inside an SM file.
 #[derive(Clone, Copy, Debug, PartialEq, Eq, Hash)]
 pub struct SmChart<'a> {
-    /// Its lane count: 4 for `dance-single`, 5 for `pump-single`, 8 for `dance-double`, 10 for `pump-double`.
+    /// Its lane count: 4 for `dance-single`, 5 for `pump-single`, 6 for `dance-solo`, 8 for `dance-double`, 10 for `pump-double`.
     pub lanes: usize,
     /// Its note data, a part of the file: what follows the fifth field, through the `;` that ends it.
     pub data: &'a [u8],

@@ -195,7 +195,7 @@ pub fn minimize_rows_typed<const L: usize>(data: &[u8]) -> MinimizedTypedRows<L>
 /// Minimised text, tally, densities, row beats and last beat; the minimised rows are in `scratch`.
 ///
 /// Three calls: text, tally and densities are the kept-row call's, rows and beats those of the timing rows, the last beat
-/// is the scan's. `L` is 4, 5, 8 or 10; another, which the Rust takes too, does not compile here.
+/// is the scan's. `L` is 4, 5, 6, 8 or 10; another, which the Rust takes too, does not compile here.
 ///
 /// ```
 /// use padcheck::stats::{TypedRowsScratch, minimize_rows_typed_in};
@@ -252,7 +252,7 @@ fn typed_rows<const L: usize>(
     data: &[u8],
     scratch: &mut TypedRowsScratch<L>,
 ) -> Vec<f32> {
-    const { assert!(lanes_in_force(L) == L, "a row has 4, 5, 8 or 10 lanes") };
+    const { assert!(lanes_in_force(L) == L, "a row has 4, 5, 6, 8 or 10 lanes") };
     let timing = accepted(buffers.minimize_timing_rows(data, L));
     let (rows, _) = timing.rows.as_chunks();
     scratch.rows.clear();

@@ -1,7 +1,8 @@
 //! `padcheck::stats` beside rssp's own `stats.rs`, as published, on the texts of the stored sample and on random ones. Where a row
 //! would have a byte 13 the Rust is asked about another text.
 //! Answers are compared in the form that `{:?}` prints, which has every field by its name and every float exactly; a tally without its
-//! keysounds, which the Rust does not count.
+//! keysounds and the directions of six lanes, which the Rust does not count. The Rust reads lane number 6 as 4, so there its functions over
+//! a const L are asked, and of a tally of theirs the directions are left out.
 
 #[path = "../../../tests/oracle/asked.rs"]
 mod asked;
@@ -81,8 +82,17 @@ macro_rules! signatures {
 signatures!(signatures_of_rssp, rssp);
 signatures!(signatures_of_the_binding, stats);
 
-/// Shows each text with its lane number to a test: those of the stored sample, then random ones.
+/// Shows each text with its lane number, but for 6, to a test.
 fn each_text(mut test: impl FnMut(&[u8], usize)) {
+    every_text(|data, lanes| {
+        if lanes != 6 {
+            test(data, lanes);
+        }
+    });
+}
+
+/// Shows each text with its lane number to a test: those of the stored sample, then random ones.
+fn every_text(mut test: impl FnMut(&[u8], usize)) {
     let path = Path::new(env!("CARGO_MANIFEST_DIR")).join("../../crates/replay_charts/stdin");
     let file = fs::read(path).expect("the stored sample is in the repository");
     let mut reader = Reader(&file);
@@ -99,7 +109,7 @@ fn each_text(mut test: impl FnMut(&[u8], usize)) {
     }
     let mut draw = Draw(1);
     for _ in 0..5_000 {
-        let lanes = draw.from(&[4, 5, 8, 10, 0, 7]);
+        let lanes = draw.from(&[4, 5, 6, 8, 10, 0, 7]);
         test(&draw.text(lanes_in_force(lanes)), lanes);
     }
 }
@@ -146,20 +156,25 @@ impl Draw {
 /// Compares what both answer.
 fn same(ours: impl Debug, rust: impl Debug, data: &[u8], lanes: usize) {
     assert_eq!(
-        without_keysounds(&format!("{ours:?}")),
+        without_own_fields(&format!("{ours:?}")),
         format!("{rust:?}"),
         "{} at {lanes} lanes",
         data.escape_ascii()
     );
 }
 
-/// What is printed of an answer but for the last field of its tally, where it has one.
-fn without_keysounds(printed: &str) -> String {
-    let Some((before, rest)) = printed.split_once(", keysounds: ") else {
+/// What is printed of an answer but for the last fields of its tally, where it has one.
+fn without_own_fields(printed: &str) -> String {
+    without(printed, ", keysounds: ", " }")
+}
+
+/// What is printed without a part of it, from this on and up to that.
+fn without(printed: &str, from: &str, to: &str) -> String {
+    let Some((before, rest)) = printed.split_once(from) else {
         return printed.to_string();
     };
-    let past = rest.trim_start_matches(|c: char| c.is_ascii_digit());
-    format!("{before}{past}")
+    let at = rest.find(to).expect("a tally goes on so");
+    format!("{before}{}", &rest[at..])
 }
 
 /// Compares what two functions of the same name answer of a chart.
@@ -295,6 +310,36 @@ fn typed_rows() {
         10 => ten.compare(data),
         _ => four.compare(data),
     });
+}
+
+#[test]
+fn six_lanes() {
+    let (mut ours, mut notes) = Default::default();
+    let (mut rust, mut rust_notes) = Default::default();
+    let printed = |answer: &dyn Debug| without(&format!("{answer:?}"), " left: ", " total_steps: ");
+    let mut texts = 0;
+    every_text(|data, lanes| {
+        if lanes != 6 {
+            return;
+        }
+        texts += 1;
+        let asked = &chart_text(data, 6);
+        let got = stats::minimize_rows_typed_in_notes::<6>(data, &mut ours, &mut notes);
+        let want = rssp::minimize_rows_typed_in_notes::<6>(asked, &mut rust, &mut rust_notes);
+        let stats = &got.1;
+        let diagonal = stats.up_left + stats.up_right;
+        let other = stats.left + stats.down + stats.up + stats.right;
+        assert_eq!(other + diagonal, stats.total_arrows);
+        assert_eq!(without_own_fields(&printed(&got)), printed(&want));
+        assert_eq!(ours.rows(), rust.rows());
+        assert!(notes.drain().map(|note| format!("{note:?}")).eq(rust_notes.drain().map(|note| format!("{note:?}"))));
+        assert_eq!(stats::minimize_chart_for_hash(data, 6), got.0);
+        assert_eq!(stats::measure_densities(data, 6), got.2);
+        assert_eq!(stats::chart_last_beat(data, 6).to_bits(), got.4.to_bits());
+        let typed = stats::minimize_rows_typed::<6>(data);
+        assert_eq!((typed.0, typed.1, typed.2, typed.3), (got.0, got.1, got.2, ours.rows().to_vec()));
+    });
+    assert!(texts > 500);
 }
 
 /// What docs/RUST.md says of the functions that are left out: which call answers the same, and on which texts.

@@ -47,7 +47,7 @@ fn a_head_is_listed_or_noted() {
     let mut buffers = Buffers::new();
     let cells = b"00000000012233344MLFKmlf";
     let mut draw = 7_usize;
-    for lanes in [4, 5, 8, 10] {
+    for lanes in [4, 5, 6, 8, 10] {
         let mut text = Vec::new();
         for place in 0..3000 * lanes {
             draw = draw

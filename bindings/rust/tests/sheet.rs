@@ -50,6 +50,8 @@ lifts               0        0        0
 fakes               0        0        0
 holding             0        0        0
 keysounds           0        0        0
+up_left             0        0        0
+up_right            0        0        0
 
 densities, 16 measures to a line; = equally spaced, - not
       0:  2=
@@ -81,6 +83,8 @@ lifts               0        0        0
 fakes               0        0        0
 holding             0        0        0
 keysounds           0        0        0
+up_left             0        0        0
+up_right            0        0        0
 
 densities, 16 measures to a line; = equally spaced, - not
       0:  4=  5-  3-  2-
@@ -95,12 +99,12 @@ roll       16        1       18
 
 #[test]
 fn the_json_of_each_example() {
-    let tally = r#"{"total_arrows":2,"left":1,"down":1,"up":0,"right":0,"total_steps":2,"jumps":0,"hands":0,"mines":0,"holds":0,"rolls":0,"lifts":0,"fakes":0,"holding":0,"keysounds":0}"#;
+    let tally = r#"{"total_arrows":2,"left":1,"down":1,"up":0,"right":0,"total_steps":2,"jumps":0,"hands":0,"mines":0,"holds":0,"rolls":0,"lifts":0,"fakes":0,"holding":0,"keysounds":0,"up_left":0,"up_right":0}"#;
     let object = format!(
         r#"{{"measures":1,"rows":2,"notes":2,"last_beat":{{"beats":2,"over_48":0,"in_48ths":96}},"main":{tally},"kept":{tally},"judged":{tally},"densities":[2],"equally_spaced":[true],"note_records":[[0,0,0,null],[1,1,0,null]]}}"#
     );
     assert_eq!(sheet(DATA, 4, SheetForm::Json), object);
-    let tally = r#"{"total_arrows":17,"left":5,"down":4,"up":4,"right":4,"total_steps":14,"jumps":2,"hands":1,"mines":1,"holds":1,"rolls":1,"lifts":0,"fakes":0,"holding":0,"keysounds":0}"#;
+    let tally = r#"{"total_arrows":17,"left":5,"down":4,"up":4,"right":4,"total_steps":14,"jumps":2,"hands":1,"mines":1,"holds":1,"rolls":1,"lifts":0,"fakes":0,"holding":0,"keysounds":0,"up_left":0,"up_right":0}"#;
     let notes = "[0,0,0,null],[1,1,0,null],[2,2,0,null],[3,3,0,null],[4,0,0,null],[6,1,0,null],[7,2,0,null],[8,3,0,null],\
                  [10,0,0,null],[10,3,0,null],[12,0,1,15],[13,2,0,null],[14,3,0,null],[16,1,2,18],[18,0,3,null],\
                  [19,0,0,null],[19,1,0,null],[19,2,0,null]";

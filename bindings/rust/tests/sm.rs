@@ -84,7 +84,7 @@ fn the_example_and_every_part_of_it() {
 #[test]
 fn files_made_by_hand() {
     type File = (&'static [u8], &'static [Result<usize, Refusal>]);
-    let files: [File; 22] = [
+    let files: [File; 24] = [
         (b"", &[]),
         (b"#TITLE:none;\n1000\n", &[]),
         (b"#NOTES", &[]),
@@ -97,6 +97,8 @@ fn files_made_by_hand() {
         (b"#NOTES:dance-single::::;:", &[Err(Refusal::FewFields)]),
         (b"#NOTES:lights-cabinet::::;", &[Err(Refusal::FewFields)]),
         (b"#NOTES:lights-cabinet:::::;", &[Err(Refusal::OtherType)]),
+        (b"#NOTES:dance-threepanel:::::;", &[Err(Refusal::OtherType)]),
+        (b"#NOTES:dance-solo:::::000001;", &[Ok(6)]),
         (b"#NOTES:Dance-Single:::::;", &[Err(Refusal::OtherType)]),
         (b"#NOTES: \n :::::;", &[Err(Refusal::OtherType)]),
         (b"#NOTES:dance-single\x0B:::::;", &[Err(Refusal::OtherType)]),

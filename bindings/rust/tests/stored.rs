@@ -215,6 +215,7 @@ fn timing_rows() {
         );
         match record.lanes {
             5 => typed_rows::<5>(record.text, answer),
+            6 => typed_rows::<6>(record.text, answer),
             8 => typed_rows::<8>(record.text, answer),
             10 => typed_rows::<10>(record.text, answer),
             _ => typed_rows::<4>(record.text, answer),

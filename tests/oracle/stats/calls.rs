@@ -1,13 +1,15 @@
 //! The nine chart calls of the outside interface, each as the Rust answers it, which is asked about the text that `asked` says; what the Rust
-//! does not have by a plain reference: the list of dropped heads (`dropped`) and a tally's keysounds (`keysounds`).
+//! does not have by a plain reference: the list of dropped heads (`dropped`), a tally's keysounds (`keysounds`) and the directions of its arrows
+//! at six lanes (`directions`). All else at six lanes is what the Rust's functions over a const L answer where L is 6.
 //! A text that a call would refuse is answered here all the same; `entry` has the refusals.
 
 use super::*;
 use crate::asked::{chart_text, read_back_text};
+use crate::directions::{Directions, chart_directions, judged_directions};
 use crate::dropped::{DroppedHead, dropped_heads, text_rows};
 use crate::keysounds::{keysounds, rows_read_back};
 
-/// Places in `figures`; the tally takes those from `TALLY` to `KEYSOUNDS`.
+/// Places in `figures`; the tally takes those from `TALLY` to `UP_RIGHT`.
 pub const TEXT_BYTES: usize = 0;
 pub const MEASURES: usize = 1;
 pub const ROWS: usize = 2;
@@ -16,7 +18,11 @@ pub const LAST_BEAT: usize = 4;
 pub const HAS_HEADS: usize = 5;
 pub const LAST_BEAT_48THS: usize = 6;
 pub const TALLY: usize = 8;
+pub const LEFT: usize = 9;
+pub const RIGHT: usize = 12;
 pub const KEYSOUNDS: usize = 22;
+pub const UP_LEFT: usize = 23;
+pub const UP_RIGHT: usize = 24;
 
 /// Bytes of a note record, and the tail that stands for none.
 pub const NOTE_BYTES: usize = 10;
@@ -24,13 +30,13 @@ pub const NO_TAIL: u32 = NO_TAIL_ROW;
 
 pub type Figures = [u64; 32];
 
-/// The fields of a tally in their order: those of the Rust's `ArrowStats`, and the keysounds.
-pub type Tally = [u64; 15];
+/// The fields of a tally in their order: those of the Rust's `ArrowStats`, the keysounds, and two directions.
+pub type Tally = [u64; 17];
 
 /// The Rust's fields alone.
 pub type RustTally = [u64; 14];
 
-pub const TALLY_NAMES: [&str; 15] = [
+pub const TALLY_NAMES: [&str; 17] = [
     "total_arrows",
     "left",
     "down",
@@ -46,6 +52,8 @@ pub const TALLY_NAMES: [&str; 15] = [
     "fakes",
     "holding",
     "keysounds",
+    "up_left",
+    "up_right",
 ];
 
 /// The chart calls in the order of the interface's table.
@@ -111,13 +119,25 @@ impl Answer {
     #[must_use]
     pub fn tally(&self) -> Tally {
         let mut tally = Tally::default();
-        tally.copy_from_slice(&self.figures[TALLY..=KEYSOUNDS]);
+        tally.copy_from_slice(&self.figures[TALLY..=UP_RIGHT]);
         tally
     }
 
-    fn set_tally(&mut self, stats: &ArrowStats, keysounds: u64) {
+    /// The Rust's fields and the keysounds; at six lanes the directions that are told take the place of the Rust's.
+    fn set_tally(&mut self, stats: &ArrowStats, keysounds: u64, six: Option<Directions>) {
         self.figures[TALLY..KEYSOUNDS].copy_from_slice(&tally_of(stats));
         self.figures[KEYSOUNDS] = keysounds;
+        if let Some([directions @ .., up_left, up_right]) = six {
+            self.figures[LEFT..=RIGHT].copy_from_slice(&directions);
+            self.figures[UP_LEFT] = up_left;
+            self.figures[UP_RIGHT] = up_right;
+        }
+    }
+
+    /// The main or the kept tally of this minimised text.
+    fn set_chart_tally(&mut self, stats: &ArrowStats, text: &[u8], lanes: usize) {
+        let six = (lanes == 6).then(|| chart_directions(text_rows(text, lanes), lanes));
+        self.set_tally(stats, keysounds(text_rows(text, lanes)), six);
     }
 
     fn set_text(&mut self, text: Vec<u8>) {
@@ -161,17 +181,28 @@ pub fn lanes_in_force(lanes: usize) -> usize {
     dispatch_lanes!(lanes, width())
 }
 
+/// The Rust's function of the main call, at six lanes too.
+pub(super) fn main_call(
+    data: &[u8],
+    lanes: usize,
+    notes: &mut ChartNotesScratch,
+) -> (Vec<u8>, ArrowStats, Vec<usize>, Vec<f32>, f64) {
+    match lanes {
+        6 => minimize_rows_direct_notes::<6, true>(data, notes),
+        _ => super::minimize_chart_count_rows_notes(data, lanes, notes),
+    }
+}
+
 #[must_use]
 pub fn minimize_chart_count_rows_notes(data: &[u8], lanes: usize) -> Answer {
     let mut chart_notes = ChartNotesScratch::default();
     let width = lanes_in_force(lanes);
     let data = &chart_text(data, width);
-    let (text, stats, densities, beats, last) =
-        super::minimize_chart_count_rows_notes(data, lanes, &mut chart_notes);
+    let (text, stats, densities, beats, last) = main_call(data, lanes, &mut chart_notes);
     let mut answer = Answer::default();
     answer.figures[ROWS] = beats.len() as u64;
     answer.figures[NOTES] = chart_notes.notes.len() as u64;
-    answer.set_tally(&stats, keysounds(text_rows(&text, width)));
+    answer.set_chart_tally(&stats, &text, width);
     answer.set_text(text);
     answer.set_densities(&densities);
     answer.set_last_beat(last);
@@ -198,7 +229,7 @@ fn kept<const L: usize>(data: &[u8]) -> Answer {
     );
     let mut answer = Answer::default();
     answer.figures[ROWS] = rows.len() as u64;
-    answer.set_tally(&stats, keysounds(text_rows(&text, L)));
+    answer.set_chart_tally(&stats, &text, L);
     answer.set_text(text);
     answer.set_densities(&densities);
     answer
@@ -228,7 +259,12 @@ pub fn measure_densities(data: &[u8], lanes: usize) -> Answer {
     let lanes = if divisor == 0 { 4 } else { lanes };
     let data = &chart_text(data, lanes_in_force(lanes));
     let mut answer = Answer::default();
-    answer.set_densities(&measure_densities_unchanged(data, lanes));
+    let mut densities = Vec::new();
+    match lanes {
+        6 => fill_densities_impl::<6>(data, &mut densities),
+        _ => densities = measure_densities_unchanged(data, lanes),
+    }
+    answer.set_densities(&densities);
     answer
 }
 
@@ -262,7 +298,8 @@ pub fn process_rows_judgable(data: &[u8], lanes: usize) -> Answer {
     let width = lanes_in_force(lanes);
     let asked = &read_back_text(data, width);
     let stats = dispatch_lanes!(lanes, judged_rows(asked));
-    tally_alone(&stats, keysounds(rows_read_back(data, width)))
+    let six = (width == 6).then(|| judged_directions(rows_read_back(data, width), width, &[]));
+    tally_alone(&stats, keysounds(rows_read_back(data, width)), six)
 }
 
 fn judged_rows<const L: usize>(data: &[u8]) -> ArrowStats {
@@ -277,7 +314,8 @@ pub fn process_timing_rows(data: &[u8], lanes: usize, flags: &[u8]) -> Answer {
     let stats = dispatch_lanes!(lanes, judged_by_flags(asked, flags));
     let rows = rows_read_back(data, width).enumerate();
     let judged = rows.filter_map(|(i, row)| is_judged(flags, i).then_some(row));
-    tally_alone(&stats, keysounds(judged))
+    let six = (width == 6).then(|| judged_directions(rows_read_back(data, width), width, flags));
+    tally_alone(&stats, keysounds(judged), six)
 }
 
 fn judged_by_flags<const L: usize>(data: &[u8], flags: &[u8]) -> ArrowStats {
@@ -299,9 +337,9 @@ pub fn dropped_holds(data: &[u8], lanes: usize) -> Answer {
     answer
 }
 
-fn tally_alone(stats: &ArrowStats, keysounds: u64) -> Answer {
+fn tally_alone(stats: &ArrowStats, keysounds: u64, six: Option<Directions>) -> Answer {
     let mut answer = Answer::default();
-    answer.set_tally(stats, keysounds);
+    answer.set_tally(stats, keysounds, six);
     answer
 }
 

@@ -1,7 +1,8 @@
 //! The calls with nothing around them, for timing: the Rust's own results, and its buffers reused where it takes them. For the list of
-//! dropped heads, which the Rust does not have, it is the plain reference over the Rust's minimised text.
+//! dropped heads, which the Rust does not have, it is the plain reference over the Rust's minimised text. At six lanes they are the Rust's functions
+//! over a const L, which count directions by fours.
 
-use super::calls::{Call, is_judged, lanes_in_force};
+use super::calls::{Call, is_judged, lanes_in_force, main_call};
 use super::*;
 use crate::dropped::dropped_heads;
 use std::hint::black_box;
@@ -18,7 +19,7 @@ pub fn run(call: Call, data: &[u8], lanes: usize, flags: &[u8], buffers: &mut Bu
     match call {
         Call::MinimizeChartCountRowsNotes => {
             let notes = &mut buffers.notes;
-            black_box(minimize_chart_count_rows_notes(data, lanes, notes));
+            black_box(main_call(data, lanes, notes));
         }
         Call::ProcessChartKept => dispatch_lanes!(lanes, kept(data)),
         Call::MinimizeTimingRows => dispatch_lanes!(lanes, timing_rows(data)),
@@ -36,7 +37,7 @@ pub fn run(call: Call, data: &[u8], lanes: usize, flags: &[u8], buffers: &mut Bu
         Call::ProcessRowsJudgable => dispatch_lanes!(lanes, judged_rows(data)),
         Call::ProcessTimingRows => dispatch_lanes!(lanes, judged_by_flags(data, flags)),
         Call::DroppedHolds => {
-            let text = minimize_chart_for_hash(data, lanes);
+            let text = dispatch_lanes!(lanes, minimize_hash_impl(data));
             black_box(dropped_heads(&text, lanes_in_force(lanes)));
         }
     }
@@ -55,11 +56,13 @@ pub fn run_anew(call: Call, data: &[u8], lanes: usize, flags: &[u8]) {
     match call {
         Call::MinimizeChartCountRowsNotes => {
             let mut notes = ChartNotesScratch::default();
-            let chart = minimize_chart_count_rows_notes(data, lanes, &mut notes);
+            let chart = main_call(data, lanes, &mut notes);
             black_box((chart, notes.drain().collect::<Vec<_>>()));
         }
         Call::MeasureDensities => {
-            black_box(measure_densities(data, lanes));
+            let mut densities = Vec::with_capacity(density_capacity(data.len(), lanes));
+            dispatch_lanes!(lanes, fill_densities_impl(data, &mut densities));
+            black_box(densities);
         }
         _ => run(call, data, lanes, flags, &mut Buffers::default()),
     }
