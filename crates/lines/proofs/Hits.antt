@@ -1,4 +1,4 @@
--- Why the lowest bit of `byte_hits` stands in the first byte that is the one looked for, and that of `low_hits` in the first below 16: by induction over the word's bytes.
+-- Why the lowest bit of `byte_hits` stands in the first byte that is the one looked for, and that of `starts_high` in the first below 16: by induction over the word's bytes.
 use Rattle.std.proofs.Common.{◌≡◌, ℕ, zero, suc, ◌+◌, ◌-◌, ◌*◌, ◌/◌, ◌%◌, ◌^◌, ◌<◌, ◌⊎◌, ◌≤◌, List, [], ◌∷◌, length, refl, sym, ap, ap₂, ◌∙◌, inl, inr, ⊎_elim, lt_of_le_of_lt, pow-suc, div-add-mod', mul-one, arith, lit<}
 use native.Mathlib.Decide.{dec_lt}
 use lib.Bits.{bit_and, bit_xor, and_block, and_zero_r, and_le_l, and_le_r, shifted_half, shifted_even}

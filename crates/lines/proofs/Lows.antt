@@ -7,13 +7,15 @@ use Prim.Native.Nat.{ℕ, zero, suc, ◌+◌, ◌-◌, ◌*◌, ◌/◌, ◌%◌
 use native.Mathlib.Nat.{zero-add, pow-suc}
 use native.Mathlib.Decide.{dec_lt}
 use native.Mathlib.Omega.{arith}
-use borrow.Author.Tests.{eqb-true, eqb-false, eq-eqb, ne_eqb, leb-true, leb-false, le-leb, lt-leb}
+use borrow.Author.Tests.{eqb-true, eqb-false, eq-eqb, ne_eqb, leb-true, leb-false, le-leb, lt-leb, lt-ltb, le-ltb}
 use lib.Dec.{eqb, leb, ltb}
 use lib.Arith.{mod-mul}
 use lib.Pow.{pow_pos}
 use lib.Bits.{bit_and, and_mask}
 use lib.Count.{count_trailing_zeros, under}
-use lib.ListN.{take, drop}
+use lib.ListN.{length, take, drop}
+use Rattle.std.proofs.lemmas.Nat.{and_assoc}
+use Rattle.std.specs.Prelude.{slice_index}
 use Rattle.lines.specs.Words.{first_below}
 
 -- ---- trailing zeros
@@ -69,6 +71,26 @@ pub mask-told : (h n f : ℕ) → 1 ≤ n → n ≤ 8 → count_trailing_zeros 6
 mask-told h n f a b e =
     rw (mask-of n a b, and_mask) (trailing-mod (8 * n) 64 h (omega arith) ∙ eighths n (count_trailing_zeros 64 h) ∙ ap (leb n) e)
 
+-- the high bits of the first n bytes of a word, two ways
+high-of : (n : ℕ) → 1 ≤ n → n ≤ 8 → bit_and 9259542123273814144 (18446744073709551615 / 2 ^ (64 - 8 * n)) ≡ 9259542123273814144 / 2 ^ (64 - 8 * n)
+high-of zero a b = absurd (omega arith)
+high-of (suc zero) a b = refl
+high-of (suc (suc zero)) a b = refl
+high-of (suc (suc (suc zero))) a b = refl
+high-of (suc (suc (suc (suc zero)))) a b = refl
+high-of (suc (suc (suc (suc (suc zero))))) a b = refl
+high-of (suc (suc (suc (suc (suc (suc zero)))))) a b = refl
+high-of (suc (suc (suc (suc (suc (suc (suc zero))))))) a b = refl
+high-of (suc (suc (suc (suc (suc (suc (suc (suc zero)))))))) a b = refl
+high-of (suc (suc (suc (suc (suc (suc (suc (suc (suc n))))))))) a b = absurd (omega arith)
+
+-- The same where the hits are told by the high bits of those bytes alone.
+pub high-told : (h n f : ℕ) → 1 ≤ n → n ≤ 8 → count_trailing_zeros 64 (bit_and h 9259542123273814144) / 8 ≡ f
+    → eqb (bit_and h (9259542123273814144 / 2 ^ (64 - 8 * n))) 0 ≡ leb n f
+high-told h n f a b e =
+    ap (λ m. eqb m 0) (ap (bit_and h) (sym (high-of n a b)) ∙ sym (and_assoc (18446744073709551615 / 2 ^ (64 - 8 * n)) h 9259542123273814144))
+    ∙ mask-told (bit_and h 9259542123273814144) n f a b e
+
 -- ---- lists
 
 -- among the first n bytes it has the same place, or it is none of them
@@ -101,19 +123,39 @@ past k (suc i) (x ∷ s) h = go (ltb x k) h (past k i s)
     go true g ih = absurd (omega arith)
     go false g ih = let e = ih (omega arith) in omega arith
 
--- The first n bytes, by the first `few` of them and the last.
-pub two-told : (k n few : ℕ) (s : List ℕ) → few ≤ n → n ≤ few + few → few ≤ 8
-    → (leb few (first_below k (take 8 (drop 0 s))) && leb few (first_below k (take 8 (drop (n - few) s)))) ≡ leb n (first_below k s)
-two-told k n few s h g e =
-    rw (near k 8 few s e, near k 8 few (drop (n - few) s) e)
-    (elim (dec_lt (first_below k s) few) [
-      | yes a ↦ rw (lt-leb few (first_below k s) a, lt-leb n (first_below k s) (omega arith))
-      | no a ↦
-          let p : first_below k s ≡ n - few + first_below k (drop (n - few) s) = past k (n - few) s (omega arith) in
-          let all : few ≤ first_below k s = omega arith in
-          rw (le-leb few (first_below k s) all) (ends (first_below k s) (first_below k (drop (n - few) s)) p)
+-- Of two bytes and more of which the first is not below k, the first that is below it is the second, or a later one.
+second : (k : ℕ) (s : List ℕ) → 2 ≤ length s → k ≤ slice_index s 0
+    → ((2 ≤ first_below k s) × (k ≤ slice_index s 1)) ⊎ ((first_below k s ≡ 1) × (slice_index s 1 < k))
+unfolding first_below
+second k [] h a = absurd (omega arith)
+second k (x ∷ []) h a = absurd (omega arith)
+second k (x ∷ y ∷ s) h a =
+    rw (le-ltb x k a)
+    (elim (dec_lt y k) [
+      | yes b ↦ rw (lt-ltb y k b) (inr (refl, b))
+      | no b ↦ rw (le-ltb y k (omega arith)) (inl (omega arith, omega arith))
     ])
+
+-- The first n bytes of up to ten, of which the first is not below k, by the last `few` of them and the second.
+pub last-told : (k n few : ℕ) (s : List ℕ) → 2 ≤ n → n ≤ length s → few ≤ n → n ≤ few + 2 → few ≤ 8 → k ≤ slice_index s 0
+    → (leb few (first_below k (take 8 (drop (n - few) s))) && leb k (slice_index s 1)) ≡ leb n (first_below k s)
+last-told k n few s two long g h e a =
+    rw (near k 8 few (drop (n - few) s) e)
+    (⊎_elim
+    (λ f.
+    let p : first_below k s ≡ n - few + first_below k (drop (n - few) s) = past k (n - few) s (omega (arith, f.0)) in
+    rw (le-leb k (slice_index s 1) (f.1)) (and-true (leb few (first_below k (drop (n - few) s))) ∙ ends (first_below k s) (first_below k (drop (n - few) s)) p))
+    (λ f. rw (lt-leb k (slice_index s 1) (f.1)) (and-false (leb few (first_below k (drop (n - few) s))) ∙ sym (lt-leb n (first_below k s) (omega (arith, f.0)))))
+    (second k s (omega arith) a))
   where
+    and-true : (b : Bool) → (b && true) ≡ b
+    and-true true = refl
+    and-true false = refl
+
+    and-false : (b : Bool) → (b && false) ≡ false
+    and-false true = refl
+    and-false false = refl
+
     ends : (all rest : ℕ) → all ≡ n - few + rest → leb few rest ≡ leb n all
     ends all rest p = elim (dec_lt rest few) [
       | yes a ↦ rw (lt-leb few rest a, lt-leb n all (omega arith))

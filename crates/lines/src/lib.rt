@@ -3,7 +3,7 @@
 
 pub mod words;
 
-ghost use Rattle.std.specs.Prelude.{◌≡◌, ◌==◌, ◌<◌, ◌≤◌, Some, nat_le, length, take, drop, position};
+ghost use Rattle.std.specs.Prelude.{◌≡◌, ◌==◌, ◌<◌, ◌≤◌, Some, nat_le, length, slice_index, take, drop, position};
 ghost use Rattle.std.specs.List.{position_from};
 ghost use Rattle.definitions.specs.Lists.{after};
 ghost use Rattle.definitions.specs.Lines.{is_blank_byte, trim};
@@ -127,18 +127,17 @@ pub fn find_byte(slice: &[u8], needle: u8) -> Option<usize>
     find_rest(slice, needle, i)
 }
 
-/// Whether none of the first `n` bytes is below 16, as newlines and carriage returns are: by a word of the first eight bytes, and one that ends with the
-/// last of the `n` where they are more.
+/// Of bytes that begin with one of 16 or more, whether none of the first `n` is below 16, as newlines and carriage returns are: by one word of eight bytes
+/// that ends with the last of them, or begins with the first where they are fewer, and by the second byte, which of ten stands before it.
 pub fn starts_high(data: &[u8], n: usize) -> bool
-    requires some { 1 ≤ n }
-    requires few { n ≤ 16 }
+    requires some { 2 ≤ n }
+    requires few { n ≤ 10 }
     requires within { n ≤ length «data».now }
     requires wide { 8 ≤ length «data».now }
-    ensures { result ≡ nat_le n (first_below 16 «data».now) }
+    ensures { 16 ≤ slice_index «data».now 0 → result ≡ nat_le n (first_below 16 «data».now) }
 {
     let few = usize::min(n, 8);
-    words::starts_high(words::halves_at(data, 0), few)
-        & words::starts_high(words::halves_at(data, n - few), few)
+    words::starts_high(words::halves_at(data, n - few), few) & (16 <= data[1])
 }
 
 /// The line that starts at `start`, without its newline, and what follows that newline: nothing where there is none, nor past the text's end.

@@ -68,21 +68,14 @@ pub fn byte_hits(word: u64, byte: u8) -> u64
     std::num::wrapping_sub_u64(x, LO) & !x & HI
 }
 
-/// The same for bytes that are below 16.
-pub fn low_hits(word: u64) -> u64
-    ensures { count_trailing_zeros 64 result / 8 ≡ first_below 16 (bytes_of_word word) }
-{
-    std::num::wrapping_sub_u64(word, SIXTEEN) & !word & HI
-}
-
-/// Whether none of the first `n` of the word's bytes is below 16.
+/// Whether none of the first `n` of the word's bytes is below 16: with 16 taken off each, the high bit of the first that is below is set, and it was not.
 pub fn starts_high(word: u64, n: usize) -> bool
     requires some { 1 ≤ n }
     requires few { n ≤ 8 }
     ensures { result ≡ nat_le n (first_below 16 (bytes_of_word word)) }
 {
-    let mask = u64::MAX >> (64 - 8 * n);
-    low_hits(word) & mask == 0
+    let high_bits = HI >> (64 - 8 * n);
+    std::num::wrapping_sub_u64(word, SIXTEEN) & !word & high_bits == 0
 }
 
 /// Whether one of the word's bytes equals `byte`.

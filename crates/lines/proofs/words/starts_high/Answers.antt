@@ -1,6 +1,13 @@
--- `lines::words::starts_high` meets its contract: the mask leaves the hits of the first bytes alone. Assumes nothing.
-use Rattle.lines.proofs.Lows.{mask-told}
+-- `lines::words::starts_high` meets its contract: the mask leaves the high bits of the first bytes alone, of which that of the first below 16 is the
+-- lowest one set. Assumes nothing.
+use Rattle.std.proofs.Common.{arith}
+use Rattle.lines.specs.Words.{bytes_of_word}
+use Rattle.lines.proofs.WordBytes.{low-bytes-long, low-bytes-small, word-whole}
+use Rattle.lines.proofs.Hits.{low-place}
+use Rattle.lines.proofs.Lows.{high-told}
 use Rattle.lines.proofs.words.starts_high.Goals as goal
 
 pub returns : goal.returns
-returns c = mask-told c.low_hits.result c.args.n _ c.requires.some c.requires.few c.low_hits.ensures
+returns c =
+    high-told _ c.args.n _ c.requires.some c.requires.few
+    (low-place (bytes_of_word c.args.word) c.args.word c.wrapping_sub_u64.result (low-bytes-long 8 _) (low-bytes-small 8 _) (word-whole c.args.word (omega arith)) (omega arith) c.wrapping_sub_u64.ensures.value)
