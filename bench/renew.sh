@@ -1,13 +1,12 @@
 #!/bin/sh
-# renew.sh TABLES GROWTH: puts the tables of docs/SPEED.md in anew, from what `bench` and `bench --growth` printed into these files.
+# renew.sh TABLES: puts the tables of docs/SPEED.md in anew, from what `bench` printed into this file.
 # A table stands there between `<!-- NAME -->` and `<!-- end -->`. The sentences around them are not touched: read them again.
 set -eu
-if [ $# -ne 2 ]; then
+if [ $# -ne 1 ]; then
     sed -n '2,3s/^# //p' "$0"
     exit 2
 fi
 tables=$(realpath "$1")
-growth=$(realpath "$2")
 cd "$(dirname "$0")/.."
 page=docs/SPEED.md
 parts=target/bench/page
@@ -20,7 +19,6 @@ table '| call | entry |' >"$parts/ranges"
 # Of the entries alone, without the first column, and a call's name once.
 table '| way | call | text | LF 4 |' | sed -n '1s/^| way |/|/p; 2s/^|---|/|/p; s/^| entry |/|/p' |
     awk -F'|' '$2 == call { sub(/`[a-z_]*` /, "") } { if ($2 ~ /`/) call = $2; print }' >"$parts/ratios"
-cp "$growth" "$parts/growth"
 
 awk -v parts="$parts" '
     /^<!-- end -->$/ { inside = 0 }
