@@ -45,6 +45,8 @@ fn bump_dir(mut s: RowSum, direction: usize) -> RowSum
 }
 
 // One cell of a row, in a column of a direction, by one match: an arrow, what else it is counted as, or both. On a judged row an L is an arrow too.
+// It is written into its loops, since a sum that is copied for each cell costs them a third.
+#[inline(always)]
 #[tactic(auto, unfolding(crate::specs::Sums::sum_with_cell))]
 fn add_cell(mut s: RowSum, direction: usize, b: u8, judged: bool) -> RowSum
     requires { Under 10 s }
@@ -222,6 +224,7 @@ fn masked_cell(
 }
 
 // What a row adds up to of which only the heads of a mask count, judged or plain.
+#[inline(always)]
 fn masked_sum(row: &[u8], heads: u16, judged: bool) -> RowSum
     requires { length row.now ≤ 10 }
     ensures { result ≡ row_sum_by (arrow_of judged) (row_by_mask heads 0 row.now) }
@@ -253,6 +256,7 @@ fn only_fakes(n: u32) -> RowSum
 }
 
 /// What a row adds up to, judged or not, of which only the heads of a mask count. On an unjudged row each arrow, mine and fake is one fake.
+#[inline(always)]
 pub fn judged_sum_masked(judged: bool, row: &[u8], heads: u16) -> RowSum
     requires { length row.now ≤ 10 }
     ensures { result ≡ judged_sum judged (row_by_mask heads 0 row.now) }
