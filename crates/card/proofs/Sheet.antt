@@ -10,8 +10,8 @@ use lib.ListN.{length, get_or, take, length-append, length-replicate}
 use lib.Seq.{take_at}
 use Rattle.definitions.specs.Sizes.{most_bytes}
 use Rattle.definitions.specs.Lists.{padded}
-use Rattle.definitions.specs.Lanes.{lanes_of, most_rows_in}
-use Rattle.definitions.specs.Refusals.{long_text, short_text, short_measures, short_beats, short_work, short_notes, leaves}
+use Rattle.definitions.specs.Lanes.{is_lane_count, most_rows_in}
+use Rattle.definitions.specs.Refusals.{other_lanes, long_text, short_text, short_measures, short_beats, short_work, short_notes, leaves}
 use Rattle.definitions.specs.declared.Refusal.{Refusal}
 use Rattle.sheet.specs.Card.{sheet}
 use Rattle.chart_sheet.specs.Forms.{sheet_in_form}
@@ -25,7 +25,7 @@ rows-most len h = omega arith
 pub answer_is : (text out ds ss : List ℕ) (bs : List Float) (work ns sh : List ℕ) → length text ≤ 4095 → 4096 ≡ length out → 2049 ≡ length ds
     → 2049 ≡ length ss → 819 ≡ length bs → 819 ≡ length work → 32760 ≡ length ns → 175032 ≤ length sh
     → sheet_answer 4 0 text out ds ss bs work ns sh ≡ Ok (places_of_sheet 0 4 text)
-unfolding sheet_answer long_text short_text short_measures short_beats short_work short_notes short_sheet other_form lanes_of
+unfolding sheet_answer other_lanes long_text short_text short_measures short_beats short_work short_notes short_sheet other_form is_lane_count
 answer_is text out ds ss bs work ns sh h o d s b w n g =
     let few : most_rows_in 4 (length text) ≤ 819 = rows-most (length text) h in
     simp (
@@ -45,8 +45,8 @@ padded-fits l n e = omega (arith, simp (length-append, length-replicate) at e)
 
 module _ (text out ds ss : List ℕ) (bs : List Float) (work ns sh : List ℕ)
     (accepted : sheet_answer 4 0 text out ds ss bs work ns sh ≡ Ok (places_of_sheet 0 4 text)) where
-  left : {r : Result (List ℕ) Refusal} {f : List ℕ} → r ≡ Ok f → leaves 0 r (sheet_in_form 0 (lanes_of 4) text) sh ≡ padded 0 (length sh) (sheet 4 text)
-  unfolding sheet_in_form lanes_of
+  left : {r : Result (List ℕ) Refusal} {f : List ℕ} → r ≡ Ok f → leaves 0 r (sheet_in_form 0 4 text) sh ≡ padded 0 (length sh) (sheet 4 text)
+  unfolding sheet_in_form
   left e = rw e refl
 
   count : get_or (places_of_sheet 0 4 text) 7 0 ≡ length (sheet 4 text)
@@ -58,7 +58,7 @@ module _ (text out ds ss : List ℕ) (bs : List Float) (work ns sh : List ℕ)
     pub not-refused : {e : Refusal} → r ≡ Err e → ⊥
     not-refused e = cc (told, accepted, e)
 
-    pub taken : {h f : List ℕ} → h ≡ leaves 0 r (sheet_in_form 0 (lanes_of 4) text) sh → r ≡ Ok f
+    pub taken : {h f : List ℕ} → h ≡ leaves 0 r (sheet_in_form 0 4 text) sh → r ≡ Ok f
         → length h ≡ length sh → (get_or f 7 0 ≤ length h) × (take (get_or f 7 0) h ≡ sheet 4 text)
     taken {h} {f} h-is f-is same =
         let places : f ≡ places_of_sheet 0 4 text = cc (told, accepted, f-is) in

@@ -4,7 +4,7 @@
 ghost use Rattle.std.specs.Prelude.{◌≡◌, [], ◌+◌, ◌*◌, ◌/◌, ◌≤◌, length};
 ghost use Rattle.definitions.specs.Sizes.{most_bytes};
 ghost use Rattle.definitions.specs.Lists.{padded};
-ghost use Rattle.definitions.specs.Lanes.{lanes_of, most_rows_in};
+ghost use Rattle.definitions.specs.Lanes.{most_rows_in};
 ghost use Rattle.definitions.specs.Refusals.{leaves};
 ghost use Rattle.definitions.specs.Figures.{minimised_text, densities as densities_of};
 ghost use Rattle.definitions.specs.Beats.{f32, beats as beats_of};
@@ -67,8 +67,8 @@ pub fn chart_figures(
 }
 
 /// The main call, the Rust's function of that name: minimised text in bytes, densities in steps a measure, row beats, note records of ten bytes each,
-/// the last beat, and the tally corrected over the minimised text read back. A refusal (1 to 6) is the caller's mistake: too long a text, or too short a
-/// slice.
+/// the last beat, and the tally corrected over the minimised text read back. A refusal (12, 1 to 6) is the caller's mistake: another
+/// lane number, too long a text, or too short a slice.
 #[tactic(auto, unfolding(definitions::specs::Entries::main_answer))]
 pub fn minimize_chart_count_rows_notes(
     data: &[u8],
@@ -82,20 +82,20 @@ pub fn minimize_chart_count_rows_notes(
     ensures value { result ≡ main_answer lanes «data».now
         text.old densities.old beats.old work.old slots.old }
     ensures text_after { text.new
-        ≡ leaves 0 result (minimised_text (lanes_of lanes) «data».now) text.old }
+        ≡ leaves 0 result (minimised_text lanes «data».now) text.old }
     ensures densities_after { densities.new
-        ≡ leaves 0 result (densities_of (lanes_of lanes) «data».now) densities.old }
+        ≡ leaves 0 result (densities_of lanes «data».now) densities.old }
     ensures beats_after { beats.new
-        ≡ leaves (f32 0) result (beats_of (lanes_of lanes) «data».now) beats.old }
+        ≡ leaves (f32 0) result (beats_of lanes «data».now) beats.old }
     ensures work_after { work.new ≡ leaves 0 result [] work.old }
     ensures notes_after { slots.new
-        ≡ leaves 0 result (records (notes_of (lanes_of lanes) «data».now)) slots.old }
+        ≡ leaves 0 result (records (notes_of lanes «data».now)) slots.old }
 {
+    let columns = Lanes::of_number(lanes)?;
     let len = data.len();
     refusals::text_fits(len)?;
     refusals::room_for_text(len, text.len())?;
     refusals::room_for_measures(len, densities.len())?;
-    let columns = Lanes::in_force(lanes);
     refusals::room_for_beats(columns, len, beats.len())?;
     refusals::room_for_work(columns, len, work.len())?;
     refusals::room_for_notes(columns, len, slots.len())?;

@@ -4,7 +4,7 @@
 ghost use Rattle.std.specs.Prelude.{◌≡◌, [], ◌+◌, ◌*◌, ◌/◌, ◌≤◌, length, take, OnOk};
 ghost use Rattle.definitions.specs.Sizes.{most_bytes};
 ghost use Rattle.definitions.specs.Lists.{padded};
-ghost use Rattle.definitions.specs.Lanes.{lanes_of, most_rows_in};
+ghost use Rattle.definitions.specs.Lanes.{most_rows_in};
 ghost use Rattle.definitions.specs.Refusals.{leaves};
 ghost use Rattle.definitions.specs.Figures.{minimised_text, densities as densities_of, spacings as spacings_of};
 ghost use Rattle.definitions.specs.Beats.{f32, beats as beats_of};
@@ -150,8 +150,8 @@ fn form_known(form: usize) -> Result<(), Refusal>
     Ok(())
 }
 
-/// The sheet of a chart, in bytes: form 0 is the card, 1 print, 2 JSON. The answer has the 32 figures. A refusal (1 to 6, 19 or 20) is the caller's
-/// mistake.
+/// The sheet of a chart, in bytes: form 0 is the card, 1 print, 2 JSON. The answer has the 32 figures. A refusal (12, 1 to 6, 19 or 20) is the
+/// caller's mistake.
 #[tactic(auto, unfolding(crate::specs::Entry::sheet_answer))]
 pub fn chart_sheet(
     data: &[u8],
@@ -168,25 +168,25 @@ pub fn chart_sheet(
     ensures value { result ≡ sheet_answer lanes form «data».now
         text.old densities.old spacing.old beats.old work.old notes.old sheet.old }
     ensures text_after { text.new
-        ≡ leaves 0 result (minimised_text (lanes_of lanes) «data».now) text.old }
+        ≡ leaves 0 result (minimised_text lanes «data».now) text.old }
     ensures densities_after { densities.new
-        ≡ leaves 0 result (densities_of (lanes_of lanes) «data».now) densities.old }
+        ≡ leaves 0 result (densities_of lanes «data».now) densities.old }
     ensures spacing_after { spacing.new
-        ≡ leaves 0 result (spacings_of (lanes_of lanes) «data».now) spacing.old }
+        ≡ leaves 0 result (spacings_of lanes «data».now) spacing.old }
     ensures beats_after { beats.new
-        ≡ leaves (f32 0) result (beats_of (lanes_of lanes) «data».now) beats.old }
+        ≡ leaves (f32 0) result (beats_of lanes «data».now) beats.old }
     ensures work_after { work.new ≡ leaves 0 result [] work.old }
     ensures notes_after { notes.new
-        ≡ leaves 0 result (records_of (notes_of (lanes_of lanes) «data».now)) notes.old }
+        ≡ leaves 0 result (records_of (notes_of lanes «data».now)) notes.old }
     ensures sheet_after { sheet.new
-        ≡ leaves 0 result (sheet_in_form form (lanes_of lanes) «data».now) sheet.old }
+        ≡ leaves 0 result (sheet_in_form form lanes «data».now) sheet.old }
 {
+    let columns = Lanes::of_number(lanes)?;
     let len = data.len();
     refusals::text_fits(len)?;
     refusals::room_for_text(len, text.len())?;
     refusals::room_for_measures(len, densities.len())?;
     refusals::room_for_measures(len, spacing.len())?;
-    let columns = Lanes::in_force(lanes);
     refusals::room_for_beats(columns, len, beats.len())?;
     refusals::room_for_work(columns, len, work.len())?;
     refusals::room_for_notes(columns, len, notes.len())?;

@@ -6,7 +6,6 @@ pub mod Columns
 pub mod Reduction
 pub mod Thinned
 pub mod Shorter
-pub mod LaneBounds
 pub mod ChartRows
 pub mod Counts
 pub mod Tails

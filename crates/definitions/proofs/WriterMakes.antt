@@ -9,7 +9,7 @@ use lib.ListN.{length, get_or}
 use Rattle.std.specs.Prelude.{slice_get}
 use Rattle.definitions.specs.Sizes.{most_bytes, row_numbers_bound}
 use Rattle.definitions.specs.Lists.{joined}
-use Rattle.definitions.specs.Lanes.{lanes_of, most_rows_in}
+use Rattle.definitions.specs.Lanes.{most_rows_in}
 use Rattle.definitions.specs.Lines.{Row}
 use Rattle.definitions.specs.Cells.{cell_of}
 use Rattle.definitions.specs.Reduction.{minimised}
@@ -25,7 +25,6 @@ use Rattle.definitions.specs.declared.Note.{Note}
 use Rattle.definitions.specs.declared.NoteEffect.{NoteEffect}
 use Rattle.definitions.specs.declared.NoteEffect.TheVariants.{Nothing, Closes, Single, Head}
 use Rattle.definitions.proofs.Lists.{All, none as no_more, one, all_append, all_map, all-joined}
-use Rattle.definitions.proofs.LaneBounds.{lanes-at-least, lanes-at-most}
 use Rattle.definitions.proofs.ChartRows.{minimised-rows, minimised-rows-few}
 use Rattle.definitions.proofs.Tails.{tail_within}
 use Rattle.definitions.proofs.ReadBack.{all-at, read_back}
@@ -123,6 +122,4 @@ records-read L some few text short k h = reads-back (notes L text) (made L some 
 
 pub writer-makes : WriterMakes
 unfolding WriterMakes
-writer-makes lanes text short k h =
-    let some_lane : 1 ≤ lanes_of lanes = omega (arith, lanes-at-least lanes) in
-    records-read (lanes_of lanes) some_lane (lanes-at-most lanes) text short k h
+writer-makes = records-read

@@ -3,7 +3,6 @@
 use Rattle.std.specs.Prelude.{◌≡◌, ◌≢◌, ◌⊎◌, Bool, true, false, ◌&&◌, List, [], ◌∷◌, map, filter, All, count_by, find, ℕ, suc, ◌+◌, ◌≤◌, ◌<◌, ◌==◌, nat_lt, nat_le, length, take, drop, replicate, Some, Ok}
 use Rattle.std.specs.List.{range_with_len}
 use Rattle.definitions.specs.Sizes.{most_bytes, row_numbers_bound}
-use Rattle.definitions.specs.Lanes.{lanes_of}
 use Rattle.definitions.specs.Lines.{Row}
 use Rattle.definitions.specs.Reduction.{reduce, minimised}
 use Rattle.definitions.specs.Figures.{densities, spacings}
@@ -120,12 +119,15 @@ NotesInRange ns =
 unfoldable pub LimitsSuffice : Type 0
 LimitsSuffice = (ns : List Note) → All Made ns → RecordsRead ns
 
--- of each text that no call refuses for its length
+-- of each text that no call refuses for its length, at every L from 1 to 10
 unfoldable pub RecordsOfTexts : Type 0
 RecordsOfTexts =
-    (lanes : ℕ) (text : List ℕ)
+    (L : ℕ)
+    → 1 ≤ L
+    → L ≤ 10
+    → (text : List ℕ)
     → length text ≤ most_bytes
-    → let ns = notes (lanes_of lanes) text in RecordsRead ns × RecordsTold ns × NotesInRange ns
+    → let ns = notes L text in RecordsRead ns × RecordsTold ns × NotesInRange ns
 
 -- ---- Of the blocks of an SM file
 

@@ -1,13 +1,12 @@
 -- Specification, Calls and Figures: for every input what each call answers, a refusal or its value, and the places of its value among the 32 figures.
 -- The entries callable from outside return the number told, 0 for accepted, and put the value in the figures. "`data` is the text and `lanes` the
--- caller's lane number": here `text` and `lanes`; the lists named after slices are what those held before the call, and what a call leaves in each is
+-- caller's lane number": here `text` and L; the lists named after slices are what those held before the call, and what a call leaves in each is
 -- `leaves` of its answer. The entry that is lent a file is in SmFile.antt.
 use Rattle.std.specs.Prelude.{List, [], ◌∷◌, ◌++◌, ℕ, Float, length, replicate, Result}
 use Rattle.std.specs.Float.{binary64}
 use Rattle.std.specs.Float.Ieee.{to_bits}
 use Rattle.definitions.specs.Lists.{number_of_bool, joined}
-use Rattle.definitions.specs.Lanes.{lanes_of}
-use Rattle.definitions.specs.Refusals.{long_text, short_text, short_measures, short_beats, short_work, short_notes, answered}
+use Rattle.definitions.specs.Refusals.{other_lanes, long_text, short_text, short_measures, short_beats, short_work, short_notes, answered}
 use Rattle.definitions.specs.Reduction.{minimised}
 use Rattle.definitions.specs.Figures.{minimised_text}
 use Rattle.definitions.specs.Objects.{last48, last_beat_of}
@@ -68,19 +67,20 @@ figures_of_chart L text =
 abbrev pub places_of_chart : ChartFigures → List ℕ
 places_of_chart f = figures f.bytes f.measures f.rows f.notes f.last_bits 0 f.last_row (tally_figures f.stats)
 
-module _ (lanes : ℕ) (text out densities₀ : List ℕ) (beats₀ : List Float) (work notes₀ : List ℕ) where
-  -- what the call answers; its refusals, in their order: "1 2 3 4 5 6"
+module _ (L : ℕ) (text out densities₀ : List ℕ) (beats₀ : List Float) (work notes₀ : List ℕ) where
+  -- what the call answers; its refusals, in their order: "12 1 2 3 4 5 6"
   unfoldable pub main_answer : Result ChartFigures Refusal
   main_answer =
       answered
-      (long_text (length text)
+      (other_lanes L
+      ∷ long_text (length text)
       ∷ short_text (length text) (length out)
       ∷ short_measures (length text) (length densities₀)
-      ∷ short_beats (lanes_of lanes) (length text) (length beats₀)
-      ∷ short_work (lanes_of lanes) (length text) (length work)
-      ∷ short_notes (lanes_of lanes) (length text) (length notes₀)
+      ∷ short_beats L (length text) (length beats₀)
+      ∷ short_work L (length text) (length work)
+      ∷ short_notes L (length text) (length notes₀)
       ∷ [])
-      (figures_of_chart (lanes_of lanes) text)
+      (figures_of_chart L text)
 
 -- process_chart_kept, the kept-row call: "minimised text, densities, kept tally"; its value, and its places
 unfoldable pub figures_of_kept : ℕ → List ℕ → KeptFigures
@@ -95,17 +95,18 @@ figures_of_kept L text =
 abbrev pub places_of_kept : KeptFigures → List ℕ
 places_of_kept f = figures f.bytes f.measures f.rows 0 0 0 0 (tally_figures f.stats)
 
-module _ (lanes : ℕ) (text out densities₀ work : List ℕ) where
-  -- what the call answers; its refusals: "1 2 3 5"
+module _ (L : ℕ) (text out densities₀ work : List ℕ) where
+  -- what the call answers; its refusals: "12 1 2 3 5"
   unfoldable pub kept_answer : Result KeptFigures Refusal
   kept_answer =
       answered
-      (long_text (length text)
+      (other_lanes L
+      ∷ long_text (length text)
       ∷ short_text (length text) (length out)
       ∷ short_measures (length text) (length densities₀)
-      ∷ short_work (lanes_of lanes) (length text) (length work)
+      ∷ short_work L (length text) (length work)
       ∷ [])
-      (figures_of_kept (lanes_of lanes) text)
+      (figures_of_kept L text)
 
 -- dropped_holds: its value, and its places
 unfoldable pub figures_of_dropped : ℕ → List ℕ → DroppedFigures
@@ -120,16 +121,17 @@ figures_of_dropped L text =
 abbrev pub places_of_dropped : DroppedFigures → List ℕ
 places_of_dropped f = figures f.bytes f.measures f.rows f.heads 0 0 0 no_tally
 
-module _ (lanes : ℕ) (text out list : List ℕ) where
+module _ (L : ℕ) (text out list : List ℕ) where
   -- what the call answers; 6: "the note slice, for note records or for the list, is shorter than 10 × L × R"
   unfoldable pub dropped_answer : Result DroppedFigures Refusal
   dropped_answer =
       answered
-      (long_text (length text)
+      (other_lanes L
+      ∷ long_text (length text)
       ∷ short_text (length text) (length out)
-      ∷ short_notes (lanes_of lanes) (length text) (length list)
+      ∷ short_notes L (length text) (length list)
       ∷ [])
-      (figures_of_dropped (lanes_of lanes) text)
+      (figures_of_dropped L text)
 
 -- minimize_timing_rows: "timing rows, row beats, heads figure"; its value, and its places
 unfoldable pub figures_of_timing : ℕ → List ℕ → TimingFigures
@@ -143,25 +145,26 @@ figures_of_timing L text =
 abbrev pub places_of_timing : TimingFigures → List ℕ
 places_of_timing f = figures f.bytes 0 f.rows 0 0 (number_of_bool f.heads) 0 no_tally
 
-module _ (lanes : ℕ) (text out : List ℕ) (beats₀ : List Float) where
-  -- what the call answers; its refusals: "1 2 4"
+module _ (L : ℕ) (text out : List ℕ) (beats₀ : List Float) where
+  -- what the call answers; its refusals: "12 1 2 4"
   unfoldable pub timing_answer : Result TimingFigures Refusal
   timing_answer =
       answered
-      (long_text (length text)
+      (other_lanes L
+      ∷ long_text (length text)
       ∷ short_text (length text) (length out)
-      ∷ short_beats (lanes_of lanes) (length text) (length beats₀)
+      ∷ short_beats L (length text) (length beats₀)
       ∷ [])
-      (figures_of_timing (lanes_of lanes) text)
+      (figures_of_timing L text)
 
 -- measure_densities and equally_spaced: how many measures there are, and its place
 abbrev pub places_of_measures : ℕ → List ℕ
 places_of_measures n = figures 0 n 0 0 0 0 0 no_tally
 
-module _ (lanes : ℕ) (text slice : List ℕ) where
-  -- what either call answers; its refusals: "1 3"
+module _ (L : ℕ) (text slice : List ℕ) where
+  -- what either call answers; its refusals: "12 1 3"
   unfoldable pub measures_answer : Result ℕ Refusal
-  measures_answer = answered (long_text (length text) ∷ short_measures (length text) (length slice) ∷ []) (measure_count (lanes_of lanes) text)
+  measures_answer = answered (other_lanes L ∷ long_text (length text) ∷ short_measures (length text) (length slice) ∷ []) (measure_count L text)
 
 -- chart_last_beat: its value, and its places
 unfoldable pub figures_of_last : ℕ → List ℕ → LastBeat
@@ -175,26 +178,26 @@ figures_of_last L text =
 abbrev pub places_of_last : LastBeat → List ℕ
 places_of_last f = figures 0 0 0 0 f.bits 0 f.row no_tally
 
--- what the call answers; its refusal: "1"
+-- what the call answers; its refusals: "12 1"
 unfoldable pub last_answer : ℕ → List ℕ → Result LastBeat Refusal
-last_answer lanes text = answered (long_text (length text) ∷ []) (figures_of_last (lanes_of lanes) text)
+last_answer L text = answered (other_lanes L ∷ long_text (length text) ∷ []) (figures_of_last L text)
 
 -- process_rows_judgable and process_timing_rows: a tally, and its places
 abbrev pub places_of_judged : ArrowStats → List ℕ
 places_of_judged t = figures 0 0 0 0 0 0 0 (tally_figures t)
 
-module _ (lanes : ℕ) (text work : List ℕ) where
-  -- What either answers, with this tally of an accepted text; its refusals: "1 5". "The judged tallies read `data` as it stands."
+module _ (L : ℕ) (text work : List ℕ) where
+  -- What either answers, with this tally of an accepted text; its refusals: "12 1 5". "The judged tallies read `data` as it stands."
   unfoldable pub judged_checked : ArrowStats → Result ArrowStats Refusal
-  judged_checked t = answered (long_text (length text) ∷ short_work (lanes_of lanes) (length text) (length work) ∷ []) t
+  judged_checked t = answered (other_lanes L ∷ long_text (length text) ∷ short_work L (length text) (length work) ∷ []) t
 
   -- what `process_rows_judgable` answers: "judged tally"
   abbrev pub judged_answer : Result ArrowStats Refusal
-  judged_answer = judged_checked (judged_tally (lanes_of lanes) text)
+  judged_answer = judged_checked (judged_tally L text)
 
   -- what `process_timing_rows` answers, with these flags: "judged tally by flags"
   abbrev pub flagged_answer : List ℕ → Result ArrowStats Refusal
-  flagged_answer flags = judged_checked (flagged_tally (lanes_of lanes) flags text)
+  flagged_answer flags = judged_checked (flagged_tally L flags text)
 
 -- read_note: the four places of a note, "row, tail row or 4,294,967,295, column, kind". What it answers is in Records.antt.
 abbrev pub figures_of_note : Note → List ℕ

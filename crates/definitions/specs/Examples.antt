@@ -6,8 +6,7 @@ use Prim.Native.String.{String, [] as end, ◌∷◌ as ◌then◌}
 use Rattle.std.specs.Float.{binary32, binary64}
 use Rattle.std.specs.Float.Ieee.{to_bits, of_int, round, add, mul, div}
 use Rattle.definitions.specs.Lists.{number_of_bool, joined}
-use Rattle.definitions.specs.Lanes.{lanes_of}
-use Rattle.definitions.specs.Refusals.{number_told, leaves, replaces, long_text}
+use Rattle.definitions.specs.Refusals.{number_told, leaves, replaces, answered, other_lanes, long_text}
 use Rattle.definitions.specs.Lines.{Row, is_blank_byte, is_row_line, kind_of, line_kind}
 use Rattle.definitions.specs.Cells.{cell_of}
 use Rattle.definitions.specs.Measures.{chart}
@@ -57,7 +56,8 @@ field every t = tally_figures t
 -- none), column and kind, and `note_bytes` their records. `timing` are the timing rows, and `timing_head` says whether they have a 2 or 4.
 -- `flagged` is the judged tally with these flags. `record_read` is what reading that record of the given bytes answers. `told` is the number that
 -- the main call answers, and `left_text` and `left_work` are what it leaves, where the slices that it is lent have these lengths: text, measures,
--- beats, work, notes. `told_length` is the number that is answered to a text for its length.
+-- beats, work, notes. `told_length` is the number that is answered to a text of that length where
+-- no slice is lent.
 pub data Figure : Type 0 where
   text density spacing row_counts beat_list last last_48ths note_list note_bytes timing timing_head : Figure
   main kept judged : Field → Figure
@@ -90,7 +90,7 @@ figure (record_read k) L s = number_told (note_of_record s k) ∷ replaces (note
 figure (told t m b w n) L s = number_told (lent L s t m b w n) ∷ []
 figure (left_text t m b w n) L s = leaves 0 (lent L s t m b w n) (minimised_text L s) (replicate t 7)
 figure (left_work t m b w n) L s = leaves 0 (lent L s t m b w n) [] (replicate w 7)
-figure (told_length len) L s = number_told (long_text len) ∷ []
+figure (told_length len) L s = number_told (answered (other_lanes L ∷ long_text len ∷ []) len) ∷ []
 
 -- whole beats as the bits of 32-bit floats, and one as those of a 64-bit float
 abbrev pub whole_beats : List ℕ → List ℕ
@@ -110,7 +110,7 @@ infix 4 ◌is◌
 abbrev pub ◌is◌ : Figure → List ℕ → Says
 f is v = record { of = f; value = v }
 
--- a caller's lane number, a text and what is said of it
+-- a lane number, a text and what is said of it
 pub record Example : Type 0 where
   pub lanes : ℕ
   pub given : List ℕ
@@ -193,12 +193,12 @@ table =
 
 -- what the definitions give for an example, and what it says
 abbrev pub given_by_definitions : Example → List (List ℕ)
-given_by_definitions e = map (λ (s : Says). figure s.of (lanes_of e.lanes) e.given) e.says
+given_by_definitions e = map (λ (s : Says). figure s.of e.lanes e.given) e.says
 
 -- what an example says
 abbrev pub said : Example → List (List ℕ)
 said e = map (λ (s : Says). s.value) e.says
 
 pub examples-hold : map given_by_definitions table ≡ map said table
-unfolding table figure lanes_of minimised_text densities spacings is_step beats measure_beats beat_of_row fused step beat whole last_row row_to_beat last_beat_of last48 last_object object_at notes effect_at main_tally kept_tally judged_tally judged_rows open_before judge_row judged_sum corrected corrects paired_only pairs hold_at tally tally_with_row row_sum row_sum_by direction rows_read_back minimised reduce stride chart line_kind kind_of is_row_line is_blank_byte cell_of to_bits of_int round add mul div
+unfolding table figure minimised_text densities spacings is_step beats measure_beats beat_of_row fused step beat whole last_row row_to_beat last_beat_of last48 last_object object_at notes effect_at main_tally kept_tally judged_tally judged_rows open_before judge_row judged_sum corrected corrects paired_only pairs hold_at tally tally_with_row row_sum row_sum_by direction rows_read_back minimised reduce stride chart line_kind kind_of is_row_line is_blank_byte cell_of to_bits of_int round add mul div
 examples-hold = refl

@@ -1,12 +1,12 @@
--- Specification, Refusals and Slices: the refusals by their numbers, the conditions of 1 to 6, their order, and what a call leaves in what it was
+-- Specification, Refusals and Slices: the refusals by their numbers, the conditions of 12 and 1 to 6, their order, and what a call leaves in what it was
 -- lent. "A refusal's condition is looked at in those calls alone that are lent what it speaks of. No text is refused for what stands in it." 7 and 8
 -- are in Records.antt, 9 to 11 in SmFile.antt, 19 and 20 in `chart_sheet`.
-use Rattle.std.specs.Prelude.{Bool, if◌then◌else◌, List, [], ◌∷◌, ℕ, ◌+◌, ◌*◌, ◌/◌, ◌++◌, nat_lt, length, codes, Result, Ok, Err}
+use Rattle.std.specs.Prelude.{Bool, if◌then◌else◌, List, [], ◌∷◌, ℕ, ◌+◌, ◌*◌, ◌/◌, ◌++◌, not, nat_lt, length, codes, Result, Ok, Err}
 use Rattle.definitions.specs.Sizes.{most_bytes}
 use Rattle.definitions.specs.Lists.{padded}
-use Rattle.definitions.specs.Lanes.{most_rows_in}
+use Rattle.definitions.specs.Lanes.{is_lane_count, most_rows_in}
 use Rattle.definitions.specs.declared.Refusal.{Refusal}
-use Rattle.definitions.specs.declared.Refusal.TheVariants.{LongText, ShortText, ShortMeasures, ShortBeats, ShortWork, ShortNotes, NoRecord, BadRecord, FewFields, OtherType, NoChart, ShortSheet, OtherForm}
+use Rattle.definitions.specs.declared.Refusal.TheVariants.{LongText, ShortText, ShortMeasures, ShortBeats, ShortWork, ShortNotes, NoRecord, BadRecord, FewFields, OtherType, NoChart, OtherLanes, ShortSheet, OtherForm}
 
 -- "A refusal is a value of one type, and a definition gives each its number"
 abbrev pub number_of : Refusal → ℕ
@@ -21,6 +21,7 @@ number_of BadRecord = 8
 number_of FewFields = 9
 number_of OtherType = 10
 number_of NoChart = 11
+number_of OtherLanes = 12
 number_of ShortSheet = 19
 number_of OtherForm = 20
 
@@ -37,6 +38,7 @@ cause_of BadRecord = codes "whoever stores note records"
 cause_of FewFields = codes "whoever writes the SM file"
 cause_of OtherType = codes "whoever writes the SM file"
 cause_of NoChart = codes "whoever asks for the chart"
+cause_of OtherLanes = codes "whoever gives the lane number"
 cause_of ShortSheet = codes "whoever wires up the call"
 cause_of OtherForm = codes "whoever wires up the call"
 
@@ -53,6 +55,7 @@ words_of BadRecord = codes "that record breaks a limit"
 words_of FewFields = codes "the block has fewer than five fields"
 words_of OtherType = codes "the chart has another type name"
 words_of NoChart = codes "the file has no such block"
+words_of OtherLanes = codes "the lane number is none of 4, 5, 6, 8 and 10"
 words_of ShortSheet = codes "the sheet slice is shorter than 42 * (len + 1) + 3000"
 words_of OtherForm = codes "the form's number is over 2"
 
@@ -63,6 +66,10 @@ refusal_text r = words_of r ++ (codes ", by " ++ cause_of r)
 -- what a check answers: this refusal where the condition holds
 abbrev pub refused_if : Bool → Refusal → Result Unit Refusal
 refused_if t r = if t then Err r else Ok tt
+
+-- 12: "the lane number is none of 4, 5, 6, 8 and 10"
+unfoldable pub other_lanes : ℕ → Result Unit Refusal
+other_lanes lanes = refused_if (not (is_lane_count lanes)) OtherLanes
 
 -- 1: "len is over 16,777,215"
 unfoldable pub long_text : ℕ → Result Unit Refusal

@@ -1,11 +1,11 @@
--- Specification, Examples: R1 to R35, the second table, with a single claim, `rule-examples-hold`. "A second table, R1 to R35, is proved in the same
+-- Specification, Examples: R1 to R40, the second table, with a single claim, `rule-examples-hold`. "A second table, R1 to R40, is proved in the same
 -- way: for each wrong rule of the list in `tests/rules` an example of the two tables fails." The answers are the Rust's, but for R28, of byte 13 among
--- a row's bytes, and R33 to R35, of records and refusals, which the Rust has not. In a text `|` is byte 10 and `^` is byte 13.
+-- a row's bytes, and R33 to R40, of records and refusals, which the Rust has not. In a text `|` is byte 10 and `^` is byte 13.
 use Rattle.std.specs.Prelude.{◌≡◌, refl, List, [], ◌∷◌, ◌++◌, map, ℕ, replicate}
 use Rattle.std.specs.Float.Ieee.{to_bits, of_int, round, add, mul, div}
 use Rattle.definitions.specs.Lists.{joined}
-use Rattle.definitions.specs.Lanes.{lanes_of, most_rows_in}
-use Rattle.definitions.specs.Refusals.{long_text, short_text, short_measures, short_beats, short_work, short_notes}
+use Rattle.definitions.specs.Lanes.{is_lane_count, most_rows_in}
+use Rattle.definitions.specs.Refusals.{other_lanes, long_text, short_text, short_measures, short_beats, short_work, short_notes}
 use Rattle.definitions.specs.Lines.{is_blank_byte, is_row_line, kind_of, line_kind}
 use Rattle.definitions.specs.Cells.{cell_of}
 use Rattle.definitions.specs.Measures.{chart}
@@ -40,11 +40,11 @@ ten r0 r1 r2 r3 t0 t1 t2 t3 c k = r0 ∷ r1 ∷ r2 ∷ r3 ∷ t0 ∷ t1 ∷ t2 �
 abbrev pub zero_rows : ℕ → List ℕ
 zero_rows n = joined (replicate n (bytes "0000|"))
 
--- R1 to R35
+-- R1 to R40
 pub table : List Example
 table =
-    -- R1: another lane number than 5, 6, 8 and 10 is 4; a 2 is a head of the timing rows
-    at 9 (bytes "00011|2000")
+    -- R1: a row is the first L bytes; a 2 is a head of the timing rows
+    at4 "00011|2000"
     ((text is bytes "0001|2000|")
     ∷ (main steps is 2 ∷ [])
     ∷ (timing_head is 1 ∷ [])
@@ -125,6 +125,7 @@ table =
     ∷ (kept every is counts 3 2 0 0 1 3 0 0 0 0 1 0 0 0 0)
     ∷ (judged every is counts 3 2 0 0 1 3 0 0 0 0 1 0 0 0 0)
     ∷ (flagged (1 ∷ 0 ∷ []) every is counts 2 2 0 0 0 2 0 0 0 0 0 0 1 0 0)
+    ∷ (told 18 10 3 3 150 is 0 ∷ [])
     ∷ [])
     -- R13: eight columns; depths go on through measures
     ∷ at 8 (bytes "21020020|,|30303040")
@@ -134,6 +135,7 @@ table =
     ∷ (main every is counts 2 1 1 0 0 2 1 0 0 1 0 0 0 0 0)
     ∷ (judged every is counts 2 1 1 0 0 1 1 0 0 1 0 0 0 0 0)
     ∷ (flagged (1 ∷ 0 ∷ []) every is counts 2 1 1 0 0 1 1 0 0 1 0 0 0 0 0)
+    ∷ (told 20 11 2 2 160 is 0 ∷ [])
     ∷ [])
     -- R14: holding and its floor; a tail that is not paired stays; a 2 drops an older head's note, a 0 does not; a judged hold is open through its
     -- tail's row, one of an unjudged row never; a flag 2 is judged
@@ -149,6 +151,7 @@ table =
     ∷ (main every is counts 9 4 3 1 1 3 2 1 2 1 1 2 2 0 1)
     ∷ (judged every is counts 11 4 4 1 2 3 2 2 2 1 1 2 2 0 1)
     ∷ (flagged (0 ∷ 0 ∷ 1 ∷ []) every is counts 1 1 0 0 0 1 0 0 1 0 0 0 13 0 1)
+    ∷ (told 44 23 4 4 400 is 0 ∷ [])
     ∷ [])
     -- R16: a ninth head is not pushed, so the judged tally has 8 holds; nested heads and a 1 in another column correct nothing, so the main tally
     -- has 9; depths go up to 9
@@ -302,8 +305,24 @@ table =
     ∷ (left_work 22 11 4 5 160 is replicate 5 0)
     ∷ (left_work 22 11 4 5 159 is replicate 5 7)
     ∷ [])
+    -- R36: six lanes are accepted
+    ∷ at 6 (bytes "000000") ((told 7 4 1 1 60 is 0 ∷ []) ∷ [])
+    -- R37 to R40: another lane number is refused, before anything else, and then nothing is written
+    ∷ at 0 (bytes "1000")
+    ((told 5 3 5 5 40 is 12 ∷ [])
+    ∷ (told 0 0 0 0 0 is 12 ∷ [])
+    ∷ (told_length 16777216 is 12 ∷ [])
+    ∷ (left_text 5 3 5 5 40 is replicate 5 7)
+    ∷ (left_work 5 3 5 5 40 is replicate 5 7)
+    ∷ [])
+    -- R38
+    ∷ at 7 (bytes "1000000") ((told 8 5 1 1 70 is 12 ∷ []) ∷ [])
+    -- R39
+    ∷ at 9 (bytes "100000000") ((told 10 6 1 1 90 is 12 ∷ []) ∷ [])
+    -- R40
+    ∷ at 11 (bytes "10000000000") ((told 12 7 1 1 110 is 12 ∷ []) ∷ [])
     ∷ []
 
 pub rule-examples-hold : map given_by_definitions table ≡ map said table
-unfolding table figure lanes_of minimised_text densities spacings is_step beats measure_beats beat_of_row fused step beat whole last_row row_to_beat last_beat_of last48 last_object object_at notes effect_at records encode fields note_of_record note_of word main_answer long_text short_text short_measures short_beats short_work short_notes most_rows_in main_tally kept_tally judged_tally flagged_tally judged_rows judged_at open_before judge_row judged_sum corrected corrects paired_only pairs hold_at tally tally_with_row row_sum row_sum_by direction rows_read_back timing_rows timing_heads minimised reduce stride chart line_kind kind_of is_row_line is_blank_byte cell_of to_bits of_int round add mul div
+unfolding table figure is_lane_count other_lanes minimised_text densities spacings is_step beats measure_beats beat_of_row fused step beat whole last_row row_to_beat last_beat_of last48 last_object object_at notes effect_at records encode fields note_of_record note_of word main_answer long_text short_text short_measures short_beats short_work short_notes most_rows_in main_tally kept_tally judged_tally flagged_tally judged_rows judged_at open_before judge_row judged_sum corrected corrects paired_only pairs hold_at tally tally_with_row row_sum row_sum_by direction rows_read_back timing_rows timing_heads minimised reduce stride chart line_kind kind_of is_row_line is_blank_byte cell_of to_bits of_int round add mul div
 rule-examples-hold = refl

@@ -2,7 +2,6 @@
 -- and S1 to S6 of six lanes." In a text `|` is byte 10.
 use Rattle.std.specs.Prelude.{◌≡◌, refl, List, [], ◌∷◌, map}
 use Rattle.std.specs.Float.Ieee.{to_bits, of_int, round, add, mul, div}
-use Rattle.definitions.specs.Lanes.{lanes_of}
 use Rattle.definitions.specs.Lines.{is_blank_byte, is_row_line, kind_of, line_kind}
 use Rattle.definitions.specs.Cells.{cell_of}
 use Rattle.definitions.specs.Measures.{chart}
@@ -93,5 +92,5 @@ table =
     ∷ []
 
 pub tally-examples-hold : map given_by_definitions table ≡ map said table
-unfolding table figure lanes_of minimised_text is_step beat whole last_row row_to_beat last_beat_of last48 last_object object_at notes effect_at main_tally kept_tally judged_tally flagged_tally judged_rows judged_at open_before judge_row judged_sum corrected corrects paired_only pairs hold_at tally tally_with_row row_sum row_sum_by direction rows_read_back minimised reduce stride chart line_kind kind_of is_row_line is_blank_byte cell_of to_bits of_int round add mul div
+unfolding table figure minimised_text is_step beat whole last_row row_to_beat last_beat_of last48 last_object object_at notes effect_at main_tally kept_tally judged_tally flagged_tally judged_rows judged_at open_before judge_row judged_sum corrected corrects paired_only pairs hold_at tally tally_with_row row_sum row_sum_by direction rows_read_back minimised reduce stride chart line_kind kind_of is_row_line is_blank_byte cell_of to_bits of_int round add mul div
 tally-examples-hold = refl

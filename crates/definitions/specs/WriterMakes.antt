@@ -2,7 +2,6 @@
 -- them and is read back as its note. `writer-makes` in proofs/WriterMakes.antt proves it.
 use Rattle.std.specs.Prelude.{◌≡◌, List, ℕ, ◌≤◌, ◌<◌, length, slice_get, Some, Ok}
 use Rattle.definitions.specs.Sizes.{most_bytes, row_numbers_bound}
-use Rattle.definitions.specs.Lanes.{lanes_of}
 use Rattle.definitions.specs.Notes.{notes}
 use Rattle.definitions.specs.Records.{number_of_kind, records, note_of_record}
 use Rattle.definitions.specs.declared.Kind.{Kind}
@@ -41,8 +40,8 @@ pub record ReadsBack (ns : List Note) (k : ℕ) : Type 0 where
   pub limits : Made note
   pub read : note_of_record (records ns) k ≡ Ok note
 
--- "What the writer makes of an accepted text reads back as its notes, in their order." For every lane number and every text that no call refuses for
--- its length, this holds of each record of its notes.
+-- "What the writer makes of an accepted text reads back as its notes, in their order." For every L from 1 to 10 and every text
+-- that no call refuses for its length, this holds of each record of its notes.
 unfoldable pub WriterMakes : Type 0
 WriterMakes =
-    (lanes : ℕ) (text : List ℕ) → length text ≤ most_bytes → (k : ℕ) → k < length (notes (lanes_of lanes) text) → ReadsBack (notes (lanes_of lanes) text) k
+    (L : ℕ) → 1 ≤ L → L ≤ 10 → (text : List ℕ) → length text ≤ most_bytes → (k : ℕ) → k < length (notes L text) → ReadsBack (notes L text) k

@@ -1,5 +1,7 @@
-ghost use Rattle.std.specs.Prelude.{◌≡◌, ◌≤◌};
+ghost use Rattle.std.specs.Prelude.{◌≡◌, ◌≤◌, Ok, Err, OnOk, IfOk, IfErr};
 ghost use Rattle.definitions.specs.Tally.{direction as direction_of};
+
+use crate::Refusal;
 
 // The directions of six columns: left, up-left, down, up, up-right, right.
 const SIX_COLUMNS: [usize; 6] = [0, 4, 1, 2, 5, 3];
@@ -16,7 +18,7 @@ pub fn direction(columns: usize, column: usize) -> usize
     }
 }
 
-/// The lane count in force: how many columns a row has.
+/// A lane count: how many columns a row has.
 #[derive(Clone, Copy)]
 pub struct Lanes {
     pub count: usize,
@@ -24,21 +26,24 @@ pub struct Lanes {
 }
 
 impl Lanes {
-    ghost use Rattle.definitions.specs.Lanes.{lanes_of};
+    ghost use Rattle.definitions.specs.Refusals.{other_lanes};
 
-    /// 5, 6, 8 or 10 where the caller gives that number, otherwise 4.
-    #[tactic(auto, unfolding(crate::specs::Lanes::lanes_of))]
-    pub fn in_force(given: usize) -> Lanes
-        ensures { result.count ≡ lanes_of given }
+    /// The lane count that the caller's number is: 4, 5, 6, 8 or 10. Any other number is refused.
+    #[tactic(auto, unfolding(crate::specs::Lanes::is_lane_count, crate::specs::Refusals::other_lanes))]
+    pub fn of_number(given: usize) -> Result<Lanes, Refusal>
+        ensures accepted { OnOk result (other_lanes given ≡ Ok tt) }
+        ensures count { IfOk result (λ lanes. lanes.count ≡ given) }
+        ensures refused { IfErr result (λ refusal. other_lanes given ≡ Err refusal) }
     {
         // The numbers stand here one by one, so that the compiler knows each of them where it writes a loop over a row's cells.
         let count = match given {
+            4 => 4,
             5 => 5,
             6 => 6,
             8 => 8,
             10 => 10,
-            _ => 4,
+            _ => return Err(Refusal::OtherLanes),
         };
-        Lanes { count }
+        Ok(Lanes { count })
     }
 }

@@ -171,6 +171,7 @@ pub enum Refusal {
     FewFields = 9,
     OtherType = 10,
     NoChart = 11,
+    OtherLanes = 12,
     ShortSheet = 19,
     OtherForm = 20,
 }
@@ -199,6 +200,7 @@ impl Refusal {
             Refusal::NoRecord | Refusal::BadRecord => "whoever stores note records",
             Refusal::FewFields | Refusal::OtherType => "whoever writes the SM file",
             Refusal::NoChart => "whoever asks for the chart",
+            Refusal::OtherLanes => "whoever gives the lane number",
         }
     }
 
@@ -218,6 +220,7 @@ impl Refusal {
             Refusal::FewFields => "the block has fewer than five fields",
             Refusal::OtherType => "the chart has another type name",
             Refusal::NoChart => "the file has no such block",
+            Refusal::OtherLanes => "the lane number is none of 4, 5, 6, 8 and 10",
             Refusal::ShortSheet => "the sheet slice is shorter than 42 * (len + 1) + 3000",
             Refusal::OtherForm => "the form's number is over 2",
         }

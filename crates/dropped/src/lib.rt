@@ -4,7 +4,7 @@
 ghost use Rattle.std.specs.Prelude.{◌≡◌, ◌+◌, ◌*◌, ◌≤◌, length};
 ghost use Rattle.definitions.specs.Sizes.{most_bytes};
 ghost use Rattle.definitions.specs.Lists.{padded};
-ghost use Rattle.definitions.specs.Lanes.{lanes_of, most_rows_in};
+ghost use Rattle.definitions.specs.Lanes.{most_rows_in};
 ghost use Rattle.definitions.specs.Refusals.{leaves};
 ghost use Rattle.definitions.specs.Figures.{minimised_text};
 ghost use Rattle.definitions.specs.Dropped.{dropped_heads, dropped_records};
@@ -38,7 +38,7 @@ fn list_chart(data: &[u8], lanes: Lanes, text: &mut [u8], list: &mut [u8]) -> Dr
 }
 
 /// The list of dropped heads of a text: for each 2 or 4 of the minimised rows that has no note its row, the row that dropped it, its column and the
-/// reason. A refusal (1, 2 or 6) is the caller's mistake.
+/// reason. A refusal (12, 1, 2 or 6) is the caller's mistake.
 #[tactic(auto, unfolding(definitions::specs::Entries::dropped_answer))]
 pub fn dropped_holds(
     data: &[u8],
@@ -48,14 +48,14 @@ pub fn dropped_holds(
 ) -> Result<DroppedFigures, Refusal>
     ensures value { result ≡ dropped_answer lanes «data».now text.old list.old }
     ensures text_after { text.new
-        ≡ leaves 0 result (minimised_text (lanes_of lanes) «data».now) text.old }
+        ≡ leaves 0 result (minimised_text lanes «data».now) text.old }
     ensures list_after { list.new
-        ≡ leaves 0 result (dropped_records (dropped_heads (lanes_of lanes) «data».now)) list.old }
+        ≡ leaves 0 result (dropped_records (dropped_heads lanes «data».now)) list.old }
 {
+    let columns = Lanes::of_number(lanes)?;
     let len = data.len();
     refusals::text_fits(len)?;
     refusals::room_for_text(len, text.len())?;
-    let columns = Lanes::in_force(lanes);
     refusals::room_for_notes(columns, len, list.len())?;
     Ok(list_chart(data, columns, text, list))
 }

@@ -6,7 +6,7 @@ pub mod judged_pass;
 ghost use Rattle.std.specs.Prelude.{◌≡◌, Bool, [], ℕ, ◌+◌, ◌≤◌, ◌<◌, length};
 ghost use Rattle.definitions.specs.Sizes.{count_bound, most_bytes};
 ghost use Rattle.definitions.specs.Lists.{padded};
-ghost use Rattle.definitions.specs.Lanes.{lanes_of, most_rows_in};
+ghost use Rattle.definitions.specs.Lanes.{most_rows_in};
 ghost use Rattle.definitions.specs.Refusals.{leaves};
 ghost use Rattle.definitions.specs.ReadBack.{rows_read_back};
 ghost use Rattle.definitions.specs.Judged.{judged_rows};
@@ -165,17 +165,17 @@ fn judge(
     work: &mut [u16],
 ) -> Result<ArrowStats, Refusal>
     ensures value { result ≡ judged_checked lanes «data».now work.old
-        (tally_by flags.entry (lanes_of lanes) «data».now) }
+        (tally_by flags.entry lanes «data».now) }
     ensures work_after { work.new ≡ leaves 0 result [] work.old }
 {
+    let columns = Lanes::of_number(lanes)?;
     let len = data.len();
     refusals::text_fits(len)?;
-    let columns = Lanes::in_force(lanes);
     refusals::room_for_work(columns, len, work.len())?;
     Ok(judge_accepted(data, columns, flags, work))
 }
 
-/// The tally of minimised text with every row judged, as the Rust's function of that name. A refusal (1 or 5) is the caller's mistake.
+/// The tally of minimised text with every row judged, as the Rust's function of that name. A refusal (12, 1 or 5) is the caller's mistake.
 #[tactic(auto, unfolding(definitions::specs::Judged::judged_tally))]
 pub fn process_rows_judgable(
     data: &[u8],
@@ -189,7 +189,7 @@ pub fn process_rows_judgable(
 }
 
 /// The tally of minimised text with one flag byte a row, 0 unjudged, else judged; a row past the flags is judged. It is the Rust's function of that name
-/// with flags in place of its timing data. A refusal (1 or 5) is the caller's mistake.
+/// with flags in place of its timing data. A refusal (12, 1 or 5) is the caller's mistake.
 #[tactic(auto, unfolding(definitions::specs::Judged::flagged_tally))]
 pub fn process_timing_rows(
     data: &[u8],

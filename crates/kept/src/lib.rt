@@ -4,7 +4,7 @@
 ghost use Rattle.std.specs.Prelude.{◌≡◌, [], ◌+◌, ◌/◌, ◌≤◌, length};
 ghost use Rattle.definitions.specs.Sizes.{most_bytes};
 ghost use Rattle.definitions.specs.Lists.{padded};
-ghost use Rattle.definitions.specs.Lanes.{lanes_of, most_rows_in};
+ghost use Rattle.definitions.specs.Lanes.{most_rows_in};
 ghost use Rattle.definitions.specs.Refusals.{leaves};
 ghost use Rattle.definitions.specs.Figures.{minimised_text, densities as densities_of};
 ghost use Rattle.definitions.specs.Entries.{figures_of_kept, kept_answer};
@@ -47,7 +47,7 @@ pub fn keep_figures(
 }
 
 /// The Rust's `process_chart_in_impl` with its rows kept: minimised text in bytes, densities in steps a measure, and the tally corrected over the pass's
-/// own rows. A refusal (1, 2, 3 or 5) is the caller's mistake.
+/// own rows. A refusal (12, 1, 2, 3 or 5) is the caller's mistake.
 #[tactic(auto, unfolding(definitions::specs::Entries::kept_answer))]
 pub fn process_chart_kept(
     data: &[u8],
@@ -58,16 +58,16 @@ pub fn process_chart_kept(
 ) -> Result<KeptFigures, Refusal>
     ensures value { result ≡ kept_answer lanes «data».now text.old densities.old work.old }
     ensures text_after { text.new
-        ≡ leaves 0 result (minimised_text (lanes_of lanes) «data».now) text.old }
+        ≡ leaves 0 result (minimised_text lanes «data».now) text.old }
     ensures densities_after { densities.new
-        ≡ leaves 0 result (densities_of (lanes_of lanes) «data».now) densities.old }
+        ≡ leaves 0 result (densities_of lanes «data».now) densities.old }
     ensures work_after { work.new ≡ leaves 0 result [] work.old }
 {
+    let columns = Lanes::of_number(lanes)?;
     let len = data.len();
     refusals::text_fits(len)?;
     refusals::room_for_text(len, text.len())?;
     refusals::room_for_measures(len, densities.len())?;
-    let columns = Lanes::in_force(lanes);
     refusals::room_for_work(columns, len, work.len())?;
     Ok(keep_figures(data, columns, text, densities, work))
 }

@@ -4,7 +4,6 @@
 
 ghost use Rattle.std.specs.Prelude.{ℕ, ◌≤◌, List, length};
 ghost use Rattle.definitions.specs.Sizes.{most_bytes};
-ghost use Rattle.definitions.specs.Lanes.{lanes_of};
 ghost use Rattle.definitions.specs.Judged.{judged_tally, flagged_tally};
 ghost use Rattle.definitions.specs.Entries.{measure_count, figures_of_chart, places_of_chart, figures_of_kept, places_of_kept, figures_of_dropped, places_of_dropped, figures_of_timing, places_of_timing, places_of_measures, figures_of_last, places_of_last, places_of_judged};
 ghost use Rattle.definitions.specs.Directions.{DirectionsSum};
@@ -137,8 +136,8 @@ pub fn figures_fit()
 
 /// Every form of the sheet of an accepted text has room in the slice that is asked for.
 pub fn sheet_has_room()
-    ensures { (lanes form : ℕ) (text : List ℕ) → length text ≤ most_bytes
-        → length (sheet_in_form form (lanes_of lanes) text) ≤ most_sheet_bytes (length text) }
+    ensures { (L : ℕ) → 4 ≤ L → L ≤ 10 → (form : ℕ) (text : List ℕ) → length text ≤ most_bytes
+        → length (sheet_in_form form L text) ≤ most_sheet_bytes (length text) }
 {}
 
 /// The data that is found in a block of a file is a part of the file.

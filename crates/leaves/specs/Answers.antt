@@ -4,6 +4,7 @@ use Rattle.std.specs.Prelude.{Option, Some, None, Bool, if◌then◌else◌, ◌
 use Rattle.std.specs.Float.{binary64}
 use Rattle.std.specs.Float.Ieee.{to_bits}
 use Rattle.definitions.specs.Sizes.{measures_bound, row_count_bound}
+use Rattle.definitions.specs.Lanes.{is_lane_count}
 use Rattle.definitions.specs.Lines.{Row}
 use Rattle.definitions.specs.Reduction.{stride}
 use Rattle.definitions.specs.Beats.{beat_of_row, row_beats, row_to_beat}
@@ -20,6 +21,10 @@ use Rattle.reduction.specs.Rows.{rows_at, compacted}
 -- the largest number of 64 bits: no place, stride or count of rows
 abbrev pub no_answer : ℕ
 no_answer = 18446744073709551615
+
+-- the lane count that a number is
+unfoldable pub lanes_number : ℕ → ℕ
+lanes_number n = if is_lane_count n then n else no_answer
 
 -- ---- Lines
 

@@ -1,8 +1,7 @@
 // Minimising of a measure's rows in place. The largest number is returned where the rows do not stand in the text.
 ghost use Rattle.std.specs.Prelude.{◌≡◌, ◌<◌, ◌%◌, ◌^◌, ◌==◌};
-ghost use Rattle.definitions.specs.Lanes.{lanes_of};
 ghost use Rattle.definitions.specs.Reduction.{all_zero};
-ghost use Rattle.leaves.specs.Answers.{rows_in_bounds, stride_number, blocks_in_bounds, compacted_number, compacted_text};
+ghost use Rattle.leaves.specs.Answers.{lanes_number, rows_in_bounds, stride_number, blocks_in_bounds, compacted_number, compacted_text};
 
 use definitions::Lanes;
 
@@ -14,12 +13,16 @@ pub extern "C" fn leaves_is_all_zero(row: &[u8]) -> bool
     cells::is_all_zero(row)
 }
 
-/// The lane count that a caller's number means.
+/// The lane count that a caller's number is. The largest number where it is none.
+#[tactic(auto, unfolding(crate::specs::Answers::lanes_number, definitions::specs::Refusals::other_lanes))]
 #[unsafe(no_mangle)]
 pub extern "C" fn leaves_lanes_of(lanes: usize) -> usize
-    ensures { result ≡ lanes_of lanes }
+    ensures { result ≡ lanes_number lanes }
 {
-    Lanes::in_force(lanes).count
+    match Lanes::of_number(lanes) {
+        Ok(columns) => columns.count,
+        Err(_) => usize::MAX,
+    }
 }
 
 // Whether so many rows of `lanes` bytes stand `width` bytes apart in `len` bytes from `start` on.

@@ -1,13 +1,12 @@
 // The entries for callers in Rust and C, each thin over the proved call of the same work: Specification, Calls. "What a call is lent comes in the
 // order of this table." Specification, Contracts: "An entry's contract says, for every input, all of its answer and all that each slice holds after
-// it, refused calls too." "No entry asks anything of its caller." `lanes` is the lane number as the caller has it: 5, 6, 8 and 10 are these, any
-// other is 4. An entry returns 0 for accepted, else the number of a refusal, and then it has written nothing; 1 to 6, 19 and 20 are mistakes of whoever
-// wires up the call. After an accepted call zeros follow each answer in its slice. Specification, Figures, has the places of `figures`, and Slices
-// those of `note` and `chart`.
+// it, refused calls too." "No entry asks anything of its caller." `lanes` is the lane count; another number than 4,
+// 5, 6, 8 and 10 is refused with 12, before anything else is looked at. An entry returns 0 for accepted, else the number of a refusal, and then it has
+// written nothing; 1 to 6, 19 and 20 are mistakes of whoever wires up the call, 12 of whoever gives the lane number. After an accepted call zeros follow
+// each answer in its slice. Specification, Figures, has the places of `figures`, and Slices those of `note` and `chart`.
 #![tactic(auto)]
 
 ghost use Rattle.std.specs.Prelude.{◌≡◌, []};
-ghost use Rattle.definitions.specs.Lanes.{lanes_of};
 ghost use Rattle.definitions.specs.Refusals.{number_told, replaces};
 ghost use Rattle.definitions.specs.Figures.{minimised_text, densities as densities_of, spacings as spacings_of};
 ghost use Rattle.definitions.specs.Beats.{f32, beats as beats_of};
@@ -25,7 +24,7 @@ use figures::{sm_chart_places, tell};
 use note_records::read_note;
 
 /// The main call, the Rust's `minimize_chart_count_rows_notes`: minimised text in bytes, densities in steps a measure, row beats, note records of ten
-/// bytes each, and in the figures the last beat and the corrected tally. Refusals: 1 to 6.
+/// bytes each, and in the figures the last beat and the corrected tally. Refusals: 12, 1 to 6.
 #[unsafe(no_mangle)]
 pub extern "C" fn padcheck_minimize_chart_count_rows_notes(
     data: &[u8],
@@ -40,14 +39,14 @@ pub extern "C" fn padcheck_minimize_chart_count_rows_notes(
     ensures value { result ≡ number_told (main_answer lanes «data».now
         text.old densities.old beats.old work.old notes.old) }
     ensures text_after { text.new
-        ≡ leaves_by 0 result (minimised_text (lanes_of lanes) «data».now) text.old }
+        ≡ leaves_by 0 result (minimised_text lanes «data».now) text.old }
     ensures densities_after { densities.new
-        ≡ leaves_by 0 result (densities_of (lanes_of lanes) «data».now) densities.old }
+        ≡ leaves_by 0 result (densities_of lanes «data».now) densities.old }
     ensures beats_after { beats.new
-        ≡ leaves_by (f32 0) result (beats_of (lanes_of lanes) «data».now) beats.old }
+        ≡ leaves_by (f32 0) result (beats_of lanes «data».now) beats.old }
     ensures work_after { work.new ≡ leaves_by 0 result [] work.old }
     ensures notes_after { notes.new
-        ≡ leaves_by 0 result (records_of (notes_of (lanes_of lanes) «data».now)) notes.old }
+        ≡ leaves_by 0 result (records_of (notes_of lanes «data».now)) notes.old }
     ensures figures_after { figures.new ≡ replaces (main_answer lanes «data».now
         text.old densities.old beats.old work.old notes.old) places_of_chart figures.old }
 {
@@ -58,7 +57,7 @@ pub extern "C" fn padcheck_minimize_chart_count_rows_notes(
 }
 
 /// The kept-row call, the Rust's `process_chart_in_impl` with its rows kept: minimised text, densities, and the tally corrected over the pass's own
-/// rows. Refusals: 1, 2, 3 and 5.
+/// rows. Refusals: 12, 1, 2, 3 and 5.
 #[unsafe(no_mangle)]
 pub extern "C" fn padcheck_process_chart_kept(
     data: &[u8],
@@ -71,9 +70,9 @@ pub extern "C" fn padcheck_process_chart_kept(
     ensures value { result ≡ number_told (kept_answer lanes «data».now
         text.old densities.old work.old) }
     ensures text_after { text.new
-        ≡ leaves_by 0 result (minimised_text (lanes_of lanes) «data».now) text.old }
+        ≡ leaves_by 0 result (minimised_text lanes «data».now) text.old }
     ensures densities_after { densities.new
-        ≡ leaves_by 0 result (densities_of (lanes_of lanes) «data».now) densities.old }
+        ≡ leaves_by 0 result (densities_of lanes «data».now) densities.old }
     ensures work_after { work.new ≡ leaves_by 0 result [] work.old }
     ensures figures_after { figures.new
         ≡ replaces (kept_answer lanes «data».now text.old densities.old work.old)
@@ -84,7 +83,7 @@ pub extern "C" fn padcheck_process_chart_kept(
 }
 
 /// The heads that have no note: minimised text, and a record of ten bytes for each 2 or 4 of its rows that is dropped, its row, the row that dropped it
-/// or 4,294,967,295, its column, and the reason: 0 another head, 1 another cell, 2 the chart's end. Refusals: 1, 2 and 6, the last of the list.
+/// or 4,294,967,295, its column, and the reason: 0 another head, 1 another cell, 2 the chart's end. Refusals: 12, 1, 2 and 6, the last of the list.
 #[unsafe(no_mangle)]
 pub extern "C" fn padcheck_dropped_holds(
     data: &[u8],
@@ -95,9 +94,9 @@ pub extern "C" fn padcheck_dropped_holds(
 ) -> u32
     ensures value { result ≡ number_told (dropped_answer lanes «data».now text.old list.old) }
     ensures text_after { text.new
-        ≡ leaves_by 0 result (minimised_text (lanes_of lanes) «data».now) text.old }
+        ≡ leaves_by 0 result (minimised_text lanes «data».now) text.old }
     ensures list_after { list.new ≡ leaves_by 0 result
-        (dropped_records (dropped_heads (lanes_of lanes) «data».now)) list.old }
+        (dropped_records (dropped_heads lanes «data».now)) list.old }
     ensures figures_after { figures.new
         ≡ replaces (dropped_answer lanes «data».now text.old list.old)
         places_of_dropped figures.old }
@@ -106,8 +105,8 @@ pub extern "C" fn padcheck_dropped_holds(
     tell(answer, figures)
 }
 
-/// The Rust's `minimize_timing_rows`: minimised rows, L bytes each, back to back in `text`, their beats, and whether any has a 2 or 4. Refusals: 1, 2
-/// and 4.
+/// The Rust's `minimize_timing_rows`: minimised rows, L bytes each, back to back in `text`, their beats, and whether any has a 2 or 4. Refusals: 12, 1,
+/// 2 and 4.
 #[unsafe(no_mangle)]
 pub extern "C" fn padcheck_minimize_timing_rows(
     data: &[u8],
@@ -118,9 +117,9 @@ pub extern "C" fn padcheck_minimize_timing_rows(
 ) -> u32
     ensures value { result ≡ number_told (timing_answer lanes «data».now text.old beats.old) }
     ensures text_after { text.new
-        ≡ leaves_by 0 result (timing_rows (lanes_of lanes) «data».now) text.old }
+        ≡ leaves_by 0 result (timing_rows lanes «data».now) text.old }
     ensures beats_after { beats.new
-        ≡ leaves_by (f32 0) result (beats_of (lanes_of lanes) «data».now) beats.old }
+        ≡ leaves_by (f32 0) result (beats_of lanes «data».now) beats.old }
     ensures figures_after { figures.new
         ≡ replaces (timing_answer lanes «data».now text.old beats.old)
         places_of_timing figures.old }
@@ -129,7 +128,7 @@ pub extern "C" fn padcheck_minimize_timing_rows(
     tell(answer, figures)
 }
 
-/// The Rust's `measure_densities`: for each measure how many of its minimised rows are steps. Refusals: 1 and 3.
+/// The Rust's `measure_densities`: for each measure how many of its minimised rows are steps. Refusals: 12, 1 and 3.
 #[unsafe(no_mangle)]
 pub extern "C" fn padcheck_measure_densities(
     data: &[u8],
@@ -139,7 +138,7 @@ pub extern "C" fn padcheck_measure_densities(
 ) -> u32
     ensures value { result ≡ number_told (measures_answer lanes «data».now densities.old) }
     ensures densities_after { densities.new
-        ≡ leaves_by 0 result (densities_of (lanes_of lanes) «data».now) densities.old }
+        ≡ leaves_by 0 result (densities_of lanes «data».now) densities.old }
     ensures figures_after { figures.new
         ≡ replaces (measures_answer lanes «data».now densities.old) places_of_measures figures.old }
 {
@@ -147,7 +146,7 @@ pub extern "C" fn padcheck_measure_densities(
     tell(answer, figures)
 }
 
-/// The Rust's `equally_spaced_impl`: for each measure 1 where it has no rows or each of its minimised rows is a step, else 0. Refusals: 1 and 3.
+/// The Rust's `equally_spaced_impl`: for each measure 1 where it has no rows or each of its minimised rows is a step, else 0. Refusals: 12, 1 and 3.
 #[unsafe(no_mangle)]
 pub extern "C" fn padcheck_equally_spaced(
     data: &[u8],
@@ -157,7 +156,7 @@ pub extern "C" fn padcheck_equally_spaced(
 ) -> u32
     ensures value { result ≡ number_told (measures_answer lanes «data».now spacing.old) }
     ensures spacing_after { spacing.new
-        ≡ leaves_by 0 result (spacings_of (lanes_of lanes) «data».now) spacing.old }
+        ≡ leaves_by 0 result (spacings_of lanes «data».now) spacing.old }
     ensures figures_after { figures.new
         ≡ replaces (measures_answer lanes «data».now spacing.old) places_of_measures figures.old }
 {
@@ -165,7 +164,7 @@ pub extern "C" fn padcheck_equally_spaced(
     tell(answer, figures)
 }
 
-/// The Rust's `chart_last_beat_impl`: the beat of the last object row, as the bits of an f64 and in 48ths of a beat. Refusal: 1.
+/// The Rust's `chart_last_beat_impl`: the beat of the last object row, as the bits of an f64 and in 48ths of a beat. Refusals: 12 and 1.
 #[unsafe(no_mangle)]
 pub extern "C" fn padcheck_chart_last_beat(
     data: &[u8],
@@ -180,7 +179,7 @@ pub extern "C" fn padcheck_chart_last_beat(
     tell(answer, figures)
 }
 
-/// The Rust's `process_rows_judgable`: the tally of minimised text with every row judged. Refusals: 1 and 5.
+/// The Rust's `process_rows_judgable`: the tally of minimised text with every row judged. Refusals: 12, 1 and 5.
 #[unsafe(no_mangle)]
 pub extern "C" fn padcheck_process_rows_judgable(
     data: &[u8],
@@ -198,7 +197,7 @@ pub extern "C" fn padcheck_process_rows_judgable(
 }
 
 /// The Rust's `process_timing_rows` with a flag byte a row in place of its timing data: 0 unjudged, else judged, and judged where there is no flag.
-/// Refusals: 1 and 5.
+/// Refusals: 12, 1 and 5.
 #[unsafe(no_mangle)]
 pub extern "C" fn padcheck_process_timing_rows(
     data: &[u8],
@@ -245,8 +244,8 @@ pub extern "C" fn padcheck_sm_chart(file: &[u8], k: usize, chart: &mut [u64; 3])
     }
 }
 
-/// The sheet of a chart as bytes of ASCII, in form 0 (the card), 1 (print) or 2 (JSON), and all answers that it is made of. Refusals: 1 to 6, 19 and
-/// 20, where 3 is of the densities or the spacing.
+/// The sheet of a chart as bytes of ASCII, in form 0 (the card), 1 (print) or 2 (JSON), and all answers that it is made of. Refusals: 12, 1 to 6, 19
+/// and 20, where 3 is of the densities or the spacing.
 #[unsafe(no_mangle)]
 pub extern "C" fn padcheck_chart_sheet(
     data: &[u8],
@@ -264,18 +263,18 @@ pub extern "C" fn padcheck_chart_sheet(
     ensures value { result ≡ number_told (sheet_answer lanes form «data».now
         text.old densities.old spacing.old beats.old work.old notes.old sheet.old) }
     ensures text_after { text.new
-        ≡ leaves_by 0 result (minimised_text (lanes_of lanes) «data».now) text.old }
+        ≡ leaves_by 0 result (minimised_text lanes «data».now) text.old }
     ensures densities_after { densities.new
-        ≡ leaves_by 0 result (densities_of (lanes_of lanes) «data».now) densities.old }
+        ≡ leaves_by 0 result (densities_of lanes «data».now) densities.old }
     ensures spacing_after { spacing.new
-        ≡ leaves_by 0 result (spacings_of (lanes_of lanes) «data».now) spacing.old }
+        ≡ leaves_by 0 result (spacings_of lanes «data».now) spacing.old }
     ensures beats_after { beats.new
-        ≡ leaves_by (f32 0) result (beats_of (lanes_of lanes) «data».now) beats.old }
+        ≡ leaves_by (f32 0) result (beats_of lanes «data».now) beats.old }
     ensures work_after { work.new ≡ leaves_by 0 result [] work.old }
     ensures notes_after { notes.new
-        ≡ leaves_by 0 result (records_of (notes_of (lanes_of lanes) «data».now)) notes.old }
+        ≡ leaves_by 0 result (records_of (notes_of lanes «data».now)) notes.old }
     ensures sheet_after { sheet.new
-        ≡ leaves_by 0 result (sheet_in_form form (lanes_of lanes) «data».now) sheet.old }
+        ≡ leaves_by 0 result (sheet_in_form form lanes «data».now) sheet.old }
     ensures figures_after { figures.new ≡ replaces (sheet_answer lanes form «data».now
         text.old densities.old spacing.old beats.old work.old notes.old sheet.old)
         (λ f. f) figures.old }

@@ -2,7 +2,6 @@
 ghost use Rattle.std.specs.Prelude.{◌≡◌, ◌+◌, ◌/◌, ◌≤◌, length};
 ghost use Rattle.definitions.specs.Sizes.{most_bytes};
 ghost use Rattle.definitions.specs.Lists.{padded};
-ghost use Rattle.definitions.specs.Lanes.{lanes_of};
 ghost use Rattle.definitions.specs.Refusals.{leaves};
 ghost use Rattle.definitions.specs.Figures.{densities as densities_of};
 ghost use Rattle.definitions.specs.Entries.{measures_answer};
@@ -36,16 +35,17 @@ fn fill_densities(data: &[u8], lanes: Lanes, densities: &mut [u32]) -> usize
     m
 }
 
-/// For each measure its minimised rows with a 1, 2 or 4, as the Rust's function of that name. The answer counts the measures. A refusal (1 or 3) is the
-/// caller's mistake.
+/// For each measure its minimised rows with a 1, 2 or 4, as the Rust's function of that name. The answer counts the measures. A refusal (12, 1 or 3)
+/// is the caller's mistake.
 #[tactic(auto, using(crate::proofs::Raw::densities_count), unfolding(definitions::specs::Entries::measures_answer))]
 pub fn measure_densities(data: &[u8], lanes: usize, densities: &mut [u32]) -> Result<usize, Refusal>
     ensures value { result ≡ measures_answer lanes «data».now densities.old }
     ensures densities_after { densities.new
-        ≡ leaves 0 result (densities_of (lanes_of lanes) «data».now) densities.old }
+        ≡ leaves 0 result (densities_of lanes «data».now) densities.old }
 {
+    let columns = Lanes::of_number(lanes)?;
     let len = data.len();
     refusals::text_fits(len)?;
     refusals::room_for_measures(len, densities.len())?;
-    Ok(fill_densities(data, Lanes::in_force(lanes), densities))
+    Ok(fill_densities(data, columns, densities))
 }

@@ -42,12 +42,13 @@ fn last_figures(data: &[u8], lanes: Lanes) -> LastBeat
     }
 }
 
-/// The beat of a text's last object row, as an f64, by its bits and in 48ths of a beat, as the Rust's function of that name. A refusal (1) is the caller's
-/// mistake.
+/// The beat of a text's last object row, as an f64, by its bits and in 48ths of a beat, as the Rust's function of that name. A refusal (12 or 1)
+/// is the caller's mistake.
 #[tactic(auto, unfolding(definitions::specs::Entries::last_answer))]
 pub fn chart_last_beat_impl(data: &[u8], lanes: usize) -> Result<LastBeat, Refusal>
     ensures { result ≡ last_answer lanes «data».now }
 {
+    let columns = Lanes::of_number(lanes)?;
     refusals::text_fits(data.len())?;
-    Ok(last_figures(data, Lanes::in_force(lanes)))
+    Ok(last_figures(data, columns))
 }

@@ -2,7 +2,6 @@
 ghost use Rattle.std.specs.Prelude.{◌≡◌, List, [], ◌∷◌, ◌++◌, ◌+◌, ◌/◌, ◌≤◌, ◌<◌, length};
 ghost use Rattle.definitions.specs.Sizes.{most_bytes, row_numbers_bound};
 ghost use Rattle.definitions.specs.Lists.{padded};
-ghost use Rattle.definitions.specs.Lanes.{lanes_of};
 ghost use Rattle.definitions.specs.Refusals.{leaves};
 ghost use Rattle.definitions.specs.Lines.{Row};
 ghost use Rattle.definitions.specs.Reduction.{reduce};
@@ -94,15 +93,16 @@ pub fn fill_spacing(data: &[u8], lanes: Lanes, spacing: &mut [u8]) -> usize
 }
 
 /// For each measure whether it has no rows or each of its minimised rows has a 1, 2 or 4, 1 or 0, as the Rust's function of that name. The answer counts
-/// the measures. A refusal (1 or 3) is the caller's mistake.
+/// the measures. A refusal (12, 1 or 3) is the caller's mistake.
 #[tactic(auto, using(crate::proofs::Raw::spacings_count), unfolding(definitions::specs::Entries::measures_answer))]
 pub fn equally_spaced_impl(data: &[u8], lanes: usize, spacing: &mut [u8]) -> Result<usize, Refusal>
     ensures value { result ≡ measures_answer lanes «data».now spacing.old }
     ensures spacing_after { spacing.new
-        ≡ leaves 0 result (spacings (lanes_of lanes) «data».now) spacing.old }
+        ≡ leaves 0 result (spacings lanes «data».now) spacing.old }
 {
+    let columns = Lanes::of_number(lanes)?;
     let len = data.len();
     refusals::text_fits(len)?;
     refusals::room_for_measures(len, spacing.len())?;
-    Ok(fill_spacing(data, Lanes::in_force(lanes), spacing))
+    Ok(fill_spacing(data, columns, spacing))
 }

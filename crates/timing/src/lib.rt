@@ -5,7 +5,7 @@
 ghost use Rattle.std.specs.Prelude.{◌≡◌, List, [], ℕ, ◌+◌, ◌≤◌, ◌<◌, Float, length};
 ghost use Rattle.definitions.specs.Sizes.{measures_bound, most_bytes, row_count_bound};
 ghost use Rattle.definitions.specs.Lists.{padded};
-ghost use Rattle.definitions.specs.Lanes.{lanes_of, most_rows_in};
+ghost use Rattle.definitions.specs.Lanes.{most_rows_in};
 ghost use Rattle.definitions.specs.Refusals.{leaves};
 ghost use Rattle.definitions.specs.Tracker.{hold_at};
 ghost use Rattle.definitions.specs.Correction.{is_opening};
@@ -146,7 +146,7 @@ fn timing_figures(data: &[u8], lanes: Lanes, text: &mut [u8], beats: &mut [f32])
 }
 
 /// The minimised rows of a text, L bytes each, back to back, their beats, and whether any of them has a 2 or 4, as the Rust's function of that name. A
-/// refusal (1, 2 or 4) is the caller's mistake.
+/// refusal (12, 1, 2 or 4) is the caller's mistake.
 #[tactic(auto, unfolding(definitions::specs::Entries::timing_answer))]
 pub fn minimize_timing_rows(
     data: &[u8],
@@ -156,14 +156,14 @@ pub fn minimize_timing_rows(
 ) -> Result<TimingFigures, Refusal>
     ensures value { result ≡ timing_answer lanes «data».now text.old beats.old }
     ensures text_after { text.new
-        ≡ leaves 0 result (timing_rows (lanes_of lanes) «data».now) text.old }
+        ≡ leaves 0 result (timing_rows lanes «data».now) text.old }
     ensures beats_after { beats.new
-        ≡ leaves (f32 0) result (beats_of (lanes_of lanes) «data».now) beats.old }
+        ≡ leaves (f32 0) result (beats_of lanes «data».now) beats.old }
 {
+    let columns = Lanes::of_number(lanes)?;
     let len = data.len();
     refusals::text_fits(len)?;
     refusals::room_for_text(len, text.len())?;
-    let columns = Lanes::in_force(lanes);
     refusals::room_for_beats(columns, len, beats.len())?;
     Ok(timing_figures(data, columns, text, beats))
 }

@@ -8,7 +8,6 @@ use lib.ListN.{length, get_or, replicate}
 use Rattle.std.specs.Prelude.{Ok, Result}
 use Rattle.definitions.specs.declared.Refusal.{Refusal}
 use Rattle.definitions.specs.Sizes.{row_numbers_bound}
-use Rattle.definitions.specs.Lanes.{lanes_of}
 use Rattle.definitions.specs.Notes.{notes}
 use Rattle.definitions.specs.Records.{number_of_tail, records, note_of_record}
 use Rattle.definitions.specs.Refusals.{number_told, replaces}
@@ -66,9 +65,9 @@ module _ (ns : List Note) (r : (k : ℕ) → k < length ns → ReadsBack ns k) w
 
 pub records-of_texts : WriterMakes → RecordsOfTexts
 unfolding WriterMakes RecordsOfTexts
-records-of_texts w lanes text short =
-    let ns = notes (lanes_of lanes) text in
-    let r = w lanes text short in
+records-of_texts w L some few text short =
+    let ns = notes L text in
+    let r = w L some few text short in
     (records-read ns r, records-told ns r, notes-in_range ns r)
 
 pub limits-suffice : LimitsSuffice
