@@ -42,8 +42,7 @@ extern "C" {
 
 /*
  * What a call returns, by the library's names; padcheck_words says what each means. Refusals are checked in the order
- * that stands above the call, which is the rising one but for padcheck_sm_chart, each only where the call is lent that
- * thing.
+ * that stands above the call, each only where the call is lent that thing.
  */
 enum padcheck_number {
     PADCHECK_ACCEPTED = 0,
@@ -58,6 +57,7 @@ enum padcheck_number {
     PADCHECK_FEW_FIELDS = 9,
     PADCHECK_OTHER_TYPE = 10,
     PADCHECK_NO_CHART = 11,
+    PADCHECK_OTHER_LANES = 12,
     PADCHECK_SHORT_SHEET = 19,
     PADCHECK_OTHER_FORM = 20
 };
@@ -93,6 +93,8 @@ static inline const char *padcheck_words(uint32_t number)
         return "the chart has another type name";
     case PADCHECK_NO_CHART:
         return "the file has no such block";
+    case PADCHECK_OTHER_LANES:
+        return "the lane number is none of 4, 5, 6, 8 and 10";
     case PADCHECK_SHORT_SHEET:
         return "the sheet slice is shorter than 42 * (len + 1) + 3000";
     case PADCHECK_OTHER_FORM:
@@ -123,6 +125,8 @@ static inline const char *padcheck_caused_by(uint32_t number)
         return "whoever writes the SM file";
     case PADCHECK_NO_CHART:
         return "whoever asks for the chart";
+    case PADCHECK_OTHER_LANES:
+        return "whoever gives the lane number";
     default:
         return "nobody";
     }
@@ -144,15 +148,16 @@ static inline const char *padcheck_caused_by(uint32_t number)
 #define PADCHECK_NOTE_FIGURES 4
 #define PADCHECK_CHART_FIGURES 3
 
-/* L, the lane count in force: 5, 6, 8 or 10 where the caller gives that number, otherwise 4. */
-static inline size_t padcheck_lanes_in_force(size_t lanes)
+/* Whether a lane number is a lane count, L: every other number is refused. */
+static inline int padcheck_is_lane_count(size_t lanes)
 {
-    return lanes == 5 || lanes == 6 || lanes == 8 || lanes == 10 ? lanes : 4;
+    return lanes == 4 || lanes == 5 || lanes == 6 || lanes == 8 || lanes == 10;
 }
 
 /*
  * The lengths that suffice for a text of len bytes, in elements; len is at most PADCHECK_MAX_LEN.
- * A slice may be longer. R, the most rows a text can hold, is (len + 1) div (L + 1).
+ * A slice may be longer. R, the most rows a text can hold, is (len + 1) div (L + 1). For a lane number that is refused
+ * the lengths that go by it are 0.
  */
 static inline size_t padcheck_text_len(size_t len)
 {
@@ -164,7 +169,7 @@ static inline size_t padcheck_measures_len(size_t len)
 }
 static inline size_t padcheck_beats_len(size_t len, size_t lanes)
 {
-    return (len + 1) / (padcheck_lanes_in_force(lanes) + 1);
+    return padcheck_is_lane_count(lanes) ? (len + 1) / (lanes + 1) : 0;
 }
 static inline size_t padcheck_work_len(size_t len, size_t lanes)
 {
@@ -172,7 +177,7 @@ static inline size_t padcheck_work_len(size_t len, size_t lanes)
 }
 static inline size_t padcheck_notes_len(size_t len, size_t lanes)
 {
-    return PADCHECK_NOTE_BYTES * padcheck_lanes_in_force(lanes) * padcheck_beats_len(len, lanes);
+    return PADCHECK_NOTE_BYTES * lanes * padcheck_beats_len(len, lanes);
 }
 static inline size_t padcheck_sheet_len(size_t len)
 {
@@ -259,7 +264,7 @@ enum padcheck_chart_figure {
 };
 
 /*
- * The calls. `data` is the text, `lanes` the lane number as the caller has it. Above each stand the lengths that the
+ * The calls. `data` is the text, `lanes` the lane count, 4, 5, 6, 8 or 10. Above each stand the lengths that the
  * slices must have at least, the refusals it can give, and the figures it answers.
  */
 
@@ -268,7 +273,7 @@ enum padcheck_chart_figure {
  * minimised text read back. Notes stand in rising row, then column; padcheck_read_note reads a record.
  * Lengths: text padcheck_text_len, densities padcheck_measures_len, beats padcheck_beats_len, work padcheck_work_len,
  * notes padcheck_notes_len.
- * Refusals: 1 2 3 4 5 6. Figures: TEXT_BYTES, MEASURES, ROWS, NOTES, LAST_BEAT, LAST_BEAT_48THS and the tally.
+ * Refusals: 12 1 2 3 4 5 6. Figures: TEXT_BYTES, MEASURES, ROWS, NOTES, LAST_BEAT, LAST_BEAT_48THS and the tally.
  */
 uint32_t padcheck_minimize_chart_count_rows_notes(const uint8_t *data, size_t data_len, size_t lanes, uint8_t *text,
                                                   size_t text_len, uint32_t *densities, size_t densities_len,
@@ -278,7 +283,7 @@ uint32_t padcheck_minimize_chart_count_rows_notes(const uint8_t *data, size_t da
 /*
  * The kept-row call: minimised text, densities, and the tally, which is that of the main call.
  * Lengths: text padcheck_text_len, densities padcheck_measures_len, work padcheck_work_len.
- * Refusals: 1 2 3 5. Figures: TEXT_BYTES, MEASURES, ROWS and the tally.
+ * Refusals: 12 1 2 3 5. Figures: TEXT_BYTES, MEASURES, ROWS and the tally.
  */
 uint32_t padcheck_process_chart_kept(const uint8_t *data, size_t data_len, size_t lanes, uint8_t *text, size_t text_len,
                                      uint32_t *densities, size_t densities_len, uint16_t *work, size_t work_len,
@@ -287,34 +292,34 @@ uint32_t padcheck_process_chart_kept(const uint8_t *data, size_t data_len, size_
 /*
  * The minimised rows, L bytes each, back to back in `text`, and their beats.
  * Lengths: text padcheck_text_len, beats padcheck_beats_len.
- * Refusals: 1 2 4. Figures: TEXT_BYTES, ROWS, HAS_HEADS.
+ * Refusals: 12 1 2 4. Figures: TEXT_BYTES, ROWS, HAS_HEADS.
  */
 uint32_t padcheck_minimize_timing_rows(const uint8_t *data, size_t data_len, size_t lanes, uint8_t *text,
                                        size_t text_len, float *beats, size_t beats_len, uint64_t *figures);
 
 /*
  * For each measure how many of its minimised rows have a 1, 2 or 4.
- * Length: densities padcheck_measures_len. Refusals: 1 3. Figures: MEASURES.
+ * Length: densities padcheck_measures_len. Refusals: 12 1 3. Figures: MEASURES.
  */
 uint32_t padcheck_measure_densities(const uint8_t *data, size_t data_len, size_t lanes, uint32_t *densities,
                                     size_t densities_len, uint64_t *figures);
 
 /*
  * For each measure 1 where it has no rows or each minimised row has a 1, 2 or 4, else 0.
- * Length: spacing padcheck_measures_len. Refusals: 1 3. Figures: MEASURES.
+ * Length: spacing padcheck_measures_len. Refusals: 12 1 3. Figures: MEASURES.
  */
 uint32_t padcheck_equally_spaced(const uint8_t *data, size_t data_len, size_t lanes, uint8_t *spacing,
                                  size_t spacing_len, uint64_t *figures);
 
 /*
  * The last object row's beat.
- * Refusals: 1. Figures: LAST_BEAT, LAST_BEAT_48THS.
+ * Refusals: 12 1. Figures: LAST_BEAT, LAST_BEAT_48THS.
  */
 uint32_t padcheck_chart_last_beat(const uint8_t *data, size_t data_len, size_t lanes, uint64_t *figures);
 
 /*
  * The judged tally of minimised text, every row judged.
- * Length: work padcheck_work_len. Refusals: 1 5. Figures: the tally.
+ * Length: work padcheck_work_len. Refusals: 12 1 5. Figures: the tally.
  */
 uint32_t padcheck_process_rows_judgable(const uint8_t *data, size_t data_len, size_t lanes, uint16_t *work,
                                         size_t work_len, uint64_t *figures);
@@ -322,7 +327,7 @@ uint32_t padcheck_process_rows_judgable(const uint8_t *data, size_t data_len, si
 /*
  * The judged tally of minimised text with one flag a row: 0 unjudged, else judged; a row past the flags is judged.
  * `flags` may have any length.
- * Length: work padcheck_work_len. Refusals: 1 5. Figures: the tally.
+ * Length: work padcheck_work_len. Refusals: 12 1 5. Figures: the tally.
  */
 uint32_t padcheck_process_timing_rows(const uint8_t *data, size_t data_len, size_t lanes, const uint8_t *flags,
                                       size_t flags_len, uint16_t *work, size_t work_len, uint64_t *figures);
@@ -332,7 +337,7 @@ uint32_t padcheck_process_timing_rows(const uint8_t *data, size_t data_len, size
  * no note of. Records of PADCHECK_DROPPED_BYTES stand back to back in `list`, in rising row, then column. Rows are those of
  * the text, numbered through the whole chart.
  * Lengths: text padcheck_text_len, list padcheck_notes_len.
- * Refusals: 1 2 6, where 6 is of the list. Figures: TEXT_BYTES, MEASURES, ROWS and NOTES, here the number of records.
+ * Refusals: 12 1 2 6, where 6 is of the list. Figures: TEXT_BYTES, MEASURES, ROWS and NOTES, here the number of records.
  */
 uint32_t padcheck_dropped_holds(const uint8_t *data, size_t data_len, size_t lanes, uint8_t *text, size_t text_len,
                                 uint8_t *list, size_t list_len, uint64_t *figures);
@@ -342,7 +347,8 @@ uint32_t padcheck_dropped_holds(const uint8_t *data, size_t data_len, size_t lan
  * densities, beats, work and notes are left as the main call leaves them, spacing as padcheck_equally_spaced does.
  * Lengths: text padcheck_text_len, densities and spacing padcheck_measures_len, beats padcheck_beats_len, work
  * padcheck_work_len, notes padcheck_notes_len, sheet padcheck_sheet_len.
- * Refusals: 1 2 3 4 5 6 19 20, where 3 is of densities or spacing. Figures: those of the main call and SHEET_BYTES.
+ * Refusals: 12 1 2 3 4 5 6 19 20, where 3 is of densities or spacing. Figures: those of the main call and
+ * SHEET_BYTES.
  */
 uint32_t padcheck_chart_sheet(const uint8_t *data, size_t data_len, size_t lanes, size_t form, uint8_t *text,
                               size_t text_len, uint32_t *densities, size_t densities_len, uint8_t *spacing,

@@ -342,24 +342,47 @@ static void check_chart_places(void)
           "a chart of an SM file has %d figures", PADCHECK_CHART_FIGURES);
 }
 
-/* L, and the lengths at each of its values: each is refused one element short and accepted as it is. */
+/* The lengths at each lane count: each is refused one element short and accepted as it is. */
 static void check_lengths(void)
 {
-    static const struct {
-        size_t lanes, in_force;
-    } lane_counts[] = {{0, 4}, {1, 4}, {2, 4}, {3, 4},   {4, 4},  {5, 5},       {6, 6},
-                       {7, 4}, {8, 8}, {9, 4}, {10, 10}, {11, 4}, {SIZE_MAX, 4}};
+    static const size_t lane_counts[] = {4, 5, 6, 8, 10};
     static const size_t lens[] = {1, 2, 3, 4, 5, 6, 9, 10, 11, 12, 13, 23, 54, 55, 87, 88};
     uint8_t data[88];
     memset(data, '1', sizeof data);
     for (size_t i = 0; i < sizeof lane_counts / sizeof lane_counts[0]; i++) {
-        size_t lanes = lane_counts[i].lanes, in_force = lane_counts[i].in_force;
-        check(padcheck_lanes_in_force(lanes) == in_force, "%zu lanes: in force", lanes);
+        size_t lanes = lane_counts[i];
+        check(padcheck_is_lane_count(lanes), "%zu lanes: a lane count", lanes);
         for (size_t j = 0; j < sizeof lens / sizeof lens[0]; j++) {
             struct question question = {data, lens[j], lanes, data, 0, (i + j) % 3};
             check_exact("lengths", &question);
         }
     }
+}
+
+/* Every other lane number is refused before all else, and the lengths that go by it are 0. */
+static void check_other_lanes(size_t lanes)
+{
+    uint8_t data[88];
+    memset(data, '1', sizeof data);
+    check(!padcheck_is_lane_count(lanes), "%zu lanes: no lane count", lanes);
+    check(padcheck_beats_len(87, lanes) == 0 && padcheck_work_len(87, lanes) == 0 && padcheck_notes_len(87, lanes) == 0,
+          "%zu lanes: the lengths that go by it", lanes);
+    for (enum call call = 0; call < CALLS; call++)
+        for (size_t form = 0; form <= 3; form += 3) {
+            struct question question = {data, sizeof data, lanes, data, 0, form};
+            check_refused("another lane number", call, &question, sizeof data, PADCHECK_OTHER_LANES);
+            check_refused("another lane number and short slices", call, &question, 0, PADCHECK_OTHER_LANES);
+        }
+}
+
+static void check_lane_numbers(void)
+{
+    for (size_t lanes = 0; lanes <= 300; lanes++)
+        if (lanes != 4 && lanes != 5 && lanes != 6 && lanes != 8 && lanes != 10)
+            check_other_lanes(lanes);
+    check_other_lanes(((size_t)1 << 32) + 4);
+    check_other_lanes(SIZE_MAX / 4);
+    check_other_lanes(SIZE_MAX);
 }
 
 /* What crates/definitions says of each refusal. */
@@ -416,6 +439,8 @@ static void check_refusals(void)
     check_refusal("accepted", ask_main(data, len, ROOM, ROOM, ROOM, ROOM, ROOM * 10), PADCHECK_ACCEPTED, "accepted");
     check_refusal("a text too long", ask_main(longest, PADCHECK_MAX_LEN + 1, 0, 0, 0, 0, 0), PADCHECK_LONG_TEXT,
                   "over 16,777,215");
+    check_refusal("another lane number", padcheck_chart_last_beat(longest, PADCHECK_MAX_LEN + 1, 7, room.figures),
+                  PADCHECK_OTHER_LANES, "none of 4, 5, 6, 8 and 10");
     check_refusal("the longest text", padcheck_chart_last_beat(longest, PADCHECK_MAX_LEN, 4, room.figures),
                   PADCHECK_ACCEPTED, "accepted");
     check_refusal("a text slice too short", ask_main(data, len, 0, 0, 0, 0, 0), PADCHECK_SHORT_TEXT, "text slice");
@@ -464,6 +489,7 @@ void check_header(void)
     check_dropped_places();
     check_chart_places();
     check_lengths();
+    check_lane_numbers();
     check_words();
     check_refusals();
 }

@@ -1,6 +1,5 @@
 //! A case, what a check of it compares, and the totals: a case that differs is shrunk byte by byte before it is shown.
 
-use oracle::calls::lanes_in_force;
 use std::fmt::Debug;
 use std::time::{Duration, Instant};
 
@@ -8,18 +7,17 @@ use std::time::{Duration, Instant};
 const SHOWN: u64 = 3;
 const SHRINKING: Duration = Duration::from_secs(3);
 
-/// The lane counts, and one more than the greatest number that an entry can return: 0 for accepted, the refusals 1 to 11, 19 and 20.
+/// The lane counts, and one more than the greatest number that an entry can return: 0 for accepted, the refusals 1 to 12, 19 and 20.
 pub const LANE_COUNTS: [usize; 5] = [4, 5, 6, 8, 10];
 pub const NUMBERS: usize = 21;
 
-/// How often an entry returned each number, for each lane count.
-pub type Answers = [[u64; NUMBERS]; LANE_COUNTS.len()];
+/// How often an entry returned each number, for each lane count, and at the last place for all other lane numbers.
+pub type Answers = [[u64; NUMBERS]; LANE_COUNTS.len() + 1];
 
-/// The place of the lane count in force among these.
+/// The place of a lane number among these.
 pub fn lane_place(lanes: usize) -> usize {
-    let in_force = lanes_in_force(lanes);
-    let place = LANE_COUNTS.iter().position(|&count| count == in_force);
-    place.expect("one of these lane counts is in force")
+    let place = LANE_COUNTS.iter().position(|&count| count == lanes);
+    place.unwrap_or(LANE_COUNTS.len())
 }
 
 /// A text, or rows back to back, with a lane number. All else that a check draws comes from the seed.

@@ -1,4 +1,4 @@
-//! What a run must have compared: every entry of the header with each of its numbers at each lane count, every export of `leaves`, every
+//! What a run must have compared: every entry of the header with each of its numbers at each lane count, and with 12 at another lane number, every export of `leaves`, every
 //! kind of text at each lane count, every kind of file, each call on a chart of a file at each lane count, and as many comparisons as the
 //! caller asks for.
 
@@ -60,10 +60,10 @@ fn missing_answers(checks: &[&Check]) -> Vec<String> {
     missing
 }
 
-/// The lane counts at which a number was never returned; a file that is refused has no lane count.
-fn missing_number(entry: &str, number: u32, counts: [u64; LANE_COUNTS.len()]) -> Vec<String> {
+/// The lane counts at which a number was never returned; a file that is refused has none, nor has a lane number that is.
+fn missing_number(entry: &str, number: u32, counts: [u64; LANE_COUNTS.len() + 1]) -> Vec<String> {
     let never = format!("{entry} never returned {number}");
-    if entry == "sm_chart" && number != 0 {
+    if number == 12 || (entry == "sm_chart" && number != 0) {
         let is_missing = counts.iter().all(|&count| count == 0);
         return is_missing.then_some(never).into_iter().collect();
     }

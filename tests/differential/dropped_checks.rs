@@ -3,12 +3,15 @@
 
 use crate::case::{Case, Check, Compare};
 use crate::text_checks::left_by;
-use oracle::calls::{Call, NOTE_BYTES, NOTES, TEXT_BYTES, lanes_in_force};
+use oracle::calls::{Call, NOTE_BYTES, NOTES, TEXT_BYTES};
 use oracle::dropped::{DROPPED_BYTES, heads_in, text_rows};
-use oracle::entry::Loan;
+use oracle::entry::{Loan, is_lane_count};
 
 pub fn listed_or_noted() -> Check {
     Check::new("dropped or noted", |case, compared| {
+        if !is_lane_count(case.lanes) {
+            return;
+        }
         let dropped = left_by(Call::DroppedHolds, case);
         let main = left_by(Call::MinimizeChartCountRowsNotes, case);
         compare(case, &dropped, &main, compared);
@@ -17,8 +20,8 @@ pub fn listed_or_noted() -> Check {
 
 fn compare(case: &Case, dropped: &Loan, main: &Loan, compared: &mut Compare) {
     let figure = |loan: &Loan, place: usize| loan.figures[place] as usize;
-    let lanes = lanes_in_force(case.lanes);
-    let rows: Vec<&[u8]> = text_rows(&dropped.text[..figure(dropped, TEXT_BYTES)], lanes).collect();
+    let text = &dropped.text[..figure(dropped, TEXT_BYTES)];
+    let rows: Vec<&[u8]> = text_rows(text, case.lanes).collect();
     let listed = heads_in(&dropped.notes[..DROPPED_BYTES * figure(dropped, NOTES)]);
     let (notes, _) = main.notes[..NOTE_BYTES * figure(main, NOTES)].as_chunks::<NOTE_BYTES>();
     let noted = notes.iter().filter(|note| matches!(note[9], 1 | 2)).count();

@@ -3,8 +3,8 @@
 use crate::case::{Case, LANE_COUNTS, lane_place};
 use crate::random;
 use oracle::asked::{chart_text, read_back_text};
-use oracle::calls::lanes_in_force;
 use oracle::dropped::{DroppedHead, NO_ROW, dropped_of};
+use oracle::entry::is_lane_count;
 use oracle::keysounds::rows_read_back;
 use oracle::leaves::{self, Counted};
 
@@ -203,7 +203,7 @@ struct Facts {
 
 impl Facts {
     fn of(case: &Case) -> Self {
-        let lanes = lanes_in_force(case.lanes);
+        let lanes = case.lanes;
         let text = &case.bytes[..];
         let mut facts = Self {
             as_it_stands: chart_text(text, lanes) == text && read_back_text(text, lanes) == text,
@@ -401,7 +401,11 @@ impl Kinds {
         Self([[0; KINDS.len()]; LANE_COUNTS.len()])
     }
 
+    /// A text at a lane number that is refused is of no kind.
     pub fn note(&mut self, case: &Case) {
+        if !is_lane_count(case.lanes) {
+            return;
+        }
         let facts = Facts::of(case);
         let counts = &mut self.0[lane_place(case.lanes)];
         for (count, (_, test)) in counts.iter_mut().zip(KINDS) {

@@ -1,9 +1,9 @@
 //! Texts that are not drawn: every short text over a few letters, every row of six cells over some, every byte at every place of a row's line, texts for each case of the correction,
-//! a few texts for each lane number whose slices are lent too short, and texts of the greatest length and one byte more.
+//! a few texts and too long a one for each lane number whose slices are lent too short, and texts of the greatest length and one byte more.
 
 use crate::case::{Case, Check, LANE_COUNTS};
 use crate::kinds::Kinds;
-use crate::random::Rng;
+use crate::random::{HUGE_LANES, Rng};
 use oracle::entry::MAX_LEN;
 
 /// Letters whose every text is tried, and up to which length.
@@ -14,8 +14,8 @@ const ALPHABETS: [(&[u8], u32); 4] = [
     (b"\t\n\x0b\x0c\r /,;0", 4),
 ];
 
-/// Lane numbers that the short texts are read by in turn, and one that all are read by: the Rust alone answers none of six lanes.
-const LANES: [usize; 3] = [4, 5, 0];
+/// Lane counts that the short texts are read by in turn, and one that all are read by: the Rust alone answers none of six lanes.
+const LANES: [usize; 2] = [4, 5];
 const SIX: usize = 6;
 
 pub fn short_texts(checks: &mut [Check], kinds: &mut Kinds) {
@@ -128,21 +128,24 @@ pub fn corrections(checks: &mut [Check], kinds: &mut Kinds) {
     }
 }
 
-/// A few texts of at least a row, at lane numbers 0 to 12 and some large ones.
+/// A few texts of at least a row, and one that is too long, at the lane numbers 0 to 300 and some large ones.
 pub fn every_lane(checks: &mut [Check]) {
-    let texts: [&[u8]; 4] = [
+    let too_long = vec![b'1'; MAX_LEN + 1];
+    let texts: [&[u8]; 5] = [
         b"1000000000\n0000000000\n,\n0200000000\n0300000000\n",
         b"2000000000\n0M0000000K\r\n,\n,\n;\n1111111111\n",
         b"           ",
         b"1111\n22222\n33333333\n4444444444",
+        &too_long,
     ];
-    for lanes in (0..=12).chain([1 << 32, usize::MAX >> 2, usize::MAX]) {
-        for (seed, text) in texts.iter().enumerate() {
-            let case = Case {
-                bytes: text.to_vec(),
-                lanes,
-                seed: seed as u64,
-            };
+    for (seed, text) in texts.iter().enumerate() {
+        let mut case = Case {
+            bytes: text.to_vec(),
+            lanes: 0,
+            seed: seed as u64,
+        };
+        for lanes in (0..=300).chain([1 << 32]).chain(HUGE_LANES) {
+            case.lanes = lanes;
             checks.iter_mut().for_each(|check| check.run(&case));
         }
     }

@@ -39,8 +39,7 @@ functions over a const L and a plain count of each direction's arrows. For each 
 N random texts, N random lists of rows, which are read as texts too, N beats, and random texts of 10,000 to
 1,000,000 bytes. Then every short text over a few letters, every row of six cells over four, every byte at
 every place of a row's line, texts for each case of the correction, each entry with every combination of its
-slices one entry too short, and texts of the
-greatest length. The search for a byte is made with it at every place of short slices, beside bytes that
+slices too short, at the lane numbers 0 to 300 and at large ones, and texts of the greatest length. The search for a byte is made with it at every place of short slices, beside bytes that
 differ from it in one bit. The main and the kept tally are compared with each other too. Where a line has a
 byte 13 among its first L bytes, which is a row for the Rust alone, it is asked about a text in which that
 line is none; both sorts of text are counted. The sheet is compared with the reference in Rust, on half of the random
@@ -170,7 +169,7 @@ fn run(options: &Options) -> ExitCode {
         ("bytes", &bytes),
         ("the places of a byte", &places),
         (
-            "every combination of slices one entry too short",
+            "every combination of slices too short, at every lane number",
             &shortages,
         ),
         ("longest texts", &longest),

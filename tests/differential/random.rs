@@ -1,8 +1,8 @@
 //! Random texts, rows, lane numbers, flags and loans, all from a seed.
 
 use crate::case::{Case, LANE_COUNTS};
-use oracle::calls::{Call, lanes_in_force};
-use oracle::entry::{Lengths, Loan, refusals};
+use oracle::calls::Call;
+use oracle::entry::{Lengths, Loan, is_lane_count, refusals};
 
 pub struct Rng(u64);
 
@@ -56,23 +56,27 @@ const MARKS: &[u8] = b"0000111234MLFKmlfk\n\n\n\n\n\r\t\x0b\x0c  ,,;/x\x00\x80\x
 
 pub const BLANKS: &[u8] = b"\t\x0c\r ";
 
-const HUGE_LANES: [usize; 10] = [
+/// Lane numbers that are lane counts where they are cut to 8, 16 or 32 bits, and those near the ends.
+pub const HUGE_LANES: [usize; 12] = [
     usize::MAX,
     usize::MAX - 1,
     (1 << 62) - 1,
     1 << 63,
+    (1 << 32) + 4,
     (1 << 32) + 5,
     (1 << 32) + 6,
     (1 << 32) + 8,
+    (1 << 16) + 10,
     260,
     262,
     266,
 ];
 
+/// A lane count, and now and then a number that is refused.
 pub fn lanes(rng: &mut Rng) -> usize {
-    match rng.below(20) {
+    match rng.below(40) {
         0 => rng.pick(&HUGE_LANES),
-        1..=6 => rng.below(13),
+        1 => rng.below(13),
         _ => rng.pick(&LANE_COUNTS),
     }
 }
@@ -82,7 +86,8 @@ pub fn text(rng: &mut Rng, lanes: usize) -> Vec<u8> {
         0 => (0..rng.below(3)).map(|_| rng.pick(MARKS)).collect(),
         1 | 2 => (0..rng.below(90)).map(|_| rng.pick(MARKS)).collect(),
         3 => (0..rng.below(90)).map(|_| rng.byte()).collect(),
-        _ => chart(rng, lanes_in_force(lanes)),
+        _ if is_lane_count(lanes) => chart(rng, lanes),
+        _ => chart(rng, 4),
     }
 }
 

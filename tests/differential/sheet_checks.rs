@@ -1,10 +1,10 @@
 //! Checks of the sheet's entry: number, every slice and the figures beside the reference's, with slices drawn, with every combination of
-//! them one entry too short, and on texts of the greatest length and one byte more.
+//! them too short, and on texts of the greatest length and one byte more.
 
 use crate::case::{Case, Check, Compare, LANE_COUNTS};
 use crate::ours;
 use crate::random::{self, LONG, Rng};
-use crate::text_checks::bits;
+use crate::text_checks::{bits, short_len, too_short};
 use oracle::calls::Call;
 use oracle::entry::{Loan, MAX_LEN};
 use oracle::sheet::FORMS;
@@ -29,8 +29,7 @@ struct Lent {
 impl Lent {
     /// Slices full of garbage, of the lengths that `length` gives for the shortest ones: the main call's but for the spacing, which is
     /// asked for after the densities, and the sheet's at last.
-    fn new(seed: u64, case: &Case, mut length: impl FnMut(usize) -> usize) -> Self {
-        let (len, lanes) = (case.bytes.len(), case.lanes);
+    fn new(seed: u64, len: usize, lanes: usize, mut length: impl FnMut(usize) -> usize) -> Self {
         let mark = seed as u8 | 1;
         let mut spacing = Vec::new();
         let main = Call::MinimizeChartCountRowsNotes;
@@ -50,11 +49,7 @@ impl Lent {
 
     /// Slices that would do for an empty text.
     fn small(seed: u64, lanes: usize) -> Self {
-        let empty = Case {
-            lanes,
-            ..Case::default()
-        };
-        Self::new(seed, &empty, |enough| enough)
+        Self::new(seed, 0, lanes, |enough| enough)
     }
 }
 
@@ -71,7 +66,8 @@ pub fn drawn(one_in: usize) -> Check {
             number => number % FORMS.len(),
         };
         let may_lack = !is_long && rng.one_in(3);
-        let lent = Lent::new(rng.next(), case, |enough| match rng.below(8) {
+        let (seed, len) = (rng.next(), case.bytes.len());
+        let lent = Lent::new(seed, len, case.lanes, |enough| match rng.below(8) {
             0 if may_lack => enough.saturating_sub(1),
             1 if may_lack => enough / 2,
             2 | 3 => enough + 1 + rng.below(9),
@@ -81,7 +77,7 @@ pub fn drawn(one_in: usize) -> Check {
     })
 }
 
-/// The entry with every combination of its slices one entry too short, the others exact, in a form and in none.
+/// The entry with every combination of its slices too short, the others exact, in a form and in none.
 pub fn shortages() -> Check {
     const SLICES: u32 = 7;
     Check::new(NAME, |case, compared| {
@@ -89,10 +85,14 @@ pub fn shortages() -> Check {
             let form = (case.seed as usize + short as usize) % FORMS.len();
             for form in [form, OTHER_FORMS[short as usize % OTHER_FORMS.len()]] {
                 let mut rest = short;
-                let lent = Lent::new(case.seed, case, |enough| {
-                    let lacking = (rest & 1) as usize;
+                let lent = Lent::new(case.seed, short_len(case), case.lanes, |enough| {
+                    let is_short = rest & 1 != 0;
                     rest >>= 1;
-                    enough - lacking
+                    if is_short {
+                        too_short(case.lanes, enough)
+                    } else {
+                        enough
+                    }
                 });
                 entered(case, form, lent, compared);
             }
@@ -119,7 +119,7 @@ pub fn longest(check: &mut Check) {
 pub fn exact() -> Check {
     Check::new(NAME, |case, compared| {
         if case.bytes.len() <= MAX_LEN {
-            let lent = Lent::new(case.seed, case, |enough| enough);
+            let lent = Lent::new(case.seed, case.bytes.len(), case.lanes, |enough| enough);
             return entered(case, case.seed as usize % FORMS.len(), lent, compared);
         }
         for form in 0..=FORMS.len() {

@@ -5,7 +5,7 @@ use crate::entries::{ENTRIES, Enter};
 use crate::ours;
 use crate::random::{self, Rng};
 use oracle::calls::{Call, TALLY, TALLY_NAMES};
-use oracle::entry::{Loan, enter, refusals};
+use oracle::entry::{Loan, MAX_LEN, enter, is_lane_count, refusals};
 use oracle::leaves;
 
 pub fn checks() -> Vec<Check> {
@@ -34,6 +34,9 @@ pub fn entries() -> impl Iterator<Item = Check> {
 /// The main tally beside the kept one, which are the same for every text.
 pub fn tallies() -> Check {
     Check::new("main and kept tally", |case, compared| {
+        if !is_lane_count(case.lanes) {
+            return;
+        }
         let [main, kept] = [Call::MinimizeChartCountRowsNotes, Call::ProcessChartKept]
             .map(|call| tally(call, case));
         compared.same_slices("main and kept tally", &main, &kept);
@@ -57,12 +60,12 @@ pub fn left_by(call: Call, case: &Case) -> Loan {
     loan
 }
 
-/// The exported entries with every combination of their slices one entry too short, the others exact.
+/// The exported entries with every combination of their slices too short, the others exact.
 pub fn shortages() -> impl Iterator<Item = Check> {
     ENTRIES.iter().map(|entry| {
         Check::new(entry.call.name(), |case, compared| {
-            // Refusal 1 is of no slice.
-            for short in 0..1 << (refusals(entry.call).len() - 1) {
+            // Refusals 12 and 1 are of no slice.
+            for short in 0..1 << (refusals(entry.call).len() - 2) {
                 let loan = shortened(entry.call, case, short);
                 entered_with(entry.call, entry.enter, case, &[], loan, compared);
             }
@@ -70,21 +73,38 @@ pub fn shortages() -> impl Iterator<Item = Check> {
     })
 }
 
-/// Slices of the exact lengths, but for those whose refusal has its bit in `short`: they lack an entry.
+/// Slices of the exact lengths, for too long a text those of a short one, but for those whose refusal has its bit in `short`.
 fn shortened(call: Call, case: &Case, short: u32) -> Loan {
     let mut bit = 1;
     random::lent(
         case.seed,
         case.seed,
         call,
-        case.bytes.len(),
+        short_len(case),
         case.lanes,
         |_, enough| {
-            let lacking = usize::from(short & bit != 0);
+            let is_short = short & bit != 0;
             bit <<= 1;
-            enough - lacking
+            if is_short {
+                too_short(case.lanes, enough)
+            } else {
+                enough
+            }
         },
     )
+}
+
+/// The text's length, or that of a short one where it is too long.
+pub fn short_len(case: &Case) -> usize {
+    match case.bytes.len() {
+        len if len > MAX_LEN => 99,
+        len => len,
+    }
+}
+
+/// An entry less than enough; none at a lane number that is refused, so that too little is lent however the number is read.
+pub fn too_short(lanes: usize, enough: usize) -> usize {
+    if is_lane_count(lanes) { enough - 1 } else { 0 }
 }
 
 fn skip_ws(case: &Case, compared: &mut Compare) {
@@ -139,8 +159,9 @@ fn next_line(case: &Case, compared: &mut Compare) {
 }
 
 fn lanes_of(case: &Case, compared: &mut Compare) {
-    let rust = oracle::calls::lanes_in_force(case.lanes);
-    compared.same("lanes", ours::lanes_of(case.lanes), rust);
+    let counts = is_lane_count(case.lanes);
+    let lanes = if counts { case.lanes } else { usize::MAX };
+    compared.same("lanes", ours::lanes_of(case.lanes), lanes);
 }
 
 /// An entry's number, figures and slices beside what the oracle leaves in an equal loan, which is drawn.

@@ -1,7 +1,7 @@
 //! The text that the Rust is asked about in place of another. Here a line with a byte 13 among its first L bytes is no row (Specification, Lines
 //! and Rows read back), and the Rust takes it for one. So in each such line one byte is changed to one by which the Rust takes it for none: what the
 //! Rust then answers is what holds here. The text keeps its length and its lines, and where it has no such line it is the text itself.
-//! `lanes` is the lane count in force.
+//! `lanes` is the lane count.
 
 use std::borrow::Cow;
 

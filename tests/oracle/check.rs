@@ -11,8 +11,8 @@ mod check_sm;
 #[path = "../vectors/reader.rs"]
 mod reader;
 
-use oracle::calls::{CALLS, Call, lanes_in_force, measure_densities, measure_densities_unchanged};
-use oracle::entry::{Lengths, Loan, MAX_LEN, enter, read_note, refusal};
+use oracle::calls::{CALLS, Call};
+use oracle::entry::{Lengths, Loan, MAX_LEN, enter, is_lane_count, read_note, refusal};
 use oracle::leaves;
 use std::env;
 use std::fmt::Debug;
@@ -83,35 +83,22 @@ fn main() -> ExitCode {
     ExitCode::from(u8::from(checks.failed != 0))
 }
 
-/// L is 5, 6, 8 or 10 where the caller gives that number, otherwise 4.
+/// The lane counts, and the refusal of every other number, whatever else would be refused.
 fn lane_numbers(checks: &mut Checks) {
-    let in_force: Vec<usize> = (0..13).map(lanes_in_force).collect();
-    checks.same(
-        "lanes in force",
-        in_force,
-        vec![4, 4, 4, 4, 4, 5, 6, 4, 8, 4, 10, 4, 4],
-    );
-    // The unchanged function divides by zero there; the oracle answers as for 4 lanes.
-    for lanes in [(1 << 62) - 1, usize::MAX] {
-        let what = format!("measure_densities at {lanes}");
-        let told = panic_message(|| measure_densities_unchanged(b"", lanes));
-        checks.same(&what, told.as_deref(), Some("attempt to divide by zero"));
-        let densities = measure_densities(b"1000\n", lanes).densities;
-        checks.same(&what, densities, vec![1]);
+    let counts: Vec<usize> = (0..=300).filter(|&number| is_lane_count(number)).collect();
+    checks.same("lane counts", counts, vec![4, 5, 6, 8, 10]);
+    for lanes in [0, 3, 7, 9, 11, (1 << 32) + 4, (1 << 62) - 1, usize::MAX] {
+        for call in CALLS {
+            for (len, lent) in [
+                (9, Lengths::enough(9, lanes)),
+                (9, Lengths::default()),
+                (MAX_LEN + 1, Lengths::default()),
+            ] {
+                let what = format!("{} at {lanes} lanes", call.name());
+                checks.same(&what, refusal(call, len, lanes, &lent), 12);
+            }
+        }
     }
-    let told = panic_message(|| measure_densities_unchanged(b"", (1 << 62) - 2));
-    checks.same("measure_densities at 2^62 - 2", told, None);
-}
-
-/// The message of the panic that a function ends in, if it does.
-fn panic_message<T>(run: impl FnOnce() -> T) -> Option<String> {
-    let hook = panic::take_hook();
-    panic::set_hook(Box::new(|_| {}));
-    let result = panic::catch_unwind(AssertUnwindSafe(run));
-    panic::set_hook(hook);
-    let told = result.err()?;
-    let fixed = told.downcast_ref::<&str>().map(ToString::to_string);
-    fixed.or_else(|| told.downcast_ref::<String>().cloned())
 }
 
 /// What each call returns when the text, measure, beat, work or note slice is one too short.
@@ -148,7 +135,7 @@ fn refusals(checks: &mut Checks) {
         (11, 5, [12, 7, 2, 2, 100]),
         (13, 6, [14, 8, 2, 2, 120]),
         (12, 6, [13, 7, 1, 1, 60]),
-        (0, 7, [1, 1, 0, 0, 0]),
+        (0, 4, [1, 1, 0, 0, 0]),
     ] {
         for (call, numbers) in WHEN_SHORT {
             let what = format!("{} at length {len}, {lanes} lanes", call.name());

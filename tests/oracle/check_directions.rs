@@ -1,7 +1,7 @@
 //! The directions of six lanes: by hand, and beside the Rust's at the lane counts that the Rust has. As in the specification, `|` stands for byte 10.
 
 use crate::Checks;
-use oracle::calls::{self, Answer, LEFT, RIGHT, TALLY, UP_LEFT, UP_RIGHT, lanes_in_force};
+use oracle::calls::{self, Answer, LEFT, RIGHT, TALLY, UP_LEFT, UP_RIGHT};
 use oracle::directions::{Directions, chart_directions, judged_directions};
 use oracle::dropped::text_rows;
 use oracle::keysounds::rows_read_back;
@@ -84,11 +84,10 @@ fn judged(checks: &mut Checks) {
     }
 }
 
-/// The same rows at lane numbers that are no six lanes.
+/// The same rows at the other lane counts.
 fn other_lanes(checks: &mut Checks) {
     for (lanes, want) in [
         (4, [1, 1, 1, 1, 0, 0]),
-        (7, [1, 1, 1, 1, 0, 0]),
         (5, [2, 1, 1, 1, 0, 0]),
         (8, [2, 2, 2, 2, 0, 0]),
         (10, [3, 3, 2, 2, 0, 0]),
@@ -102,13 +101,12 @@ fn other_lanes(checks: &mut Checks) {
 fn beside_the_rust(checks: &mut Checks) {
     for (i, sample) in samples(SEED).iter().enumerate() {
         let (text, lanes) = (&sample.text[..], sample.lanes);
-        let width = lanes_in_force(lanes);
         let main = calls::minimize_chart_count_rows_notes(text, lanes);
         let kept = calls::process_chart_kept(text, lanes);
         let judged = calls::process_rows_judgable(text, lanes);
         let flagged = calls::process_timing_rows(text, lanes, &sample.flags);
-        let of_chart = chart_directions(text_rows(&main.text, width), width);
-        let of_flags = |flags| judged_directions(rows_read_back(text, width), width, flags);
+        let of_chart = chart_directions(text_rows(&main.text, lanes), lanes);
+        let of_flags = |flags| judged_directions(rows_read_back(text, lanes), lanes, flags);
         let want = [of_chart, of_chart, of_flags(&[]), of_flags(&sample.flags)];
         let answers = [main, kept, judged, flagged];
         let what = format!("text {i}");

@@ -1,7 +1,7 @@
 //! The list of dropped heads: texts by hand, and that on every text of the stored sample each head is listed or noted.
 
 use crate::Checks;
-use oracle::calls::{self, MEASURES, NOTES, ROWS, TEXT_BYTES, dropped_holds, lanes_in_force};
+use oracle::calls::{self, MEASURES, NOTES, ROWS, TEXT_BYTES, dropped_holds};
 use oracle::dropped::{DroppedHead, heads_in, text_rows};
 use oracle::vectors::{SEED, samples};
 
@@ -64,8 +64,8 @@ fn letters(checks: &mut Checks) {
 
 /// A row of heads is listed by its columns, and those beyond the lanes are not read.
 fn columns(checks: &mut Checks) {
-    for lanes in [4, 5, 6, 8, 10, 0, 7] {
-        let want: Vec<_> = (0..lanes_in_force(lanes) as u8)
+    for lanes in [4, 5, 6, 8, 10] {
+        let want: Vec<_> = (0..lanes as u8)
             .map(|column| (0, column, None, 2))
             .collect();
         checks.same("columns", listed("222222222222", lanes), want);
@@ -94,7 +94,7 @@ fn heads_add_up(checks: &mut Checks) {
         let (text, lanes) = (&sample.text[..], sample.lanes);
         let main = calls::minimize_chart_count_rows_notes(text, lanes);
         let answer = dropped_holds(text, lanes);
-        let rows: Vec<&[u8]> = text_rows(&answer.text, lanes_in_force(lanes)).collect();
+        let rows: Vec<&[u8]> = text_rows(&answer.text, lanes).collect();
         let heads = rows.concat().iter().filter(|cell| is_head(cell)).count();
         let tailed = |note: &&[u8; 10]| note[9] == 1 || note[9] == 2;
         let noted = main.notes.as_chunks().0.iter().filter(tailed).count();

@@ -149,7 +149,7 @@ fn lent(len: usize, lanes: usize, short: usize) -> (Loan, usize) {
 fn refusals(checks: &mut Checks) {
     checks.same("the sheet of no text", sheet_len(0), 3042);
     checks.same("of the longest", sheet_len(MAX_LEN), 704_646_072);
-    for (len, lanes) in [(9, 4), (11, 5), (13, 6), (17, 8), (21, 10), (40, 7)] {
+    for (len, lanes) in [(9, 4), (11, 5), (13, 6), (17, 8), (21, 10)] {
         let what = format!("length {len}, {lanes} lanes");
         for (short, number) in [2, 3, 3, 4, 5, 6, 19, 0].into_iter().enumerate() {
             let (loan, sheet) = lent(len, lanes, short);
@@ -162,6 +162,10 @@ fn refusals(checks: &mut Checks) {
     let none = Loan::default();
     checks.same("lent nothing", refusal(9, 4, 9, &none, 0), 2);
     checks.same("too long", refusal(MAX_LEN + 1, 4, 9, &none, 0), 1);
+    for lanes in [0, 7, 9, usize::MAX] {
+        let number = refusal(MAX_LEN + 1, lanes, 9, &none, 0);
+        checks.same("another lane number", number, 12);
+    }
 }
 
 /// A refusal writes nothing; an accepted call leaves zeros past each answer, and the sheet's bytes among the figures.

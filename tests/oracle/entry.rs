@@ -1,13 +1,19 @@
 //! The calls as they are met from outside: the refusals, what an accepted call
 //! leaves in the slices it was lent, and the reading back of a note record.
 
-use crate::calls::{Answer, Call, Figures, NO_TAIL, NOTE_BYTES, answer, lanes_in_force};
+use crate::calls::{Answer, Call, Figures, NO_TAIL, NOTE_BYTES, answer};
 
 /// The longest text that is accepted.
 pub const MAX_LEN: usize = 16_777_215;
 
 /// Rows and tail rows of a note record are below this.
 const ROW_LIMIT: u32 = 16_777_216;
+
+/// Whether a lane number is a lane count. Every other number is refused.
+#[must_use]
+pub const fn is_lane_count(lanes: usize) -> bool {
+    matches!(lanes, 4 | 5 | 6 | 8 | 10)
+}
 
 /// Lengths of the slices lent; a slice that a call is not lent does not matter to it.
 #[derive(Clone, Copy, Debug, Default, PartialEq, Eq)]
@@ -22,15 +28,16 @@ pub struct Lengths {
 }
 
 impl Lengths {
-    /// The shortest lengths at which no call is refused, for a text that is not too long.
+    /// The shortest lengths at which no call is refused, for a text that is not too long; at a lane number that is refused, those of four lanes.
     #[must_use]
     pub fn enough(len: usize, lanes: usize) -> Self {
+        let lanes = if is_lane_count(lanes) { lanes } else { 4 };
         Self {
             text: len + 1,
             measure: (len + 1) / 2 + 1,
             beat: most_rows(len, lanes),
             work: most_rows(len, lanes),
-            note: NOTE_BYTES * lanes_in_force(lanes) * most_rows(len, lanes),
+            note: NOTE_BYTES * lanes * most_rows(len, lanes),
         }
     }
 }
@@ -38,26 +45,29 @@ impl Lengths {
 /// R, the most rows a text can hold.
 #[must_use]
 pub fn most_rows(len: usize, lanes: usize) -> usize {
-    (len + 1) / (lanes_in_force(lanes) + 1)
+    (len + 1) / (lanes + 1)
 }
 
-/// The refusals that a call can give, in rising order: one for each thing it is lent.
+/// The refusals that a call can give, in their order: one for each thing it is lent.
 #[must_use]
 pub fn refusals(call: Call) -> &'static [u32] {
     match call {
-        Call::MinimizeChartCountRowsNotes => &[1, 2, 3, 4, 5, 6],
-        Call::ProcessChartKept => &[1, 2, 3, 5],
-        Call::MinimizeTimingRows => &[1, 2, 4],
-        Call::MeasureDensities | Call::EquallySpaced => &[1, 3],
-        Call::ChartLastBeat => &[1],
-        Call::ProcessRowsJudgable | Call::ProcessTimingRows => &[1, 5],
-        Call::DroppedHolds => &[1, 2, 6],
+        Call::MinimizeChartCountRowsNotes => &[12, 1, 2, 3, 4, 5, 6],
+        Call::ProcessChartKept => &[12, 1, 2, 3, 5],
+        Call::MinimizeTimingRows => &[12, 1, 2, 4],
+        Call::MeasureDensities | Call::EquallySpaced => &[12, 1, 3],
+        Call::ChartLastBeat => &[12, 1],
+        Call::ProcessRowsJudgable | Call::ProcessTimingRows => &[12, 1, 5],
+        Call::DroppedHolds => &[12, 1, 2, 6],
     }
 }
 
 /// The number a call returns for a text of this length: 0 for accepted, else the refusal.
 #[must_use]
 pub fn refusal(call: Call, len: usize, lanes: usize, lent: &Lengths) -> u32 {
+    if !is_lane_count(lanes) {
+        return 12;
+    }
     if len > MAX_LEN {
         return 1;
     }

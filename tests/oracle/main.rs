@@ -4,7 +4,7 @@ use oracle::calls::{self, Answer, CALLS, Call, TALLY_NAMES};
 use oracle::card::card;
 use oracle::deciding::TEXTS;
 use oracle::dropped::heads_in;
-use oracle::entry::MAX_LEN;
+use oracle::entry::{MAX_LEN, is_lane_count};
 use oracle::sheet::{ChartFigures, Form, note_lines};
 use oracle::sm::{SmChart, charts};
 use oracle::sm_deciding::FILES;
@@ -24,7 +24,7 @@ oracle files SEED OUT                     write the sample of SM files to the fi
 oracle differing SAMPLE                   the texts or files of a sample that are answered differently
 oracle --help                             this help
 
-LANES is the lane number as a caller has it. FLAGSFILE holds one byte a row,
+LANES is a lane count, 4, 5, 6, 8 or 10. FLAGSFILE holds one byte a row,
 0 for unjudged; without it every row is judged. `oracle sm` has a line for each
 block: its number from 0, then lane count, start and length of its data, or the
 refusal.
@@ -241,7 +241,10 @@ fn parse_number(name: &str, text: &str) -> Result<u64, String> {
 
 fn parse_lanes(text: &str) -> Result<usize, String> {
     let lanes = parse_number("LANES", text)?;
-    usize::try_from(lanes).map_err(|_| String::from("LANES is too large"))
+    let lanes = usize::try_from(lanes).ok();
+    lanes
+        .filter(|&lanes| is_lane_count(lanes))
+        .ok_or_else(|| format!("LANES is 4, 5, 6, 8 or 10, not `{text}`"))
 }
 
 fn read_file(path: &str) -> Result<Vec<u8>, String> {

@@ -1,4 +1,4 @@
-//! The oracle: what the Rust answers, as numbers and bytes, for any text, lane number and flags.
+//! The oracle: what the Rust answers, as numbers and bytes, for any text, lane count and flags.
 //!
 //! - `asked`: the text that the Rust is asked about, which is another where a row would have a byte 13.
 //! - `calls`: the nine chart calls, each with its figures and the contents of its slices.

@@ -1,14 +1,14 @@
 //! The sheet's call as it is met from outside: its refusals, and what an accepted call leaves in the slices it was lent.
 
 use crate::calls::Call;
-use crate::entry::{Lengths, Loan, MAX_LEN, lay};
+use crate::entry::{Lengths, Loan, MAX_LEN, is_lane_count, lay};
 use crate::sheet::{ChartFigures, FORMS};
 
 /// The place of the sheet's bytes in the figures.
 pub const SHEET_BYTES: usize = 7;
 
-/// The refusals that the call can give, in rising order.
-pub const REFUSALS: [u32; 8] = [1, 2, 3, 4, 5, 6, 19, 20];
+/// The refusals that the call can give, in their order.
+pub const REFUSALS: [u32; 9] = [12, 1, 2, 3, 4, 5, 6, 19, 20];
 
 /// The length of the shortest sheet slice that is accepted.
 #[must_use]
@@ -19,6 +19,9 @@ pub fn sheet_len(len: usize) -> usize {
 /// The number that the call returns for a text of this length and a sheet slice of `sheet` bytes.
 #[must_use]
 pub fn refusal(len: usize, lanes: usize, form: usize, lent: &Loan, sheet: usize) -> u32 {
+    if !is_lane_count(lanes) {
+        return 12;
+    }
     if len > MAX_LEN {
         return 1;
     }

@@ -9,7 +9,7 @@ TOKEN = re.compile(r'--.*|"[^"]*"|\d+|[A-Za-z_][\w-]*|∷|\+\+|\[\]|[()]|\S')
 
 
 class Example:
-    """A text at a caller's lane number, and what is said of it: figures with their arguments, and their values."""
+    """A text at a lane number, and what is said of it: figures with their arguments, and their values."""
 
     def __init__(self, name, lanes, text, says):
         self.name, self.lanes, self.text, self.says = name, lanes, text, says

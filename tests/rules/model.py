@@ -12,25 +12,27 @@ FIELDS = (
 )
 
 
-def lanes_of(number):
-    """The lane count in force."""
-    return number if number in (5, 6, 8, 10) else 4
+def is_lane_count(number):
+    """Whether a lane number is a lane count."""
+    return number in (4, 5, 6, 8, 10)
 
 
 # Refusals, Slices
 
 
-def told_length(length):
-    """The number that is answered to a text for its length."""
+def told_length(L, length):
+    """The number that is answered to a text of this length where no slice is lent."""
+    if not is_lane_count(L):
+        return 12
     return 1 if length > 16777215 else 0
 
 
 def told(L, length, slices):
     """The number that the main call answers, lent slices of these lengths: text, measures, beats, work, notes."""
+    if told_length(L, length) != 0:
+        return told_length(L, length)
     rows = (length + 1) // (L + 1)
     least = [length + 1, (length + 1) // 2 + 1, rows, rows, 10 * L * rows]
-    if told_length(length) != 0:
-        return told_length(length)
     for number in (2, 3, 4, 5, 6):
         if slices[number - 2] < least[number - 2]:
             return number
@@ -401,9 +403,8 @@ def field_of(t, name):
     return [t[field] for field in FIELDS] if name == "every" else [t[name]]
 
 
-def figure(name, arguments, lanes, text):
-    """A figure of a text, in numbers, at a caller's lane number."""
-    L = lanes_of(lanes)
+def figure(name, arguments, L, text):
+    """A figure of a text, in numbers, at a lane number."""
     if name == "text":
         return list(minimised_text(L, text))
     if name == "density":
@@ -425,7 +426,7 @@ def figure(name, arguments, lanes, text):
     if name == "record_read":
         return read_note(text, *arguments)
     if name == "told_length":
-        return [told_length(*arguments)]
+        return [told_length(L, *arguments)]
     if name == "told":
         return [told(L, len(text), arguments)]
     if name == "left_text":

@@ -85,9 +85,8 @@ def tally(lines):
 
 
 def random_text(draw):
-    """A lane number, flags and a text of a few lines, most of them rows."""
-    lanes = draw.choice((4, 4, 5, 6, 6, 8, 10, 10, 0, 7, 9))
-    width = lanes if lanes in (5, 6, 8, 10) else 4
+    """A lane count, flags and a text of a few lines, most of them rows."""
+    lanes = draw.choice((4, 4, 5, 6, 6, 8, 10, 10))
     cells = draw.choice(("01", "0001234", "0012344MLFKmlf", "002233", "0000MLFKmlf123", "0001234\r", "0123456789MLFKmlfxX \r"))
     marks = draw.choice((0.0, 0.1, 0.4))
     zeros = draw.choice((0.0, 0.3, 0.8))
@@ -95,13 +94,13 @@ def random_text(draw):
     lines = []
     for _ in range(draw.choice((1, 3, 6, 8, 12, 20, 24))):
         if draw.random() < marks:
-            line = draw.choice((",", ",", ", 1111", ";", "", "/", "//100", "/000", " ", "1", "123", "\t,", " ;", "\r", "," * 5, "0" * (width - 1)))
+            line = draw.choice((",", ",", ", 1111", ";", "", "/", "//100", "/000", " ", "1", "123", "\t,", " ;", "\r", "," * 5, "0" * (lanes - 1)))
         elif draw.random() < zeros:
-            line = "0" * width
+            line = "0" * lanes
         elif column:
-            line = draw.choice("222333144L") + "0" * (width - 1)
+            line = draw.choice("222333144L") + "0" * (lanes - 1)
         else:
-            line = "".join(draw.choice(cells) for _ in range(width))
+            line = "".join(draw.choice(cells) for _ in range(lanes))
         if draw.random() < marks / 2:
             line = draw.choice(" \t\r\x0b\x0c") + line
         if draw.random() < marks / 2:

@@ -67,6 +67,8 @@ def same_as_oracle(seed):
 
 def said_by_oracle(example):
     """For each figure of an example that the oracle has, whether it answers what the example says."""
+    if not model.is_lane_count(example.lanes):
+        return []
     same = []
     for name, arguments, value in example.says:
         flags = arguments[0] if name == "flagged" else []

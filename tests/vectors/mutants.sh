@@ -11,7 +11,7 @@ copy=target/vectors/mutant
 passed=0
 failed=0
 
-# Numbers wrap as in the oracle, which is built with optimisation: the Rust reserves room by the lane number, whatever that is.
+# Numbers wrap as in the oracle, which is built with optimisation.
 build() {
     rustc --edition 2024 -C overflow-checks=off -A warnings "$@"
 }

@@ -2,7 +2,6 @@
 
 use crate::input::has_chart;
 use crate::lines::{LineKind, line_kind, lines};
-use padcheck::lanes_in_force;
 
 /// The marks with which a text may say how its letters are written: UTF-8, and UTF-16 in both orders.
 const BYTE_ORDER_MARKS: [&[u8]; 3] = [b"\xEF\xBB\xBF", b"\xFE\xFF", b"\xFF\xFE"];
@@ -36,7 +35,6 @@ pub fn data_doubt(before: &[u8], data: &[u8], lanes: usize) -> Option<String> {
     if data.contains(&0) {
         return Some(String::from("it has a NUL byte"));
     }
-    let lanes = lanes_in_force(lanes);
     let seen = Seen::of(data, lanes);
     seen.line_doubt(before).or_else(|| seen.row_doubt(lanes))
 }
@@ -251,8 +249,6 @@ mod tests {
         assert_eq!(data_doubt(b"", b"10000\n00100\n", 5), None);
         assert_eq!(data_doubt(b"", b"100000\n", 6), None);
         assert!(data_doubt(b"", b"1000000\n", 6).is_some_and(|why| why.contains("past 6 lanes")));
-        // Another lane number means 4.
-        assert!(data_doubt(b"", b"1000000\n", 7).is_some_and(|why| why.contains("past 4 lanes")));
     }
 
     #[test]

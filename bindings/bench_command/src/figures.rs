@@ -3,7 +3,7 @@
 use crate::left::Left;
 use crate::measures::Measures;
 use crate::slices::Slices;
-use padcheck::{NOTE_BYTES, ParsedChartNote, lanes_in_force, read_note};
+use padcheck::{NOTE_BYTES, ParsedChartNote, read_note};
 use std::ops::Range;
 
 /// The fields of a tally.
@@ -33,7 +33,7 @@ pub struct Figures {
     chart: Slices,
     /// The minimised rows of each measure.
     measures: Measures,
-    /// The lane count in force.
+    /// The lane count.
     lanes: usize,
 }
 
@@ -43,7 +43,6 @@ impl Figures {
         let mut chart = Slices::default();
         chart.main_call(data, lanes)?;
         chart.equally_spaced(data, lanes)?;
-        let lanes = lanes_in_force(lanes);
         let measures = Measures::of(chart.text(), lanes, chart.densities().len())?;
         Ok(Self {
             chart,
@@ -62,7 +61,7 @@ impl Figures {
         self.measures.row_count()
     }
 
-    /// The lane count in force.
+    /// The lane count.
     pub fn lanes(&self) -> usize {
         self.lanes
     }

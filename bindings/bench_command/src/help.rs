@@ -54,8 +54,7 @@ padcheck sheet FILE... [--chart K] [--form card|print|json] [--force]
 padcheck sheet FILE... --lanes N [--form card|print|json] [--force]
 
 Prints the sheet of every chart of each SM file, or of chart K alone. With --lanes
-each file is the bare note data of one chart, read with N lanes: 5, 6, 8 or 10, every
-other number means 4.
+each file is the bare note data of one chart, read with N lanes: 4, 5, 6, 8 or 10.
 
   --form print   for paper, 80 columns: file name, length and the checksum that `cksum`
                  prints, all figures, and a line to initial (this is the default)

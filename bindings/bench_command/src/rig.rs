@@ -9,7 +9,7 @@ use crate::output::{Status, complain, doubtful, fault};
 use crate::pair::{Pair, check_targets};
 use crate::select::selected;
 use crate::slices::Slices;
-use padcheck::{NOTE_BYTES, SmChart, lanes_in_force};
+use padcheck::{NOTE_BYTES, SmChart};
 use std::io::{self, Write};
 use std::path::Path;
 
@@ -33,7 +33,7 @@ pub fn run(asked: &Rig, out: &mut dyn Write) -> io::Result<Status> {
     let mut slices = Slices::default();
     let taken = chart.taken(asked.force).and_then(|chart| {
         let beats = rig_beats(&chart, &mut slices)?;
-        Ok((lanes_in_force(chart.lanes), beats))
+        Ok((chart.lanes, beats))
     });
     let (lanes, beats) = match taken {
         Ok(taken) => taken,

@@ -4,7 +4,7 @@ use crate::charts::{letters_doubt, listed, no_chart};
 use crate::doubt::{data_doubt, file_doubt};
 use crate::left::Left;
 use crate::memory::push;
-use padcheck::{MAX_LEN, Refusal, SmChart};
+use padcheck::{MAX_LEN, Refusal, SmChart, is_lane_count};
 
 /// Which charts of a file are asked for.
 #[derive(Clone, Copy, Debug, PartialEq, Eq)]
@@ -60,10 +60,12 @@ pub fn whole_file(file: &[u8], force: bool) -> Result<&[u8], Left> {
 /// The charts of a file that are asked for.
 pub fn selected(file: &[u8], selection: Selection, force: bool) -> Result<Vec<Selected<'_>>, Left> {
     if let Selection::Bare(lanes) = selection {
+        // A lane number that is refused is refused first, whatever the file is.
+        let chart = is_lane_count(lanes).then_some(SmChart { lanes, data: file });
         return Ok(vec![Selected {
             chart: None,
             before: &[],
-            answer: Ok(SmChart { lanes, data: file }),
+            answer: chart.ok_or(Refusal::OtherLanes),
         }]);
     }
     let mut charts = Vec::new();
@@ -168,6 +170,10 @@ mod tests {
         let long = vec![0; MAX_LEN + 1];
         for force in [false, true] {
             assert_eq!(taken(&long, force), Err(Left::from(Refusal::LongText)));
+            for lanes in [0, 7, usize::MAX] {
+                let charts = selected(&long, Selection::Bare(lanes), force).unwrap();
+                assert_eq!(charts[0].taken(force), Err(Left::from(Refusal::OtherLanes)));
+            }
         }
     }
 }

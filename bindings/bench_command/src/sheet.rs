@@ -10,7 +10,7 @@ use crate::memory::NoMemory;
 use crate::output::{Status, doubtful, fault};
 use crate::select::selected;
 use crate::slices::Slices;
-use padcheck::{SheetForm, lanes_in_force};
+use padcheck::SheetForm;
 use std::io::{self, Write};
 use std::path::Path;
 
@@ -77,9 +77,8 @@ pub fn of_file(
     for chart in &charts {
         subject.chart = chart.chart;
         let made = chart.taken(asked.force).and_then(|chart| {
-            let lanes = lanes_in_force(chart.lanes);
-            let measures = (word.make)(slices, chart.data, lanes, asked.form)?;
-            Ok((lanes, measures))
+            let measures = (word.make)(slices, chart.data, chart.lanes, asked.form)?;
+            Ok((chart.lanes, measures))
         });
         let status = match made {
             Ok((lanes, measures)) => {
@@ -183,7 +182,9 @@ mod tests {
         let (sheet, status) = printed(data, Selection::Bare(6), SheetForm::Print);
         assert_eq!(status, Status::Done);
         assert!(sheet.contains("\nlanes               6\n"));
-        assert!(sheet.contains("\nup_left             1        1        1\nup_right            2        2        2\n"));
+        assert!(sheet.contains(
+            "\nup_left             1        1        1\nup_right            2        2        2\n"
+        ));
     }
 
     #[test]

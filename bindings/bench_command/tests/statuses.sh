@@ -13,6 +13,16 @@ printed 1 "refused 10: the chart has another type name, by whoever writes the SM
 printed 1 '"chart":1,"type":"lights-cabinet","refused":10,"words":' dropped "$sm" --chart 1 --form json
 printed 1 "refused 11: the file has no such block, by whoever asks for the chart" dropped "$sm" --chart 3
 printed 1 "refused 1: len is over 16,777,215, by whoever wires up the call" dropped /dev/zero --lanes 4
+# Beside 12 no other refusal and no doubt is told. On paper the line is broken.
+other="refused 12: the lane number is none of 4, 5, 6, 8 and 10, by whoever gives"
+for lanes in 0 1 3 7 9 11 260 4294967300 18446744073709551615; do
+    printed 1 "$other" sheet "$chart" --lanes "$lanes"
+    printed 1 "$other" dropped "$chart" --lanes "$lanes"
+    printed 1 "old $other" diff "$chart" "$chart" --lanes "$lanes"
+done
+printed 1 "$other" sheet /dev/zero --lanes 7
+printed 1 '"refused":12,"words":"the lane number is none of' sheet "$chart" --lanes 7 --form json
+told 1 "$other" rig "$chart" --lanes 7 --notes "$out/n" --beats "$out/b"
 printed 1 "new refused 11" diff "$sm" "$chart" --chart 0
 printf '#NOTES:dance-single:x;\n#NOTES::::::;\n#NOTES:dance-single:::::\n1000\n;\n' >"$out/few.sm"
 printed 0 "chart 0 dance-single refused 9: the block has fewer than five fields, by whoever writes the SM file" \

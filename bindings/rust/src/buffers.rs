@@ -69,7 +69,7 @@ pub struct KeptChart<'a> {
 /// Minimised rows with their beats.
 #[derive(Clone, Debug, PartialEq)]
 pub struct TimingRows<'a> {
-    /// The rows, [`lanes_in_force`](crate::lanes_in_force) bytes each, back to back.
+    /// The rows, L bytes each, back to back.
     pub rows: &'a [u8],
     /// One beat a row.
     pub beats: &'a [f32],
@@ -209,7 +209,7 @@ impl Buffers {
     ///
     /// # Errors
     ///
-    /// [`Refusal::LongText`].
+    /// [`Refusal::OtherLanes`] or [`Refusal::LongText`].
     pub fn minimize_chart_count_rows_notes(
         &mut self,
         data: &[u8],
@@ -240,7 +240,7 @@ impl Buffers {
     ///
     /// # Errors
     ///
-    /// [`Refusal::LongText`].
+    /// [`Refusal::OtherLanes`] or [`Refusal::LongText`].
     pub fn process_chart_kept(
         &mut self,
         data: &[u8],
@@ -267,7 +267,7 @@ impl Buffers {
     ///
     /// # Errors
     ///
-    /// [`Refusal::LongText`].
+    /// [`Refusal::OtherLanes`] or [`Refusal::LongText`].
     pub fn minimize_timing_rows(
         &mut self,
         data: &[u8],
@@ -292,7 +292,7 @@ impl Buffers {
     ///
     /// # Errors
     ///
-    /// [`Refusal::LongText`].
+    /// [`Refusal::OtherLanes`] or [`Refusal::LongText`].
     pub fn measure_densities(&mut self, data: &[u8], lanes: usize) -> Result<&[u32], Refusal> {
         let len = Lengths::of(data.len(), lanes).measures;
         lent::measure_densities(
@@ -308,7 +308,7 @@ impl Buffers {
     ///
     /// # Errors
     ///
-    /// [`Refusal::LongText`].
+    /// [`Refusal::OtherLanes`] or [`Refusal::LongText`].
     pub fn equally_spaced(&mut self, data: &[u8], lanes: usize) -> Result<&[u8], Refusal> {
         let len = Lengths::of(data.len(), lanes).measures;
         lent::equally_spaced(data, lanes, part(&mut self.spacing, len), &mut self.figures)?;
@@ -319,7 +319,7 @@ impl Buffers {
     ///
     /// # Errors
     ///
-    /// [`Refusal::LongText`].
+    /// [`Refusal::OtherLanes`] or [`Refusal::LongText`].
     pub fn process_rows_judgable(
         &mut self,
         data: &[u8],
@@ -334,7 +334,7 @@ impl Buffers {
     ///
     /// # Errors
     ///
-    /// [`Refusal::LongText`].
+    /// [`Refusal::OtherLanes`] or [`Refusal::LongText`].
     pub fn process_timing_rows(
         &mut self,
         data: &[u8],
@@ -371,7 +371,7 @@ impl Buffers {
     ///
     /// # Errors
     ///
-    /// [`Refusal::LongText`].
+    /// [`Refusal::OtherLanes`] or [`Refusal::LongText`].
     pub fn dropped_holds(
         &mut self,
         data: &[u8],
@@ -408,7 +408,7 @@ impl Buffers {
     ///
     /// # Errors
     ///
-    /// [`Refusal::LongText`].
+    /// [`Refusal::OtherLanes`] or [`Refusal::LongText`].
     pub fn chart_sheet(
         &mut self,
         data: &[u8],

@@ -13,17 +13,15 @@ pub const DROPPED_BYTES: usize = 10;
 const SHEET_BYTES: usize = 42;
 const SHEET_HEAD: usize = 3000;
 
-/// L, the lane count in force: 5, 6, 8 or 10 where the caller gives that number, otherwise 4.
+/// Whether a lane number is a lane count, L. Every other number is refused ([`OtherLanes`](crate::Refusal::OtherLanes)).
 ///
 /// ```
-/// assert_eq!([4, 5, 6, 8, 10, 0, 7].map(padcheck::lanes_in_force), [4, 5, 6, 8, 10, 4, 4]);
+/// assert!([4, 5, 6, 8, 10].into_iter().all(padcheck::is_lane_count));
+/// assert!(![0, 7, 9].into_iter().any(padcheck::is_lane_count));
 /// ```
 #[must_use]
-pub const fn lanes_in_force(lanes: usize) -> usize {
-    match lanes {
-        5 | 6 | 8 | 10 => lanes,
-        _ => 4,
-    }
+pub const fn is_lane_count(lanes: usize) -> bool {
+    matches!(lanes, 4 | 5 | 6 | 8 | 10)
 }
 
 /// The shortest lengths, in elements, at which no call is refused.
@@ -44,7 +42,8 @@ pub struct Lengths {
 }
 
 impl Lengths {
-    /// The lengths for a text of `len` bytes. A text that is too long is refused whatever is lent, so 0 will do for it.
+    /// The lengths for a text of `len` bytes. A text that is too long and a lane number that is no lane count are refused
+    /// whatever is lent, so 0 will do for them.
     ///
     /// ```
     /// let lengths = padcheck::Lengths::of(22, 4);
@@ -53,7 +52,7 @@ impl Lengths {
     /// ```
     #[must_use]
     pub const fn of(len: usize, lanes: usize) -> Self {
-        if len > MAX_LEN {
+        if len > MAX_LEN || !is_lane_count(lanes) {
             return Self {
                 text: 0,
                 measures: 0,
@@ -63,7 +62,6 @@ impl Lengths {
                 sheet: 0,
             };
         }
-        let lanes = lanes_in_force(lanes);
         let rows = (len + 1) / (lanes + 1);
         Self {
             text: len + 1,

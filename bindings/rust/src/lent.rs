@@ -28,7 +28,7 @@ use crate::{Figures, Refusal};
 ///
 /// # Errors
 ///
-/// Refusals 1 to 6.
+/// Refusals 12, 1 to 6.
 #[expect(clippy::too_many_arguments, reason = "the entry is lent these")]
 pub fn minimize_chart_count_rows_notes(
     data: &[u8],
@@ -64,7 +64,7 @@ pub fn minimize_chart_count_rows_notes(
 ///
 /// # Errors
 ///
-/// Refusals 1, 2, 3 and 5.
+/// Refusals 12, 1, 2, 3 and 5.
 pub fn process_chart_kept(
     data: &[u8],
     lanes: usize,
@@ -93,7 +93,7 @@ pub fn process_chart_kept(
 ///
 /// # Errors
 ///
-/// Refusals 1, 2 and 4.
+/// Refusals 12, 1, 2 and 4.
 pub fn minimize_timing_rows(
     data: &[u8],
     lanes: usize,
@@ -119,7 +119,7 @@ pub fn minimize_timing_rows(
 ///
 /// # Errors
 ///
-/// Refusals 1 and 3.
+/// Refusals 12, 1 and 3.
 pub fn measure_densities(
     data: &[u8],
     lanes: usize,
@@ -136,7 +136,7 @@ pub fn measure_densities(
 ///
 /// # Errors
 ///
-/// Refusals 1 and 3.
+/// Refusals 12, 1 and 3.
 pub fn equally_spaced(
     data: &[u8],
     lanes: usize,
@@ -153,7 +153,7 @@ pub fn equally_spaced(
 ///
 /// # Errors
 ///
-/// Refusal 1.
+/// Refusals 12 and 1.
 pub fn chart_last_beat(data: &[u8], lanes: usize, figures: &mut Figures) -> Result<(), Refusal> {
     Refusal::of(unsafe { padcheck_chart_last_beat(data.as_ptr(), data.len(), lanes, figures) })
 }
@@ -162,7 +162,7 @@ pub fn chart_last_beat(data: &[u8], lanes: usize, figures: &mut Figures) -> Resu
 ///
 /// # Errors
 ///
-/// Refusals 1 and 5.
+/// Refusals 12, 1 and 5.
 pub fn process_rows_judgable(
     data: &[u8],
     lanes: usize,
@@ -179,7 +179,7 @@ pub fn process_rows_judgable(
 ///
 /// # Errors
 ///
-/// Refusals 1 and 5.
+/// Refusals 12, 1 and 5.
 pub fn process_timing_rows(
     data: &[u8],
     lanes: usize,
@@ -207,7 +207,7 @@ pub fn process_timing_rows(
 ///
 /// # Errors
 ///
-/// Refusals 1, 2 and 6; 6 is of the list, which has the length of the notes.
+/// Refusals 12, 1, 2 and 6; 6 is of the list, which has the length of the notes.
 pub fn dropped_holds(
     data: &[u8],
     lanes: usize,
@@ -244,7 +244,7 @@ pub fn read_note(records: &[u8], index: usize, note: &mut [u64; 4]) -> Result<()
 ///
 /// # Errors
 ///
-/// Refusals 1 to 6, 3 for the densities before 3 for the spacing, then 19 and 20.
+/// Refusals 12, 1 to 6, 3 for the densities before 3 for the spacing, then 19 and 20.
 #[expect(clippy::too_many_arguments, reason = "the entry is lent these")]
 pub fn chart_sheet(
     data: &[u8],

@@ -18,7 +18,7 @@
 //! [`sm_chart`] and [`sm_charts`] find what any of these is given: the note data of each chart inside an SM file, and its
 //! lane count. They copy nothing, and what they refuse is a [`Refusal`] too; [`sm_blocks`] says besides where each starts.
 //!
-//! `lanes` is the lane number as the caller has it: 5, 6, 8 and 10 are taken as such, every other number as 4.
+//! `lanes` is the lane count, 4, 5, 6, 8 or 10; every other number is refused ([`Refusal::OtherLanes`]).
 //!
 //! # Linking
 //!
@@ -42,7 +42,7 @@ mod symbols;
 pub use buffers::{Buffers, Chart, DroppedHolds, KeptChart, LastBeat, TimingRows, release_buffers};
 pub use dropped::{DropCause, DroppedHead, DroppedHeads};
 pub use figures::{ArrowStats, Figures, place};
-pub use lengths::{DROPPED_BYTES, Lengths, MAX_LEN, NOTE_BYTES, lanes_in_force};
+pub use lengths::{DROPPED_BYTES, Lengths, MAX_LEN, NOTE_BYTES, is_lane_count};
 pub use note::{ChartNoteType, Notes, ParsedChartNote, read_note};
 pub use owned::{
     OwnedChart, chart_last_beat, chart_sheet, dropped_holds, equally_spaced, measure_densities,

@@ -35,7 +35,7 @@ pub struct OwnedChart {
 ///
 /// # Errors
 ///
-/// [`Refusal::LongText`].
+/// [`Refusal::OtherLanes`] or [`Refusal::LongText`].
 pub fn minimize_chart_count_rows_notes(data: &[u8], lanes: usize) -> Result<OwnedChart, Refusal> {
     with_kept(|buffers| {
         let chart = buffers.minimize_chart_count_rows_notes(data, lanes)?;
@@ -64,7 +64,7 @@ pub fn minimize_chart_count_rows_notes(data: &[u8], lanes: usize) -> Result<Owne
 ///
 /// # Errors
 ///
-/// [`Refusal::LongText`].
+/// [`Refusal::OtherLanes`] or [`Refusal::LongText`].
 pub fn process_chart_kept(
     data: &[u8],
     lanes: usize,
@@ -96,12 +96,7 @@ pub fn process_chart_kept(
 pub fn minimize_timing_rows<const L: usize>(
     data: &[u8],
 ) -> Result<(Vec<[u8; L]>, Vec<f32>, bool), Refusal> {
-    const {
-        assert!(
-            crate::lanes_in_force(L) == L,
-            "a row has 4, 5, 6, 8 or 10 lanes"
-        )
-    };
+    const { assert!(crate::is_lane_count(L), "a row has 4, 5, 6, 8 or 10 lanes") };
     let lengths = Lengths::of(data.len(), L);
     let mut rows = vec![[0; L]; lengths.text.div_ceil(L)];
     let mut beats = vec![0.0; lengths.beats];
@@ -121,7 +116,7 @@ pub fn minimize_timing_rows<const L: usize>(
 ///
 /// # Errors
 ///
-/// [`Refusal::LongText`].
+/// [`Refusal::OtherLanes`] or [`Refusal::LongText`].
 pub fn measure_densities(data: &[u8], lanes: usize) -> Result<Vec<usize>, Refusal> {
     with_kept(|buffers| buffers.measure_densities(data, lanes).map(widened))
 }
@@ -135,7 +130,7 @@ pub fn measure_densities(data: &[u8], lanes: usize) -> Result<Vec<usize>, Refusa
 ///
 /// # Errors
 ///
-/// [`Refusal::LongText`].
+/// [`Refusal::OtherLanes`] or [`Refusal::LongText`].
 pub fn equally_spaced(data: &[u8], lanes: usize) -> Result<Vec<bool>, Refusal> {
     with_kept(|buffers| {
         let spacing = buffers.equally_spaced(data, lanes)?;
@@ -153,7 +148,7 @@ pub fn equally_spaced(data: &[u8], lanes: usize) -> Result<Vec<bool>, Refusal> {
 ///
 /// # Errors
 ///
-/// [`Refusal::LongText`].
+/// [`Refusal::OtherLanes`] or [`Refusal::LongText`].
 pub fn chart_last_beat(data: &[u8], lanes: usize) -> Result<LastBeat, Refusal> {
     let mut figures = [0; 32];
     lent::chart_last_beat(data, lanes, &mut figures)?;
@@ -170,7 +165,7 @@ pub fn chart_last_beat(data: &[u8], lanes: usize) -> Result<LastBeat, Refusal> {
 ///
 /// # Errors
 ///
-/// [`Refusal::LongText`].
+/// [`Refusal::OtherLanes`] or [`Refusal::LongText`].
 pub fn process_rows_judgable(data: &[u8], lanes: usize) -> Result<ArrowStats, Refusal> {
     with_kept(|buffers| buffers.process_rows_judgable(data, lanes))
 }
@@ -185,7 +180,7 @@ pub fn process_rows_judgable(data: &[u8], lanes: usize) -> Result<ArrowStats, Re
 ///
 /// # Errors
 ///
-/// [`Refusal::LongText`].
+/// [`Refusal::OtherLanes`] or [`Refusal::LongText`].
 pub fn process_timing_rows(data: &[u8], lanes: usize, flags: &[u8]) -> Result<ArrowStats, Refusal> {
     with_kept(|buffers| buffers.process_timing_rows(data, lanes, flags))
 }
@@ -205,7 +200,7 @@ pub fn process_timing_rows(data: &[u8], lanes: usize, flags: &[u8]) -> Result<Ar
 ///
 /// # Errors
 ///
-/// [`Refusal::LongText`].
+/// [`Refusal::OtherLanes`] or [`Refusal::LongText`].
 pub fn dropped_holds(data: &[u8], lanes: usize) -> Result<Vec<DroppedHead>, Refusal> {
     with_kept(|buffers| {
         let dropped = buffers.dropped_holds(data, lanes)?;
@@ -233,7 +228,7 @@ pub fn dropped_holds(data: &[u8], lanes: usize) -> Result<Vec<DroppedHead>, Refu
 ///
 /// # Errors
 ///
-/// [`Refusal::LongText`].
+/// [`Refusal::OtherLanes`] or [`Refusal::LongText`].
 pub fn chart_sheet(data: &[u8], lanes: usize, form: SheetForm) -> Result<Vec<u8>, Refusal> {
     with_kept(|buffers| {
         buffers.chart_sheet(data, lanes, form)?;

@@ -5,8 +5,8 @@ use std::fmt;
 
 /// A refusal, by the library's names, numbers and words. A refused call has written nothing.
 ///
-/// With slices that the binding allocates a chart can only be refused by [`Refusal::LongText`]. 2 to 6, 19 and 20 are met
-/// by whoever lends slices of his own ([`crate::lent`]), 7 and 8 by whoever stores note records. A chart inside an SM file
+/// With slices that the binding allocates a chart can only be refused by [`Refusal::OtherLanes`], ahead of all others, and
+/// [`Refusal::LongText`]. 2 to 6, 19 and 20 are met by whoever lends slices of his own ([`crate::lent`]), 7 and 8 by whoever stores note records. A chart inside an SM file
 /// ([`crate::sm_chart`]) is refused by 9 and 10 for what the file's author wrote, by 11 for what the caller asked.
 ///
 /// ```
@@ -45,6 +45,8 @@ pub enum Refusal {
     OtherType = 10,
     /// The asked chart's number is not below the number of blocks in the SM file.
     NoChart = 11,
+    /// The lane number is none of 4, 5, 6, 8 and 10.
+    OtherLanes = 12,
     /// The sheet slice is shorter than 42 × (len + 1) + 3,000 bytes.
     ShortSheet = 19,
     /// The sheet's form has a number over 2.
@@ -53,7 +55,7 @@ pub enum Refusal {
 
 impl Refusal {
     /// Every refusal, in rising order.
-    pub const ALL: [Self; 13] = [
+    pub const ALL: [Self; 14] = [
         Self::LongText,
         Self::ShortText,
         Self::ShortMeasures,
@@ -65,6 +67,7 @@ impl Refusal {
         Self::FewFields,
         Self::OtherType,
         Self::NoChart,
+        Self::OtherLanes,
         Self::ShortSheet,
         Self::OtherForm,
     ];
@@ -90,6 +93,7 @@ impl Refusal {
             Self::NoRecord | Self::BadRecord => "whoever stores note records",
             Self::FewFields | Self::OtherType => "whoever writes the SM file",
             Self::NoChart => "whoever asks for the chart",
+            Self::OtherLanes => "whoever gives the lane number",
         }
     }
 
@@ -109,6 +113,7 @@ impl Refusal {
             Self::FewFields => "the block has fewer than five fields",
             Self::OtherType => "the chart has another type name",
             Self::NoChart => "the file has no such block",
+            Self::OtherLanes => "the lane number is none of 4, 5, 6, 8 and 10",
             Self::ShortSheet => "the sheet slice is shorter than 42 * (len + 1) + 3000",
             Self::OtherForm => "the form's number is over 2",
         }

@@ -13,7 +13,8 @@
 //! proved calls answer; one that needs several calls says which.
 //!
 //! The Rust refuses nothing, so these functions have no `Result`. They panic on a text longer than
-//! [`MAX_LEN`](crate::MAX_LEN), with the refusal in words; the functions of the crate's root answer it instead.
+//! [`MAX_LEN`](crate::MAX_LEN), and at a lane number other than 4, 5, 6, 8 and 10, with the refusal in words; the functions
+//! of the crate's root answer it instead.
 //!
 //! ```
 //! use padcheck::stats::{ChartNotesScratch, measure_densities, minimize_chart_count_rows_notes};
@@ -30,7 +31,7 @@
 
 use crate::owned::widened;
 pub use crate::{ArrowStats, ChartNoteType, ParsedChartNote};
-use crate::{Buffers, NOTE_BYTES, Notes, Refusal, lanes_in_force};
+use crate::{Buffers, NOTE_BYTES, Notes, Refusal, is_lane_count};
 use std::{fmt, mem};
 
 /// The notes of the last chart, and the buffers that serve the next.
@@ -96,7 +97,7 @@ pub type MinimizedTypedRows<const L: usize> =
 ///
 /// # Panics
 ///
-/// On a text longer than [`MAX_LEN`](crate::MAX_LEN).
+/// On a text longer than [`MAX_LEN`](crate::MAX_LEN), and at a lane number that is no lane count.
 pub fn minimize_chart_count_rows_notes(
     data: &[u8],
     lanes: usize,
@@ -127,7 +128,7 @@ pub fn minimize_chart_count_rows_notes(
 ///
 /// # Panics
 ///
-/// On a text longer than [`MAX_LEN`](crate::MAX_LEN).
+/// On a text longer than [`MAX_LEN`](crate::MAX_LEN), and at a lane number that is no lane count.
 #[must_use]
 pub fn minimize_chart_count_rows(
     data: &[u8],
@@ -147,7 +148,7 @@ pub fn minimize_chart_count_rows(
 ///
 /// # Panics
 ///
-/// On a text longer than [`MAX_LEN`](crate::MAX_LEN).
+/// On a text longer than [`MAX_LEN`](crate::MAX_LEN), and at a lane number that is no lane count.
 #[must_use]
 pub fn minimize_chart_and_count_with_lanes(
     data: &[u8],
@@ -165,7 +166,7 @@ pub fn minimize_chart_and_count_with_lanes(
 ///
 /// # Panics
 ///
-/// On a text longer than [`MAX_LEN`](crate::MAX_LEN).
+/// On a text longer than [`MAX_LEN`](crate::MAX_LEN), and at a lane number that is no lane count.
 #[must_use]
 pub fn minimize_chart_for_hash(data: &[u8], lanes: usize) -> Vec<u8> {
     accepted(Buffers::new().process_chart_kept(data, lanes))
@@ -252,7 +253,7 @@ fn typed_rows<const L: usize>(
     data: &[u8],
     scratch: &mut TypedRowsScratch<L>,
 ) -> Vec<f32> {
-    const { assert!(lanes_in_force(L) == L, "a row has 4, 5, 6, 8 or 10 lanes") };
+    const { assert!(is_lane_count(L), "a row has 4, 5, 6, 8 or 10 lanes") };
     let timing = accepted(buffers.minimize_timing_rows(data, L));
     let (rows, _) = timing.rows.as_chunks();
     scratch.rows.clear();
@@ -264,7 +265,7 @@ fn typed_rows<const L: usize>(
 ///
 /// # Panics
 ///
-/// On a text longer than [`MAX_LEN`](crate::MAX_LEN).
+/// On a text longer than [`MAX_LEN`](crate::MAX_LEN), and at a lane number that is no lane count.
 #[must_use]
 pub fn measure_densities(data: &[u8], lanes: usize) -> Vec<usize> {
     accepted(crate::measure_densities(data, lanes))
@@ -274,7 +275,7 @@ pub fn measure_densities(data: &[u8], lanes: usize) -> Vec<usize> {
 ///
 /// # Panics
 ///
-/// On a text longer than [`MAX_LEN`](crate::MAX_LEN).
+/// On a text longer than [`MAX_LEN`](crate::MAX_LEN), and at a lane number that is no lane count.
 #[must_use]
 pub fn measure_equally_spaced(data: &[u8], lanes: usize) -> Vec<bool> {
     accepted(crate::equally_spaced(data, lanes))
@@ -284,7 +285,7 @@ pub fn measure_equally_spaced(data: &[u8], lanes: usize) -> Vec<bool> {
 ///
 /// # Panics
 ///
-/// On a text longer than [`MAX_LEN`](crate::MAX_LEN).
+/// On a text longer than [`MAX_LEN`](crate::MAX_LEN), and at a lane number that is no lane count.
 #[must_use]
 pub fn chart_last_beat(data: &[u8], lanes: usize) -> f64 {
     accepted(crate::chart_last_beat(data, lanes)).beat
@@ -326,6 +327,12 @@ mod tests {
             tail_row_index: None,
         };
         assert!(notes.drain().eq([mine]));
+    }
+
+    #[test]
+    #[should_panic(expected = "refused 12: the lane number is none of 4, 5, 6, 8 and 10")]
+    fn another_lane_number_panics_in_words() {
+        let _ = minimize_chart_count_rows(b"1000\n", 7);
     }
 
     #[test]

@@ -17,7 +17,7 @@ mod streams;
 mod timing;
 
 use asked::{chart_text, read_back_text};
-use padcheck::{lanes_in_force, stats};
+use padcheck::stats;
 use reader::Reader;
 use std::fmt::Debug;
 use std::fs;
@@ -82,7 +82,7 @@ macro_rules! signatures {
 signatures!(signatures_of_rssp, rssp);
 signatures!(signatures_of_the_binding, stats);
 
-/// Shows each text with its lane number, but for 6, to a test.
+/// Shows each text with its lane count, but for 6, to a test.
 fn each_text(mut test: impl FnMut(&[u8], usize)) {
     every_text(|data, lanes| {
         if lanes != 6 {
@@ -91,7 +91,7 @@ fn each_text(mut test: impl FnMut(&[u8], usize)) {
     });
 }
 
-/// Shows each text with its lane number to a test: those of the stored sample, then random ones.
+/// Shows each text with its lane count to a test: those of the stored sample, then random ones.
 fn every_text(mut test: impl FnMut(&[u8], usize)) {
     let path = Path::new(env!("CARGO_MANIFEST_DIR")).join("../../crates/replay_charts/stdin");
     let file = fs::read(path).expect("the stored sample is in the repository");
@@ -109,8 +109,8 @@ fn every_text(mut test: impl FnMut(&[u8], usize)) {
     }
     let mut draw = Draw(1);
     for _ in 0..5_000 {
-        let lanes = draw.from(&[4, 5, 6, 8, 10, 0, 7]);
-        test(&draw.text(lanes_in_force(lanes)), lanes);
+        let lanes = draw.from(&[4, 5, 6, 8, 10]);
+        test(&draw.text(lanes), lanes);
     }
 }
 
@@ -184,16 +184,16 @@ fn beside<A: Debug, B: Debug>(
     data: &[u8],
     lanes: usize,
 ) {
-    let asked = &chart_text(data, lanes_in_force(lanes));
+    let asked = &chart_text(data, lanes);
     same(ours(data, lanes), rust(asked, lanes), data, lanes);
 }
 
 #[test]
-fn charts_by_lane_number() {
+fn charts_by_lane_count() {
     let mut ours = stats::ChartNotesScratch::default();
     let mut rust = rssp::ChartNotesScratch::default();
     each_text(|data, lanes| {
-        let asked = &chart_text(data, lanes_in_force(lanes));
+        let asked = &chart_text(data, lanes);
         beside(
             stats::minimize_chart_and_count_with_lanes,
             rssp::minimize_chart_and_count_with_lanes,
@@ -237,15 +237,12 @@ fn scans() {
             lanes,
         );
         beside(stats::chart_last_beat, rssp::chart_last_beat, data, lanes);
-        // The Rust's capacity expression overflows at greater lane numbers.
-        if lanes < usize::MAX / 4 {
-            beside(
-                stats::measure_densities,
-                rssp::measure_densities,
-                data,
-                lanes,
-            );
-        }
+        beside(
+            stats::measure_densities,
+            rssp::measure_densities,
+            data,
+            lanes,
+        );
     });
 }
 
@@ -346,8 +343,8 @@ fn six_lanes() {
 #[test]
 fn calls_in_place_of_what_is_left_out() {
     each_text(|data, lanes| {
-        let asked = &chart_text(data, lanes_in_force(lanes));
-        let read_back = &read_back_text(data, lanes_in_force(lanes));
+        let asked = &chart_text(data, lanes);
+        let read_back = &read_back_text(data, lanes);
         let judged = padcheck::process_rows_judgable(data, lanes).unwrap();
         same(
             &judged,
@@ -360,7 +357,7 @@ fn calls_in_place_of_what_is_left_out() {
             same(&judged, rust, data, lanes);
         }
 
-        if lanes_in_force(lanes) == 4 {
+        if lanes == 4 {
             let (text, tally, densities, rows, beats, last, _) =
                 rssp::minimize_chart_rows_bits(asked);
             let ours = stats::minimize_chart_count_rows(data, 4);

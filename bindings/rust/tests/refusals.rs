@@ -4,7 +4,7 @@ mod loan;
 
 use loan::Lent::{Beats, Densities, Notes, Spacing, Text, Work};
 use loan::{Lent, Loan};
-use padcheck::{Buffers, MAX_LEN, Refusal, lent};
+use padcheck::{Buffers, Lengths, MAX_LEN, Refusal, SheetForm, is_lane_count, lent};
 
 const DATA: &[u8] = b"1000\n0000\n0100\n0000\n;\n";
 
@@ -113,6 +113,83 @@ fn a_text_that_is_too_long_is_refused_first() {
         too_long
     );
     assert_eq!(figures, [7; 32]);
+}
+
+/// Every lane number but the lane counts is refused ahead of all else, and the lengths for it are 0.
+#[test]
+fn another_lane_number_is_refused_before_all_else() {
+    let long = vec![b'1'; MAX_LEN + 1];
+    let huge = [(1 << 32) + 4, (1 << 62) - 1, usize::MAX];
+    let counts = |lanes: &usize| ![4, 5, 6, 8, 10].contains(lanes);
+    for lanes in (0..=300).filter(counts).chain(huge) {
+        assert!(!is_lane_count(lanes));
+        assert_eq!(Lengths::of(DATA.len(), lanes), Lengths::default());
+        for data in [DATA, &long] {
+            // Slices that would do for four lanes, and none.
+            let loans = [Loan::marked(DATA.len(), 4), Loan::of(Lengths::default(), 7)];
+            for mut loan in loans {
+                refuses_each(data, lanes, &mut loan);
+                assert!(loan.is_marked());
+            }
+        }
+    }
+}
+
+/// The ten calls refuse this lane number.
+fn refuses_each(data: &[u8], lanes: usize, loan: &mut Loan) {
+    let other = Err(Refusal::OtherLanes);
+    assert_eq!(loan.main_call(data, lanes), other);
+    assert_eq!(loan.dropped_holds(data, lanes), other);
+    assert_eq!(loan.chart_sheet(data, lanes, 0), other);
+    assert_eq!(loan.chart_sheet(data, lanes, 3), other);
+    let Loan {
+        text,
+        densities,
+        spacing,
+        beats,
+        work,
+        figures,
+        ..
+    } = loan;
+    let kept = lent::process_chart_kept(data, lanes, text, densities, work, figures);
+    assert_eq!(kept, other);
+    let timing = lent::minimize_timing_rows(data, lanes, text, beats, figures);
+    assert_eq!(timing, other);
+    let scanned = lent::measure_densities(data, lanes, densities, figures);
+    assert_eq!(scanned, other);
+    assert_eq!(lent::equally_spaced(data, lanes, spacing, figures), other);
+    assert_eq!(lent::chart_last_beat(data, lanes, figures), other);
+    assert_eq!(
+        lent::process_rows_judgable(data, lanes, work, figures),
+        other
+    );
+    assert_eq!(
+        lent::process_timing_rows(data, lanes, &[0], work, figures),
+        other
+    );
+}
+
+#[test]
+fn allocating_calls_refuse_another_lane_number() {
+    let other = Refusal::OtherLanes;
+    assert_eq!(
+        padcheck::minimize_chart_count_rows_notes(DATA, 7),
+        Err(other)
+    );
+    assert_eq!(padcheck::process_chart_kept(DATA, 7), Err(other));
+    assert_eq!(padcheck::measure_densities(DATA, 0), Err(other));
+    assert_eq!(padcheck::equally_spaced(DATA, 9), Err(other));
+    assert_eq!(padcheck::chart_last_beat(DATA, 11), Err(other));
+    assert_eq!(
+        padcheck::process_rows_judgable(DATA, usize::MAX),
+        Err(other)
+    );
+    assert_eq!(padcheck::process_timing_rows(DATA, 3, &[0]), Err(other));
+    assert_eq!(padcheck::dropped_holds(DATA, 7), Err(other));
+    let sheet = padcheck::chart_sheet(DATA, 7, SheetForm::Card);
+    assert_eq!(sheet, Err(other));
+    let mut buffers = Buffers::new();
+    assert_eq!(buffers.minimize_timing_rows(DATA, 7), Err(other));
 }
 
 #[test]
@@ -231,6 +308,7 @@ fn every_refusal_that_is_met_says_its_number() {
     let long = vec![b'1'; MAX_LEN + 1];
     let mut loan = Loan::marked(DATA.len(), 4);
     said(loan.main_call(&long, 4), Refusal::LongText, 1);
+    said(loan.main_call(&long, 7), Refusal::OtherLanes, 12);
     for (lent, refusal, number) in [
         (Text, Refusal::ShortText, 2),
         (Densities, Refusal::ShortMeasures, 3),

@@ -1,4 +1,4 @@
-//! The nine chart calls of the outside interface, each as the Rust answers it, which is asked about the text that `asked` says; what the Rust
+//! The nine chart calls of the outside interface at a lane count, each as the Rust answers it, which is asked about the text that `asked` says; what the Rust
 //! does not have by a plain reference: the list of dropped heads (`dropped`), a tally's keysounds (`keysounds`) and the directions of its arrows
 //! at six lanes (`directions`). All else at six lanes is what the Rust's functions over a const L answer where L is 6.
 //! A text that a call would refuse is answered here all the same; `entry` has the refusals.
@@ -172,15 +172,6 @@ pub fn answer(call: Call, data: &[u8], lanes: usize, flags: &[u8]) -> Answer {
     }
 }
 
-/// L, the lane count in force.
-#[must_use]
-pub fn lanes_in_force(lanes: usize) -> usize {
-    const fn width<const L: usize>() -> usize {
-        L
-    }
-    dispatch_lanes!(lanes, width())
-}
-
 /// The Rust's function of the main call, at six lanes too.
 pub(super) fn main_call(
     data: &[u8],
@@ -196,13 +187,12 @@ pub(super) fn main_call(
 #[must_use]
 pub fn minimize_chart_count_rows_notes(data: &[u8], lanes: usize) -> Answer {
     let mut chart_notes = ChartNotesScratch::default();
-    let width = lanes_in_force(lanes);
-    let data = &chart_text(data, width);
+    let data = &chart_text(data, lanes);
     let (text, stats, densities, beats, last) = main_call(data, lanes, &mut chart_notes);
     let mut answer = Answer::default();
     answer.figures[ROWS] = beats.len() as u64;
     answer.figures[NOTES] = chart_notes.notes.len() as u64;
-    answer.set_chart_tally(&stats, &text, width);
+    answer.set_chart_tally(&stats, &text, lanes);
     answer.set_text(text);
     answer.set_densities(&densities);
     answer.set_last_beat(last);
@@ -214,7 +204,7 @@ pub fn minimize_chart_count_rows_notes(data: &[u8], lanes: usize) -> Answer {
 /// The kept-row call: `process_chart_in_impl` with KEEP.
 #[must_use]
 pub fn process_chart_kept(data: &[u8], lanes: usize) -> Answer {
-    let data = &chart_text(data, lanes_in_force(lanes));
+    let data = &chart_text(data, lanes);
     dispatch_lanes!(lanes, kept(data))
 }
 
@@ -237,7 +227,7 @@ fn kept<const L: usize>(data: &[u8]) -> Answer {
 
 #[must_use]
 pub fn minimize_timing_rows(data: &[u8], lanes: usize) -> Answer {
-    let data = &chart_text(data, lanes_in_force(lanes));
+    let data = &chart_text(data, lanes);
     dispatch_lanes!(lanes, timing_rows(data))
 }
 
@@ -251,32 +241,22 @@ fn timing_rows<const L: usize>(data: &[u8]) -> Answer {
     answer
 }
 
-/// The Rust's `measure_densities` reserves room by a quotient that divides by zero at the lane numbers that are 2^62 - 1 modulo 2^62.
-/// There it is called with 4 lanes, which are in force.
 #[must_use]
 pub fn measure_densities(data: &[u8], lanes: usize) -> Answer {
-    let divisor = lanes.wrapping_add(1).wrapping_mul(4);
-    let lanes = if divisor == 0 { 4 } else { lanes };
-    let data = &chart_text(data, lanes_in_force(lanes));
+    let data = &chart_text(data, lanes);
     let mut answer = Answer::default();
     let mut densities = Vec::new();
     match lanes {
         6 => fill_densities_impl::<6>(data, &mut densities),
-        _ => densities = measure_densities_unchanged(data, lanes),
+        _ => densities = super::measure_densities(data, lanes),
     }
     answer.set_densities(&densities);
     answer
 }
 
-/// The Rust's `measure_densities` itself, which panics at the lane numbers said above.
-#[must_use]
-pub fn measure_densities_unchanged(data: &[u8], lanes: usize) -> Vec<usize> {
-    super::measure_densities(data, lanes)
-}
-
 #[must_use]
 pub fn equally_spaced(data: &[u8], lanes: usize) -> Answer {
-    let data = &chart_text(data, lanes_in_force(lanes));
+    let data = &chart_text(data, lanes);
     let spacing = dispatch_lanes!(lanes, equally_spaced_impl(data));
     let mut answer = Answer::default();
     answer.figures[MEASURES] = spacing.len() as u64;
@@ -286,7 +266,7 @@ pub fn equally_spaced(data: &[u8], lanes: usize) -> Answer {
 
 #[must_use]
 pub fn chart_last_beat(data: &[u8], lanes: usize) -> Answer {
-    let data = &chart_text(data, lanes_in_force(lanes));
+    let data = &chart_text(data, lanes);
     let mut answer = Answer::default();
     answer.set_last_beat(dispatch_lanes!(lanes, chart_last_beat_impl(data)));
     answer
@@ -295,11 +275,10 @@ pub fn chart_last_beat(data: &[u8], lanes: usize) -> Answer {
 /// The judged tally without flags, over the rows that `parse_minimized_rows` reads.
 #[must_use]
 pub fn process_rows_judgable(data: &[u8], lanes: usize) -> Answer {
-    let width = lanes_in_force(lanes);
-    let asked = &read_back_text(data, width);
+    let asked = &read_back_text(data, lanes);
     let stats = dispatch_lanes!(lanes, judged_rows(asked));
-    let six = (width == 6).then(|| judged_directions(rows_read_back(data, width), width, &[]));
-    tally_alone(&stats, keysounds(rows_read_back(data, width)), six)
+    let six = (lanes == 6).then(|| judged_directions(rows_read_back(data, lanes), lanes, &[]));
+    tally_alone(&stats, keysounds(rows_read_back(data, lanes)), six)
 }
 
 fn judged_rows<const L: usize>(data: &[u8]) -> ArrowStats {
@@ -309,12 +288,11 @@ fn judged_rows<const L: usize>(data: &[u8]) -> ArrowStats {
 /// The judged tally with one flag a row: 0 unjudged, else judged, past the flags judged.
 #[must_use]
 pub fn process_timing_rows(data: &[u8], lanes: usize, flags: &[u8]) -> Answer {
-    let width = lanes_in_force(lanes);
-    let asked = &read_back_text(data, width);
+    let asked = &read_back_text(data, lanes);
     let stats = dispatch_lanes!(lanes, judged_by_flags(asked, flags));
-    let rows = rows_read_back(data, width).enumerate();
+    let rows = rows_read_back(data, lanes).enumerate();
     let judged = rows.filter_map(|(i, row)| is_judged(flags, i).then_some(row));
-    let six = (width == 6).then(|| judged_directions(rows_read_back(data, width), width, flags));
+    let six = (lanes == 6).then(|| judged_directions(rows_read_back(data, lanes), lanes, flags));
     tally_alone(&stats, keysounds(judged), six)
 }
 
@@ -326,7 +304,7 @@ fn judged_by_flags<const L: usize>(data: &[u8], flags: &[u8]) -> ArrowStats {
 #[must_use]
 pub fn dropped_holds(data: &[u8], lanes: usize) -> Answer {
     let main = minimize_chart_count_rows_notes(data, lanes);
-    let heads = dropped_heads(&main.text, lanes_in_force(lanes));
+    let heads = dropped_heads(&main.text, lanes);
     let mut answer = Answer::default();
     for place in [MEASURES, ROWS] {
         answer.figures[place] = main.figures[place];

@@ -2,7 +2,7 @@
 //! dropped heads, which the Rust does not have, it is the plain reference over the Rust's minimised text. At six lanes they are the Rust's functions
 //! over a const L, which count directions by fours.
 
-use super::calls::{Call, is_judged, lanes_in_force, main_call};
+use super::calls::{Call, is_judged, main_call};
 use super::*;
 use crate::dropped::dropped_heads;
 use std::hint::black_box;
@@ -38,7 +38,7 @@ pub fn run(call: Call, data: &[u8], lanes: usize, flags: &[u8], buffers: &mut Bu
         Call::ProcessTimingRows => dispatch_lanes!(lanes, judged_by_flags(data, flags)),
         Call::DroppedHolds => {
             let text = dispatch_lanes!(lanes, minimize_hash_impl(data));
-            black_box(dropped_heads(&text, lanes_in_force(lanes)));
+            black_box(dropped_heads(&text, lanes));
         }
     }
 }
