@@ -13,6 +13,22 @@ pub enum Kind {
     /// Of 20 measures 10 have every second row empty and 4 keep one row in four, so that 7 in 10 minimise to half or
     /// less; of all rows 6 in 10 are empty. Every head is closed.
     Sparse,
+    /// Each row has two heads beside each other, and the next their tails.
+    Heads,
+    /// Nine rows have a head in one column and nine more its tails, column by column.
+    Deep,
+    /// Each row has mines, in half of its cells or more.
+    Mines,
+    /// Each row has keysounds, in half of its cells or more.
+    Keysounds,
+    /// As `Closed`, with a comment after each row.
+    Comments,
+    /// As `Closed`, with two blanks before each row.
+    Indented,
+    /// As `Closed`, but the first line ends otherwise than all others: with byte 10 alone where they have 13 and 10, and the other way round.
+    Mixed,
+    /// One line without an end, of zeros.
+    Line,
 }
 
 struct Draw(u64);
@@ -42,18 +58,39 @@ impl Draw {
 
 /// A text of exactly `len` bytes, at least 1,000, whose lines end with `newline`; the last line is blank. Another seed draws another chart.
 pub fn text(lanes: usize, len: usize, newline: &[u8], seed: u64, kind: Kind) -> Vec<u8> {
+    if kind == Kind::Line {
+        return vec![b'0'; len];
+    }
     let mut draw = Draw(lanes as u64 + 16 * seed);
     let mut held = vec![false; lanes];
     let mut text = Vec::with_capacity(len);
+    let (before, after): (&[u8], &[u8]) = match kind {
+        Kind::Comments => (b"", b" // beat"),
+        Kind::Indented => (b"  ", b""),
+        _ => (b"", b""),
+    };
+    if kind == Kind::Mixed {
+        text.resize(lanes, b'0');
+        text.extend_from_slice(if newline == b"\n" { b"\r\n" } else { b"\n" });
+    }
+    let mut all = 0;
     while text.len() + 800 < len {
         let rows = ROWS[draw.below(ROWS.len())];
         let step = draw.step(kind);
         for number in 0..rows {
+            text.extend_from_slice(before);
             let start = text.len();
             text.resize(start + lanes, b'0');
-            if number % step == 0 {
-                row(&mut draw, &mut held, &mut text[start..]);
+            let cells = &mut text[start..];
+            match kind {
+                Kind::Heads | Kind::Deep | Kind::Mines | Kind::Keysounds => {
+                    put_all(kind, &mut draw, all, &mut held, cells);
+                }
+                _ if number % step == 0 => row(&mut draw, &mut held, cells),
+                _ => {}
             }
+            all += 1;
+            text.extend_from_slice(after);
             text.extend_from_slice(newline);
         }
         text.push(b',');
@@ -86,6 +123,29 @@ fn row(draw: &mut Draw, held: &mut [bool], cells: &mut [u8]) {
             put(held, cells, column, head);
         }
         _ => put(held, cells, column, b'M'),
+    }
+}
+
+/// The cells of a row of the kinds in which each row has some, by how many rows stand before it.
+fn put_all(kind: Kind, draw: &mut Draw, all: usize, held: &mut [bool], cells: &mut [u8]) {
+    let lanes = cells.len();
+    match kind {
+        Kind::Heads => {
+            let column = all / 2 % lanes;
+            for column in [column, (column + 1) % lanes] {
+                put(held, cells, column, b'2');
+            }
+        }
+        Kind::Deep => cells[all / 18 % lanes] = if all % 18 < 9 { b'2' } else { b'3' },
+        _ => {
+            let cell = if kind == Kind::Mines { b'M' } else { b'K' };
+            for it in cells.iter_mut() {
+                if draw.below(2) == 0 {
+                    *it = cell;
+                }
+            }
+            cells[draw.below(lanes)] = cell;
+        }
     }
 }
 

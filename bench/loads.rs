@@ -19,10 +19,47 @@ pub enum Text {
     Sparse,
     Pack,
     Unclosed,
+    Heads,
+    Deep,
+    Mines,
+    Keysounds,
+    Comments,
+    Indented,
+    Mixed,
+    Line,
 }
 
 impl Text {
+    /// The texts of the tables of times.
     pub const ALL: [Self; 4] = [Self::Long, Self::Sparse, Self::Pack, Self::Unclosed];
+
+    /// Those of other kinds, whose instructions are counted beside the Rust's.
+    pub const KINDS: [Self; 8] = [
+        Self::Heads,
+        Self::Deep,
+        Self::Mines,
+        Self::Keysounds,
+        Self::Comments,
+        Self::Indented,
+        Self::Mixed,
+        Self::Line,
+    ];
+
+    /// Those that can be asked for.
+    pub const EVERY: [Self; 12] = [
+        Self::Long,
+        Self::Sparse,
+        Self::Pack,
+        Self::Unclosed,
+        Self::Heads,
+        Self::Deep,
+        Self::Mines,
+        Self::Keysounds,
+        Self::Comments,
+        Self::Indented,
+        Self::Mixed,
+        Self::Line,
+    ];
 
     pub fn name(self) -> &'static str {
         match self {
@@ -30,6 +67,14 @@ impl Text {
             Self::Sparse => "sparse",
             Self::Pack => "pack",
             Self::Unclosed => "unclosed",
+            Self::Heads => "heads",
+            Self::Deep => "deep",
+            Self::Mines => "mines",
+            Self::Keysounds => "keysounds",
+            Self::Comments => "comments",
+            Self::Indented => "indented",
+            Self::Mixed => "mixed",
+            Self::Line => "line",
         }
     }
 
@@ -38,6 +83,14 @@ impl Text {
             Self::Long | Self::Pack => Kind::Closed,
             Self::Sparse => Kind::Sparse,
             Self::Unclosed => Kind::Unclosed,
+            Self::Heads => Kind::Heads,
+            Self::Deep => Kind::Deep,
+            Self::Mines => Kind::Mines,
+            Self::Keysounds => Kind::Keysounds,
+            Self::Comments => Kind::Comments,
+            Self::Indented => Kind::Indented,
+            Self::Mixed => Kind::Mixed,
+            Self::Line => Kind::Line,
         }
     }
 }

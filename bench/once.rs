@@ -1,14 +1,20 @@
 //! Makes each call once on each of a list of short texts, for callgrind, which counts the instructions of every call by itself
-//! (`instructions.sh`). It prints a line for each, in the order in which they are made: call, text, line ends, lane count, rows.
-//! For `sm_chart` these are the call, the file, line ends, 4 lanes, and the file's lines.
+//! (`instructions.sh`), and after each the Rust's on the same text. It prints a line for each, in the order in which they are made: call, text, line
+//! ends, lane count, rows; the Rust's calls have `rust` before their name. For `sm_chart` these are the call, the file, line ends, 4 lanes, and the
+//! file's lines.
 
 use crate::entries::ENTRIES;
-use crate::loads::{EVERY_LANES, Lines, Load, Text};
+use crate::loads::{EVERY_LANES, LANES, Lines, Load, Text};
 use crate::loans::lent;
 use crate::sm_files::{self, File};
+use oracle::calls::Call;
+use oracle::timed::{self, Buffers};
 
 /// Bytes of a text: enough that what a call does once does not show, few enough that all of it takes seconds.
 const LEN: usize = 60_000;
+
+/// Bytes of a text of the other kinds, of which there are many.
+const KIND_LEN: usize = 20_000;
 
 /// The texts that are counted. CRLF takes other ways through the reader, and an unclosed head another through the tallies.
 const TEXTS: [(Text, Lines); 4] = [
@@ -30,6 +36,7 @@ const FILES: [(File, Lines); 5] = [
 pub fn run() {
     run_texts();
     run_files();
+    run_kinds();
 }
 
 fn run_files() {
@@ -43,25 +50,55 @@ fn run_files() {
 }
 
 fn run_texts() {
-    for entry in ENTRIES {
+    for call in ENTRIES.iter().map(|entry| entry.call) {
         for (text, lines) in TEXTS {
             for lanes in EVERY_LANES {
-                let load = Load::of(1, LEN, text.kind(), lines, lanes);
-                let data = &load.texts[0];
-                let mut loan = lent(entry.call, LEN, lanes);
-                let number = (entry.enter)(data, lanes, &load.flags, &mut loan);
-                assert_eq!(number, 0, "no call is refused here");
-                let (call, text, lines) = (entry.call.name(), text.name(), lines.name());
-                println!("{call} {text} {lines} {lanes} {}", rows(data, lanes));
+                run_call(call, text, lines, lanes, LEN);
             }
         }
     }
+}
+
+/// The other kinds of text, at the lane counts that the Rust knows, and without the list of dropped heads, which it does not have.
+fn run_kinds() {
+    let calls = ENTRIES.iter().map(|entry| entry.call);
+    for call in calls.filter(|&call| call != Call::DroppedHolds) {
+        for text in Text::KINDS {
+            for lines in Lines::ALL {
+                for lanes in LANES {
+                    run_call(call, text, lines, lanes, KIND_LEN);
+                }
+            }
+        }
+    }
+}
+
+/// One call on one text, ours and then the Rust's.
+fn run_call(call: Call, text: Text, lines: Lines, lanes: usize, len: usize) {
+    let load = Load::of(1, len, text.kind(), lines, lanes);
+    let (data, flags) = (&load.texts[0], &load.flags);
+    let mut loan = lent(call, len, lanes);
+    let entry = ENTRIES.iter().find(|entry| entry.call == call);
+    let enter = entry.expect("every call has its entry").enter;
+    assert_eq!(enter(data, lanes, flags, &mut loan), 0, "no call is refused here");
+    rust_call(call, data, lanes, flags, &mut Buffers::default());
+    let (name, text, lines, rows) = (call.name(), text.name(), lines.name(), rows(data, lanes));
+    for who in ["", "rust_"] {
+        println!("{who}{name} {text} {lines} {lanes} {rows}");
+    }
+}
+
+/// The Rust's call, under a name that callgrind is told.
+#[unsafe(no_mangle)]
+#[inline(never)]
+pub fn rust_call(call: Call, data: &[u8], lanes: usize, flags: &[u8], buffers: &mut Buffers) {
+    timed::run(call, data, lanes, flags, buffers);
 }
 
 /// How many rows a drawn text has: every line but those of commas and the blank last one.
 fn rows(data: &[u8], lanes: usize) -> usize {
     let lines = data.split(|&byte| byte == b'\n');
     lines
-        .filter(|line| line.trim_ascii().len() == lanes)
+        .filter(|line| lanes <= line.trim_ascii().len())
         .count()
 }

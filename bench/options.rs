@@ -28,6 +28,9 @@ A LIST has its words parted by commas, and leaves out the others:
            sparse    as long; 6 rows in 10 are empty, 7 measures in 10 minimise to half or less
            pack      2,000 charts of 20,000 bytes, one after the other
            unclosed  the long text and a head that nothing closes, so that the tally is counted anew
+           and, where they are named, others as long: heads (two in each row, or their tails), deep (nine heads in a column),
+           mines, keysounds (in half of all cells), comments (one after each row), indented, mixed (the first line ends
+           otherwise than the others) and line (one line of zeros)
   --lines  lf crlf
   --speeds also prints, at the end, the speeds of every cell, of the Rust, and of a look at an entry's zeros
   --growth prints instead how many nanoseconds a byte costs an entry in a text of 16 MB, and in brackets the largest by
@@ -86,7 +89,7 @@ pub fn parse(mut args: impl Iterator<Item = String>) -> Result<Option<Options>, 
             "--runs" => options.runs = number(args.next())?,
             "--ways" => options.ways = listed(&list()?, &Way::ALL, |way| way.name().into())?,
             "--lanes" => options.lanes = listed(&list()?, &EVERY_LANES, usize::to_string)?,
-            "--texts" => options.texts = listed(&list()?, &Text::ALL, |text| text.name().into())?,
+            "--texts" => options.texts = listed(&list()?, &Text::EVERY, |text| text.name().into())?,
             "--lines" => {
                 options.lines = listed(&list()?, &Lines::ALL, |lines| lines.name().to_lowercase())?;
             }
