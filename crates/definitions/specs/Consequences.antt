@@ -170,5 +170,5 @@ ElevenSays =
 unfoldable pub ExamplesCounted : Type 0
 ExamplesCounted =
     (map (λ (e : texts.Example). length e.says) texts.table ≡ 5 ∷ 4 ∷ 1 ∷ 5 ∷ 3 ∷ 4 ∷ 2 ∷ 3 ∷ 6 ∷ 1 ∷ 2 ∷ [])
-    × (map (λ (e : texts.Example). length e.says) tallies.table ≡ 6 ∷ 2 ∷ 4 ∷ 5 ∷ 3 ∷ 8 ∷ 8 ∷ 6 ∷ 3 ∷ 2 ∷ 4 ∷ [])
+    × (map (λ (e : texts.Example). length e.says) tallies.table ≡ 6 ∷ 2 ∷ 4 ∷ 5 ∷ 3 ∷ 8 ∷ 8 ∷ 6 ∷ 6 ∷ 2 ∷ 4 ∷ [])
     × (length requests.table ≡ 18)

@@ -78,8 +78,15 @@ table =
     ∷ (flagged (0 ∷ []) up_left is 0 ∷ [])
     ∷ (main left is 0 ∷ [])
     ∷ [])
-    -- S4: column 4 is up-right, and not left as at 5 and 8 lanes
-    ∷ at 6 (bytes "000010") ((main up_right is 1 ∷ []) ∷ (judged up_right is 1 ∷ []) ∷ (main left is 0 ∷ []) ∷ [])
+    -- S4: columns 2 and 4 are down and up-right, and not up and left as at 5 and 8 lanes
+    ∷ at 6 (bytes "001010")
+    ((main down is 1 ∷ [])
+    ∷ (main up_right is 1 ∷ [])
+    ∷ (judged down is 1 ∷ [])
+    ∷ (judged up_right is 1 ∷ [])
+    ∷ (main left is 0 ∷ [])
+    ∷ (main up is 0 ∷ [])
+    ∷ [])
     -- S5: a hold in the last column
     ∷ at 6 (bytes "000002|000003") ((note_list is 0 ∷ 1 ∷ 5 ∷ 1 ∷ []) ∷ (main right is 1 ∷ []) ∷ [])
     -- S6: no arrow of another layout is up-left or up-right
