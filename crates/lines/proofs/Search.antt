@@ -1,6 +1,6 @@
 -- Laws of the search for a byte and of `count_of`: one turn of the loop over a slice's last bytes, lists put together, and what the search's answer shows of
 -- the list before the byte.
-use Rattle.std.proofs.Common.{◌≡◌, ℕ, suc, ◌+◌, ◌-◌, ◌<◌, ◌≤◌, Bool, true, false, cond, eqb, List, [], ◌∷◌, ◌++◌, length, get_or, take, drop, refl, sym, ap, ◌∙◌, add-one, arith, drop_of_length-le, drop-cons, eq-eqb, ne_eqb}
+use Rattle.std.proofs.Common.{◌≡◌, ℕ, suc, ◌+◌, ◌-◌, ◌<◌, ◌≤◌, Bool, true, false, cond, eqb, List, [], ◌∷◌, ◌++◌, length, get_or, take, drop, refl, sym, ap, ◌∙◌, add-one, arith, drop_of_length-le, drop-cons, drop-drop, length-drop, eq-eqb, ne_eqb}
 use Rattle.definitions.specs.Lists.{number_of_bool, up_to, after}
 use Rattle.definitions.proofs.Lists.{count-cons as one_more}
 use Rattle.lines.proofs.Trims.{part-all}
@@ -118,3 +118,22 @@ unfolding after
 after_all b l e = let all : length l ≤ suc (length l) = omega arith in rw (front_all b l e) (sym (drop_of_length-le l all))
 
 pub ruleset found = (front_at, front_all, after_at, after_all)
+
+-- the same of the search from k on
+pub below-found : (b : ℕ) (s : List ℕ) (k r : ℕ) → k ≤ length s → position_from (λ x. x == b) k (drop k s) ≡ Some r
+    → (r < length s) × (drop (r + 1) s ≡ after b (drop k s))
+unfolding after
+below-found b s k r h e =
+    let l = drop k s in
+    let f = front-found b l k r (sym (found_from b k l) ∙ e) in
+    let n : length l ≡ length s - k = length-drop k s in
+    let long : length (up_to b l) ≡ r - k = rw (← f.2, length-take) (omega (arith, f.0, f.1)) in
+    let place : r + 1 ≡ k + suc (r - k) = omega (arith, f.0) in
+    (omega (arith, f.0, f.1), rw (long, place) (sym (drop-drop (suc (r - k)) k s)))
+
+pub below-none : (b : ℕ) (s : List ℕ) (k : ℕ) → position_from (λ x. x == b) k (drop k s) ≡ None → [] ≡ after b (drop k s)
+unfolding after
+below-none b s k e =
+    let l = drop k s in
+    let all : length l ≤ suc (length l) = omega arith in
+    rw (front-none b l k (sym (found_from b k l) ∙ e)) (sym (drop_of_length-le l all))

@@ -1,13 +1,15 @@
 -- The bytes of a slice that a word is read from, and what a search and a count over the slice learn from them.
 use Rattle.std.proofs.Common.{◌≡◌, ℕ, zero, suc, ◌+◌, ◌*◌, ◌/◌, ◌^◌, ◌<◌, ◌≤◌, Bool, true, false, cond, not, ◌||◌, eqb, List, [], ◌∷◌, ◌++◌, length, get_or, take, drop, sym, refl, ap, ◌∙◌, add-zero, add-suc, arith, take-append-drop, get_or-drop, drop-cons, drop-drop, eq-eqb, ne_eqb, eqb-true}
+use native.Mathlib.Decide.{dec_lt}
 use lib.Count.{count_trailing_zeros, trailing_of_zero}
 use borrow.Author.Tests.{eqb-false}
 use Rattle.definitions.specs.Lists.{among}
-use Rattle.std.specs.Prelude.{Some}
+use Rattle.std.specs.Prelude.{Some, ◌==◌}
+use Rattle.std.specs.List.{position_from}
 use Rattle.lines.specs.Search.{count_of}
 use Rattle.lines.specs.Words.{half_word_at, word_at, word_of, bytes_of_word, Bytes, first_in}
 use Rattle.lines.proofs.WordBytes.{bytes_read}
-use Rattle.lines.proofs.Search.{find_from, count-append}
+use Rattle.lines.proofs.Search.{find_from, found_from, count-append}
 use Rattle.lines.proofs.Hits.{trailing_lt}
 
 eight-step : (s : List ℕ) (n i k : ℕ) → i + k < length s → take (suc n) (drop (i + k) s) ≡ get_or s (i + k) 0 ∷ take n (drop (i + suc k) s)
@@ -110,3 +112,29 @@ hits-among b r xs eight h e = go (eqb r 0) refl
     go false q =
         let near : count_trailing_zeros 64 r < 64 = trailing_lt 64 r h (eqb-false r 0 q) in
         rw q (sym (in_place b xs (omega arith)))
+
+-- of two tests neither holds
+pub neither : (x y : Bool) → (x || y) ≡ false → (x ≡ false) × (y ≡ false)
+neither true y e = let z : ◌≡◌ {A = ℕ} 0 1 = cc in absurd (omega arith)
+neither false y e = (refl, e)
+
+-- four words that do not have it are passed
+module _ (b : ℕ) (s : List ℕ) (i : ℕ) (h : i + 32 ≤ length s) where
+  word_passed : (j : ℕ) → j + 8 ≤ length s → among b (take 8 (drop j s)) ≡ false → find_from b j (drop j s) ≡ find_from b (j + 8) (drop (j + 8) s)
+  word_passed j w e = elim (dec_lt (first_in b (take 8 (drop j s))) 8) [
+    | yes lt ↦ let z : ◌≡◌ {A = ℕ} 0 1 = (let t : among b (take 8 (drop j s)) ≡ true = in_place b (take 8 (drop j s)) (rw (eight-long b s j w) lt) in cc) in absurd (omega arith)
+    | no ge ↦ word_out b s j w (omega arith)
+  ]
+
+  pub block_passed : among b (take 8 (drop i s)) ≡ false → among b (take 8 (drop (i + 8) s)) ≡ false → among b (take 8 (drop (i + 16) s)) ≡ false → among b (take 8 (drop (i + 24) s)) ≡ false
+      → position_from (λ x. x == b) i (drop i s) ≡ position_from (λ x. x == b) (i + 32) (drop (i + 32) s)
+  block_passed e f g k =
+      let p : i + 8 + 8 ≡ i + 16 = omega arith in
+      let q : i + 16 + 8 ≡ i + 24 = omega arith in
+      let r : i + 24 + 8 ≡ i + 32 = omega arith in
+      found_from b i _
+      ∙ word_passed i (omega arith) e
+      ∙ rw p at (word_passed (i + 8) (omega arith) f)
+      ∙ rw q at (word_passed (i + 16) (omega arith) g)
+      ∙ rw r at (word_passed (i + 24) (omega arith) k)
+      ∙ sym (found_from b (i + 32) _)

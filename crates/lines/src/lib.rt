@@ -3,12 +3,12 @@
 
 pub mod words;
 
-ghost use Rattle.std.specs.Prelude.{◌≡◌, ◌==◌, ◌<◌, ◌≤◌, Some, nat_le, length, slice_index, take, drop, position};
+ghost use Rattle.std.specs.Prelude.{◌≡◌, ◌==◌, ◌+◌, ◌<◌, ◌≤◌, Some, nat_le, length, slice_index, take, drop, position};
 ghost use Rattle.std.specs.List.{position_from};
-ghost use Rattle.definitions.specs.Lists.{after};
+ghost use Rattle.definitions.specs.Lists.{among, after};
 ghost use Rattle.definitions.specs.Lines.{is_blank_byte, trim};
 ghost use Rattle.definitions.specs.ReadBack.{without_cr};
-ghost use Rattle.lines.specs.Search.{count_of};
+ghost use Rattle.lines.specs.Search.{count_of, or_else};
 ghost use Rattle.lines.specs.Words.{first_below};
 ghost use Rattle.lines.specs.Lines.{first_line};
 
@@ -105,6 +105,81 @@ fn find_rest(slice: &[u8], needle: u8, from: usize) -> Option<usize>
     None
 }
 
+/// The place of the first of the eight bytes from `i` on that is `needle`, by one word.
+fn find_in_word(slice: &[u8], needle: u8, i: usize) -> Option<usize>
+    requires { i + 8 ≤ length slice.now }
+    ensures { position_from (λ x. x == needle) i (drop i slice.now)
+        ≡ or_else result (position_from (λ x. x == needle) (i + 8) (drop (i + 8) slice.now)) }
+{
+    let hits = words::byte_hits(words::word_at(slice, i), needle);
+    if hits == 0 {
+        return None;
+    }
+    let at = (u64::trailing_zeros(hits) / 8) as usize;
+    Some(i + at)
+}
+
+/// Whether one of the eight bytes from `i` on is `needle`.
+fn word_has(slice: &[u8], needle: u8, i: usize) -> bool
+    requires { i + 8 ≤ length slice.now }
+    ensures { result ≡ among needle (take 8 (drop i slice.now)) }
+{
+    words::has_byte(words::word_at(slice, i), needle)
+}
+
+/// From where on `slice` is left to be searched for `needle`, by four words a turn: from `from` or further on, and nothing before it is `needle`.
+fn past_blocks(slice: &[u8], needle: u8, from: usize) -> usize
+    requires { from ≤ length slice.now }
+    ensures within { result ≤ length slice.now }
+    ensures passed { position_from (λ x. x == needle) from (drop from slice.now)
+        ≡ position_from (λ x. x == needle) result (drop result slice.now) }
+{
+    let mut i = from;
+    while i + 32 <= slice.len() {
+        let low = word_has(slice, needle, i) | word_has(slice, needle, i + 8);
+        let high = word_has(slice, needle, i + 16) | word_has(slice, needle, i + 24);
+        if low | high {
+            break;
+        }
+        i += 32;
+    }
+    i
+}
+
+/// The first place from `from` on where `slice` has `needle`, by four words a turn, then by words of eight, then by the bytes that are left. Few lines
+/// are so long, and it is not written into its callers.
+#[inline(never)]
+fn find_long(slice: &[u8], needle: u8, from: usize) -> Option<usize>
+    requires { from ≤ length slice.now }
+    ensures { result ≡ position_from (λ x. x == needle) from (drop from slice.now) }
+{
+    let mut i = past_blocks(slice, needle, from);
+    while i + 8 <= slice.len() {
+        if let Some(at) = find_in_word(slice, needle, i) {
+            return Some(at);
+        }
+        i += 8;
+    }
+    find_rest(slice, needle, i)
+}
+
+/// The same, by two words where there are so many bytes, before the search of a long line.
+fn find_far(slice: &[u8], needle: u8, from: usize) -> Option<usize>
+    requires { from ≤ length slice.now }
+    ensures { result ≡ position_from (λ x. x == needle) from (drop from slice.now) }
+{
+    if slice.len() < from + 16 {
+        return find_long(slice, needle, from);
+    }
+    if let Some(at) = find_in_word(slice, needle, from) {
+        return Some(at);
+    }
+    if let Some(at) = find_in_word(slice, needle, from + 8) {
+        return Some(at);
+    }
+    find_long(slice, needle, from + 16)
+}
+
 /// The place of the first byte of `slice` that is `needle`: the first sixteen bytes one by one, since most lines end there, then by words of eight, then
 /// the rest one by one.
 pub fn find_byte(slice: &[u8], needle: u8) -> Option<usize>
@@ -115,16 +190,7 @@ pub fn find_byte(slice: &[u8], needle: u8) -> Option<usize>
     if first < near {
         return Some(first);
     }
-    let mut i = near;
-    while i + 8 <= slice.len() {
-        let hits = words::byte_hits(words::word_at(slice, i), needle);
-        if hits != 0 {
-            let at = (u64::trailing_zeros(hits) / 8) as usize;
-            return Some(i + at);
-        }
-        i += 8;
-    }
-    find_rest(slice, needle, i)
+    find_far(slice, needle, near)
 }
 
 /// Of bytes that begin with one of 16 or more, whether none of the first `n` is below 16, as newlines and carriage returns are: by one word of eight bytes
@@ -152,5 +218,17 @@ pub fn next_line(data: &[u8], start: usize) -> (&[u8], &[u8])
         }
     } else {
         (&data[..0], &data[..0])
+    }
+}
+
+/// What follows the first newline from `start` on, nothing where there is none: by words from there on, since what stands after a row's cells is
+/// mostly a comment.
+pub fn text_below(data: &[u8], start: usize) -> &[u8]
+    requires { start ≤ length «data».now }
+    ensures { result.now ≡ after 10 (drop start «data».now) }
+{
+    match find_far(data, 10, start) {
+        Some(at) => &data[at + 1..],
+        None => &data[..0],
     }
 }

@@ -1,24 +1,26 @@
 -- Laws of the marks of a text: its first line, a row that one look tells, and that a text's measures are what all of its marks come to.
 use mathlib.Core.Path.{◌≡◌, refl, ap, sym, ◌∙◌}
 use mathlib.Core.Logic.{⊎_elim}
-use mathlib.Core.Bool.{true}
+use mathlib.Core.Bool.{Bool, true, false, cond, ◌&&◌, not}
 use mathlib.Core.List.{List, [], ◌∷◌, ◌++◌, append_assoc, append-nil}
-use Prim.Native.Nat.{ℕ, ◌+◌, ◌<◌, ◌≤◌}
+use Prim.Native.Nat.{ℕ, ◌<◌, ◌≤◌}
 use native.Mathlib.Omega.{arith}
 use lib.ListN.{length, take, drop, get_or}
-use lib.Seq.{get_or-take, length-take-le, take-take}
-use Rattle.std.specs.Prelude.{Option, Some, fold}
+use lib.Dec.{eqb, ltb}
+use borrow.Author.Tests.{eqb-true, eqb-false, ne_eqb, ltb-true, not-true}
+use Rattle.definitions.proofs.Bools.{and_left, and_right}
+use Rattle.std.specs.Prelude.{Option, Some, None, fold}
 use Rattle.std.specs.List.{onto_first}
 use Rattle.definitions.specs.Lists.{among, up_to, after}
-use Rattle.definitions.specs.Lines.{Row, cut, trim, kind_of, line_kind, line_row}
+use Rattle.definitions.specs.Lines.{Row, cut, is_blank_byte, trim, is_row_line, kind_of, line_kind, line_row}
 use Rattle.definitions.specs.Measures.{add_line, measures, chart}
 use Rattle.definitions.specs.declared.LineKind.{LineKind}
 use Rattle.definitions.specs.declared.LineKind.TheVariants as line
 use Rattle.lines.specs.Lines.{first_line}
 use Rattle.definitions.proofs.Lists.{after-cons}
-use Rattle.reader.specs.Reading.{LineWidth, near_row}
-use Rattle.reader.proofs.Cuts.{cut-below}
-use Rattle.reader.proofs.Plain.{near-plain, bare, bare-row}
+use Rattle.reader.specs.Reading.{near_cells, near_row, Below}
+use Rattle.reader.proofs.Cuts.{cut-below, after-less}
+use Rattle.reader.proofs.Plain.{near-front, bare, bare-row, first-cells, first-within}
 use Rattle.reader.specs.Marks.{add_mark, marks, chart_marks, Held, held_with, held}
 
 -- ---- the first line of a text, and what follows it
@@ -39,22 +41,125 @@ marks-empty : (L : ℕ) (s : List ℕ) → chart_marks L (10 ∷ s) ≡ chart_ma
 unfolding first_line up_to line_kind kind_of
 marks-empty L s = marks-first L (10 ∷ s) ∙ ap (chart_marks L) (after-cons 10 10 s)
 
+-- nor has a blank
+marks-blank : (L x : ℕ) (s : List ℕ) → is_blank_byte x ≡ true → chart_marks L (x ∷ s) ≡ chart_marks L s
+unfolding first_line up_to line_kind
+marks-blank L x s b = go (eqb x 10) refl
+  where
+    go : (t : Bool) → eqb x 10 ≡ t → chart_marks L (x ∷ s) ≡ chart_marks L s
+    go true e = ap (λ n. chart_marks L (n ∷ s)) (eqb-true x 10 e) ∙ marks-empty L s
+    go false e = marks-first L (x ∷ s) ∙ rw (after-cons, e, b) (sym (marks-first L s))
+
+pub marks-trim : (L : ℕ) (s : List ℕ) → chart_marks L s ≡ chart_marks L (trim s)
+marks-trim L [] = refl
+marks-trim L (x ∷ s) = go (is_blank_byte x) refl (marks-trim L s)
+  where
+    go : (t : Bool) → is_blank_byte x ≡ t → chart_marks L s ≡ chart_marks L (trim s) → chart_marks L (x ∷ s) ≡ chart_marks L (cond t (trim s) (x ∷ s))
+    go true e ih = marks-blank L x s e ∙ ih
+    go false e ih = refl
+
+pub trim-less : (s : List ℕ) → length (trim s) ≤ length s
+trim-less [] = omega arith
+trim-less (x ∷ s) = go (is_blank_byte x) (trim-less s)
+  where
+    go : (t : Bool) → length (trim s) ≤ length s → length (cond t (trim s) (x ∷ s)) ≤ length (x ∷ s)
+    go true h = omega arith
+    go false h = omega arith
+
+-- a line that begins with `,` or `;`
+pub marks-comma : (L : ℕ) (s : List ℕ) → 0 < length s → get_or s 0 0 ≡ 44 → chart_marks L s ≡ None ∷ chart_marks L (after 10 s)
+unfolding first_line up_to line_kind kind_of is_blank_byte
+marks-comma L [] h e = absurd (omega arith)
+marks-comma L (x ∷ s) h e = marks-first L (x ∷ s) ∙ rw e
+
+pub marks-semi : (L : ℕ) (s : List ℕ) → 0 < length s → get_or s 0 0 ≡ 59 → chart_marks L s ≡ []
+unfolding first_line up_to line_kind kind_of is_blank_byte
+marks-semi L [] h e = absurd (omega arith)
+marks-semi L (x ∷ s) h e = marks-first L (x ∷ s) ∙ rw e
+
+-- a newline is a blank
+no-newline : (x : ℕ) → is_blank_byte x ≡ false → eqb x 10 ≡ false
+unfolding is_blank_byte
+no-newline x b = go (eqb x 10) refl
+  where
+    go : (t : Bool) → eqb x 10 ≡ t → eqb x 10 ≡ false
+    go true e = let z : ◌≡◌ {A = ℕ} 0 1 = (let y : is_blank_byte x ≡ true = rw (eqb-true x 10 e) refl in cc) in absurd (omega arith)
+    go false e = e
+
+-- any other line: a row where it begins with no blank and no `/` and passes the row test, else nothing
+abbrev pub row_if : Bool → Row → List (Option Row) → List (Option Row)
+row_if true r ms = Some r ∷ ms
+row_if false r ms = ms
+
+abbrev pub rest_of : List ℕ → List ℕ
+rest_of s = cond (is_blank_byte (get_or s 0 0)) (trim (drop 1 s)) (after 10 s)
+
+pub marks-other : (L : ℕ) (s below : List ℕ) (t : Bool) → 0 < length s → (get_or s 0 0 ≡ 44 → ⊥) → (get_or s 0 0 ≡ 59 → ⊥)
+    → t ≡ (not (is_blank_byte (get_or s 0 0)) && (not (eqb (get_or s 0 0) 47) && is_row_line L (first_line s))) → below ≡ rest_of s
+    → chart_marks L s ≡ row_if t (take L s) (chart_marks L below)
+unfolding first_line up_to line_kind kind_of
+marks-other L [] below t h comma semi e eb = absurd (omega arith)
+marks-other L (x ∷ s) below t h comma semi e eb = go (is_blank_byte x) refl
+  where
+    row : (r : Bool) → is_row_line L (first_line (x ∷ s)) ≡ r → eqb x 10 ≡ false → is_blank_byte x ≡ false → eqb x 47 ≡ false → t ≡ r
+        → chart_marks L (x ∷ s) ≡ row_if t (take L (x ∷ s)) (chart_marks L (after 10 (x ∷ s)))
+    row true r n b slash q =
+        marks-first L (x ∷ s) ∙ rw (n, b, slash, ne_eqb x 44 comma, ne_eqb x 59 semi, q, rw n at r)
+        (ap (λ c. Some c ∷ chart_marks L (after 10 (x ∷ s))) (rw n at (first-cells L (x ∷ s) r)))
+    row false r n b slash q =
+        marks-first L (x ∷ s) ∙ rw (n, b, slash, ne_eqb x 44 comma, ne_eqb x 59 semi, q, rw n at r)
+
+    line-told : (u : Bool) → eqb x 47 ≡ u → is_blank_byte x ≡ false → chart_marks L (x ∷ s) ≡ row_if t (take L (x ∷ s)) (chart_marks L (after 10 (x ∷ s)))
+    line-told true u b =
+        let q : t ≡ false = rw (b, u) at e in
+        let n = no-newline x b in
+        marks-first L (x ∷ s) ∙ rw (n, b, u, q)
+    line-told false u b = row (is_row_line L (first_line (x ∷ s))) refl (no-newline x b) b u (rw (b, u) at e)
+
+    go : (b : Bool) → is_blank_byte x ≡ b → chart_marks L (x ∷ s) ≡ row_if t (take L (x ∷ s)) (chart_marks L below)
+    go true b =
+        let q : t ≡ false = rw b at e in
+        let r : below ≡ trim s = rw b at eb in
+        rw (q, r) (rw b at (marks-trim L (x ∷ s)))
+    go false b =
+        let r : below ≡ after 10 (x ∷ s) = rw b at eb in
+        rw r (line-told (eqb x 47) refl b)
+
+-- a row's cells lie in the text
+pub row-within : (L : ℕ) (s : List ℕ) → (not (is_blank_byte (get_or s 0 0)) && (not (eqb (get_or s 0 0) 47) && is_row_line L (first_line s))) ≡ true → L ≤ length s
+row-within L s e =
+    let blank = not (is_blank_byte (get_or s 0 0)) in
+    let slash = not (eqb (get_or s 0 0) 47) in
+    let row = and_right slash (is_row_line L (first_line s)) (and_right blank (slash && is_row_line L (first_line s)) e) in
+    first-within L s row
+
+-- and less of the text is left
+pub rest-less : (s below : List ℕ) → 0 < length s → below ≡ rest_of s → length below < length s
+rest-less [] below h e = absurd (omega arith)
+rest-less (x ∷ s) below h e = go (is_blank_byte x) refl
+  where
+    go : (b : Bool) → is_blank_byte x ≡ b → length below < length (x ∷ s)
+    go true b = let r : below ≡ trim s = rw b at e in rw r (omega (arith, trim-less s))
+    go false b = after-less (x ∷ s) below h (rw b at e)
+
 -- a row that one look tells
-pub marks-near : (L m : ℕ) (s : List ℕ) → 4 ≤ L → L ≤ 10 → LineWidth L m → near_row L m s ≡ true → chart_marks L s ≡ Some (take L s) ∷ chart_marks L (drop (m + 1) s)
+pub marks-near : (L : ℕ) (s below : List ℕ) → 4 ≤ L → L ≤ 10 → near_row L s ≡ true → Below below (after 10 (drop L s)) → chart_marks L s ≡ Some (take L s) ∷ chart_marks L below
 unfolding line_kind
-marks-near L m s low high w e =
-    let p = near-plain L m s low high w e in
-    let raw = take p.size s in
-    let size : length raw ≡ p.size = length-take-le p.size s (omega (arith, p.within)) in
-    let first : get_or raw 0 0 ≡ get_or s 0 0 = get_or-take p.size s 0 0 (omega (arith, p.wide)) in
-    let past : 47 < get_or raw 0 0 = rw first p.past in
-    let whole = bare raw past in
-    let cells : take L raw ≡ take L s = take-take L p.size s p.wide.0 in
-    let kind = bare-row L raw (omega (arith, p.wide)) (ap (among 13) cells ∙ p.plain) past (λ q. p.other (sym first ∙ q)) in
-    let row : take L (trim raw) ≡ take L s = ap (take L) (sym whole) ∙ cells in
-    let below : chart_marks L (after 10 s) ≡ chart_marks L (drop (m + 1) s) =
-    ⊎_elim (λ q. ap (chart_marks L) q) (λ q. ap (chart_marks L) q ∙ marks-empty L (drop (m + 1) s)) p.rest in
-    marks-first L s ∙ rw (p.line, row, below, ← whole, ← kind)
+marks-near L s below low high e w =
+    let cells = near_cells L s in
+    let past = ltb 47 (get_or s 0 0) in
+    let semi = eqb (get_or s 0 0) 59 in
+    let two = and_left (cells && past) (not semi) e in
+    let other = eqb-false (get_or s 0 0) 59 (not-true semi (and_right (cells && past) (not semi) e)) in
+    let p = near-front L s low high (and_left cells past two) in
+    let l = first_line s in
+    let far : 47 < get_or l 0 0 = rw p.first (ltb-true 47 (get_or s 0 0) (and_right cells past two)) in
+    let whole = bare l far in
+    let kind = bare-row L l p.long (ap (among 13) p.cells ∙ p.plain) far (λ q. other (sym p.first ∙ q)) in
+    let row : take L (trim l) ≡ take L s = ap (take L) (sym whole) ∙ p.cells in
+    let rest : chart_marks L (after 10 s) ≡ chart_marks L below =
+    ap (chart_marks L) p.rest ∙ ⊎_elim (λ q. ap (chart_marks L) q) (λ q. ap (chart_marks L) q ∙ marks-empty L below) w in
+    marks-first L s ∙ rw (row, rest, ← whole, ← kind)
 
 -- ---- what marks come to
 

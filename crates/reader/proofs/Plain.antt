@@ -1,25 +1,28 @@
 -- A plain row: its line begins with no blank, `,`, `;` or `/`, has at least L bytes and no byte below 16 among the first L. Laws of a text that begins
 -- with it.
 use mathlib.Core.Path.{◌≡◌, refl, ap, sym, ◌∙◌}
-use mathlib.Core.Logic.{◌⊎◌, inl, inr}
-use mathlib.Core.Bool.{Bool, true, false, cond, ◌&&◌, not}
-use mathlib.Core.List.{List, [], ◌∷◌, ◌++◌, append-nil}
-use Prim.Native.Nat.{ℕ, zero, suc, ◌+◌, ◌≤◌, ◌<◌}
+use mathlib.Core.Logic.{inl, inr}
+use mathlib.Core.Bool.{Bool, true, false, cond, ◌&&◌, ◌||◌, not}
+use mathlib.Core.List.{List, [], ◌∷◌, ◌++◌}
+use Prim.Native.Nat.{ℕ, zero, suc, ◌+◌, ◌-◌, ◌≤◌, ◌<◌}
 use native.Mathlib.Numerals.{add-one}
 use native.Mathlib.Decide.{dec_lt}
 use native.Mathlib.Omega.{arith}
-use borrow.Author.Tests.{eqb-true, eqb-false, ne_eqb, ltb-true, ltb-false, leb-true, le-leb, not-true}
+use borrow.Author.Tests.{ne_eqb, ltb-false, leb-true, le-leb, lt-leb}
 use lib.Dec.{eqb, ltb, leb}
-use lib.ListN.{length, get_or, take, drop}
-use lib.Seq.{drop-cons, take-suc}
+use lib.ListN.{length, get_or, take, drop, length-append, length-take}
+use lib.Seq.{drop-cons, length-take-le, get_or-take, take-take}
+use Rattle.std.proofs.lemmas.List.{take_at}
 use Rattle.definitions.specs.Lists.{among, up_to, after}
 use Rattle.definitions.specs.Lines.{is_blank_byte, trim, is_row_line, kind_of}
 use Rattle.definitions.specs.declared.LineKind.TheVariants as line
-use Rattle.definitions.proofs.Bools.{and_left, and_right}
+use Rattle.definitions.proofs.Bools.{and_left, and_right, and-false, equal-turned}
 use Rattle.definitions.proofs.Lists.{after-cons}
+use Rattle.definitions.proofs.ChartRows.{test-length}
+use Rattle.reader.proofs.Cuts.{line-front}
 use Rattle.lines.specs.Lines.{first_line}
 use Rattle.lines.specs.Words.{first_below}
-use Rattle.reader.specs.Reading.{LineWidth, near_row}
+use Rattle.reader.specs.Reading.{LineStep, near_cells, Below}
 
 -- ---- such a line is a row
 
@@ -62,99 +65,94 @@ begins (suc n) (x ∷ s) h f = go (ltb x 16) refl (begins n s (omega arith)) f
           rw (ne_eqb 13 x (omega arith)) b.2,
         )
 
--- What the look says of a text: its first line has L bytes or one more, no 13 among the first L, and begins past `/` and with no `;`. What follows it is
--- what follows the newline at `width`, or that after an empty line.
-pub record Plain (L width : ℕ) (s : List ℕ) : Type 0 where
-  pub size : ℕ
-  pub wide : LineWidth L size
-  pub within : size < length s
-  pub line : first_line s ≡ take size s
-  pub rest : (after 10 s ≡ drop (width + 1) s) ⊎ (after 10 s ≡ 10 ∷ drop (width + 1) s)
+-- ---- the row test of a text's first line, by the text's bytes
+abbrev told : ℕ → List ℕ → List ℕ → Bool
+told L r s = leb L (length r) && (not (among 10 (take L s)) && not (among 13 (take L s)))
+
+first-step : (L : ℕ) (s l : List ℕ) (t : Bool) → told L s s ≡ (leb L (length l) && not (among 13 (take L l)))
+    → (leb L (length s) && (not (among 10 (take L s)) && not (t || among 13 (take L s)))) ≡ (leb L (length l) && not (t || among 13 (take L l)))
+first-step L s l true h = rw (and-false (not (among 10 (take L s))), and-false (leb L (length s)), and-false (leb L (length l)))
+first-step L s l false h = h
+
+leb-step : (a b : ℕ) → leb (suc a) (suc b) ≡ leb a b
+leb-step a b = elim (dec_lt b a) [
+  | yes h ↦ rw (lt-leb (suc a) (suc b) (omega arith), lt-leb a b h)
+  | no h ↦ rw (le-leb (suc a) (suc b) (omega arith), le-leb a b (omega arith))
+]
+
+pub first_row : (L : ℕ) (s : List ℕ) → told L s s ≡ is_row_line L (first_line s)
+unfolding is_row_line first_line up_to
+first_row zero s = rw (le-leb 0 (length s) (omega arith), le-leb 0 (length (up_to 10 s)) (omega arith))
+first_row (suc L) [] = refl
+first_row (suc L) (x ∷ s) = go (eqb x 10) refl (first_row L s)
+  where
+    go : (t : Bool) → eqb x 10 ≡ t → told L s s ≡ is_row_line L (first_line s) → told (suc L) (x ∷ s) (x ∷ s) ≡ is_row_line (suc L) (cond t [] (x ∷ first_line s))
+    go true e ih = rw (equal-turned 10 x, e, lt-leb (suc L) 0 (omega arith), leb-step L (length s)) (and-false (leb L (length s)))
+    go false e ih = rw (equal-turned 10 x, e, leb-step L (length s), leb-step L (length (first_line s))) (first-step L s (first_line s) (eqb 13 x) ih)
+
+pub short-first : (L : ℕ) (s : List ℕ) → length s < L → false ≡ is_row_line L (first_line s)
+short-first L s h = rw (lt-leb L (length s) h) at (first_row L s)
+
+pub long-first : (L : ℕ) (s : List ℕ) → L ≤ length s → (not (among 10 (take L s)) && not (among 13 (take L s))) ≡ is_row_line L (first_line s)
+long-first L s h = rw (le-leb L (length s) h) at (first_row L s)
+
+-- where it is one, its cells are the text's
+pub first-cells : (L : ℕ) (s : List ℕ) → is_row_line L (first_line s) ≡ true → take L (first_line s) ≡ take L s
+first-cells L s e = ap (take L) (line-front s) ∙ take-take L (length (first_line s)) s (test-length L (first_line s) e)
+
+pub first-within : (L : ℕ) (s : List ℕ) → is_row_line L (first_line s) ≡ true → L ≤ length s
+first-within L s e = omega (arith, test-length L (first_line s) e, ap length (line-front s), length-take (length (first_line s)) s)
+
+-- ---- what a row's cells leave of its line
+
+-- The first line of a text that begins with cells of 16 and more: it begins with them, and the text after them has what follows it.
+pub record Front (L : ℕ) (s : List ℕ) : Type 0 where
+  pub long : L ≤ length (first_line s)
+  pub cells : take L (first_line s) ≡ take L s
   pub plain : among 13 (take L s) ≡ false
-  pub past : 47 < get_or s 0 0
-  pub other : get_or s 0 0 ≡ 59 → ⊥
+  pub first : get_or (first_line s) 0 0 ≡ get_or s 0 0
+  pub rest : after 10 s ≡ after 10 (drop L s)
 
-module _ (L width : ℕ) (s : List ℕ) (some : 4 ≤ L) (few : L ≤ 10) (w : LineWidth L width) (long : 12 ≤ length s) (cells : L ≤ first_below 16 s)
-    (ends : get_or s width 0 ≡ 10) (past : 47 < get_or s 0 0) (other : get_or s 0 0 ≡ 59 → ⊥) where
-  front : Begins L s
-  front = begins L s (omega arith) cells
+front : (L : ℕ) (s : List ℕ) → 1 ≤ L → L ≤ length s → L ≤ first_below 16 s → Front L s
+unfolding Begins
+front L s some h f =
+    let b = begins L s h f in
+    let n : length (take L s) ≡ L = length-take-le L s h in
+    let cells : take L (first_line s) ≡ take L s = ap (take L) b.0 ∙ take_at (take L s) (first_line (drop L s)) L n in
+    record {
+      long = omega (arith, ap length b.0, length-append (take L s) (first_line (drop L s)));
+      cells = cells;
+      plain = b.2;
+      first = sym (get_or-take L (first_line s) 0 0 (omega arith)) ∙ ap (λ l. get_or l 0 0) cells ∙ get_or-take L s 0 0 (omega arith);
+      rest = b.1;
+    }
 
-  below : drop L s ≡ get_or s L 0 ∷ drop (suc L) s
-  below = drop-cons s L 0 (omega arith)
+pub near-front : (L : ℕ) (s : List ℕ) → 4 ≤ L → L ≤ 10 → near_cells L s ≡ true → Front L s
+near-front L s low high e =
+    let long = leb-true 12 (length s) (and_left (leb 12 (length s)) (leb L (first_below 16 s)) e) in
+    front L s (omega arith) (omega arith) (leb-true L (first_below 16 s) (and_right (leb 12 (length s)) (leb L (first_below 16 s)) e))
 
-  -- the newline stands right after the cells
-  at_once : get_or s L 0 ≡ 10 → (first_line s ≡ take L s) × (after 10 s ≡ drop (suc L) s)
-  unfolding Begins first_line up_to
-  at_once e = (
-    front.0 ∙ rw (below, e, append-nil),
-    front.1 ∙ rw (below, e, after-cons),
-  )
+-- ---- what follows it
 
-  next : suc L < length s → drop (suc L) s ≡ get_or s (suc L) 0 ∷ drop (suc (suc L)) s
-  next h = drop-cons s (suc L) 0 h
+-- the newline stands right after the cells
+pub below-once : (L : ℕ) (s : List ℕ) → L < length s → get_or s L 0 ≡ 10 → Below (drop (L + 1) s) (after 10 (drop L s))
+below-once L s h e = inl (rw (drop-cons s L 0 h, after-cons, e, add-one))
 
-  -- one byte stands between them
-  one_later : (get_or s L 0 ≡ 10 → ⊥) → width ≡ suc L → (first_line s ≡ take (suc L) s) × (after 10 s ≡ drop (suc width) s)
-  unfolding Begins first_line up_to
-  one_later n e =
-      let nl : get_or s (suc L) 0 ≡ 10 = rw e at ends in (
-        front.0 ∙ rw (below, ne_eqb (get_or s L 0) 10 n, next (omega arith), nl) (sym (take-suc s L 0 (omega arith))),
-        front.1 ∙ rw (below, after-cons, ne_eqb (get_or s L 0) 10 n, next (omega arith), after-cons, nl, e),
-      )
-
-  told : (t : Bool) → eqb (get_or s L 0) 10 ≡ t → Plain L width s
-  unfolding Begins
-  told true q =
-      let now = at_once (eqb-true (get_or s L 0) 10 q) in
-      record {
-        size = L;
-        wide = (omega arith, omega arith);
-        within = omega arith;
-        line = now.0;
-        rest = elim (dec_lt L width) [
-          | yes h ↦
-              let u : width ≡ suc L = omega (arith, w) in
-              let nl : get_or s (suc L) 0 ≡ 10 = rw u at ends in
-              inr (now.1 ∙ next (omega arith) ∙ rw (nl, u, add-one))
-          | no h ↦ let u : width ≡ L = omega (arith, w) in inl (now.1 ∙ rw (u, add-one))
-        ];
-        plain = front.2;
-        past = past;
-        other = other;
-      }
-  told false q =
-      let n = eqb-false (get_or s L 0) 10 q in
-      let u : width ≡ suc L = elim (dec_lt L width) [
-        | yes h ↦ omega (arith, w)
-        | no h ↦ let v : width ≡ L = omega (arith, w) in absurd (n (rw v at ends))
-      ] in
-      let now = one_later n u in
-      record {
-        size = suc L;
-        wide = (omega arith, omega arith);
-        within = omega arith;
-        line = now.0;
-        rest = inl (now.1 ∙ rw add-one);
-        plain = front.2;
-        past = past;
-        other = other;
-      }
-
-  pub plain-is : Plain L width s
-  plain-is = told (eqb (get_or s L 0) 10) refl
-
-pub near-plain : (L width : ℕ) (s : List ℕ) → 4 ≤ L → L ≤ 10 → LineWidth L width → near_row L width s ≡ true → Plain L width s
-near-plain L width s some few w e =
-    let long = leb 12 (length s) in
-    let cells = leb L (first_below 16 s) in
-    let past = ltb 47 (get_or s 0 0) in
-    let semi = eqb (get_or s 0 0) 59 in
-    let ends = eqb (get_or s width 0) 10 in
-    let all = and_right long (((cells && past) && not semi) && ends) e in
-    let three = and_left ((cells && past) && not semi) ends all in
-    let two = and_left (cells && past) (not semi) three in
-    plain-is L width s some few w (leb-true 12 (length s) (and_left long (((cells && past) && not semi) && ends) e))
-    (leb-true L (first_below 16 s) (and_left cells past two))
-    (eqb-true (get_or s width 0) 10 (and_right ((cells && past) && not semi) ends all))
-    (ltb-true 47 (get_or s 0 0) (and_right cells past two))
-    (eqb-false (get_or s 0 0) 59 (not-true semi (and_right (cells && past) (not semi) three)))
+-- or is the last of so many bytes
+pub below-step : (L step : ℕ) (s : List ℕ) → LineStep L step → L + 2 ≤ length s → get_or s (step - 1) 0 ≡ 10 → Below (drop step s) (after 10 (drop L s))
+below-step L step s w h e = elim (dec_lt (L + 1) step) [
+  | no n ↦
+      let u : step ≡ L + 1 = omega (arith, w) in
+      let v : step - 1 ≡ L = omega arith in
+      rw u (below-once L s (omega arith) (rw v at e))
+  | yes y ↦
+      let u : step ≡ suc (suc L) = omega (arith, w) in
+      let v : step - 1 ≡ suc L = omega arith in
+      let nl : get_or s (suc L) 0 ≡ 10 = rw v at e in
+      rw (u, drop-cons s L 0 (omega arith), after-cons, drop-cons s (suc L) 0 (omega arith), nl)
+      (later (eqb (get_or s L 0) 10) (drop (suc (suc L)) s))
+]
+  where
+    later : (t : Bool) (l : List ℕ) → Below l (cond t (10 ∷ l) (after 10 (10 ∷ l)))
+    later true l = inr refl
+    later false l = inl (after-cons 10 10 l)

@@ -1,20 +1,32 @@
 // Reading minimised text back, as `parse_minimized_rows` does: by lines, with no blanks stripped, no comment known and no end at `;`.
-ghost use Rattle.std.specs.Prelude.{◌≡◌, ◌&&◌, not, ◌<◌};
+ghost use Rattle.std.specs.Prelude.{◌≡◌, ◌&&◌, not, ◌<◌, length};
 ghost use Rattle.definitions.specs.Lines.{is_row_line};
 ghost use Rattle.definitions.specs.ReadBack.{begins_mark, rows_read_back};
 ghost use Rattle.std.specs.Iterator.{YieldsFirstRef};
+ghost use Rattle.lines.specs.Lines.{first_line};
+ghost use Rattle.reader.specs.Reading.{LineStep, near_back_row};
 
 use definitions::Lanes;
 use std::marker::Model;
 
-// Whether a line is a row and begins with no `,` or `;`.
-fn is_back_row(line: &[u8], lanes: usize) -> bool
-    ensures { result ≡ (is_row_line lanes line.now && not (begins_mark line.now)) }
+// Whether the first line of a text is a row and begins with no `,` or `;`. A byte 13 at its end takes none of its cells.
+fn is_back_row(text: &[u8], lanes: usize) -> bool
+    requires { 0 < length text.now }
+    ensures { result ≡ (is_row_line lanes (first_line text.now) && not (begins_mark (first_line text.now))) }
 {
-    match line {
-        [b',' | b';', ..] => false,
-        _ => crate::is_row(line, lanes),
+    let first = text[0];
+    (first != b',') & (first != b';') & crate::begins_row(text, lanes)
+}
+
+// Whether a text begins with a row, as most lines of minimised text do. The tests are joined without a branch.
+fn is_near_row(text: &[u8], lanes: Lanes) -> bool
+    ensures { result ≡ near_back_row lanes.count text.now }
+{
+    if text.len() < 12 {
+        return false;
     }
+    let first = text[0];
+    crate::has_cells(text, lanes) & (15 < first) & (first != b',') & (first != b';')
 }
 
 /// The rows of minimised text that is left to read back, each as a part of it. Clauses see the list of them.
@@ -22,20 +34,20 @@ fn is_back_row(line: &[u8], lanes: usize) -> bool
 pub struct BackRows<'a> {
     rest: &'a [u8],
     lanes: Lanes,
-    width: usize,
+    step: usize,
 }
 
 impl<'a> Model for BackRows<'a> {
     ghost use Rattle.std.specs.Prelude.{List};
     ghost use Rattle.definitions.specs.Lines.{Row};
     ghost use Rattle.definitions.specs.ReadBack.{rows_read_back};
-    ghost use Rattle.reader.specs.Reading.{LineWidth};
+    ghost use Rattle.reader.specs.Reading.{LineStep};
 
     ghost Value = { List Row };
 
     ghost view = { λ it. rows_read_back it.lanes.count it.rest.now };
 
-    ghost invariant = { λ it. LineWidth it.lanes.count it.width };
+    ghost invariant = { λ it. LineStep it.lanes.count it.step };
 }
 
 // The first row, if any, and what of the text follows its line.
@@ -47,19 +59,24 @@ struct RowAhead<'a> {
 
 // Line by line to the first row, written into each loop as that of a chart is.
 #[inline(always)]
-fn look_ahead(text: &[u8], lanes: usize) -> RowAhead<'_>
-    requires { 0 < lanes }
+fn look_ahead(text: &[u8], lanes: Lanes, step: usize) -> RowAhead<'_>
+    requires { LineStep lanes.count step }
     ensures { YieldsFirstRef (λ s. s)
-        (rows_read_back lanes text.now) result.row (rows_read_back lanes result.rest.now) }
+        (rows_read_back lanes.count text.now) result.row (rows_read_back lanes.count result.rest.now) }
 {
     let mut rest = text;
     while !rest.is_empty() {
-        let (line, below) = lines::next_line(rest, 0);
-        let bare = lines::trim_cr(line);
-        if is_back_row(bare, lanes) {
+        let below = lines::next_line(rest, 0).1;
+        if is_back_row(rest, lanes.count) {
             return RowAhead {
-                row: Some(&bare[..lanes]),
+                row: Some(&rest[..lanes.count]),
                 rest: below,
+            };
+        }
+        if is_near_row(below, lanes) {
+            return RowAhead {
+                row: Some(&below[..lanes.count]),
+                rest: crate::below_row(below, lanes, step),
             };
         }
         rest = below;
@@ -76,15 +93,15 @@ impl<'a> Iterator for BackRows<'a> {
 
     ghost remaining = { item_count (λ rest. rest) };
 
-    // A row whose newline stands at `width`, as most lines are, is told by one look.
+    // A row, as most lines are, is told by one look at its cells.
     #[inline(always)]
     fn next(&mut self) -> Option<&'a [u8]> {
         let text = self.rest;
-        if crate::is_near_row(text, self.lanes, self.width) {
-            self.rest = &text[self.width + 1..];
+        if is_near_row(text, self.lanes) {
+            self.rest = crate::below_row(text, self.lanes, self.step);
             return Some(&text[..self.lanes.count]);
         }
-        let ahead = look_ahead(text, self.lanes.count);
+        let ahead = look_ahead(text, self.lanes, self.step);
         self.rest = ahead.rest;
         ahead.row
     }
@@ -97,6 +114,6 @@ pub fn back_rows(text: &[u8], lanes: Lanes) -> BackRows<'_>
     BackRows {
         rest: text,
         lanes,
-        width: crate::line_width(text, lanes),
+        step: crate::line_step(text, lanes),
     }
 }

@@ -1,10 +1,14 @@
 // The rows of a chart's text and the ends of its measures, one after the other, each row as a part of that text.
-ghost use Rattle.std.specs.Prelude.{◌≡◌};
+ghost use Rattle.std.specs.Prelude.{◌≡◌, ◌==◌, ◌<◌, ◌&&◌, not, if◌then◌else◌, length, drop, slice_index};
+ghost use Rattle.definitions.specs.Lists.{after};
+ghost use Rattle.definitions.specs.Lines.{is_blank_byte, is_row_line, trim};
+ghost use Rattle.lines.specs.Lines.{first_line};
 ghost use Rattle.std.specs.Iterator.{YieldsFirstBy};
 ghost use Rattle.reader.specs.Marks.{chart_marks};
 ghost use Rattle.reader.specs.ChartLines.{mark_of};
+ghost use Rattle.reader.specs.Reading.{LineStep, near_row};
 
-use definitions::{Lanes, LineKind};
+use definitions::Lanes;
 use std::marker::Model;
 
 /// A line that counts: a row's cells, or the end of a measure.
@@ -19,20 +23,31 @@ pub enum ChartLine<'a> {
 pub struct ChartLines<'a> {
     rest: &'a [u8],
     lanes: Lanes,
-    width: usize,
+    step: usize,
 }
 
 impl<'a> Model for ChartLines<'a> {
     ghost use Rattle.std.specs.Prelude.{List, Option};
     ghost use Rattle.definitions.specs.Lines.{Row};
-    ghost use Rattle.reader.specs.Reading.{LineWidth};
+    ghost use Rattle.reader.specs.Reading.{LineStep};
     ghost use Rattle.reader.specs.Marks.{chart_marks};
 
     ghost Value = { List (Option Row) };
 
     ghost view = { λ it. chart_marks it.lanes.count it.rest.now };
 
-    ghost invariant = { λ it. LineWidth it.lanes.count it.width };
+    ghost invariant = { λ it. LineStep it.lanes.count it.step };
+}
+
+// Whether a text begins with a row, with nothing before it, as most of a chart's lines do. The tests are joined without a branch.
+fn is_near_row(text: &[u8], lanes: Lanes) -> bool
+    ensures { result ≡ near_row lanes.count text.now }
+{
+    if text.len() < 12 {
+        return false;
+    }
+    let first = text[0];
+    crate::has_cells(text, lanes) & (b'/' < first) & (first != b';')
 }
 
 // The first line that counts, if any, and what of the text follows it.
@@ -42,36 +57,63 @@ struct Ahead<'a> {
     rest: &'a [u8],
 }
 
-// Line by line to the first that counts. It is written into each loop, where a row's length is then known to be the lane count.
+// Whether the first line of a text is a row: where it begins with no blank and no `/`, and is told from `,` and `;` lines.
+fn is_row(text: &[u8], lanes: usize) -> bool
+    requires { 0 < length text.now }
+    ensures { result ≡ (not (is_blank_byte (slice_index text.now 0)) && (not (slice_index text.now 0 == 47) && is_row_line lanes (first_line text.now))) }
+{
+    let first = text[0];
+    !lines::is_blank(first) && first != b'/' && crate::begins_row(text, lanes)
+}
+
+// What is left of a text past blanks that it begins with, else past its first line. Blanks are taken off the text and not off a line, since a line of
+// blanks is passed over too.
+fn past_first(text: &[u8]) -> &[u8]
+    requires { 0 < length text.now }
+    ensures { result.now ≡ (if is_blank_byte (slice_index text.now 0) then trim (drop 1 text.now) else after 10 text.now) }
+{
+    if lines::is_blank(text[0]) {
+        lines::skip_ws(&text[1..])
+    } else {
+        lines::next_line(text, 0).1
+    }
+}
+
+// By the first byte to the first line that counts. It is written into each loop, where a row's length is then known to be the lane count.
 #[inline(always)]
-fn look_ahead(text: &[u8], lanes: usize) -> Ahead<'_>
+fn look_ahead(text: &[u8], lanes: Lanes, step: usize) -> Ahead<'_>
+    requires { LineStep lanes.count step }
     ensures { YieldsFirstBy mark_of (λ s. s)
-        (chart_marks lanes text.now) result.line (chart_marks lanes result.rest.now) }
+        (chart_marks lanes.count text.now) result.line (chart_marks lanes.count result.rest.now) }
 {
     let mut rest = text;
     while !rest.is_empty() {
-        let (line, below) = lines::next_line(rest, 0);
-        let bare = lines::skip_ws(line);
-        match crate::line_kind(bare, lanes) {
-            LineKind::Passed => {}
-            LineKind::Comma => {
-                return Ahead {
-                    line: Some(ChartLine::Comma),
-                    rest: below,
-                };
-            }
-            LineKind::Semi => {
-                return Ahead {
-                    line: None,
-                    rest: &rest[..0],
-                };
-            }
-            LineKind::Row => {
-                return Ahead {
-                    line: Some(ChartLine::Row(&bare[..lanes])),
-                    rest: below,
-                };
-            }
+        let first = rest[0];
+        if first == b',' {
+            return Ahead {
+                line: Some(ChartLine::Comma),
+                rest: lines::next_line(rest, 0).1,
+            };
+        }
+        let ends = first == b';';
+        if ends {
+            return Ahead {
+                line: None,
+                rest: &rest[..0],
+            };
+        }
+        let below = past_first(rest);
+        if is_row(rest, lanes.count) {
+            return Ahead {
+                line: Some(ChartLine::Row(&rest[..lanes.count])),
+                rest: below,
+            };
+        }
+        if is_near_row(below, lanes) {
+            return Ahead {
+                line: Some(ChartLine::Row(&below[..lanes.count])),
+                rest: crate::below_row(below, lanes, step),
+            };
         }
         rest = below;
     }
@@ -88,15 +130,15 @@ impl<'a> Iterator for ChartLines<'a> {
 
     ghost remaining = { item_count (λ rest. rest) };
 
-    // A row whose newline stands at `width`, as most lines are, is told by one look.
+    // A row that nothing stands before, as in most lines, is told by one look at its cells.
     #[inline(always)]
     fn next(&mut self) -> Option<ChartLine<'a>> {
         let text = self.rest;
-        if crate::is_near_row(text, self.lanes, self.width) {
-            self.rest = &text[self.width + 1..];
+        if is_near_row(text, self.lanes) {
+            self.rest = crate::below_row(text, self.lanes, self.step);
             return Some(ChartLine::Row(&text[..self.lanes.count]));
         }
-        let ahead = look_ahead(text, self.lanes.count);
+        let ahead = look_ahead(text, self.lanes, self.step);
         self.rest = ahead.rest;
         ahead.line
     }
@@ -109,6 +151,6 @@ pub fn chart_lines(data: &[u8], lanes: Lanes) -> ChartLines<'_>
     ChartLines {
         rest: data,
         lanes,
-        width: crate::line_width(data, lanes),
+        step: crate::line_step(data, lanes),
     }
 }

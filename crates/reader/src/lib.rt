@@ -5,72 +5,71 @@
 pub mod back;
 pub mod charts;
 
-ghost use Rattle.std.specs.Prelude.{◌≡◌, ◌≤◌, length};
-ghost use Rattle.definitions.specs.Lists.{among};
-ghost use Rattle.definitions.specs.Lines.{is_row_line, kind_of};
-ghost use Rattle.reader.specs.Reading.{LineWidth, just_row, near_row};
+ghost use Rattle.std.specs.Prelude.{◌≡◌, ◌≤◌, length, drop, slice_index};
+ghost use Rattle.definitions.specs.Lists.{among, after};
+ghost use Rattle.definitions.specs.Lines.{is_row_line};
+ghost use Rattle.lines.specs.Lines.{first_line};
+ghost use Rattle.reader.specs.Reading.{LineStep, near_cells, Below};
 
-use definitions::{Lanes, LineKind};
+use definitions::Lanes;
 
-// Whether one of some bytes is a carriage return: by std's search, since `find_byte` is left to the newline.
-fn has_return(bytes: &[u8]) -> bool
-    ensures { result ≡ among 13 bytes.now }
+// Whether one of some bytes is `byte`: by std's search, since `find_byte` is left to the newline.
+fn has_byte(bytes: &[u8], byte: u8) -> bool
+    ensures { result ≡ among byte bytes.now }
 {
-    bytes.iter().any(|&b| b == 13)
+    bytes.iter().any(|&b| b == byte)
 }
 
-/// Whether a line that is nothing else is a row: it has all cells, and none of them is a carriage return.
-#[tactic(auto, unfolding(definitions::specs::Lines::is_row_line))]
-pub fn is_row(line: &[u8], lanes: usize) -> bool
-    ensures { result ≡ is_row_line lanes line.now }
+/// Whether the first line of a text is a row where it is nothing else: it has all cells, and none of them is a newline or a carriage return.
+pub fn begins_row(text: &[u8], lanes: usize) -> bool
+    ensures { result ≡ is_row_line lanes (first_line text.now) }
 {
-    (lanes <= line.len()) && !has_return(&line[..lanes])
-}
-
-/// What a line is whose leading blanks are off.
-#[tactic(auto, unfolding(definitions::specs::Lines::kind_of))]
-pub fn line_kind(line: &[u8], lanes: usize) -> LineKind
-    ensures { result ≡ kind_of lanes line.now }
-{
-    match line {
-        [] | [b'/', ..] => LineKind::Passed,
-        [b',', ..] => LineKind::Comma,
-        [b';', ..] => LineKind::Semi,
-        _ if is_row(line, lanes) => LineKind::Row,
-        _ => LineKind::Passed,
-    }
-}
-
-// Whether a text that goes on as `part` does begins with a row of all lanes, with nothing before it, and has a newline at `width`, which is right after
-// the cells, or one further on where a byte 13 follows them. No cell is below 16, so none is a newline or a byte 13. Where the newline is looked for one
-// further on, another may stand right after the cells: the empty line between the two is passed over anyway. The tests are joined without a branch.
-fn is_just_row(part: &[u8], lanes: Lanes, width: usize) -> bool
-    requires twelve { 12 ≤ length part.now }
-    requires narrow { LineWidth lanes.count width }
-    ensures { result ≡ just_row lanes.count width part.now }
-{
-    let first = part[0];
-    lines::starts_high(part, lanes.count) & (b'/' < first) & (first != b';') & (part[width] == 10)
-}
-
-// The same of any text: no look is taken near its end.
-fn is_near_row(part: &[u8], lanes: Lanes, width: usize) -> bool
-    requires { LineWidth lanes.count width }
-    ensures { result ≡ near_row lanes.count width part.now }
-{
-    if part.len() < 12 {
+    let short = text.len() < lanes;
+    if short {
         return false;
     }
-    is_just_row(part, lanes, width)
+    let cells = &text[..lanes];
+    !has_byte(cells, 10) & !has_byte(cells, 13)
 }
 
-// How many bytes the line of a row has, as the first line of the text tells it: one more than its cells where byte 13 is its last. Where other
-// lines end otherwise, reading them takes longer, and nothing else changes.
-fn line_width(text: &[u8], lanes: Lanes) -> usize
-    ensures { LineWidth lanes.count result }
+/// Whether a text begins with all cells of a row, none of them below 16, as a newline and a byte 13 are: asked where its first byte is 16 or more, and
+/// answered with no where the text is nearly at its end. Where the line ends is not asked.
+pub fn has_cells(text: &[u8], lanes: Lanes) -> bool
+    ensures { 16 ≤ slice_index text.now 0 → result ≡ near_cells lanes.count text.now }
 {
-    match lines::next_line(text, 0).0 {
-        [.., 13] => lanes.count + 1,
-        _ => lanes.count,
+    if text.len() < 12 {
+        return false;
+    }
+    lines::starts_high(text, lanes.count)
+}
+
+/// What follows the line of a row that the text begins with: its newline is the last of `step` bytes, as in most rows, or stands right after the cells,
+/// or is searched for.
+#[inline(always)]
+pub fn below_row(text: &[u8], lanes: Lanes, step: usize) -> &[u8]
+    requires twelve { 12 ≤ length text.now }
+    requires near { LineStep lanes.count step }
+    ensures { Below result.now (after 10 (drop lanes.count text.now)) }
+{
+    let near = text[step - 1] == 10;
+    if near {
+        return &text[step..];
+    }
+    let at_once = text[lanes.count] == 10;
+    if at_once {
+        return &text[lanes.count + 1..];
+    }
+    lines::text_below(text, lanes.count)
+}
+
+/// How many bytes the line of a row has with its newline, as the first line of the text tells it: two more than its cells where byte 13 is its last. So
+/// many of the text's bytes are looked at. Where other lines end otherwise, reading them takes longer, and nothing else changes.
+pub fn line_step(text: &[u8], lanes: Lanes) -> usize
+    ensures { LineStep lanes.count result }
+{
+    let front = &text[..usize::min(text.len(), 256)];
+    match lines::next_line(front, 0).0 {
+        [.., 13] => lanes.count + 2,
+        _ => lanes.count + 1,
     }
 }

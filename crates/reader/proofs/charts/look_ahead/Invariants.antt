@@ -3,8 +3,8 @@ use Rattle.std.proofs.Common.{◌≡◌, length}
 use Rattle.reader.specs.Marks.{chart_marks}
 use Rattle.reader.proofs.charts.look_ahead.Given as goal
 
-abbrev pub invariant-loop-line : goal.invariant-loop-line
-invariant-loop-line l = chart_marks l.lanes l.text ≡ chart_marks l.lanes l.rest
+abbrev pub invariant-loop-lanes : goal.invariant-loop-lanes
+invariant-loop-lanes l = chart_marks l.lanes.count l.text ≡ chart_marks l.lanes.count l.rest
 
-abbrev pub decreases-loop-line : goal.decreases-loop-line
-decreases-loop-line l = length l.rest
+abbrev pub decreases-loop-lanes : goal.decreases-loop-lanes
+decreases-loop-lanes l = length l.rest
