@@ -4,6 +4,7 @@ pub mod Bounds
 pub mod Tallies
 pub mod Loops
 pub mod Masked
+pub mod Raised
 pub mod Rows
 pub mod Zeros
 pub mod Taps
