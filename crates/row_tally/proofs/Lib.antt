@@ -4,6 +4,8 @@ pub mod Bounds
 pub mod Tallies
 pub mod Loops
 pub mod Masked
+pub mod Raised
+pub mod Heads
 pub mod Rows
 pub mod Zeros
 pub mod Taps

@@ -17,3 +17,7 @@ pub record Under (k : ℕ) (s : RowSum) : Type 0 where
 -- Each count of a tally is at most k.
 abbrev pub Below : ℕ → ArrowStats → Type 0
 Below k t = AtMost k (tally_figures t)
+
+-- So is each count of a tally that a row's end raises, and not its cells.
+abbrev pub EndsBelow : ℕ → ArrowStats → Type 0
+EndsBelow k t = AtMost k (t.total_steps ∷ t.jumps ∷ t.hands ∷ t.holding ∷ [])

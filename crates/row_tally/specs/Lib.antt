@@ -1,5 +1,6 @@
 -- What the contracts of the tallies cite, beside the definitions.
 pub mod Bounds
 pub mod Masked
+pub mod Raised
 pub mod Sums
 pub mod Taps

@@ -1,7 +1,7 @@
 // Row sums and tallies: what a row adds up to, the tally with one row more, and the same of rows with only paired heads and of judged rows.
 #![tactic(auto)]
 
-ghost use Rattle.std.specs.Prelude.{◌≡◌, true, ◌+◌, ◌-◌, ◌≤◌, ◌<◌, length};
+ghost use Rattle.std.specs.Prelude.{◌≡◌, ℕ, true, false, ◌+◌, ◌-◌, ◌≤◌, ◌<◌, length};
 ghost use Rattle.definitions.specs.Sizes.{count_bound};
 ghost use Rattle.definitions.specs.Cells.{cell_of, is_arrow};
 ghost use Rattle.definitions.specs.Tracker.{hold_at};
@@ -10,10 +10,11 @@ ghost use Rattle.definitions.specs.Correction.{head_if_paired, tally_with_steps}
 ghost use Rattle.definitions.specs.Judged.{is_judged_arrow, sum_of_fakes, judged_sum, judge_row};
 ghost use Rattle.taps.specs.Taps.{masks};
 ghost use Rattle.definitions.specs.declared.Cell.TheVariants.{Tap};
-ghost use Rattle.row_tally.specs.Bounds.{Under, Below};
+ghost use Rattle.row_tally.specs.Bounds.{Under, Below, EndsBelow};
 ghost use Rattle.row_tally.specs.Masked.{bit_is_set, cell_by_mask, row_by_mask};
 ghost use Rattle.row_tally.specs.Sums.{sum_with_cell, arrow_of, add_by};
 ghost use Rattle.row_tally.specs.Taps.{TapsCounted, TapsSummed, TapsJudged};
+ghost use Rattle.row_tally.specs.Raised.{with_cells, row_end, judged_row_end};
 
 use definitions::{ArrowStats, Cell, DepthEffect, RowSum, direction};
 use taps::TapTable;
@@ -109,30 +110,77 @@ pub fn no_stats() -> ArrowStats
     ArrowStats::default()
 }
 
-// The tally with one row more, where `hand` says whether it is a hand and `holding` what is held after it.
-fn add_sum(mut t: ArrowStats, s: RowSum, hand: bool, holding: u32) -> ArrowStats
-    requires few { Below count_bound t }
-    requires sum_few { Under 10 s }
-    ensures { result ≡ tally_with_sum t s hand holding }
+// One arrow more in the tally that is lent, of a direction: left, down, up, right, up-left, up-right. No step yet.
+#[inline(always)]
+#[tactic(auto, unfolding(crate::specs::Raised::with_cells, crate::specs::Sums::sum_with_cell))]
+fn count_arrow(stats: &mut ArrowStats, direction: usize)
+    requires few { Below (count_bound + 9) stats.old }
+    ensures { stats.new ≡ with_cells stats.old (sum_with_cell empty_sum direction Tap true) }
 {
-    t.total_arrows += s.arrows;
-    t.left += s.left;
-    t.down += s.down;
-    t.up += s.up;
-    t.right += s.right;
-    t.total_steps += u32::from(1 <= s.arrows);
-    t.jumps += u32::from(2 <= s.arrows);
-    t.hands += u32::from(hand);
-    t.mines += s.mines;
-    t.holds += s.holds;
-    t.rolls += s.rolls;
-    t.lifts += s.lifts;
-    t.fakes += s.fakes;
-    t.holding = holding;
-    t.keysounds += s.keysounds;
-    t.up_left += s.up_left;
-    t.up_right += s.up_right;
-    t
+    stats.total_arrows += 1;
+    match direction {
+        0 => stats.left += 1,
+        1 => stats.down += 1,
+        2 => stats.up += 1,
+        3 => stats.right += 1,
+        4 => stats.up_left += 1,
+        5 => stats.up_right += 1,
+        _ => {}
+    }
+}
+
+/// One cell more of a row, in a column of a direction, counted in the tally that is lent. On a judged row an L is an arrow too. Steps, jumps, hands
+/// and what is held are told where the row ends (`end_row`, `end_judged_row`). Where the cell is known its match folds away.
+#[inline(always)]
+#[tactic(auto, unfolding(crate::specs::Raised::with_cells, crate::specs::Sums::sum_with_cell))]
+pub fn count_cell(stats: &mut ArrowStats, direction: usize, cell: Cell, judged: bool)
+    requires few { Below (count_bound + 9) stats.old }
+    ensures { stats.new ≡ with_cells stats.old (add_by judged empty_sum direction cell) }
+{
+    match cell {
+        Cell::Tap => count_arrow(stats, direction),
+        Cell::Hold => {
+            count_arrow(stats, direction);
+            stats.holds += 1;
+        }
+        Cell::Roll => {
+            count_arrow(stats, direction);
+            stats.rolls += 1;
+        }
+        Cell::Mine | Cell::LowerMine => stats.mines += 1,
+        Cell::Lift | Cell::LowerLift => {
+            if judged {
+                count_arrow(stats, direction);
+            }
+            stats.lifts += 1;
+        }
+        Cell::Fake | Cell::LowerFake => stats.fakes += 1,
+        Cell::KeySound => stats.keysounds += 1,
+        Cell::Tail | Cell::Empty => {}
+    }
+}
+
+// A row's sum is added, and the row's end is yet to be told.
+#[inline(always)]
+#[tactic(auto, unfolding(crate::specs::Raised::with_cells))]
+fn add_cells(stats: &mut ArrowStats, s: RowSum)
+    requires few { Below count_bound stats.old }
+    requires sum_few { Under 10 s }
+    ensures { stats.new ≡ with_cells stats.old s }
+{
+    stats.total_arrows += s.arrows;
+    stats.left += s.left;
+    stats.down += s.down;
+    stats.up += s.up;
+    stats.right += s.right;
+    stats.mines += s.mines;
+    stats.holds += s.holds;
+    stats.rolls += s.rolls;
+    stats.lifts += s.lifts;
+    stats.fakes += s.fakes;
+    stats.keysounds += s.keysounds;
+    stats.up_left += s.up_left;
+    stats.up_right += s.up_right;
 }
 
 // What is held after a row: the larger of 0 and holding + heads − tails.
@@ -143,40 +191,76 @@ fn held_after(holding: u32, heads: u32, tails: u32) -> u32
     (holding + heads).saturating_sub(tails)
 }
 
-// The tally with one row more, by value. A hand is a step whose arrows plus the holds before the row make 3 or more.
-#[tactic(auto, unfolding(definitions::specs::Tally::tally_with_row))]
-fn add_row(t: ArrowStats, s: RowSum) -> ArrowStats
-    requires few { Below count_bound t }
-    requires sum_few { Under 10 s }
-    ensures { result ≡ tally_with_row t s }
+/// A row's cells are counted, so many arrows, heads and tails among them: a step, jump and hand where it is one, and what is held after it. A hand is
+/// a step whose arrows plus the holds before the row make 3 or more.
+#[inline(always)]
+#[tactic(auto, unfolding(crate::specs::Raised::with_end))]
+pub fn end_row(stats: &mut ArrowStats, arrows: u32, heads: u32, tails: u32)
+    requires few { EndsBelow count_bound stats.old }
+    requires arrows_few { arrows ≤ 10 }
+    requires heads_few { heads ≤ 10 }
+    ensures { stats.new ≡ row_end stats.old arrows heads tails }
 {
-    let hand = (1 <= s.arrows) & (3 <= s.arrows + t.holding);
-    let holding = held_after(t.holding, s.holds + s.rolls, s.tails);
-    add_sum(t, s, hand, holding)
+    if 0 < arrows {
+        stats.total_steps += 1;
+        stats.jumps += u32::from(2 <= arrows);
+        stats.hands += u32::from(3 <= arrows + stats.holding);
+    }
+    stats.holding = held_after(stats.holding, heads, tails);
+}
+
+/// A judged tally's row, whose cells are counted, so many arrows among them and so many mines and fakes, and before which `held` holds are open: a
+/// step, jump and hand where it is one, and nothing is held.
+#[inline(always)]
+#[tactic(auto, unfolding(crate::specs::Raised::with_end))]
+pub fn end_judged_row(stats: &mut ArrowStats, judged: bool, arrows: u32, others: u32, held: u32)
+    requires few { EndsBelow count_bound stats.old }
+    requires arrows_few { arrows ≤ 10 }
+    requires others_few { others ≤ 20 }
+    requires held_few { held ≤ count_bound }
+    ensures { stats.new ≡ judged_row_end stats.old judged arrows others held }
+{
+    if 0 < arrows {
+        stats.total_steps += 1;
+        stats.jumps += u32::from(2 <= arrows);
+    }
+    let hand = judged & (1 <= arrows + others) & (3 <= arrows + held);
+    stats.hands += u32::from(hand);
+    stats.holding = 0;
 }
 
 /// The running tally is lent by the caller and altered there.
+#[tactic(auto, unfolding(crate::specs::Raised::with_cells, crate::specs::Raised::with_end, definitions::specs::Tally::tally_with_row))]
 pub fn add_row_into(stats: &mut ArrowStats, s: RowSum)
     requires few { Below count_bound stats.old }
     requires sum_few { Under 10 s }
     ensures { stats.new ≡ tally_with_row stats.old s }
 {
-    *stats = add_row(*stats, s);
+    add_cells(stats, s);
+    end_row(stats, s.arrows, s.holds + s.rolls, s.tails);
 }
 
 /// One row more in a judged tally, before which `held` holds are open: a hand is told otherwise than on a plain row, and nothing is held.
-#[tactic(auto, unfolding(definitions::specs::Tally::tally_with_row, definitions::specs::Judged::judge_row))]
+#[tactic(auto, unfolding(crate::specs::Raised::with_cells, crate::specs::Raised::with_end, definitions::specs::Judged::judge_row))]
 pub fn add_judged_row(stats: &mut ArrowStats, judged: bool, held: u32, s: RowSum)
     requires few { Below count_bound stats.old }
     requires sum_few { Under 10 s }
     requires held_few { held ≤ count_bound }
     ensures { stats.new ≡ judge_row stats.old judged held s }
 {
-    let hand = judged & (1 <= s.arrows + s.mines + s.fakes) & (3 <= s.arrows + held);
-    let hands = stats.hands + u32::from(hand);
-    add_row_into(stats, s);
-    stats.hands = hands;
-    stats.holding = 0;
+    add_cells(stats, s);
+    end_judged_row(stats, judged, s.arrows, s.mines + s.fakes, held);
+}
+
+/// One row more that is not judged, of so many fakes.
+#[tactic(auto, unfolding(crate::specs::Raised::with_end, definitions::specs::Judged::judge_row))]
+pub fn count_fakes(stats: &mut ArrowStats, fakes: u32)
+    requires few { Below count_bound stats.old }
+    requires fakes_few { fakes ≤ 10 }
+    ensures { (held : ℕ) → stats.new ≡ judge_row stats.old false held (sum_of_fakes fakes) }
+{
+    stats.fakes += fakes;
+    end_judged_row(stats, false, 0, fakes, 0);
 }
 
 /// One row of taps alone more.
