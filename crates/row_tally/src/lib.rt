@@ -224,8 +224,9 @@ pub fn end_judged_row(stats: &mut ArrowStats, judged: bool, arrows: u32, others:
         stats.total_steps += 1;
         stats.jumps += u32::from(2 <= arrows);
     }
-    let hand = judged & (1 <= arrows + others) & (3 <= arrows + held);
-    stats.hands += u32::from(hand);
+    if judged & (3 <= arrows + held) {
+        stats.hands += u32::from(1 <= arrows + others);
+    }
     stats.holding = 0;
 }
 
