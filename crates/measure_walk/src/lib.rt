@@ -17,14 +17,13 @@ ghost use Rattle.measure_walk.specs.Views.{rest, counting, noting, NotesAll};
 use beats::RowPlace;
 use phantoms::Phantoms;
 use row_notes::ChartNotesScratch;
-use row_walk::{Columns, Marks};
-use tap_walk::measure_run::Run;
+use row_walk::cell_walk::{Marks, Run};
+use row_walk::columns::Columns;
 use taps::TapTable;
 
-/// The columns and what each row changes; the steps before the open measure, the last object row of the measures that are walked, and their number.
+/// What each row changes; the steps before the open measure, the last object row of the measures that are walked, and their number.
 #[derive(Clone, Copy)]
 pub struct Walk {
-    pub columns: Columns,
     pub run: Run,
     pub before: u32,
     pub found: Option<RowPlace>,
@@ -40,13 +39,13 @@ impl Walk {
         ensures nothing_walked { result.run.row ≡ 0 }
     {
         Walk {
-            columns: Columns {
-                depths: [0; 10],
-                object_depths: [0; 10],
-                hold_heads: [row_notes::NO_HEAD; 10],
-                busy: 0,
-            },
             run: Run {
+                columns: Columns {
+                    depths: [0; 10],
+                    object_depths: [0; 10],
+                    hold_heads: [row_notes::NO_HEAD; 10],
+                    busy: 0,
+                },
                 marks: Marks {
                     heads: 0,
                     tails: 0,
@@ -87,7 +86,6 @@ impl Walk {
     }
 
     /// The rows of a measure that stand in a text from `start` on, each with a newline byte after it; for the notes the measure then ends.
-    /// The run is taken out for the measure and put back, so that it stays in registers.
     pub fn walk_rows(
         &mut self,
         text: &[u8],
@@ -111,31 +109,15 @@ impl Walk {
     {
         let lanes = table.lanes.count;
         let first = self.run.row;
-        let mut run = self.run;
-        loop {
-            tap_walk::walk_taps(
-                &mut run,
-                &self.columns,
-                first,
-                text,
-                start,
-                rows,
-                slots,
-                table,
-            );
-            let i = (run.row - first) as usize;
-            if rows <= i {
-                self.run = run;
-                self.end_rows(first);
-                return;
-            }
-            let at = start + i * (lanes + 1);
+        let mut at = start;
+        let mut i = 0;
+        while i < rows {
             let end = at + lanes;
-            let s = self
-                .columns
-                .walk_cells(run.marks, run.count, run.row, &text[at..end], slots);
-            run.add_cells(s);
+            tap_walk::add_row(&mut self.run, &text[at..end], slots, table);
+            at = end + 1;
+            i += 1;
         }
+        self.end_rows(first);
     }
 
     /// The density of the open measure.
@@ -162,7 +144,7 @@ impl Walk {
         ensures { result ≡ (counting self.now).phantoms }
     {
         Phantoms {
-            depths: self.columns.depths,
+            depths: self.run.columns.depths,
             heads: self.run.marks.heads,
             tails: self.run.marks.tails,
             met: self.run.marks.met,
@@ -174,7 +156,7 @@ impl Walk {
         ensures { result ≡ (noting self.now).scratch }
     {
         ChartNotesScratch {
-            hold_heads: self.columns.hold_heads,
+            hold_heads: self.run.columns.hold_heads,
             count: self.run.count,
             row_index: self.run.row,
             has_invalid: self.run.marks.invalid,

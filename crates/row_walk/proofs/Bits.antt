@@ -6,22 +6,23 @@ use Prim.Native.Nat.{ℕ, ◌*◌, ◌/◌, ◌%◌, ◌-◌, ◌^◌, ◌<◌}
 use native.Mathlib.Decide.{ℕ_discrete}
 use native.Mathlib.Nat.{one-mul, mod-lt, mod-eq_of_lt}
 use native.Mathlib.Omega.{arith}
-use borrow.Author.Tests.{eq-eqb, ne_eqb}
+use borrow.Author.Tests.{eq-eqb, ne_eqb, eqb-false}
 use lib.Bits.{bit_and, bit_or}
 use lib.Dec.{eqb}
-use lib.ListN.{get_or}
+use lib.ListN.{length, get_or, set}
+use lib.Seq.{set-get_or, get_or-set_same, get_or-set_other}
 use lib.Pow.{pow-lt}
 use Rattle.definitions.specs.Lists.{number_of_bool}
 use Rattle.taps.specs.Taps.{bit, FreeAre}
 use Rattle.taps.proofs.Tables.{up_from, same_at}
 use Rattle.taps.proofs.Free.{bit-and, bit-or}
-use Rattle.row_walk.specs.Rows.{Marked}
+use Rattle.row_walk.specs.Columns.{Marked}
 
 -- of ten columns, all but one
-keep-bit : (i c : ℕ) → i < 10 → c < 10 → bit c (1023 - 2 ^ i) ≡ number_of_bool (not (eqb c i))
+keep-bit : (i c : ℕ) → i < 10 → c < 10 → bit c (4294967295 - 2 ^ i) ≡ number_of_bool (not (eqb c i))
 keep-bit i c h k =
-    same_at (λ c. bit c (1023 - 2 ^ i)) (λ c. number_of_bool (not (eqb c i))) 10
-    (same_at (λ i. up_from (λ c. bit c (1023 - 2 ^ i)) 0 10) (λ i. up_from (λ c. number_of_bool (not (eqb c i))) 0 10) 10 refl i h) c k
+    same_at (λ c. bit c (4294967295 - 2 ^ i)) (λ c. number_of_bool (not (eqb c i))) 10
+    (same_at (λ i. up_from (λ c. bit c (4294967295 - 2 ^ i)) 0 10) (λ i. up_from (λ c. number_of_bool (not (eqb c i))) 0 10) 10 refl i h) c k
 
 own-bit : (i c : ℕ) → i < 10 → c < 10 → bit c (2 ^ i) ≡ number_of_bool (eqb c i)
 own-bit i c h k =
@@ -36,44 +37,38 @@ small : (c m : ℕ) → bit c m < 2
 small c m = mod-lt (m / 2 ^ c) (omega arith)
 
 module _ (busy i : ℕ) (h : i < 10) where
-  rest-here : bit i (bit_and busy (1023 - 2 ^ i)) ≡ 0
+  rest-here : bit i (bit_and busy (4294967295 - 2 ^ i)) ≡ 0
   rest-here =
-      let e : bit i (1023 - 2 ^ i) ≡ 0 = keep-bit i i h h ∙ rw (eq-eqb i i refl) in
-      let m = bit-and busy (1023 - 2 ^ i) i in
+      let e : bit i (4294967295 - 2 ^ i) ≡ 0 = keep-bit i i h h ∙ rw (eq-eqb i i refl) in
+      let m = bit-and busy (4294967295 - 2 ^ i) i in
       omega arith
 
-  rest-others : (c : ℕ) → c < 10 → (c ≡ i → ⊥) → bit c (bit_and busy (1023 - 2 ^ i)) ≡ bit c busy
+  rest-others : (c : ℕ) → c < 10 → (c ≡ i → ⊥) → bit c (bit_and busy (4294967295 - 2 ^ i)) ≡ bit c busy
   rest-others c k ne =
-      let e : bit c (1023 - 2 ^ i) ≡ 1 = keep-bit i c h k ∙ rw (ne_eqb c i ne) in
-      let m = bit-and busy (1023 - 2 ^ i) c in
+      let e : bit c (4294967295 - 2 ^ i) ≡ 1 = keep-bit i c h k ∙ rw (ne_eqb c i ne) in
+      let m = bit-and busy (4294967295 - 2 ^ i) c in
       omega (arith, small c busy)
 
-  pub marked-free : (b : ℕ) → b ≡ 2 ^ i → Marked busy i false (bit_and busy (1023 - b))
+  pub marked-free : (b : ℕ) → b ≡ 2 ^ i → Marked busy i false (bit_and busy (4294967295 - b))
   marked-free b e = rw e (record { here = rest-here; others = rest-others })
 
-  pub marked-used : (b : ℕ) → b ≡ 2 ^ i → Marked busy i true (bit_or (bit_and busy (1023 - b)) b)
+  pub marked-used : (b : ℕ) → b ≡ 2 ^ i → Marked busy i true (bit_or busy b)
   marked-used b e = rw e (record {
     here =
         let o : bit i (2 ^ i) ≡ 1 = own-bit i i h h ∙ rw (eq-eqb i i refl) in
-        let m = bit-or (bit_and busy (1023 - 2 ^ i)) (2 ^ i) i in
-        omega (arith, rest-here);
+        let m = bit-or busy (2 ^ i) i in
+        omega (arith, small i busy);
     others =
         λ c k ne.
         let o : bit c (2 ^ i) ≡ 0 = own-bit i c h k ∙ rw (ne_eqb c i ne) in
-        let m = bit-or (bit_and busy (1023 - 2 ^ i)) (2 ^ i) c in
-        omega (arith, rest-others c k ne);
+        let m = bit-or busy (2 ^ i) c in
+        omega (arith, small c busy);
   })
 
--- where a column has a bit, nothing is said of its number
-none-used : (b : Bool) → number_of_bool b ≡ 0 → b ≡ false
-none-used true e = absurd (omega arith)
-none-used false e = refl
+-- nothing changes
+pub set-same : (l : List ℕ) (i v : ℕ) → get_or l i 0 ≡ v → l ≡ set l i v
+set-same l i v e = sym (ap (set l i) (sym e) ∙ set-get_or l i 0)
 
--- the numbers of ten columns, of which the one at i is another
-pub free-marked : (busy i r : ℕ) (used : Bool) (n : ℕ) (l k : List ℕ) → Marked busy i used r → (used ≡ false → get_or k i 0 ≡ n)
-    → ((c : ℕ) → (c ≡ i → ⊥) → get_or k c 0 ≡ get_or l c 0) → FreeAre busy n l → FreeAre r n k
-free-marked busy i r used n l k M here others f c h e =
-    elim (ℕ_discrete c i) [
-      | yes q ↦ rw q (here (none-used used (sym M.here ∙ (rw q at e))))
-      | no ne ↦ others c ne ∙ f c h (sym (M.others c h ne) ∙ e)
-    ]
+-- a test of a bit that fails
+pub no-bit : (i m : ℕ) → eqb (bit i m) 1 ≡ false → bit i m ≡ 0
+no-bit i m e = let ne = eqb-false (bit i m) 1 e in omega (arith, small i m)

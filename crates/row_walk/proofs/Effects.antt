@@ -1,18 +1,35 @@
--- A cell by its byte.
-use mathlib.Core.Path.{◌≡◌}
+-- A cell that is counted as nothing, and one whose tally is another.
+use mathlib.Core.Path.{◌≡◌, sym, ◌∙◌}
+use mathlib.Core.Bool.{false}
 use mathlib.Core.List.{List}
 use Prim.Native.Nat.{ℕ}
-use Rattle.definitions.specs.Cells.{cell_of, hold_effect, object_effect}
-use Rattle.definitions.specs.Tracker.{hold_at}
-use Rattle.definitions.specs.Objects.{object_at}
-use Rattle.definitions.specs.Notes.{effect_of, effect_at}
-use Rattle.definitions.specs.declared.Cell.{Cell}
-use Rattle.row_walk.specs.Cells.{CellWalked, ByteWalked}
-use Rattle.row_walk.specs.declared.cell_walk.CellAt.{CellAt}
-use Rattle.row_walk.specs.declared.cell_walk.WalkCell.{WalkCell}
+use Rattle.definitions.specs.Tally.{empty_sum}
+use Rattle.definitions.specs.declared.Cell.TheVariants.{Empty}
+use Rattle.definitions.specs.declared.ArrowStats.{ArrowStats}
+use Rattle.definitions.specs.declared.DepthEffect.{DepthEffect}
+use Rattle.definitions.specs.declared.NoteEffect.{NoteEffect}
+use Rattle.row_tally.specs.Sums.{sum_with_cell, add_by}
+use Rattle.row_tally.specs.Raised.{with_cells}
+use Rattle.row_tally.proofs.Raised.{cells-none}
+use Rattle.row_walk.specs.Cells.{CellWalked}
+use Rattle.row_walk.specs.declared.cell_walk.Run.{Run}
 
--- a byte's effects are those of its cell
-pub walked_at : (b : ℕ) (x : Cell) → cell_of b ≡ x → (at : CellAt) (l l' : List ℕ) (r : WalkCell) → CellWalked (hold_effect x) (object_effect x) (effect_of x) at l l' r
-    → ByteWalked b at l l' r
-unfolding hold_at object_at effect_at
-walked_at b x e at l l' r w = rw e w
+-- an empty cell is counted as nothing
+pub counted-empty : (t : ArrowStats) (d : ℕ) → with_cells t (add_by false empty_sum d Empty) ≡ t
+unfolding sum_with_cell
+counted-empty t d = cells-none t
+
+-- the tally is no part of what a cell does to its column
+pub with-stats : (h o : DepthEffect) (n : NoteEffect) (c : ℕ) (r : Run) (l : List ℕ) (r' : Run) (l' : List ℕ) → CellWalked h o n c r l r' l'
+    → (t : ArrowStats) → CellWalked h o n c r l (record r' { stats = t }) l'
+with-stats h o n c r l r' l' w t = record {
+  depth = w.depth;
+  object_depth = w.object_depth;
+  ten = w.ten;
+  free = w.free;
+  heads = w.heads;
+  tails = w.tails;
+  met = w.met;
+  last = w.last;
+  noted = w.noted;
+}

@@ -1,4 +1,3 @@
--- Laws of a cell, and of a row that is walked by its cells.
-pub mod Effects
+-- Laws of a column, of a cell, and of a row that is walked by its cells.
 pub mod Bits
-pub mod Cells
+pub mod Effects

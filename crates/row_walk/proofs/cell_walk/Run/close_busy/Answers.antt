@@ -1,0 +1,22 @@
+-- `cell_walk::Run::close_busy` meets its contract.
+use mathlib.Core.Path.{refl, sym}
+use mathlib.Core.Bool.{or-false}
+use native.Mathlib.Nat.{add-zero}
+use Rattle.row_notes.proofs.Steps.{step-closes}
+use Rattle.row_walk.proofs.cell_walk.Run.close_busy.Goals as goal
+
+pub returns-clause-walked : goal.returns-clause-walked
+returns-clause-walked c =
+    let put = rw c.end_object.ensures at c.close.ensures in
+    rw c.end_object.ensures
+    (record {
+      depth = put.depths;
+      object_depth = put.object_depths;
+      ten = put.ten;
+      free = put.free;
+      heads = sym (add-zero c.args.self.now.marks.heads);
+      tails = refl;
+      met = sym (or-false c.args.self.now.marks.met);
+      last = refl;
+      noted = step-closes _ _ _ c.requires.note _ _ _ refl (record { bytes = c.end_note.ensures; heads = put.heads; count = refl; row = refl; invalid = refl });
+    })
