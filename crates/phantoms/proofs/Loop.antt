@@ -1,16 +1,16 @@
 -- A loop over a row's cells: the columns before i are counted, and those from i on are as they were.
 use mathlib.Core.Path.{◌≡◌, refl, ap, sym, ◌∙◌}
-use mathlib.Core.Bool.{Bool, false, ◌||◌, or_assoc, or-false}
+use mathlib.Core.Bool.{Bool, ◌||◌, or_assoc, or-false}
 use mathlib.Core.List.{List, [], ◌∷◌, ◌++◌}
 use Prim.Native.Nat.{ℕ, suc, ◌+◌, ◌*◌, ◌-◌, ◌<◌, ◌≤◌}
-use native.Mathlib.Decide.{dec_lt, ℕ_discrete}
+use native.Mathlib.Decide.{dec_lt}
 use native.Mathlib.Numerals.{add-one}
-use native.Mathlib.Nat.{add-zero, not-suc-le-zero}
+use native.Mathlib.Nat.{not-suc-le-zero}
 use native.Mathlib.Omega.{arith}
-use lib.ListN.{length, get_or, set, drop, length-set, length-append, drop_of_length-le}
-use lib.Seq.{drop-cons, set-get_or, get_or-set_same, get_or-set_other}
-use Rattle.definitions.proofs.Columns.{past_end, step-most}
-use Rattle.definitions.proofs.Lists.{any-default, one-le, count-cons}
+use lib.ListN.{length, get_or, drop, length-set, length-append, drop_of_length-le}
+use lib.Seq.{drop-cons}
+use Rattle.definitions.proofs.Columns.{past_end}
+use Rattle.definitions.proofs.Lists.{any-default, count-cons}
 use Rattle.std.specs.List.{count_by}
 use Rattle.definitions.specs.Lists.{number_of_bool, some_column}
 use Rattle.definitions.specs.Lines.{Row}
@@ -19,9 +19,10 @@ use Rattle.definitions.specs.declared.Cell.TheVariants.{Empty}
 use Rattle.definitions.specs.declared.DepthEffect.TheVariants.{Nothing}
 use Rattle.definitions.specs.Tracker.{hold_at}
 use Rattle.definitions.specs.Correction.{phantom_step, meets_phantom, phantom_met, is_opening, is_closing}
-use Rattle.phantoms.specs.Phantoms.{phantom_at, Low, Counts, CellCounted}
+use Rattle.phantoms.specs.Phantoms.{phantom_at, Low, Counts, with_effect}
 use Rattle.phantoms.specs.declared.Phantoms.{Phantoms}
-use Rattle.phantoms.specs.declared.PhantomCell.{PhantomCell}
+use Rattle.phantoms.proofs.Effects.{effect-here, effect-others, effect-low}
+use Rattle.definitions.specs.declared.DepthEffect.{DepthEffect}
 use Rattle.phantoms.proofs.Columns.{column-same, column-or, column-past}
 use Rattle.phantoms.proofs.Rows.{after-snoc, met-snoc, heads-snoc, tails-snoc}
 
@@ -70,14 +71,6 @@ passed_start row p h =
       low = λ k l. low-more k (k + 0) p (omega arith) l;
     }
 
--- a cell adds at most one head and one tail
-module _ (b d : ℕ) (q : PhantomCell) (cell : CellCounted b d q) where
-  pub one-head : q.heads ≤ 1
-  one-head = omega (arith, cell.heads, one-le (is_head b))
-
-  pub one-tail : q.tails ≤ 1
-  one-tail = omega (arith, cell.tails, one-le (is_tail b))
-
 -- one cell more of a count
 count_next : (p : ℕ → Bool) (row : Row) (i n m k : ℕ) → i < length row → m ≡ number_of_bool (p (get_or row i 0)) → n + count_by p (drop i row) ≡ k
     → (n + m) + count_by p (drop (i + 1) row) ≡ k
@@ -89,54 +82,41 @@ count_next p row i n m k h e f =
 count-end : (p : ℕ → Bool) (row : Row) (i n k : ℕ) → length row ≤ i → n + count_by p (drop i row) ≡ k → n ≡ k
 count-end p row i n k h f = let d : count_by p (drop i row) ≡ 0 = rw (drop_of_length-le row h) in omega arith
 
--- after a cell in column i
-abbrev next : Phantoms → ℕ → PhantomCell → Phantoms
-next r i q =
-    record {
-      depths = set r.depths i q.depth;
-      heads = r.heads + q.heads;
-      tails = r.tails + q.tails;
-      met = r.met || q.met;
-    }
-
-module _ (row : Row) (p r : Phantoms) (q : PhantomCell) (i : ℕ) (s : Passed row p r i) (h : i < length row) (m : i < 10)
-    (cell : CellCounted (get_or row i 0) (phantom_at r i) q) where
-  -- the cell, as the row has it
+module _ (row : Row) (p r : Phantoms) (i : ℕ) (s : Passed row p r i) (h : i < length row) (m : i < 10) where
+  -- the cell, as the row has it, and what it does
   byte : get_or row i 0 ≡ byte_at i row
   byte = any-default row i 0 48 h
 
-  here : phantom_at (next r i q) i ≡ phantom_step (hold_at (get_or row i 0)) (phantom_at r i)
-  here = get_or-set_same r.depths i q.depth 0 (omega (arith, s.size)) ∙ cell.depth
+  abbrev effect : DepthEffect
+  effect = hold_at (get_or row i 0)
 
-  others : (c : ℕ) → (c ≡ i → ⊥) → phantom_at (next r i q) c ≡ phantom_at r c
-  others c n = get_or-set_other r.depths i c q.depth 0 n
+  others : (c : ℕ) → (c ≡ i → ⊥) → phantom_at (with_effect r i effect) c ≡ phantom_at r c
+  others c n = effect-others r i effect s.size m c n
 
-  next_here : phantom_at (next r i q) i ≡ after row p i
-  next_here = here ∙ rw (byte, s.left i (omega arith))
+  next_here : phantom_at (with_effect r i effect) i ≡ after row p i
+  next_here = effect-here r i effect s.size m ∙ rw (byte, s.left i (omega arith))
 
-  next-met : (r.met || q.met) ≡ (p.met || some_column (i + 1) (meets row p))
-  next-met = rw (cell.met, s.met, byte, s.left i (omega arith), add-one, or_assoc)
+  next-met : (with_effect r i effect).met ≡ (p.met || some_column (i + 1) (meets row p))
+  unfolding with_effect
+  next-met = rw (s.met, byte, s.left i (omega arith), add-one, or_assoc)
 
-  next_low : (k : ℕ) → Low k p → Low (k + (i + 1)) (next r i q)
-  next_low k l =
-      let low = s.low k l in
-      record {
-        depths =
-            λ c b.
-            elim (ℕ_discrete c i) [
-              | yes e ↦
-                  rw e (omega (arith, here, step-most (hold_at (get_or row i 0)) (phantom_at r i), low.depths i m))
-              | no n ↦ omega (arith, others c n, low.depths c b)
-            ];
-        heads = omega (arith, one-head (get_or row i 0) (phantom_at r i) q cell, low.heads);
-        tails = omega (arith, one-tail (get_or row i 0) (phantom_at r i) q cell, low.tails);
-      }
+  next-heads : (with_effect r i effect).heads + count_by is_head (drop (i + 1) row) ≡ p.heads + count_by is_head row
+  unfolding with_effect
+  next-heads = count_next is_head row i r.heads (number_of_bool (is_opening effect)) _ h refl s.heads
 
-  pub passed-next : Passed row p (next r i q) (i + 1)
+  next-tails : (with_effect r i effect).tails + count_by is_tail (drop (i + 1) row) ≡ p.tails + count_by is_tail row
+  unfolding with_effect
+  next-tails = count_next is_tail row i r.tails (number_of_bool (is_closing effect)) _ h refl s.tails
+
+  next-size : length (with_effect r i effect).depths ≡ 10
+  unfolding with_effect
+  next-size = length-set r.depths i (phantom_step effect (phantom_at r i)) ∙ s.size
+
+  pub passed-next : Passed row p (with_effect r i effect) (i + 1)
   passed-next =
       record {
         within = omega arith;
-        size = length-set r.depths i q.depth ∙ s.size;
+        size = next-size;
         done =
             λ c k.
             elim (dec_lt c i) [
@@ -144,23 +124,16 @@ module _ (row : Row) (p r : Phantoms) (q : PhantomCell) (i : ℕ) (s : Passed ro
               | no b ↦ let e : c ≡ i = omega arith in rw e next_here
             ];
         left = λ c k. others c (λ e. omega arith) ∙ s.left c (omega arith);
-        heads = count_next is_head row i r.heads q.heads _ h cell.heads s.heads;
-        tails = count_next is_tail row i r.tails q.tails _ h cell.tails s.tails;
+        heads = next-heads;
+        tails = next-tails;
         met = next-met;
-        low = next_low;
+        low = λ k l. low-more (k + i + 1) (k + (i + 1)) _ (omega arith) (effect-low r i effect s.size m (k + i) (s.low k l));
       }
 
 -- an empty cell does nothing
 pub empty-hold : (b : ℕ) → cell_of b ≡ Empty → hold_at b ≡ Nothing
 unfolding hold_at
 empty-hold b e = ap hold_effect e
-
-pub passed-empty : (row : Row) (p r : Phantoms) (i : ℕ) → Passed row p r i → i < length row → i < 10 → cell_of (get_or row i 0) ≡ Empty → Passed row p r (i + 1)
-passed-empty row p r i s h m e =
-    let n = empty-hold (get_or row i 0) e in
-    rw (set-get_or r.depths i 0, add-zero r.heads, add-zero r.tails, or-false) at
-    (passed-next row p r (record { depth = phantom_at r i; heads = 0; tails = 0; met = false }) i s h m
-    (record { depth = rw n refl; heads = rw n refl; tails = rw n refl; met = rw n refl }))
 
 module _ (row : Row) (p r : Phantoms) (i : ℕ) (s : Passed row p r i) (h : length row ≤ i) where
   all_done : (c : ℕ) → phantom_at r c ≡ after row p c
@@ -169,6 +142,13 @@ module _ (row : Row) (p r : Phantoms) (i : ℕ) (s : Passed row p r i) (h : leng
         | yes b ↦ s.done c b
         | no b ↦ s.left c (omega arith) ∙ rw (past_end row c (omega arith))
       ]
+
+  -- the row's heads and tails are what theirs grew by
+  pub passed-heads : r.heads ≡ p.heads + count_by is_head row
+  passed-heads = count-end is_head row i r.heads _ h s.heads
+
+  pub passed-tails : r.tails ≡ p.tails + count_by is_tail row
+  passed-tails = count-end is_tail row i r.tails _ h s.tails
 
   module _ (L : ℕ) (rows : List Row) (wide : length row ≤ L) (narrow : L ≤ 10) (counts : Counts L rows p) where
     met-row : r.met ≡ (p.met || some_column L (meets row p))
@@ -188,8 +168,8 @@ module _ (row : Row) (p r : Phantoms) (i : ℕ) (s : Passed row p r i) (h : leng
     passed-end =
         record {
           depths = λ c k. all_done c ∙ rw (counts.depths c k) (sym (after-snoc c 0 rows row));
-          heads = count-end is_head row i r.heads _ h s.heads ∙ rw counts.heads (sym (heads-snoc rows row));
-          tails = count-end is_tail row i r.tails _ h s.tails ∙ rw counts.tails (sym (tails-snoc rows row));
+          heads = passed-heads ∙ rw counts.heads (sym (heads-snoc rows row));
+          tails = passed-tails ∙ rw counts.tails (sym (tails-snoc rows row));
           met = met_all;
           low =
               let n = length-append rows (row ∷ []) in

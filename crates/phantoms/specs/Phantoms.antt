@@ -1,11 +1,10 @@
 -- The phantom depths, heads and tails in a struct, and the rows that it has counted.
-use Rattle.std.specs.Prelude.{◌≡◌, List, [], ◌∷◌, ◌++◌, ℕ, ◌*◌, ◌<◌, ◌≤◌, length, slice_index}
+use Rattle.std.specs.Prelude.{◌≡◌, ◌||◌, List, [], ◌∷◌, ◌++◌, ℕ, ◌+◌, ◌*◌, ◌<◌, ◌≤◌, length, slice_index, set}
 use Rattle.definitions.specs.Lists.{number_of_bool, some_column}
 use Rattle.definitions.specs.Lines.{Row}
-use Rattle.definitions.specs.Tracker.{hold_at}
 use Rattle.definitions.specs.Correction.{phantom_step, phantom_after, meets_phantom, phantom_met, is_opening, is_closing, head_count, tail_count}
 use Rattle.phantoms.specs.declared.Phantoms.{Phantoms}
-use Rattle.phantoms.specs.declared.PhantomCell.{PhantomCell}
+use Rattle.definitions.specs.declared.DepthEffect.{DepthEffect}
 
 -- the phantom depth of a column
 abbrev pub phantom_at : Phantoms → ℕ → ℕ
@@ -25,12 +24,15 @@ pub record Counts (L : ℕ) (rows : List Row) (p : Phantoms) : Type 0 where
   pub met : p.met ≡ some_column L (λ c. phantom_met c 0 rows)
   pub low : Low (10 * length rows) p
 
--- One cell of a column of depth d.
-pub record CellCounted (b d : ℕ) (r : PhantomCell) : Type 0 where
-  pub depth : r.depth ≡ phantom_step (hold_at b) d
-  pub heads : r.heads ≡ number_of_bool (is_opening (hold_at b))
-  pub tails : r.tails ≡ number_of_bool (is_closing (hold_at b))
-  pub met : r.met ≡ meets_phantom (hold_at b) d
+-- With a cell of that effect in column c.
+unfoldable pub with_effect : Phantoms → ℕ → DepthEffect → Phantoms
+with_effect p c e =
+    record {
+      depths = set p.depths c (phantom_step e (phantom_at p c));
+      heads = p.heads + number_of_bool (is_opening e);
+      tails = p.tails + number_of_bool (is_closing e);
+      met = p.met || meets_phantom e (phantom_at p c);
+    }
 
 -- A row: whatever rows the struct had counted, it has then counted one more.
 abbrev pub RowCounted : Row → Phantoms → Phantoms → Type 0

@@ -5,9 +5,8 @@ ghost use Rattle.std.specs.Prelude.{◌≡◌, List, [], ℕ, ◌≤◌, ◌<◌
 ghost use Rattle.definitions.specs.Lists.{some_column};
 ghost use Rattle.definitions.specs.Lines.{Row};
 ghost use Rattle.definitions.specs.Correction.{corrects};
-ghost use Rattle.phantoms.specs.Phantoms.{phantom_at, Counts, CellCounted};
-
-use definitions::DepthEffect;
+ghost use Rattle.definitions.specs.declared.DepthEffect.TheVariants.{Blocks, Opens, Closes};
+ghost use Rattle.phantoms.specs.Phantoms.{phantom_at, Low, Counts, with_effect};
 
 /// The phantom depth of each column, of up to ten; the heads and tails so far; and whether a 1, M, L or F met a phantom depth.
 #[derive(Clone, Copy)]
@@ -30,45 +29,39 @@ pub fn no_phantoms() -> Phantoms
     }
 }
 
-/// What a cell leaves of its column's phantom depth, the heads and tails that it adds, and whether it met a phantom depth.
-#[derive(Clone, Copy)]
-pub struct PhantomCell {
-    pub depth: u32,
-    pub heads: u32,
-    pub tails: u32,
-    pub met: bool,
-}
+impl Phantoms {
+    /// A 1, M, L or F in a column.
+    #[inline(always)]
+    #[tactic(auto, using(crate::proofs::Effects::blocked), unfolding(crate::specs::Phantoms::with_effect))]
+    pub fn block(&mut self, column: usize)
+        requires { column < 10 }
+        ensures { self.new ≡ with_effect self.old column Blocks }
+    {
+        self.met |= 0 < self.depths[column];
+    }
 
-/// One cell of a row, in a column of that depth.
-pub fn phantom_cell(b: u8, depth: u32) -> PhantomCell
-    requires { depth < 4294967295 }
-    ensures { CellCounted b depth result }
-{
-    match cells::hold_effect(b) {
-        DepthEffect::Nothing => PhantomCell {
-            depth,
-            heads: 0,
-            tails: 0,
-            met: false,
-        },
-        DepthEffect::Blocks => PhantomCell {
-            depth,
-            heads: 0,
-            tails: 0,
-            met: 0 < depth,
-        },
-        DepthEffect::Opens => PhantomCell {
-            depth: depth + 1,
-            heads: 1,
-            tails: 0,
-            met: false,
-        },
-        DepthEffect::Closes => PhantomCell {
-            depth: depth.saturating_sub(1),
-            heads: 0,
-            tails: 1,
-            met: false,
-        },
+    /// A head in a column.
+    #[inline(always)]
+    #[tactic(auto, unfolding(crate::specs::Phantoms::with_effect))]
+    pub fn open(&mut self, column: usize)
+        requires column_narrow { column < 10 }
+        requires low { Low 4294967294 self.old }
+        ensures { self.new ≡ with_effect self.old column Opens }
+    {
+        self.depths[column] += 1;
+        self.heads += 1;
+    }
+
+    /// A tail in a column.
+    #[inline(always)]
+    #[tactic(auto, unfolding(crate::specs::Phantoms::with_effect))]
+    pub fn close(&mut self, column: usize)
+        requires column_narrow { column < 10 }
+        requires low { Low 4294967294 self.old }
+        ensures { self.new ≡ with_effect self.old column Closes }
+    {
+        self.depths[column] = self.depths[column].saturating_sub(1);
+        self.tails += 1;
     }
 }
 

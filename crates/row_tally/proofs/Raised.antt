@@ -18,6 +18,8 @@ use Rattle.definitions.specs.declared.ArrowStats.{ArrowStats}
 use Rattle.row_tally.specs.Bounds.{Under, Below, EndsBelow}
 use Rattle.row_tally.specs.Sums.{sum_with_cell, arrow_of, add_by}
 use Rattle.row_tally.specs.Raised.{with_cells, with_end, row_end, judged_row_end}
+use Rattle.row_tally.proofs.Sums.{no_cell}
+use Rattle.row_tally.proofs.Bounds.{under-cell}
 use Rattle.row_tally.proofs.Loops.{Summed, summed-start, summed-next, summed-empty, summed-end}
 
 -- no cells add nothing
@@ -50,6 +52,15 @@ cells-ends k t s b = omega arith
 pub below-cells : (k n : ℕ) (t : ArrowStats) (s : RowSum) → Below k t → Under n s → Below (k + n) (with_cells t s)
 unfolding with_cells
 below-cells k n t s b u = omega arith
+
+-- one cell adds at most 1
+pub cell-below : (k : ℕ) (t : ArrowStats) (judged : Bool) (d : ℕ) (x : Cell) → Below k t → Below (k + 1) (with_cells t (add_by judged empty_sum d x))
+cell-below k t judged d x b = below-cells k 1 t _ b (under-cell 0 empty_sum d (arrow_of judged x) (omega arith) x)
+
+-- an empty cell adds nothing
+pub cell-none : (t : ArrowStats) (judged : Bool) (d : ℕ) → with_cells t (add_by judged empty_sum d Empty) ≡ t
+cell-none t true d = ap (with_cells t) (no_cell empty_sum d) ∙ cells-none t
+cell-none t false d = ap (with_cells t) (no_cell empty_sum d) ∙ cells-none t
 
 -- the arrows of the row are what the tally's grew by, and so with the other counts
 module _ (t r : ArrowStats) (s : RowSum) (e : r ≡ with_cells t s) where

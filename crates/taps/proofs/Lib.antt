@@ -4,4 +4,5 @@ pub mod Masks
 pub mod Numbers
 pub mod Words
 pub mod Free
+pub mod Marks
 pub mod Unlikes

@@ -64,6 +64,11 @@ taps_if_free busy r = free_of busy (mask_of_line r)
 abbrev pub FreeAre : ℕ → ℕ → List ℕ → Type 0
 FreeAre busy n l = (c : ℕ) → c < 10 → bit c busy ≡ 0 → slice_index l c ≡ n
 
+-- A mask of columns: r is `busy` with the bit of column i as told.
+pub record Marked (busy i : ℕ) (used : Bool) (r : ℕ) : Type 0 where
+  pub here : bit i r ≡ number_of_bool used
+  pub others : (c : ℕ) → c < 10 → (c ≡ i → ⊥) → bit c r ≡ bit c busy
+
 -- Which of k numbers from place c on are not n, as a mask: the first of them in the lowest bit.
 abbrev pub unlike_from : ℕ → List ℕ → ℕ → ℕ → ℕ
 unlike_from n l c zero = 0

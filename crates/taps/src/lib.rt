@@ -5,8 +5,8 @@ mod counts;
 mod five_counts;
 mod table;
 
-ghost use Rattle.std.specs.Prelude.{◌≡◌, ◌≤◌, length, take};
-ghost use Rattle.taps.specs.Taps.{number_of, Small, Tells, tap_mask, mask_of_line, taps_if_free, unlike_mask};
+ghost use Rattle.std.specs.Prelude.{◌≡◌, true, false, ◌<◌, ◌≤◌, length, take};
+ghost use Rattle.taps.specs.Taps.{number_of, Small, Tells, tap_mask, mask_of_line, taps_if_free, Marked, unlike_mask};
 ghost use Rattle.taps.specs.declared.Taps;
 
 use lines::words;
@@ -147,6 +147,24 @@ pub fn free_taps(row: &[u8], busy: u32) -> Taps
     } else {
         Taps::Other
     }
+}
+
+/// Columns of ten as a mask, with this one.
+#[inline(always)]
+pub fn with_column(busy: u32, column: usize) -> u32
+    requires { column < 10 }
+    ensures { Marked busy column true result }
+{
+    busy | (1 << column)
+}
+
+/// Columns of ten as a mask, without this one.
+#[inline(always)]
+pub fn without_column(busy: u32, column: usize) -> u32
+    requires { column < 10 }
+    ensures { Marked busy column false result }
+{
+    busy & !(1 << column)
 }
 
 /// The columns of ten whose number is not this one, as a mask.

@@ -1,0 +1,48 @@
+-- What a cell of an effect leaves of the depths.
+use mathlib.Core.Path.{◌≡◌}
+use mathlib.Core.Bool.{or-false}
+use Prim.Native.Nat.{ℕ, ◌+◌, ◌<◌}
+use native.Mathlib.Nat.{add-zero}
+use native.Mathlib.Decide.{ℕ_discrete}
+use native.Mathlib.Omega.{arith}
+use lib.ListN.{length, set}
+use lib.Seq.{set-get_or, get_or-set_same, get_or-set_other}
+use Rattle.definitions.proofs.Columns.{step-most}
+use Rattle.definitions.proofs.Lists.{one-le}
+use Rattle.definitions.specs.Correction.{phantom_step, is_opening, is_closing}
+use Rattle.definitions.specs.declared.DepthEffect.{DepthEffect}
+use Rattle.definitions.specs.declared.DepthEffect.TheVariants.{Nothing}
+use Rattle.phantoms.specs.Phantoms.{phantom_at, Low, with_effect}
+use Rattle.phantoms.specs.declared.Phantoms.{Phantoms}
+
+-- a depth that stays
+pub blocked : (p : Phantoms) (c : ℕ) → set p.depths c (phantom_at p c) ≡ p.depths
+blocked p c = set-get_or p.depths c 0
+
+pub effect-none : (p : Phantoms) (c : ℕ) → with_effect p c Nothing ≡ p
+unfolding with_effect
+effect-none p c = rw (blocked p c, add-zero p.heads, add-zero p.tails, or-false p.met)
+
+module _ (p : Phantoms) (c : ℕ) (e : DepthEffect) (size : length p.depths ≡ 10) (m : c < 10) where
+  pub effect-here : phantom_at (with_effect p c e) c ≡ phantom_step e (phantom_at p c)
+  unfolding with_effect
+  effect-here = get_or-set_same p.depths c (phantom_step e (phantom_at p c)) 0 (omega (arith, size))
+
+  pub effect-others : (d : ℕ) → (d ≡ c → ⊥) → phantom_at (with_effect p c e) d ≡ phantom_at p d
+  unfolding with_effect
+  effect-others d n = get_or-set_other p.depths c d (phantom_step e (phantom_at p c)) 0 n
+
+  -- a cell adds at most 1 to each count
+  pub effect-low : (k : ℕ) → Low k p → Low (k + 1) (with_effect p c e)
+  unfolding with_effect
+  effect-low k l =
+      record {
+        depths =
+            λ d b.
+            elim (ℕ_discrete d c) [
+              | yes q ↦ rw q (omega (arith, effect-here, step-most e (phantom_at p c), l.depths c m))
+              | no n ↦ omega (arith, effect-others d n, l.depths d b)
+            ];
+        heads = omega (arith, one-le (is_opening e), l.heads);
+        tails = omega (arith, one-le (is_closing e), l.tails);
+      }
