@@ -1,4 +1,4 @@
--- A cell that is counted as nothing, and one whose tally is another.
+-- A cell, whatever the tally is.
 use mathlib.Core.Path.{◌≡◌, sym, ◌∙◌}
 use mathlib.Core.Bool.{false}
 use mathlib.Core.List.{List}
@@ -14,22 +14,14 @@ use Rattle.row_tally.proofs.Raised.{cells-none}
 use Rattle.row_walk.specs.Cells.{CellWalked}
 use Rattle.row_walk.specs.declared.cell_walk.Run.{Run}
 
--- an empty cell is counted as nothing
-pub counted-empty : (t : ArrowStats) (d : ℕ) → with_cells t (add_by false empty_sum d Empty) ≡ t
-unfolding sum_with_cell
-counted-empty t d = cells-none t
-
 -- the tally is no part of what a cell does to its column
 pub with-stats : (h o : DepthEffect) (n : NoteEffect) (c : ℕ) (r : Run) (l : List ℕ) (r' : Run) (l' : List ℕ) → CellWalked h o n c r l r' l'
     → (t : ArrowStats) → CellWalked h o n c r l (record r' { stats = t }) l'
 with-stats h o n c r l r' l' w t = record {
-  depth = w.depth;
+  phantoms = w.phantoms;
   object_depth = w.object_depth;
   ten = w.ten;
   free = w.free;
-  heads = w.heads;
-  tails = w.tails;
-  met = w.met;
   last = w.last;
   noted = w.noted;
 }

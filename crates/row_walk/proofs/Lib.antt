@@ -1,3 +1,3 @@
 -- Laws of a column, of a cell, and of a row that is walked by its cells.
-pub mod Bits
+pub mod Places
 pub mod Effects

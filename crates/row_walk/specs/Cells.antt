@@ -1,10 +1,8 @@
 -- What one cell does, by its effects on the phantom depth, the object depth and the notes of its column: cited by the walk's own contracts.
-use Rattle.std.specs.Prelude.{◌≡◌, ◌||◌, List, ℕ, ◌+◌, ◌<◌, slice_index, set, nat_lt, if◌then◌else◌}
+use Rattle.std.specs.Prelude.{◌≡◌, List, ℕ, ◌+◌, ◌<◌, slice_index, set, nat_lt, if◌then◌else◌}
 use Rattle.definitions.specs.Sizes.{count_bound}
-use Rattle.definitions.specs.Lists.{number_of_bool}
 use Rattle.definitions.specs.Cells.{hold_effect, object_effect}
 use Rattle.definitions.specs.Tracker.{hold_at}
-use Rattle.definitions.specs.Correction.{phantom_step, meets_phantom, is_opening, is_closing}
 use Rattle.definitions.specs.Objects.{object_at, is_object, deeper}
 use Rattle.definitions.specs.Notes.{effect_of, effect_at}
 use Rattle.definitions.specs.declared.Cell.{Cell}
@@ -13,6 +11,7 @@ use Rattle.definitions.specs.declared.DepthEffect.{DepthEffect}
 use Rattle.definitions.specs.declared.DepthEffect as depth
 use Rattle.definitions.specs.declared.NoteEffect.{NoteEffect}
 use Rattle.definitions.specs.declared.NoteEffect.TheVariants.{Nothing, Closes, Single, Head}
+use Rattle.phantoms.specs.Phantoms.{Low, with_effect}
 use Rattle.row_tally.specs.Bounds.{Below}
 use Rattle.row_notes.specs.Drafts.{step_cell}
 use Rattle.row_notes.specs.Writer.{NoteReady, NoteStepped}
@@ -22,34 +21,26 @@ use Rattle.row_walk.specs.declared.cell_walk.Run.{Run}
 
 -- the notes of a run as the struct of the layer beneath
 abbrev pub notes_of : Run → ChartNotesScratch
-notes_of r = record { hold_heads = r.columns.hold_heads; count = r.count; row_index = r.row; has_invalid = r.marks.invalid }
+notes_of r = record { hold_heads = r.columns.hold_heads; count = r.count; row_index = r.row; has_invalid = r.invalid }
 
--- the depths of a column
-abbrev pub depth_in : Run → ℕ → ℕ
-depth_in r c = slice_index r.columns.depths c
-
+-- the object depth of a column
 abbrev pub object_depth_in : Run → ℕ → ℕ
 object_depth_in r c = slice_index r.columns.object_depths c
 
 -- what a cell asks
 pub record CellFits (r : Run) (c : ℕ) (l : List ℕ) : Type 0 where
-  pub depth : depth_in r c < 4294967295
-  pub object_depth : object_depth_in r c < 4294967295
-  pub heads : r.marks.heads < 4294967295
-  pub tails : r.marks.tails < 4294967295
   pub few : Below (count_bound + 9) r.stats
+  pub low : Low 4294967294 r.columns.phantoms
+  pub object_depth : object_depth_in r c < 4294967295
   pub column : ColumnReady r.columns c
   pub note : NoteReady l (notes_of r) c
 
 -- A cell with these effects has been walked in column c: all but the tally.
 pub record CellWalked (h o : DepthEffect) (n : NoteEffect) (c : ℕ) (r : Run) (l : List ℕ) (r' : Run) (l' : List ℕ) : Type 0 where
-  pub depth : r'.columns.depths ≡ set r.columns.depths c (phantom_step h (depth_in r c))
+  pub phantoms : r'.columns.phantoms ≡ with_effect r.columns.phantoms c h
   pub object_depth : r'.columns.object_depths ≡ set r.columns.object_depths c (deeper o (object_depth_in r c))
   pub ten : Ten r'.columns
   pub free : Free r'.columns
-  pub heads : r'.marks.heads ≡ r.marks.heads + number_of_bool (is_opening h)
-  pub tails : r'.marks.tails ≡ r.marks.tails + number_of_bool (is_closing h)
-  pub met : r'.marks.met ≡ (r.marks.met || meets_phantom h (depth_in r c))
   pub last : r'.last ≡ if is_object o (object_depth_in r c) then r.row + 1 else r.last
   pub noted : NoteStepped l (notes_of r) l' (notes_of r') 1 (step_cell r.row c n)
 

@@ -3,7 +3,6 @@ use Rattle.std.specs.Prelude.{◌≡◌, Bool, if◌then◌else◌, List, [], �
 use Rattle.definitions.specs.Sizes.{count_bound}
 use Rattle.definitions.specs.Lines.{Row}
 use Rattle.definitions.specs.Tally.{row_sum, tally_with_row}
-use Rattle.phantoms.specs.declared.Phantoms.{Phantoms}
 use Rattle.phantoms.specs.Phantoms.{Low, RowCounted}
 use Rattle.objects.specs.declared.Depths.{Depths}
 use Rattle.objects.specs.Rows.{DepthsLow, RowDone}
@@ -13,10 +12,7 @@ use Rattle.row_walk.specs.Columns.{Ten, Free}
 use Rattle.row_walk.specs.Cells.{notes_of}
 use Rattle.row_walk.specs.declared.cell_walk.Run.{Run}
 
--- the phantom depths and the object depths of a run as the structs of the layers beneath
-abbrev pub phantoms_of : Run → Phantoms
-phantoms_of r = record { depths = r.columns.depths; heads = r.marks.heads; tails = r.marks.tails; met = r.marks.met }
-
+-- the object depths of a run as the struct of the layer beneath
 abbrev pub objects_of : Run → Depths
 objects_of r = record { depths = r.columns.object_depths }
 
@@ -25,7 +21,7 @@ pub record CellsReady (row : Row) (r : Run) (l : List ℕ) : Type 0 where
   pub few : Below count_bound r.stats
   pub ten : Ten r.columns
   pub free : Free r.columns
-  pub phantoms : Low count_bound (phantoms_of r)
+  pub phantoms : Low count_bound r.columns.phantoms
   pub objects : DepthsLow 4294967294 (objects_of r)
   pub room : RecordRoom (notes_of r) row l
 
@@ -33,7 +29,7 @@ pub record CellsReady (row : Row) (r : Run) (l : List ℕ) : Type 0 where
 pub record RowWalked (row : Row) (r : Run) (l : List ℕ) (r' : Run) (l' : List ℕ) : Type 0 where
   pub object : Bool
   pub stats : r'.stats ≡ tally_with_row r.stats (row_sum row)
-  pub counted : RowCounted row (phantoms_of r) (phantoms_of r')
+  pub counted : RowCounted row r.columns.phantoms r'.columns.phantoms
   pub tested : RowDone row (objects_of r) (record { object = object; depths = objects_of r' })
   pub last : r'.last ≡ if object then r.row + 1 else r.last
   pub written : (rows : List Row) → Written rows (notes_of r) l → Written (rows ++ (row ∷ [])) (notes_of r') l'

@@ -14,26 +14,16 @@ ghost use Rattle.row_walk.specs.Cells.{CellFits, Blocking, Lower, Opening, Closi
 use crate::columns::Columns;
 use definitions::{ArrowStats, Cell, Kind, direction};
 
-/// What the rows change beside the columns, the tally, the records and the numbers: heads, tails, whether a phantom depth was met, and whether a
-/// record was dropped.
-#[derive(Clone, Copy)]
-pub struct Marks {
-    pub heads: u32,
-    pub tails: u32,
-    pub met: bool,
-    pub invalid: bool,
-}
-
-/// The columns, the marks, the tally, the number of records, the number of rows, and how many of these there are up to the measure's last object
-/// row; where that is no more than before the measure, it has none.
+/// What rows change: the columns, the tally, the number of records, the number of rows, how many of these there are up to the measure's last object
+/// row, and whether a record was dropped. Where `last` is no more than before the measure, it has no object row.
 #[derive(Clone, Copy)]
 pub struct Run {
     pub columns: Columns,
-    pub marks: Marks,
     pub stats: ArrowStats,
     pub count: usize,
     pub row: u32,
     pub last: u32,
+    pub invalid: bool,
 }
 
 impl Run {
@@ -61,8 +51,7 @@ impl Run {
         row_notes::put_note(head, self.count, self.row, column, kind, slots);
         self.count += 1;
         self.last = self.row + 1;
-        self.marks.met |= 0 < self.columns.depths[column];
-        self.marks.invalid |= head != row_notes::NO_HEAD;
+        self.invalid |= head != row_notes::NO_HEAD;
         self.columns.block(column);
     }
 
@@ -90,7 +79,7 @@ impl Run {
         let head = self.columns.hold_heads[column];
         row_notes::put_note(head, self.count, self.row, column, kind, slots);
         self.count += 1;
-        self.marks.invalid |= head != row_notes::NO_HEAD;
+        self.invalid |= head != row_notes::NO_HEAD;
         self.columns.drop_head(column);
     }
 
@@ -103,8 +92,7 @@ impl Run {
     {
         let head = self.columns.hold_heads[column];
         row_notes::put_note(head, self.count, self.row, column, kind, slots);
-        self.marks.invalid |= head != row_notes::NO_HEAD;
-        self.marks.heads += 1;
+        self.invalid |= head != row_notes::NO_HEAD;
         self.columns.open(column, self.count as u32);
         self.count += 1;
     }
@@ -121,31 +109,16 @@ impl Run {
         }
     }
 
-    // A 3 in any column.
-    #[inline(always)]
-    fn close_busy(&mut self, column: usize, slots: &mut [u8])
-        requires { CellFits self.old column slots.old }
-        ensures walked { Closing column self.old slots.old self.new slots.new }
-        ensures stats_stay { self.new.stats ≡ self.old.stats }
-    {
-        row_notes::end_note(self.columns.hold_heads[column], self.row, slots);
-        self.marks.tails += 1;
-        self.end_object(column);
-        self.columns.close(column);
-    }
-
-    // A 3. Where nothing is open it is counted, and changes nothing else.
+    // A 3.
     #[inline(always)]
     fn close(&mut self, column: usize, slots: &mut [u8])
         requires { CellFits self.old column slots.old }
         ensures walked { Closing column self.old slots.old self.new slots.new }
         ensures stats_stay { self.new.stats ≡ self.old.stats }
     {
-        if self.columns.is_busy(column) {
-            self.close_busy(column, slots);
-        } else {
-            self.marks.tails += 1;
-        }
+        row_notes::end_note(self.columns.hold_heads[column], self.row, slots);
+        self.end_object(column);
+        self.columns.close(column);
     }
 
     // A K.
@@ -233,22 +206,22 @@ impl Run {
     pub fn end_row(&mut self, arrows: u32, heads: u32, tails: u32)
         requires few { EndsBelow count_bound self.old.stats }
         requires arrows_few { (arrows ≤ self.old.stats.total_arrows) × (self.old.stats.total_arrows ≤ arrows + 10) }
-        requires heads_few { (heads ≤ self.old.marks.heads) × (self.old.marks.heads ≤ heads + 10) }
-        requires tails_few { tails ≤ self.old.marks.tails }
+        requires heads_few { (heads ≤ self.old.columns.phantoms.heads) × (self.old.columns.phantoms.heads ≤ heads + 10) }
+        requires tails_few { tails ≤ self.old.columns.phantoms.tails }
         requires rows_few { self.old.row < 4294967295 }
         ensures counted { self.new.stats ≡ row_end self.old.stats
             (self.old.stats.total_arrows - arrows)
-            (self.old.marks.heads - heads)
-            (self.old.marks.tails - tails) }
+            (self.old.columns.phantoms.heads - heads)
+            (self.old.columns.phantoms.tails - tails) }
         ensures row { self.new.row ≡ self.old.row + 1 }
         ensures columns_stay { self.new.columns ≡ self.old.columns }
-        ensures marks_stay { self.new.marks ≡ self.old.marks }
+        ensures invalid_stays { self.new.invalid ≡ self.old.invalid }
         ensures count_stays { self.new.count ≡ self.old.count }
         ensures last_stays { self.new.last ≡ self.old.last }
     {
         let arrows = self.stats.total_arrows - arrows;
-        let heads = self.marks.heads - heads;
-        let tails = self.marks.tails - tails;
+        let heads = self.columns.phantoms.heads - heads;
+        let tails = self.columns.phantoms.tails - tails;
         row_tally::end_row(&mut self.stats, arrows, heads, tails);
         self.row += 1;
     }

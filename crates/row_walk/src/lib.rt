@@ -17,8 +17,8 @@ pub fn walk_cells(run: &mut Run, row: &[u8], slots: &mut [u8])
     ensures { RowWalked row.now run.old slots.old run.new slots.new }
 {
     let arrows = run.stats.total_arrows;
-    let heads = run.marks.heads;
-    let tails = run.marks.tails;
+    let heads = run.columns.phantoms.heads;
+    let tails = run.columns.phantoms.tails;
     let mut i = 0;
     while i < row.len() {
         let b = row[i];
