@@ -9,17 +9,16 @@ use lib.ListN.{length, take, drop, get_or, length-drop}
 use lib.Seq.{take-suc, length-take-le}
 use Rattle.definitions.specs.Lines.{Row}
 use Rattle.reduction.specs.Rows.{rows_of}
-use Rattle.measure_tally.specs.Counted.{CountsOn}
+use Rattle.measure_tally.specs.Counted.{Counted}
 use Rattle.measure_tally.specs.declared.Counting.{Counting}
 use Rattle.reduction.proofs.RowsAt.{rows-length, row-part}
 use Rattle.reduction.proofs.Powers.{row-end}
 
--- Of a measure's rows ms, which stand in a text from start on, those from number first to number i have been counted, and the next one stands at `at`.
-pub record CountingOn (L : ℕ) (ms : List Row) (start first rows : ℕ) (before now : Counting) (i at : ℕ) : Type 0 where
-  pub onwards : first ≤ i
+-- Of a measure's rows ms, which stand in a text from start on, the first i have been counted, and the next one stands at `at`.
+pub record CountingAll (L : ℕ) (ms : List Row) (start rows : ℕ) (before now : Counting) (i at : ℕ) : Type 0 where
   pub within : i ≤ rows
   pub stands : at ≡ start + i * (L + 1)
-  pub counted : CountsOn L ms first i before now
+  pub counted : (done : List (List Row)) → Counted L before done [] → Counted L now done (take i ms)
 
 -- the row at a place
 abbrev pub part : ℕ → List ℕ → ℕ → Row

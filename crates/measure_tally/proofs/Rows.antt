@@ -1,6 +1,5 @@
 -- What is counted, with one row more and at the end of a measure.
 use mathlib.Core.Path.{◌≡◌, refl, ap, sym, ◌∙◌, subst}
-use mathlib.Core.Bool.{true, or-false}
 use mathlib.Core.List.{List, [], ◌∷◌, ◌++◌, append_assoc, append-nil}
 use Prim.Native.Nat.{ℕ, ◌+◌, ◌*◌, ◌≤◌}
 use native.Mathlib.Nat.{add-zero}
@@ -9,10 +8,6 @@ use lib.ListN.{length, take, length-append}
 use lib.Seq.{length-take-le}
 use Rattle.definitions.specs.Lists.{number_of_bool, joined}
 use Rattle.definitions.specs.Lines.{Row}
-use Rattle.definitions.specs.Cells.{cell_of}
-use Rattle.definitions.specs.Reduction.{all_zero}
-use Rattle.definitions.specs.Tracker.{hold_at}
-use Rattle.definitions.specs.Correction.{is_opening, is_closing}
 use Rattle.definitions.specs.Figures.{is_step}
 use Rattle.definitions.specs.Tally.{row_sum, empty_stats, tally_with_row, tally}
 use Rattle.definitions.specs.declared.ArrowStats.{ArrowStats}
@@ -20,11 +15,7 @@ use Rattle.definitions.proofs.Lists.{joined_snoc}
 use Rattle.definitions.proofs.Figures.{density-snoc}
 use Rattle.phantoms.specs.declared.Phantoms.{Phantoms}
 use Rattle.phantoms.specs.Phantoms.{Counts, RowCounted, Low}
-use Rattle.phantoms.proofs.Columns.{column-same}
-use Rattle.phantoms.proofs.Rows.{after-snoc, met-snoc, heads-snoc, tails-snoc}
-use Rattle.phantoms.proofs.Loop.{low-more}
-use Rattle.cells.proofs.ZeroRows.{zero-hold}
-use Rattle.row_tally.proofs.Zeros.{zero-count, step-arrows}
+use Rattle.row_tally.proofs.Zeros.{step-arrows}
 use Rattle.row_tally.specs.Bounds.{Below}
 use Rattle.taps.specs.Taps.{FreeAre}
 use Rattle.row_tally.proofs.Rows.{tally-none, tally-snoc}
@@ -32,14 +23,15 @@ use Rattle.row_tally.proofs.Bounds.{below_none, below-line}
 use Rattle.measure_tally.specs.declared.Counting.{Counting}
 use Rattle.measure_tally.specs.Counted.{Counted}
 
-pub counted_start : (L : ℕ) (t : ArrowStats) (p : Phantoms) (busy : ℕ) → t ≡ empty_stats → Counts L [] p → FreeAre busy 0 p.depths → Counted L (record { stats = t; phantoms = p; rows = 0; before = 0; busy = busy }) [] []
-counted_start L t p busy e x free =
+pub counted_start : (L : ℕ) (t : ArrowStats) (p : Phantoms) (busy : ℕ) → t ≡ empty_stats → Counts L [] p → FreeAre busy 0 p.depths → length p.depths ≡ 10
+    → Counted L (record { stats = t; phantoms = p; rows = 0; before = 0; busy = busy }) [] []
+counted_start L t p busy e x free ten =
     record {
       stats = e ∙ sym tally-none;
       phantoms = x;
       rows = refl;
       steps = ap (λ (s : ArrowStats). s.total_steps) e;
-      few = record { stats = rw e below_none; phantoms = x.low };
+      few = record { stats = rw e below_none; phantoms = x.low; ten = ten };
       free = free;
     }
 
@@ -51,9 +43,9 @@ steps-row t row = ap (λ b. t.total_steps + number_of_bool b) (step-arrows row)
 module _ (L : ℕ) (c : Counting) (done : List (List Row)) (cur : List Row) (x : Counted L c done cur) where
   -- one row more
   pub counted-row : (row : Row) → length row ≤ L → L ≤ 10 → (t : ArrowStats) (p : Phantoms) (busy : ℕ)
-      → t ≡ tally_with_row c.stats (row_sum row) → RowCounted row c.phantoms p → FreeAre busy 0 p.depths
+      → t ≡ tally_with_row c.stats (row_sum row) → RowCounted row c.phantoms p → FreeAre busy 0 p.depths → length p.depths ≡ 10
       → Counted L (record { stats = t; phantoms = p; rows = c.rows + 1; before = c.before; busy = busy }) done (cur ++ (row ∷ []))
-  counted-row row w v t p busy et xp free =
+  counted-row row w v t p busy et xp free sized =
       let all : joined done ++ (cur ++ (row ∷ [])) ≡ (joined done ++ cur) ++ (row ∷ []) = sym (append_assoc (joined done) cur (row ∷ [])) in
       let counts : Counts L ((joined done ++ cur) ++ (row ∷ [])) p = xp L (joined done ++ cur) w v x.phantoms in
       let narrow : length row ≤ 10 = omega arith in
@@ -69,6 +61,7 @@ module _ (L : ℕ) (c : Counting) (done : List (List Row)) (cur : List Row) (x :
             record {
               stats = rw et (subst (λ k. Below k (tally_with_row c.stats (row_sum row))) ten (below-line (10 * c.rows) c.stats row narrow x.few.stats));
               phantoms = subst (λ k. Low (10 * k) p) size counts.low;
+              ten = sized;
             };
         free = free;
       }
@@ -82,21 +75,9 @@ module _ (L : ℕ) (c : Counting) (done : List (List Row)) (cur : List Row) (x :
         phantoms = subst (λ rs. Counts L rs c.phantoms) all x.phantoms;
         rows = x.rows ∙ ap length all;
         steps = sym (add-zero c.stats.total_steps);
-        few = record { stats = x.few.stats; phantoms = x.few.phantoms };
+        few = record { stats = x.few.stats; phantoms = x.few.phantoms; ten = x.few.ten };
         free = x.free;
       }
-
--- A row that is all zero leaves what is counted of the rows' cells.
-pub zero-counted : (row : Row) (p : Phantoms) → all_zero row ≡ true → RowCounted row p p
-unfolding hold_at cell_of
-zero-counted row p z L rows w v x =
-    record {
-      depths = λ c k. x.depths c k ∙ sym (after-snoc c 0 rows row ∙ rw (zero-hold c row z));
-      heads = x.heads ∙ sym (heads-snoc rows row ∙ rw (zero-count (λ b. is_opening (hold_at b)) refl row z, add-zero));
-      tails = x.tails ∙ sym (tails-snoc rows row ∙ rw (zero-count (λ b. is_closing (hold_at b)) refl row z, add-zero));
-      met = x.met ∙ column-same L _ _ (λ c k. sym (met-snoc c 0 rows row ∙ rw (zero-hold c row z, or-false)));
-      low = low-more (10 * length rows) (10 * length (rows ++ (row ∷ []))) p (omega (arith, length-append rows (row ∷ []))) x.low;
-    }
 
 -- rows of the same measure ms, as many more as are counted
 pub counted-grown : (L : ℕ) (c d : Counting) (done : List (List Row)) (ms : List Row) (i j : ℕ) → i ≤ length ms → j ≤ length ms

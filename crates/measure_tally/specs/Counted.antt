@@ -9,10 +9,11 @@ use Rattle.row_tally.specs.Bounds.{Below}
 use Rattle.taps.specs.Taps.{FreeAre}
 use Rattle.measure_tally.specs.declared.Counting.{Counting}
 
--- every count is small for so many rows
+-- every count is small for so many rows, and each of ten columns has its depth
 pub record Few (c : Counting) : Type 0 where
   pub stats : Below (10 * c.rows) c.stats
   pub phantoms : Low (10 * c.rows) c.phantoms
+  pub ten : length c.phantoms.depths ≡ 10
 
 pub record Counted (L : ℕ) (c : Counting) (done : List (List Row)) (cur : List Row) : Type 0 where
   pub stats : c.stats ≡ tally (joined done ++ cur)

@@ -1,2 +1,3 @@
 -- What the contracts of the counting cite, beside the definitions.
 pub mod Counted
+pub mod Cells

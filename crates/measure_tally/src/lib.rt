@@ -1,14 +1,18 @@
 // What a whole-chart pass counts of the minimised rows, one row after the other: the tally, the phantom depths and the open measure's density.
 #![tactic(auto)]
 
-ghost use Rattle.std.specs.Prelude.{◌≡◌, List, [], ℕ, ◌+◌, ◌-◌, ◌*◌, ◌≤◌, ◌<◌, length, take};
-ghost use Rattle.definitions.specs.Sizes.{row_count_bound};
+ghost use Rattle.std.specs.Prelude.{◌≡◌, List, [], ℕ, ◌+◌, ◌-◌, ◌*◌, ◌≤◌, ◌<◌, length, slice_index};
+ghost use Rattle.definitions.specs.Sizes.{count_bound, row_count_bound};
 ghost use Rattle.definitions.specs.Lines.{Row};
 ghost use Rattle.definitions.specs.Figures.{density as density_of};
 ghost use Rattle.taps.specs.Taps.{FreeTaps, masks};
 ghost use Rattle.reduction.specs.Rows.{rows_of};
 ghost use Rattle.reduction.specs.States.{HoldingOpen, EndsMeasure};
-ghost use Rattle.measure_tally.specs.Counted.{Few, Counted, CountsRow, CountsOn, CountsAll};
+ghost use Rattle.row_tally.specs.Bounds.{Below};
+ghost use Rattle.phantoms.specs.Phantoms.{Low};
+ghost use Rattle.definitions.specs.declared.DepthEffect.TheVariants.{Blocks, Opens, Closes};
+ghost use Rattle.measure_tally.specs.Cells.{EffectDone, CellCounted, FourCounted};
+ghost use Rattle.measure_tally.specs.Counted.{Few, Counted, CountsRow, CountsAll};
 
 use definitions::{ArrowStats, Cell, direction};
 use phantoms::Phantoms;
@@ -50,49 +54,165 @@ impl Counting {
         self.rows += 1;
     }
 
-    // One row more, cell by cell: its sum, the phantom depths, heads and tails. Most cells are empty, which change none of them.
-    fn count_line(&mut self, row: &[u8])
+    // A 1, M, L or F in a column.
+    #[inline(always)]
+    fn block(&mut self, column: usize)
+        requires { column < 10 }
+        ensures { EffectDone column Blocks self.old self.new }
+    {
+        self.phantoms.block(column);
+    }
+
+    // A head in a column.
+    #[inline(always)]
+    fn open(&mut self, column: usize)
+        requires column_narrow { column < 10 }
+        requires low { Low (count_bound + 9) self.old.phantoms }
+        ensures { EffectDone column Opens self.old self.new }
+    {
+        self.phantoms.open(column);
+        self.busy = taps::with_column(self.busy, column);
+    }
+
+    // A tail in a column.
+    #[inline(always)]
+    fn close(&mut self, column: usize)
+        requires column_narrow { column < 10 }
+        requires low { Low (count_bound + 9) self.old.phantoms }
+        ensures { EffectDone column Closes self.old self.new }
+    {
+        self.phantoms.close(column);
+        if self.phantoms.depths[column] == 0 {
+            self.busy = taps::without_column(self.busy, column);
+        }
+    }
+
+    // One cell of a row of so many, by one match. It stays a call of its own: written into its loop, each count would go through a register for the
+    // whole row.
+    #[inline(never)]
+    fn count_cell(&mut self, columns: usize, column: usize, b: u8)
+        requires column_narrow { column < 10 }
+        requires few { Below (count_bound + 9) self.old.stats }
+        requires low { Low (count_bound + 9) self.old.phantoms }
+        ensures { CellCounted columns column b self.old self.new }
+    {
+        let direction = direction(columns, column);
+        match cells::cell_of(b) {
+            Cell::Empty => {}
+            Cell::Tap => {
+                self.block(column);
+                row_tally::count_cell(&mut self.stats, direction, Cell::Tap, false);
+            }
+            Cell::Hold => {
+                self.open(column);
+                row_tally::count_cell(&mut self.stats, direction, Cell::Hold, false);
+            }
+            Cell::Roll => {
+                self.open(column);
+                row_tally::count_cell(&mut self.stats, direction, Cell::Roll, false);
+            }
+            Cell::Tail => {
+                self.close(column);
+                row_tally::count_cell(&mut self.stats, direction, Cell::Tail, false);
+            }
+            Cell::Mine => {
+                self.block(column);
+                row_tally::count_cell(&mut self.stats, direction, Cell::Mine, false);
+            }
+            Cell::Lift => {
+                self.block(column);
+                row_tally::count_cell(&mut self.stats, direction, Cell::Lift, false);
+            }
+            Cell::Fake => {
+                self.block(column);
+                row_tally::count_cell(&mut self.stats, direction, Cell::Fake, false);
+            }
+            Cell::KeySound => {
+                row_tally::count_cell(&mut self.stats, direction, Cell::KeySound, false)
+            }
+            Cell::LowerMine => {
+                row_tally::count_cell(&mut self.stats, direction, Cell::LowerMine, false)
+            }
+            Cell::LowerLift => {
+                row_tally::count_cell(&mut self.stats, direction, Cell::LowerLift, false)
+            }
+            Cell::LowerFake => {
+                row_tally::count_cell(&mut self.stats, direction, Cell::LowerFake, false)
+            }
+        }
+    }
+
+    // The cell in a column. Most are a `0`, which changes nothing.
+    #[inline(always)]
+    fn count_column(&mut self, row: &[u8], column: usize)
+        requires inside { column < length row.now }
+        requires narrow { length row.now ≤ 10 }
+        requires few { Below (count_bound + 9) self.old.stats }
+        requires low { Low (count_bound + 9) self.old.phantoms }
+        ensures { CellCounted (length row.now) column (slice_index row.now column) self.old self.new }
+    {
+        let b = row[column];
+        if b != b'0' {
+            self.count_cell(row.len(), column, b);
+        }
+    }
+
+    // The cells of four columns. They are written one by one, which costs less than a loop.
+    #[inline(always)]
+    fn count_four(&mut self, row: &[u8], from: usize)
+        requires inside { from + 4 ≤ length row.now }
+        requires narrow { length row.now ≤ 10 }
+        requires few { Below (count_bound + from) self.old.stats }
+        requires low { Low (count_bound + from) self.old.phantoms }
+        ensures { FourCounted row.now from self.old self.new }
+    {
+        self.count_column(row, from);
+        self.count_column(row, from + 1);
+        self.count_column(row, from + 2);
+        self.count_column(row, from + 3);
+    }
+
+    // One row more, cell by cell. Its arrows, heads and tails are what these have grown by.
+    #[inline(never)]
+    fn count_cells(&mut self, row: &[u8])
+        requires wide { 4 ≤ length row.now }
         requires narrow { length row.now ≤ 10 }
         requires rows_few { self.old.rows < row_count_bound }
         requires few { Few self.old }
         ensures { CountsRow row.now self.old self.new }
     {
-        let mut phantoms = self.phantoms;
-        let mut sum = row_tally::no_sum();
-        let mut i = 0;
+        let arrows = self.stats.total_arrows;
+        let heads = self.phantoms.heads;
+        let tails = self.phantoms.tails;
+        self.count_four(row, 0);
+        let mut i = 4;
+        if 8 <= row.len() {
+            self.count_four(row, 4);
+            i = 8;
+        }
         while i < row.len() {
-            let b = row[i];
-            match cells::cell_of(b) {
-                Cell::Empty => {}
-                _ => {
-                    let p = phantoms::phantom_cell(b, phantoms.depths[i]);
-                    phantoms.depths[i] = p.depth;
-                    phantoms.heads += p.heads;
-                    phantoms.tails += p.tails;
-                    phantoms.met = phantoms.met | p.met;
-                    sum = row_tally::sum_cell(sum, direction(row.len(), i), b);
-                }
-            }
+            self.count_column(row, i);
             i += 1;
         }
-        row_tally::add_row_into(&mut self.stats, sum);
-        self.busy = taps::unlike(&phantoms.depths, 0);
-        self.phantoms = phantoms;
+        let arrows = self.stats.total_arrows - arrows;
+        let heads = self.phantoms.heads - heads;
+        let tails = self.phantoms.tails - tails;
+        row_tally::end_row(&mut self.stats, arrows, heads, tails);
         self.rows += 1;
     }
 
-    // One row more that is not ordinary. A row that is all zero is counted as a row, and changes nothing else.
-    fn count_cells(&mut self, row: &[u8])
-        requires narrow { length row.now ≤ 10 }
+    // One row more: by its mask where it has one and no tap of it stands in a column of a phantom depth.
+    #[inline(always)]
+    fn count_row(&mut self, row: &[u8], table: &TapTable)
+        requires wide { length row.now ≡ table.now.lanes.count }
         requires rows_few { self.old.rows < row_count_bound }
         requires few { Few self.old }
         ensures { CountsRow row.now self.old self.new }
     {
-        if cells::is_all_zero(row) {
-            self.rows += 1;
-            return;
+        match taps::free_taps(row, self.busy) {
+            Taps::Mask(mask) => self.count_taps(mask, table),
+            Taps::Other => self.count_cells(row),
         }
-        self.count_line(row);
     }
 
     /// The open measure ends.
@@ -111,43 +231,6 @@ impl Counting {
         self.stats.total_steps - self.before
     }
 
-    // Ordinary rows of a measure that stands in a text from `start` on, from row number `first` on: the number of the first row that is not
-    // ordinary, or of all. It is a loop of its own, so that the arrays of the columns are left alone.
-    fn count_ordinary(
-        &mut self,
-        text: &[u8],
-        start: usize,
-        first: usize,
-        rows: usize,
-        table: &TapTable,
-    ) -> usize
-        requires in_text { start + rows * (table.now.lanes.count + 1) ≤ length text.now }
-        requires first_within { first ≤ rows }
-        requires rows_few { self.old.rows + (rows - first) < row_count_bound }
-        requires counted { HoldingOpen (Counted table.now.lanes.count self.old)
-            (take first (rows_of table.now.lanes.count rows text.now start)) }
-        ensures onwards { first ≤ result }
-        ensures within { result ≤ rows }
-        ensures counted { CountsOn table.now.lanes.count
-            (rows_of table.now.lanes.count rows text.now start) first result self.old self.new }
-    {
-        let lanes = table.lanes.count;
-        let mut i = first;
-        let mut at = start + first * (lanes + 1);
-        while i < rows {
-            let end = at + lanes;
-            match taps::free_taps(&text[at..end], self.busy) {
-                Taps::Mask(mask) => self.count_taps(mask, table),
-                Taps::Other => {
-                    return i;
-                }
-            }
-            at = end + 1;
-            i += 1;
-        }
-        i
-    }
-
     /// The rows of a measure that stand in a text from `start` on, each with a newline byte after it.
     pub fn count_rows(&mut self, text: &[u8], start: usize, rows: usize, table: &TapTable)
         requires in_text { start + rows * (table.now.lanes.count + 1) ≤ length text.now }
@@ -158,15 +241,12 @@ impl Counting {
     {
         let lanes = table.lanes.count;
         let mut i = 0;
-        loop {
-            let k = self.count_ordinary(text, start, i, rows, table);
-            if rows <= k {
-                return;
-            }
-            let at = start + k * (lanes + 1);
+        let mut at = start;
+        while i < rows {
             let end = at + lanes;
-            self.count_cells(&text[at..end]);
-            i = k + 1;
+            self.count_row(&text[at..end], table);
+            at = end + 1;
+            i += 1;
         }
     }
 }

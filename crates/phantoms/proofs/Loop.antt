@@ -91,10 +91,10 @@ module _ (row : Row) (p r : Phantoms) (i : ℕ) (s : Passed row p r i) (h : i < 
   effect = hold_at (get_or row i 0)
 
   others : (c : ℕ) → (c ≡ i → ⊥) → phantom_at (with_effect r i effect) c ≡ phantom_at r c
-  others c n = effect-others r i effect s.size m c n
+  others c n = effect-others r i effect c n
 
   next_here : phantom_at (with_effect r i effect) i ≡ after row p i
-  next_here = effect-here r i effect s.size m ∙ rw (byte, s.left i (omega arith))
+  next_here = effect-here r i effect (omega (arith, s.size)) ∙ rw (byte, s.left i (omega arith))
 
   next-met : (with_effect r i effect).met ≡ (p.met || some_column (i + 1) (meets row p))
   unfolding with_effect
@@ -127,7 +127,7 @@ module _ (row : Row) (p r : Phantoms) (i : ℕ) (s : Passed row p r i) (h : i < 
         heads = next-heads;
         tails = next-tails;
         met = next-met;
-        low = λ k l. low-more (k + i + 1) (k + (i + 1)) _ (omega arith) (effect-low r i effect s.size m (k + i) (s.low k l));
+        low = λ k l. low-more (k + i + 1) (k + (i + 1)) _ (omega arith) (effect-low r i effect (k + i) (s.low k l));
       }
 
 -- an empty cell does nothing

@@ -1,14 +1,11 @@
--- `measure_tally::Counting::count_rows` meets its contract. The loop's invariant: the rows before row `i` are counted.
-use mathlib.Core.List.{List, []}
-use Prim.Native.Nat.{◌-◌, ◌≤◌}
-use lib.ListN.{take}
-use Rattle.definitions.specs.Lines.{Row}
+-- The rows before row `i` are counted, and the next one stands at `at`.
+use Prim.Native.Nat.{◌-◌}
 use Rattle.reduction.specs.Rows.{rows_of}
-use Rattle.measure_tally.specs.Counted.{Counted}
+use Rattle.measure_tally.proofs.Places.{CountingAll}
 use Rattle.measure_tally.proofs.Counting.count_rows.Given as goal
 
-abbrev pub invariant-loop-start : goal.invariant-loop-start
-invariant-loop-start l = (l.i ≤ l.rows) × ((done : List (List Row)) → Counted l.lanes l.initial.self done [] → Counted l.lanes l.self done (take l.i (rows_of l.lanes l.rows l.text l.start)))
+abbrev pub invariant-loop-i : goal.invariant-loop-i
+invariant-loop-i l = CountingAll l.lanes (rows_of l.lanes l.rows l.text l.start) l.start l.rows l.initial.self l.self l.i l.at
 
-abbrev pub decreases-loop-start : goal.decreases-loop-start
-decreases-loop-start l = l.rows - l.i
+abbrev pub decreases-loop-i : goal.decreases-loop-i
+decreases-loop-i l = l.rows - l.i

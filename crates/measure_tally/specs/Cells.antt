@@ -1,0 +1,46 @@
+-- What the cells of a row do to what is counted, before the row's end: cited by private functions alone.
+use Rattle.std.specs.Prelude.{◌≡◌, ℕ, ◌+◌, false, length, slice_index}
+use Rattle.definitions.specs.Lines.{Row}
+use Rattle.definitions.specs.Cells.{cell_of}
+use Rattle.definitions.specs.Tracker.{hold_at}
+use Rattle.definitions.specs.Tally.{direction, empty_sum}
+use Rattle.definitions.specs.declared.DepthEffect.{DepthEffect}
+use Rattle.phantoms.specs.Phantoms.{with_effect}
+use Rattle.row_tally.specs.Sums.{add_by}
+use Rattle.row_tally.specs.Raised.{with_cells}
+use Rattle.taps.specs.Taps.{FreeAre}
+use Rattle.measure_tally.specs.declared.Counting.{Counting}
+
+-- A column without its bit has the phantom depth 0, if it was so before.
+abbrev pub StaysFree : Counting → Counting → Type 0
+StaysFree k r = FreeAre k.busy 0 k.phantoms.depths → FreeAre r.busy 0 r.phantoms.depths
+
+-- A cell of this effect in column c, which is not in the tally yet.
+pub record EffectDone (c : ℕ) (e : DepthEffect) (k r : Counting) : Type 0 where
+  pub phantoms : r.phantoms ≡ with_effect k.phantoms c e
+  pub stats : r.stats ≡ k.stats
+  pub rows : r.rows ≡ k.rows
+  pub before : r.before ≡ k.before
+  pub free : StaysFree k r
+
+-- A byte in column c of so many.
+pub record CellCounted (columns c b : ℕ) (k r : Counting) : Type 0 where
+  pub phantoms : r.phantoms ≡ with_effect k.phantoms c (hold_at b)
+  pub stats : r.stats ≡ with_cells k.stats (add_by false empty_sum (direction columns c) (cell_of b))
+  pub rows : r.rows ≡ k.rows
+  pub before : r.before ≡ k.before
+  pub free : StaysFree k r
+
+-- the byte in column c of a row
+abbrev pub ColumnCounted : Row → ℕ → Counting → Counting → Type 0
+ColumnCounted row c = CellCounted (length row) c (slice_index row c)
+
+-- those in four columns, one after the other
+pub record FourCounted (row : Row) (c : ℕ) (k r : Counting) : Type 0 where
+  pub one : Counting
+  pub two : Counting
+  pub three : Counting
+  pub first : ColumnCounted row c k one
+  pub second : ColumnCounted row (c + 1) one two
+  pub third : ColumnCounted row (c + 2) two three
+  pub fourth : ColumnCounted row (c + 3) three r
