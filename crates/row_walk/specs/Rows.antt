@@ -33,6 +33,6 @@ pub record RowWalked (row : Row) (r : Run) (l : List ℕ) (r' : Run) (l' : List 
   pub tested : RowDone row (objects_of r) (record { object = object; depths = objects_of r' })
   pub last : r'.last ≡ if object then r.row + 1 else r.last
   pub written : (rows : List Row) → Written rows (notes_of r) l → Written (rows ++ (row ∷ [])) (notes_of r') l'
-  pub row : r'.row ≡ r.row + 1
+  pub number : r'.row ≡ r.row + 1
   pub ten : Ten r'.columns
   pub free : Free r'.columns
