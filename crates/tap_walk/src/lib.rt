@@ -1,8 +1,10 @@
 // One row of a measure more: an ordinary one is counted and noted by its mask, any other by its cells.
 #![tactic(auto)]
 
-ghost use Rattle.std.specs.Prelude.{◌≤◌, length};
-ghost use Rattle.tap_walk.specs.Walked.{TapsReady, TapsAdded, RowAsked, RowAdded};
+ghost use Rattle.std.specs.Prelude.{◌≡◌, ◌<◌, length};
+ghost use Rattle.definitions.specs.Sizes.{row_count_bound};
+ghost use Rattle.row_walk.specs.Rows.{CellsReady};
+ghost use Rattle.tap_walk.specs.Walked.{TapsReady, TapsAdded, RowAdded};
 
 use row_walk::cell_walk::Run;
 use taps::{TapTable, Taps};
@@ -21,7 +23,9 @@ fn add_taps(run: &mut Run, mask: u16, slots: &mut [u8], table: &TapTable)
 /// One row more. It is written into its loop, so that the columns and the counts stay where they are.
 #[inline(always)]
 pub fn add_row(run: &mut Run, row: &[u8], slots: &mut [u8], table: &TapTable)
-    requires { RowAsked table.now.lanes.count row.now run.old slots.old }
+    requires ready { CellsReady row.now run.old slots.old }
+    requires width { length row.now ≡ table.now.lanes.count }
+    requires rows_few { run.old.row < row_count_bound }
     ensures { RowAdded row.now run.old slots.old run.new slots.new }
 {
     match taps::free_taps(row, run.columns.busy) {
