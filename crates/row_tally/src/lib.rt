@@ -231,6 +231,7 @@ pub fn end_judged_row(stats: &mut ArrowStats, judged: bool, arrows: u32, others:
 }
 
 /// The running tally is lent by the caller and altered there.
+#[inline(always)]
 #[tactic(auto, unfolding(crate::specs::Raised::with_cells, crate::specs::Raised::with_end, definitions::specs::Tally::tally_with_row))]
 pub fn add_row_into(stats: &mut ArrowStats, s: RowSum)
     requires few { Below count_bound stats.old }
@@ -264,7 +265,8 @@ pub fn count_fakes(stats: &mut ArrowStats, fakes: u32)
     end_judged_row(stats, false, 0, fakes, 0);
 }
 
-/// One row of taps alone more.
+/// One row of taps alone more. It is written into its loops, since a sum that is handed over costs them a tenth.
+#[inline(always)]
 pub fn count_taps(stats: &mut ArrowStats, mask: u16, table: &TapTable)
     requires mask_known { mask < masks table.now.wide }
     requires few { Below count_bound stats.old }

@@ -1,18 +1,48 @@
--- A cell by its byte.
-use mathlib.Core.Path.{◌≡◌}
+-- A cell, whatever the tally is, and one that does nothing.
+use mathlib.Core.Path.{◌≡◌, refl, sym}
 use mathlib.Core.List.{List}
 use Prim.Native.Nat.{ℕ}
-use Rattle.definitions.specs.Cells.{cell_of, hold_effect, object_effect}
+use lib.Seq.{set-get_or}
+use Rattle.definitions.specs.Cells.{cell_of}
 use Rattle.definitions.specs.Tracker.{hold_at}
 use Rattle.definitions.specs.Objects.{object_at}
-use Rattle.definitions.specs.Notes.{effect_of, effect_at}
-use Rattle.definitions.specs.declared.Cell.{Cell}
-use Rattle.row_walk.specs.Cells.{CellWalked, ByteWalked}
-use Rattle.row_walk.specs.declared.cell_walk.CellAt.{CellAt}
-use Rattle.row_walk.specs.declared.cell_walk.WalkCell.{WalkCell}
+use Rattle.definitions.specs.Notes.{effect_at}
+use Rattle.definitions.specs.declared.ArrowStats.{ArrowStats}
+use Rattle.definitions.specs.declared.DepthEffect.{DepthEffect}
+use Rattle.definitions.specs.declared.DepthEffect as depth
+use Rattle.definitions.specs.declared.NoteEffect.{NoteEffect}
+use Rattle.definitions.specs.declared.NoteEffect.TheVariants.{Nothing}
+use Rattle.phantoms.proofs.Effects.{effect-none}
+use Rattle.row_notes.proofs.Steps.{step-nothing}
+use Rattle.row_walk.specs.Columns.{Ten, Free}
+use Rattle.row_walk.specs.Cells.{notes_of, CellWalked, ByteWalked}
+use Rattle.row_walk.specs.declared.cell_walk.Run.{Run}
 
--- a byte's effects are those of its cell
-pub walked_at : (b : ℕ) (x : Cell) → cell_of b ≡ x → (at : CellAt) (l l' : List ℕ) (r : WalkCell) → CellWalked (hold_effect x) (object_effect x) (effect_of x) at l l' r
-    → ByteWalked b at l l' r
-unfolding hold_at object_at effect_at
-walked_at b x e at l l' r w = rw e w
+-- the tally is no part of what a cell does to its column
+pub with-stats : (h o : DepthEffect) (n : NoteEffect) (c : ℕ) (r : Run) (l : List ℕ) (r' : Run) (l' : List ℕ) → CellWalked h o n c r l r' l'
+    → (t : ArrowStats) → CellWalked h o n c r l (record r' { stats = t }) l'
+with-stats h o n c r l r' l' w t = record {
+  phantoms = w.phantoms;
+  object_depth = w.object_depth;
+  ten = w.ten;
+  free = w.free;
+  last = w.last;
+  noted = w.noted;
+}
+
+-- a cell that does nothing
+pub walked-nothing : (c : ℕ) (r : Run) (l : List ℕ) → Ten r.columns → Free r.columns
+    → CellWalked depth.TheVariants.Nothing depth.TheVariants.Nothing Nothing c r l r l
+walked-nothing c r l ten free = record {
+  phantoms = sym (effect-none r.columns.phantoms c);
+  object_depth = sym (set-get_or r.columns.object_depths c 0);
+  ten = ten;
+  free = free;
+  last = refl;
+  noted = step-nothing l (notes_of r) r.row c Nothing refl;
+}
+
+-- a `0` is such a cell
+pub walked-zero : (b c : ℕ) (r : Run) (l : List ℕ) → b ≡ 48 → Ten r.columns → Free r.columns → ByteWalked b c r l r l
+unfolding hold_at object_at effect_at cell_of
+walked-zero b c r l e ten free = rw e (walked-nothing c r l ten free)
