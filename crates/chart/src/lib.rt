@@ -91,7 +91,7 @@ pub fn minimize_chart_count_rows_notes(
     ensures notes_after { slots.new
         ≡ leaves 0 result (records (notes_of lanes «data».now)) slots.old }
 {
-    let columns = Lanes::of_number(lanes)?;
+    let columns = Lanes::of_number(lanes)?.known();
     let len = data.len();
     refusals::text_fits(len)?;
     refusals::room_for_text(len, text.len())?;

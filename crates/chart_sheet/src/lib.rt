@@ -181,7 +181,7 @@ pub fn chart_sheet(
     ensures sheet_after { sheet.new
         ≡ leaves 0 result (sheet_in_form form lanes «data».now) sheet.old }
 {
-    let columns = Lanes::of_number(lanes)?;
+    let columns = Lanes::of_number(lanes)?.known();
     let len = data.len();
     refusals::text_fits(len)?;
     refusals::room_for_text(len, text.len())?;

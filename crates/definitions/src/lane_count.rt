@@ -35,15 +35,26 @@ impl Lanes {
         ensures count { IfOk result (λ lanes. lanes.count ≡ given) }
         ensures refused { IfErr result (λ refusal. other_lanes given ≡ Err refusal) }
     {
-        // The numbers stand here one by one, so that the compiler knows each of them where it writes a loop over a row's cells.
-        let count = match given {
-            4 => 4,
+        match given {
+            4 | 5 | 6 | 8 | 10 => Ok(Lanes { count: given }),
+            _ => Err(Refusal::OtherLanes),
+        }
+    }
+
+    /// The same count. The numbers stand here one by one, so that the compiler knows each of them where it writes a loop over a row's cells: what `?`
+    /// hands on has been in memory, and it knows nothing of that.
+    pub fn known(self) -> Lanes
+        ensures { result.count ≡ self.count }
+    {
+        let count = match self.count {
             5 => 5,
             6 => 6,
+            7 => 7,
             8 => 8,
+            9 => 9,
             10 => 10,
-            _ => return Err(Refusal::OtherLanes),
+            _ => 4,
         };
-        Ok(Lanes { count })
+        Lanes { count }
     }
 }

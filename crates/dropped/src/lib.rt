@@ -52,7 +52,7 @@ pub fn dropped_holds(
     ensures list_after { list.new
         ≡ leaves 0 result (dropped_records (dropped_heads lanes «data».now)) list.old }
 {
-    let columns = Lanes::of_number(lanes)?;
+    let columns = Lanes::of_number(lanes)?.known();
     let len = data.len();
     refusals::text_fits(len)?;
     refusals::room_for_text(len, text.len())?;

@@ -168,7 +168,7 @@ fn judge(
         (tally_by flags.entry lanes «data».now) }
     ensures work_after { work.new ≡ leaves 0 result [] work.old }
 {
-    let columns = Lanes::of_number(lanes)?;
+    let columns = Lanes::of_number(lanes)?.known();
     let len = data.len();
     refusals::text_fits(len)?;
     refusals::room_for_work(columns, len, work.len())?;

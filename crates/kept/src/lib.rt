@@ -63,7 +63,7 @@ pub fn process_chart_kept(
         ≡ leaves 0 result (densities_of lanes «data».now) densities.old }
     ensures work_after { work.new ≡ leaves 0 result [] work.old }
 {
-    let columns = Lanes::of_number(lanes)?;
+    let columns = Lanes::of_number(lanes)?.known();
     let len = data.len();
     refusals::text_fits(len)?;
     refusals::room_for_text(len, text.len())?;

@@ -30,7 +30,7 @@ pub fn examples_hold()
     ensures { ExamplesHold }
 {}
 
-/// What the examples R1 to R35, which pin the rules one by one, say of their texts is what the definitions give.
+/// What the examples R1 to R40, which pin the rules one by one, say of their texts is what the definitions give.
 pub fn rule_examples_hold()
     ensures { RuleExamplesHold }
 {}

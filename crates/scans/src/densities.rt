@@ -43,7 +43,7 @@ pub fn measure_densities(data: &[u8], lanes: usize, densities: &mut [u32]) -> Re
     ensures densities_after { densities.new
         ≡ leaves 0 result (densities_of lanes «data».now) densities.old }
 {
-    let columns = Lanes::of_number(lanes)?;
+    let columns = Lanes::of_number(lanes)?.known();
     let len = data.len();
     refusals::text_fits(len)?;
     refusals::room_for_measures(len, densities.len())?;

@@ -48,7 +48,7 @@ fn last_figures(data: &[u8], lanes: Lanes) -> LastBeat
 pub fn chart_last_beat_impl(data: &[u8], lanes: usize) -> Result<LastBeat, Refusal>
     ensures { result ≡ last_answer lanes «data».now }
 {
-    let columns = Lanes::of_number(lanes)?;
+    let columns = Lanes::of_number(lanes)?.known();
     refusals::text_fits(data.len())?;
     Ok(last_figures(data, columns))
 }

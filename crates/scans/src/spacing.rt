@@ -100,7 +100,7 @@ pub fn equally_spaced_impl(data: &[u8], lanes: usize, spacing: &mut [u8]) -> Res
     ensures spacing_after { spacing.new
         ≡ leaves 0 result (spacings lanes «data».now) spacing.old }
 {
-    let columns = Lanes::of_number(lanes)?;
+    let columns = Lanes::of_number(lanes)?.known();
     let len = data.len();
     refusals::text_fits(len)?;
     refusals::room_for_measures(len, spacing.len())?;

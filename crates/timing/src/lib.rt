@@ -160,7 +160,7 @@ pub fn minimize_timing_rows(
     ensures beats_after { beats.new
         ≡ leaves (f32 0) result (beats_of lanes «data».now) beats.old }
 {
-    let columns = Lanes::of_number(lanes)?;
+    let columns = Lanes::of_number(lanes)?.known();
     let len = data.len();
     refusals::text_fits(len)?;
     refusals::room_for_text(len, text.len())?;
