@@ -12,7 +12,6 @@ use Rattle.definitions.specs.Lists.{among}
 use Rattle.definitions.specs.Lines.{Row}
 use Rattle.definitions.specs.Cells.{cell_of, is_arrow}
 use Rattle.definitions.specs.Figures.{is_step}
-use Rattle.lines.specs.Words.{half_word_at, word_of}
 use Rattle.lines.proofs.RowWords.{places, picks, AllBelow, place_here, place-later}
 
 neither : (x y : Bool) → (x || y) ≡ false → (x ≡ false) × (y ≡ false)
@@ -68,18 +67,19 @@ module _ (r : Row) where
         | no a ↦ place-later k 0 (places mid []) (place_here k mid [] (omega arith) (omega arith))
       ])
 
-  -- the first eight cells and the last four, of nine to twelve
-  pub step-wide : 8 ≤ length r → length r ≤ 12 → is_step (picks r (places 0 (places 4 (places (length r - 4) [])))) ≡ is_step r
+  -- the first eight cells and the last eight, of nine to twelve
+  pub step-wide : 8 ≤ length r → length r ≤ 12 → is_step (picks r (places 0 (places 4 (places (length r - 8) (places (length r - 4) []))))) ≡ is_step r
   step-wide low high =
-      step-picks (places 0 (places 4 (places (length r - 4) [])))
-      (omega arith, (omega arith, (omega arith, (omega arith, (omega arith, (omega arith, (omega arith, (omega arith, (omega arith, (omega arith, (omega arith, (omega arith, tt))))))))))))
+      let ends = places (length r - 8) (places (length r - 4) []) in
+      step-picks (places 0 (places 4 ends))
+      (omega arith, (omega arith, (omega arith, (omega arith, (omega arith, (omega arith, (omega arith, (omega arith, (omega arith, (omega arith, (omega arith, (omega arith, (omega arith, (omega arith, (omega arith, (omega arith, tt))))))))))))))))
       (λ k b. elim (dec_lt k 4) [
-        | yes a ↦ place_here k 0 (places 4 (places (length r - 4) [])) (omega arith) (omega arith)
+        | yes a ↦ place_here k 0 (places 4 ends) (omega arith) (omega arith)
         | no a ↦
-            place-later k 0 (places 4 (places (length r - 4) []))
+            place-later k 0 (places 4 ends)
             (elim (dec_lt k 8) [
-              | yes c ↦ place_here k 4 (places (length r - 4) []) (omega arith) (omega arith)
-              | no c ↦ place-later k 4 (places (length r - 4) []) (place_here k (length r - 4) [] (omega arith) (omega arith))
+              | yes c ↦ place_here k 4 ends (omega arith) (omega arith)
+              | no c ↦ place-later k 4 ends (place-later k (length r - 8) (places (length r - 4) []) (place_here k (length r - 4) [] (omega arith) (omega arith)))
             ])
       ])
 
@@ -88,11 +88,6 @@ pub step-append : (r s : Row) → (is_step r || is_step s) ≡ is_step (r ++ s)
 unfolding is_step
 step-append [] s = refl
 step-append (b ∷ r) s = or_assoc (is_arrow (cell_of b)) (is_step r) (is_step s) ∙ ap (λ t. is_arrow (cell_of b) || t) (step-append r s)
-
--- four cells as a word
-pub half-word : (r : Row) (i : ℕ) → word_of (picks r (places i [])) ≡ half_word_at r i
-unfolding word_of
-half-word r i = omega arith
 
 -- between the two tests
 pub between : (n : ℕ) → (ltb n 4 || ltb 12 n) ≡ false → (4 ≤ n) × (n ≤ 12)

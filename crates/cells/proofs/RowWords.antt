@@ -1,35 +1,13 @@
--- What a row that is read as a word has, and a half with nothing above it.
-use mathlib.Core.Path.{◌≡◌, refl, ap, sym, ◌∙◌}
+-- What a row that is read as a word has.
+use mathlib.Core.Path.{◌≡◌, refl, sym, ◌∙◌}
 use mathlib.Core.Bool.{Bool, true, false, ◌||◌}
-use mathlib.Core.List.{List, [], ◌∷◌, ◌++◌}
-use Prim.Native.Nat.{ℕ, ◌+◌, ◌*◌}
-use native.Mathlib.Omega.{arith}
+use mathlib.Core.List.{[], ◌∷◌}
 use lib.Dec.{eqb}
 use Rattle.definitions.proofs.Bools.{equal-turned}
 use Rattle.definitions.specs.Lists.{among}
 use Rattle.definitions.specs.Lines.{Row}
-use Rattle.definitions.specs.Cells.{cell_of, is_arrow}
 use Rattle.definitions.specs.Figures.{is_step}
-use Rattle.lines.specs.Words.{word_of, Bytes}
 use Rattle.cells.proofs.Arrows.{arrow_byte}
-
--- a half with nothing above it
-abbrev pub nothing : List ℕ
-nothing = 0 ∷ 0 ∷ 0 ∷ 0 ∷ []
-
-pub over_word : (r : Row) → word_of (r ++ nothing) ≡ word_of r
-unfolding word_of
-over_word [] = refl
-over_word (x ∷ r) = ap (λ w. w * 256 + x) (over_word r)
-
-pub over-bytes : (r : Row) → Bytes r → Bytes (r ++ nothing)
-over-bytes [] h = (omega arith, (omega arith, (omega arith, (omega arith, tt))))
-over-bytes (x ∷ r) h = (h.0, over-bytes r h.1)
-
-pub over-step : (r : Row) → is_step (r ++ nothing) ≡ is_step r
-unfolding is_step cell_of
-over-step [] = refl
-over-step (b ∷ r) = ap (λ t. is_arrow (cell_of b) || t) (over-step r)
 
 pub gathered : (p q r s t u : Bool) → (((p || q) || r) || ((s || t) || u)) ≡ (((p || s) || (q || t)) || (r || u))
 gathered true q r s t u = refl

@@ -55,7 +55,7 @@ fn word_has_note(word: u64) -> bool
     words::has_byte(word, b'1') | words::has_byte(word, b'2') | words::has_byte(word, b'4')
 }
 
-/// Whether the row has an arrow: by words of its first four cells and others where it has four to twelve.
+/// Whether the row has an arrow: by words of eight cells where it has four to twelve, which may overlap.
 pub fn row_has_note(row: &[u8]) -> bool
     ensures { result ≡ is_step row.now }
 {
@@ -68,7 +68,7 @@ pub fn row_has_note(row: &[u8]) -> bool
     if n <= 8 {
         return has;
     }
-    has | word_has_note(words::half_at(row, n - 4))
+    has | word_has_note(words::half_at(row, n - 8) + words::half_at(row, n - 4) * 0x1_0000_0000)
 }
 
 // Whether every byte of a row is `0`, byte by byte.

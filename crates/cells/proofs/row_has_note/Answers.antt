@@ -1,15 +1,14 @@
 -- `cells::row_has_note` meets its contract: the cells that are looked at are all of the row's.
 use mathlib.Core.Path.{◌≡◌, refl, ap, ap₂, sym, ◌∙◌}
 use mathlib.Core.Bool.{Bool, ◌||◌}
-use mathlib.Core.List.{[], ◌++◌}
+use mathlib.Core.List.{[]}
 use Prim.Native.Nat.{ℕ, ◌+◌, ◌*◌, ◌-◌, ◌≤◌}
 use native.Mathlib.Omega.{arith}
 use lib.ListN.{length}
 use Rattle.definitions.specs.Figures.{is_step}
 use Rattle.lines.proofs.WordBytes.{bytes_read}
 use Rattle.lines.proofs.RowWords.{places, picks, picks-word, picks-bytes}
-use Rattle.cells.proofs.Ends.{step-ends, step-wide, step-append, half-word, between}
-use Rattle.cells.proofs.RowWords.{nothing, over_word, over-bytes, over-step}
+use Rattle.cells.proofs.Ends.{step-ends, step-wide, step-append, between}
 use Rattle.cells.proofs.row_has_note.Goals as goal
 
 -- `cells::row_has_note` meets its contract: the cells that are looked at are all of the row's.
@@ -42,13 +41,13 @@ pub returns : goal.returns
 returns c =
     let low : 8 ≤ length c.args.row.now = omega (arith, c.if-n-le8.false) in
     let mid : c.second_half-mid.result ≡ 4 = c.second_half-mid.ensures.many low in
-    let end = picks c.args.row.now (places (length c.args.row.now - 4) []) in
+    let places_of = places (length c.args.row.now - 8) (places (length c.args.row.now - 4) []) in
+    let end = picks c.args.row.now places_of in
     let last : c.word_has_note.result ≡ is_step end =
     c.word_has_note.ensures
     ∙ ap is_step
-    (bytes_read (end ++ nothing) _ refl (over-bytes end (picks-bytes c.args.row.now (λ k. (c.type_inv.row k).fits) (places (length c.args.row.now - 4) [])))
-    (over_word end ∙ half-word c.args.row.now (length c.args.row.now - 4) ∙ sym c.half_at-3.ensures.value))
-    ∙ over-step end in
+    (bytes_read end _ refl (picks-bytes c.args.row.now (λ k. (c.type_inv.row k).fits) places_of)
+    (picks-word c.args.row.now (length c.args.row.now - 8) (length c.args.row.now - 4) ∙ ap₂ (λ (x y : ℕ). x + y * 4294967296) (sym c.half_at-3.ensures.value) (sym c.half_at-4.ensures.value))) in
     let first : c.word_has_note-has.result ≡ is_step (picks c.args.row.now (places 0 (places 4 []))) = told-2 c ∙ ap (λ k. is_step (picks c.args.row.now (places 0 (places k [])))) mid in
     ap₂ (λ (x y : Bool). x || y) first last
     ∙ step-append (picks c.args.row.now (places 0 (places 4 []))) end
