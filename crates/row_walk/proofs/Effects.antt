@@ -1,4 +1,4 @@
--- A cell, whatever the tally is, and one that does nothing.
+-- A cell that does nothing.
 use mathlib.Core.Path.{◌≡◌, refl, sym}
 use mathlib.Core.List.{List}
 use Prim.Native.Nat.{ℕ}
@@ -7,28 +7,13 @@ use Rattle.definitions.specs.Cells.{cell_of}
 use Rattle.definitions.specs.Tracker.{hold_at}
 use Rattle.definitions.specs.Objects.{object_at}
 use Rattle.definitions.specs.Notes.{effect_at}
-use Rattle.definitions.specs.declared.ArrowStats.{ArrowStats}
-use Rattle.definitions.specs.declared.DepthEffect.{DepthEffect}
 use Rattle.definitions.specs.declared.DepthEffect as depth
-use Rattle.definitions.specs.declared.NoteEffect.{NoteEffect}
 use Rattle.definitions.specs.declared.NoteEffect.TheVariants.{Nothing}
 use Rattle.phantoms.proofs.Effects.{effect-none}
 use Rattle.row_notes.proofs.Steps.{step-nothing}
 use Rattle.row_walk.specs.Columns.{Ten, Free}
 use Rattle.row_walk.specs.Cells.{notes_of, CellWalked, ByteWalked}
 use Rattle.row_walk.specs.declared.cell_walk.Run.{Run}
-
--- the tally is no part of what a cell does to its column
-pub with-stats : (h o : DepthEffect) (n : NoteEffect) (c : ℕ) (r : Run) (l : List ℕ) (r' : Run) (l' : List ℕ) → CellWalked h o n c r l r' l'
-    → (t : ArrowStats) → CellWalked h o n c r l (record r' { stats = t }) l'
-with-stats h o n c r l r' l' w t = record {
-  phantoms = w.phantoms;
-  object_depth = w.object_depth;
-  ten = w.ten;
-  free = w.free;
-  last = w.last;
-  noted = w.noted;
-}
 
 -- a cell that does nothing
 pub walked-nothing : (c : ℕ) (r : Run) (l : List ℕ) → Ten r.columns → Free r.columns

@@ -1,8 +1,9 @@
 -- What one cell does, by its effects on the phantom depth, the object depth and the notes of its column: cited by the walk's own contracts.
-use Rattle.std.specs.Prelude.{◌≡◌, List, ℕ, ◌+◌, ◌<◌, slice_index, set, nat_lt, if◌then◌else◌}
+use Rattle.std.specs.Prelude.{◌≡◌, false, List, ℕ, ◌+◌, ◌<◌, slice_index, set, nat_lt, if◌then◌else◌}
 use Rattle.definitions.specs.Sizes.{count_bound}
 use Rattle.definitions.specs.Cells.{hold_effect, object_effect}
 use Rattle.definitions.specs.Tracker.{hold_at}
+use Rattle.definitions.specs.Tally.{direction, empty_sum}
 use Rattle.definitions.specs.Objects.{object_at, is_object, deeper}
 use Rattle.definitions.specs.Notes.{effect_of, effect_at}
 use Rattle.definitions.specs.declared.Cell.{Cell}
@@ -13,6 +14,8 @@ use Rattle.definitions.specs.declared.NoteEffect.{NoteEffect}
 use Rattle.definitions.specs.declared.NoteEffect.TheVariants.{Nothing, Closes, Single, Head}
 use Rattle.phantoms.specs.Phantoms.{Low, with_effect}
 use Rattle.row_tally.specs.Bounds.{Below}
+use Rattle.row_tally.specs.Sums.{add_by}
+use Rattle.row_tally.specs.Raised.{with_cells}
 use Rattle.row_notes.specs.Drafts.{step_cell}
 use Rattle.row_notes.specs.Writer.{NoteReady, NoteStepped}
 use Rattle.row_notes.specs.declared.ChartNotesScratch.{ChartNotesScratch}
@@ -47,6 +50,10 @@ pub record CellWalked (h o : DepthEffect) (n : NoteEffect) (c : ℕ) (r : Run) (
 -- the row is an object row where the column has an object depth
 abbrev pub object_ended : Run → ℕ → Run
 object_ended r c = record r { last = if nat_lt 0 (object_depth_in r c) then r.row + 1 else r.last }
+
+-- the tally with a cell in column c of so many
+abbrev pub with_cell : Run → ℕ → ℕ → Cell → Run
+with_cell r L c x = record r { stats = with_cells r.stats (add_by false empty_sum (direction L c) x) }
 
 abbrev pub Blocking : Kind → ℕ → Run → List ℕ → Run → List ℕ → Type 0
 Blocking k = CellWalked depth.TheVariants.Blocks depth.TheVariants.Blocks (Single k)

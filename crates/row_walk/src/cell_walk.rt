@@ -1,15 +1,14 @@
 // One cell of a row that is not ordinary: what it does to the tally, and to the phantom depth, the object depth and the notes of its column, told by
 // one match over the letters, all in place.
-ghost use Rattle.std.specs.Prelude.{◌≡◌, false, List, ℕ, ◌+◌, ◌-◌, ◌≤◌, ◌<◌};
+ghost use Rattle.std.specs.Prelude.{◌≡◌, false, ◌+◌, ◌-◌, ◌≤◌, ◌<◌};
 ghost use Rattle.definitions.specs.Sizes.{count_bound, row_numbers_bound};
 ghost use Rattle.definitions.specs.Cells.{cell_of};
 ghost use Rattle.definitions.specs.Tally.{direction as direction_of, empty_sum};
 ghost use Rattle.taps.specs.Taps.{bit};
-ghost use Rattle.row_tally.specs.Bounds.{EndsBelow};
+ghost use Rattle.row_tally.specs.Bounds.{Below, EndsBelow};
 ghost use Rattle.row_tally.specs.Sums.{add_by};
 ghost use Rattle.row_tally.specs.Raised.{with_cells, row_end};
-ghost use Rattle.row_walk.specs.Columns.{ColumnReady};
-ghost use Rattle.row_walk.specs.Cells.{CellFits, Blocking, Lower, Opening, Closing, Sounding, CellDone, ByteWalked, object_ended};
+ghost use Rattle.row_walk.specs.Cells.{CellFits, Blocking, Lower, Opening, Closing, Sounding, CellDone, ByteWalked, object_ended, with_cell};
 
 use crate::columns::Columns;
 use definitions::{ArrowStats, Cell, Kind, direction};
@@ -35,7 +34,14 @@ impl Run {
         ensures walked { Blocking kind column self.old slots.old self.new slots.new }
         ensures stats_stay { self.new.stats ≡ self.old.stats }
     {
-        row_notes::put_note(row_notes::NO_HEAD, self.count, self.row, column, kind, slots);
+        row_notes::put_note(
+            row_notes::NO_HEAD,
+            self.count,
+            self.row,
+            column,
+            kind,
+            slots,
+        );
         self.count += 1;
         self.last = self.row + 1;
     }
@@ -123,14 +129,22 @@ impl Run {
 
     // A K.
     #[inline(always)]
-    fn sound(&mut self, column: usize)
-        requires ready { ColumnReady self.old.columns column }
-        requires rows_few { self.old.row < row_numbers_bound }
-        ensures walked { (l : List ℕ) → Sounding column self.old l self.new l }
+    fn sound(&mut self, column: usize, slots: &mut [u8])
+        requires { CellFits self.old column slots.old }
+        ensures walked { Sounding column self.old slots.old self.new slots.new }
         ensures stats_stay { self.new.stats ≡ self.old.stats }
     {
         self.last = self.row + 1;
         self.columns.block_objects(column);
+    }
+
+    // The tally counts a cell of a row of so many.
+    #[inline(always)]
+    fn count(&mut self, columns: usize, column: usize, cell: Cell)
+        requires { Below (count_bound + 9) self.old.stats }
+        ensures { self.new ≡ with_cell self.old columns column cell }
+    {
+        row_tally::count_cell(&mut self.stats, direction(columns, column), cell, false);
     }
 
     /// One cell of a row of so many.
@@ -144,47 +158,47 @@ impl Run {
         match cell {
             Cell::Tap => {
                 self.block(column, Kind::Tap, slots);
-                row_tally::count_cell(&mut self.stats, direction(columns, column), Cell::Tap, false);
+                self.count(columns, column, Cell::Tap);
             }
             Cell::Hold => {
                 self.open(column, Kind::Hold, slots);
-                row_tally::count_cell(&mut self.stats, direction(columns, column), Cell::Hold, false);
+                self.count(columns, column, Cell::Hold);
             }
             Cell::Tail => {
                 self.close(column, slots);
-                row_tally::count_cell(&mut self.stats, direction(columns, column), Cell::Tail, false);
+                self.count(columns, column, Cell::Tail);
             }
             Cell::Roll => {
                 self.open(column, Kind::Roll, slots);
-                row_tally::count_cell(&mut self.stats, direction(columns, column), Cell::Roll, false);
+                self.count(columns, column, Cell::Roll);
             }
             Cell::Mine => {
                 self.block(column, Kind::Mine, slots);
-                row_tally::count_cell(&mut self.stats, direction(columns, column), Cell::Mine, false);
+                self.count(columns, column, Cell::Mine);
             }
             Cell::Lift => {
                 self.block(column, Kind::Lift, slots);
-                row_tally::count_cell(&mut self.stats, direction(columns, column), Cell::Lift, false);
+                self.count(columns, column, Cell::Lift);
             }
             Cell::Fake => {
                 self.block(column, Kind::Fake, slots);
-                row_tally::count_cell(&mut self.stats, direction(columns, column), Cell::Fake, false);
+                self.count(columns, column, Cell::Fake);
             }
             Cell::KeySound => {
-                self.sound(column);
-                row_tally::count_cell(&mut self.stats, direction(columns, column), Cell::KeySound, false);
+                self.sound(column, slots);
+                self.count(columns, column, Cell::KeySound);
             }
             Cell::LowerMine => {
                 self.lower(column, Kind::Mine, slots);
-                row_tally::count_cell(&mut self.stats, direction(columns, column), Cell::LowerMine, false);
+                self.count(columns, column, Cell::LowerMine);
             }
             Cell::LowerLift => {
                 self.lower(column, Kind::Lift, slots);
-                row_tally::count_cell(&mut self.stats, direction(columns, column), Cell::LowerLift, false);
+                self.count(columns, column, Cell::LowerLift);
             }
             Cell::LowerFake => {
                 self.lower(column, Kind::Fake, slots);
-                row_tally::count_cell(&mut self.stats, direction(columns, column), Cell::LowerFake, false);
+                self.count(columns, column, Cell::LowerFake);
             }
             Cell::Empty => {}
         }

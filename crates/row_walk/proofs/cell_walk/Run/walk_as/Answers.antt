@@ -3,11 +3,8 @@ use mathlib.Core.Path.{sym}
 use mathlib.Core.Bool.{false}
 use Rattle.definitions.specs.Tally.{direction}
 use Rattle.row_tally.proofs.Raised.{cell-none}
-use Rattle.row_walk.proofs.Effects.{with-stats, walked-nothing}
+use Rattle.row_walk.proofs.Effects.{walked-nothing}
 use Rattle.row_walk.proofs.cell_walk.Run.walk_as.Goals as goal
-
-pub returns-in-KeySound-clause-walked : goal.returns-in-KeySound-clause-walked
-returns-in-KeySound-clause-walked c = rw c.in-KeySound.is (with-stats _ _ _ _ _ _ _ _ (c.sound.ensures.walked _) _)
 
 pub returns-in-Empty-clause-counted : goal.returns-in-Empty-clause-counted
 returns-in-Empty-clause-counted c = rw c.in-Empty.is (sym (cell-none c.args.self.now.stats false (direction c.args.columns c.args.column)))
