@@ -12,7 +12,8 @@ use std::marker::Model;
 // Whether the first line of a text is a row and begins with no `,` or `;`. A byte 13 at its end takes none of its cells.
 fn is_back_row(text: &[u8], lanes: usize) -> bool
     requires { 0 < length text.now }
-    ensures { result ≡ (is_row_line lanes (first_line text.now) && not (begins_mark (first_line text.now))) }
+    ensures { result ≡ (is_row_line lanes (first_line text.now)
+        && not (begins_mark (first_line text.now))) }
 {
     let first = text[0];
     (first != b',') & (first != b';') & crate::begins_row(text, lanes)
@@ -62,7 +63,8 @@ struct RowAhead<'a> {
 fn look_ahead(text: &[u8], lanes: Lanes, step: usize) -> RowAhead<'_>
     requires { LineStep lanes.count step }
     ensures { YieldsFirstRef (λ s. s)
-        (rows_read_back lanes.count text.now) result.row (rows_read_back lanes.count result.rest.now) }
+        (rows_read_back lanes.count text.now)
+        result.row (rows_read_back lanes.count result.rest.now) }
 {
     let mut rest = text;
     while !rest.is_empty() {

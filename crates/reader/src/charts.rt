@@ -60,7 +60,8 @@ struct Ahead<'a> {
 // Whether the first line of a text is a row: where it begins with no blank and no `/`, and is told from `,` and `;` lines.
 fn is_row(text: &[u8], lanes: usize) -> bool
     requires { 0 < length text.now }
-    ensures { result ≡ (not (is_blank_byte (slice_index text.now 0)) && (not (slice_index text.now 0 == 47) && is_row_line lanes (first_line text.now))) }
+    ensures { result ≡ (not (is_blank_byte (slice_index text.now 0))
+        && (not (slice_index text.now 0 == 47) && is_row_line lanes (first_line text.now))) }
 {
     let first = text[0];
     !lines::is_blank(first) && first != b'/' && crate::begins_row(text, lanes)
@@ -70,7 +71,8 @@ fn is_row(text: &[u8], lanes: usize) -> bool
 // blanks is passed over too.
 fn past_first(text: &[u8]) -> &[u8]
     requires { 0 < length text.now }
-    ensures { result.now ≡ (if is_blank_byte (slice_index text.now 0) then trim (drop 1 text.now) else after 10 text.now) }
+    ensures { result.now ≡ (if is_blank_byte (slice_index text.now 0)
+        then trim (drop 1 text.now) else after 10 text.now) }
 {
     if lines::is_blank(text[0]) {
         lines::skip_ws(&text[1..])

@@ -219,8 +219,10 @@ impl Run {
     #[inline(always)]
     pub fn end_row(&mut self, arrows: u32, heads: u32, tails: u32)
         requires few { EndsBelow count_bound self.old.stats }
-        requires arrows_few { (arrows ≤ self.old.stats.total_arrows) × (self.old.stats.total_arrows ≤ arrows + 10) }
-        requires heads_few { (heads ≤ self.old.columns.phantoms.heads) × (self.old.columns.phantoms.heads ≤ heads + 10) }
+        requires arrows_few { (arrows ≤ self.old.stats.total_arrows)
+            × (self.old.stats.total_arrows ≤ arrows + 10) }
+        requires heads_few { (heads ≤ self.old.columns.phantoms.heads)
+            × (self.old.columns.phantoms.heads ≤ heads + 10) }
         requires tails_few { tails ≤ self.old.columns.phantoms.tails }
         requires rows_few { self.old.row < 4294967295 }
         ensures counted { self.new.stats ≡ row_end self.old.stats
