@@ -113,7 +113,8 @@ impl Tracker {
     ) -> u16
         requires inside { column < length cells.now }
         requires reached { Midway row cells.now self.old work.old ends column }
-        ensures { SweptOn row cells.now self.old work.old ends column self.new work.new result (column + 1) }
+        ensures { SweptOn row cells.now self.old work.old ends column
+            self.new work.new result (column + 1) }
     {
         let ended = self.track_cell(row, column, cells[column]);
         ends + mark(work, ended, column)
@@ -131,7 +132,8 @@ impl Tracker {
     ) -> u16
         requires inside { column + 4 ≤ length cells.now }
         requires reached { Midway row cells.now self.old work.old ends column }
-        ensures { SweptOn row cells.now self.old work.old ends column self.new work.new result (column + 4) }
+        ensures { SweptOn row cells.now self.old work.old ends column
+            self.new work.new result (column + 4) }
     {
         let one = self.track_cell_at(row, cells, column, ends, &mut *work);
         let two = self.track_cell_at(row, cells, column + 1, one, &mut *work);
@@ -151,7 +153,8 @@ impl Tracker {
     ) -> u16
         requires inside { from ≤ length cells.now }
         requires reached { Midway row cells.now self.old work.old before from }
-        ensures { SweptOn row cells.now self.old work.old before from self.new work.new result (length cells.now) }
+        ensures { SweptOn row cells.now self.old work.old before from
+            self.new work.new result (length cells.now) }
     {
         let mut ends = before;
         let mut column = from;
@@ -167,7 +170,8 @@ impl Tracker {
     fn track_all(&mut self, row: u32, cells: &[u8], work: &mut [u16]) -> u16
         requires wide { 4 ≤ length cells.now }
         requires reached { Midway row cells.now self.old work.old 0 0 }
-        ensures { SweptOn row cells.now self.old work.old 0 0 self.new work.new result (length cells.now) }
+        ensures { SweptOn row cells.now self.old work.old 0 0
+            self.new work.new result (length cells.now) }
     {
         let ends = self.track_four(row, cells, 0, 0, &mut *work);
         if cells.len() == 4 {

@@ -58,7 +58,8 @@ impl CleanRows {
         requires column_narrow { column < 10 }
         requires few { Below (count_bound + 9) self.old.stats }
         requires ready { Ready self.old }
-        ensures clean { is_some result ≡ not (unpairs Nothing (slice_index self.old.depths column)) }
+        ensures clean { is_some result
+            ≡ not (unpairs Nothing (slice_index self.old.depths column)) }
         ensures passed { OnSome result (CellPassed columns column Nothing cell self.old self.new) }
     {
         self.count(columns, column, cell);
@@ -119,7 +120,8 @@ impl CleanRows {
         requires few { Below (count_bound + 9) self.old.stats }
         requires ready { Ready self.old }
         ensures clean { is_some result ≡ not (unpairs Closes (slice_index self.old.depths column)) }
-        ensures passed { OnSome result (CellPassed columns column Closes Cell.Tail self.old self.new) }
+        ensures passed { OnSome result
+            (CellPassed columns column Closes Cell.Tail self.old self.new) }
     {
         self.count(columns, column, Cell::Tail);
         let depth = self.depths[column];
@@ -140,7 +142,8 @@ impl CleanRows {
         requires column_narrow { column < 10 }
         requires few { Below (count_bound + 9) self.old.stats }
         requires ready { Ready self.old }
-        ensures clean { is_some result ≡ not (unpairs (hold_at b) (slice_index self.old.depths column)) }
+        ensures clean { is_some result
+            ≡ not (unpairs (hold_at b) (slice_index self.old.depths column)) }
         ensures passed { OnSome result
             (CellPassed columns column (hold_at b) (cell_of b) self.old self.new) }
     {

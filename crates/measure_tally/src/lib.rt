@@ -149,7 +149,8 @@ impl Counting {
         requires narrow { length row.now ≤ 10 }
         requires few { Below (count_bound + 9) self.old.stats }
         requires low { Low (count_bound + 9) self.old.phantoms }
-        ensures { CellCounted (length row.now) column (slice_index row.now column) self.old self.new }
+        ensures { CellCounted (length row.now) column (slice_index row.now column)
+            self.old self.new }
     {
         let b = row[column];
         if b != b'0' {

@@ -53,7 +53,8 @@ fn count_head(
     judged: bool,
 ) -> u32
     requires few { Below (count_bound + 9) stats.old }
-    ensures { CellCounted judged direction (if paired then cell else Empty) stats.old stats.new result }
+    ensures { CellCounted judged direction (if paired then cell else Empty)
+        stats.old stats.new result }
 {
     if paired {
         return count_one(stats, direction, cell, judged);
@@ -156,7 +157,8 @@ fn count_from(
     requires narrow { length row.now ≤ 10 }
     requires inside { from ≤ length row.now }
     requires reached { Reached judged heads row.now from stats.old before }
-    ensures { CountedOn judged heads row.now from stats.old before (length row.now) stats.new result }
+    ensures { CountedOn judged heads row.now
+        from stats.old before (length row.now) stats.new result }
 {
     let mut tails = before;
     let mut column = from;
