@@ -136,9 +136,16 @@ fn past_blocks(slice: &[u8], needle: u8, from: usize) -> usize
 {
     let mut i = from;
     while i + 32 <= slice.len() {
-        let low = word_has(slice, needle, i) | word_has(slice, needle, i + 8);
-        let high = word_has(slice, needle, i + 16) | word_has(slice, needle, i + 24);
-        if low | high {
+        if word_has(slice, needle, i) {
+            break;
+        }
+        if word_has(slice, needle, i + 8) {
+            break;
+        }
+        if word_has(slice, needle, i + 16) {
+            break;
+        }
+        if word_has(slice, needle, i + 24) {
             break;
         }
         i += 32;

@@ -3,11 +3,11 @@ use mathlib.Core.Path.{◌≡◌, refl, ap, sym, ◌∙◌}
 use mathlib.Core.Logic.{⊎_elim}
 use mathlib.Core.Bool.{Bool, true, false, cond, ◌&&◌, not}
 use mathlib.Core.List.{List, [], ◌∷◌, ◌++◌, append_assoc, append-nil}
-use Prim.Native.Nat.{ℕ, ◌<◌, ◌≤◌}
+use Prim.Native.Nat.{ℕ, ◌-◌, ◌<◌, ◌≤◌}
 use native.Mathlib.Omega.{arith}
 use lib.ListN.{length, take, drop, get_or}
-use lib.Dec.{eqb, ltb}
-use borrow.Author.Tests.{eqb-true, eqb-false, ne_eqb, ltb-true, not-true}
+use lib.Dec.{eqb, ltb, leb}
+use borrow.Author.Tests.{eqb-true, eqb-false, ne_eqb, ltb-true, leb-true, not-true}
 use Rattle.definitions.proofs.Bools.{and_left, and_right}
 use Rattle.std.specs.Prelude.{Option, Some, None, fold}
 use Rattle.std.specs.List.{onto_first}
@@ -18,9 +18,9 @@ use Rattle.definitions.specs.declared.LineKind.{LineKind}
 use Rattle.definitions.specs.declared.LineKind.TheVariants as line
 use Rattle.lines.specs.Lines.{first_line}
 use Rattle.definitions.proofs.Lists.{after-cons}
-use Rattle.reader.specs.Reading.{near_cells, near_row, Below}
+use Rattle.reader.specs.Reading.{LineStep, near_cells, near_row, Below}
 use Rattle.reader.proofs.Cuts.{cut-below, after-less}
-use Rattle.reader.proofs.Plain.{near-front, bare, bare-row, first-cells, first-within}
+use Rattle.reader.proofs.Plain.{near-front, bare, bare-row, first-cells, first-within, below-step}
 use Rattle.reader.specs.Marks.{add_mark, marks, chart_marks, Held, held_with, held}
 
 -- ---- the first line of a text, and what follows it
@@ -160,6 +160,16 @@ marks-near L s below low high e w =
     let rest : chart_marks L (after 10 s) ≡ chart_marks L below =
     ap (chart_marks L) p.rest ∙ ⊎_elim (λ q. ap (chart_marks L) q) (λ q. ap (chart_marks L) q ∙ marks-empty L below) w in
     marks-first L s ∙ rw (row, rest, ← whole, ← kind)
+
+-- the same where its line has so many bytes
+pub marks-just : (L step : ℕ) (s : List ℕ) → 4 ≤ L → L ≤ 10 → LineStep L step → (leb 12 (length s) && (near_row L s && eqb (get_or s (step - 1) 0) 10)) ≡ true
+    → chart_marks L s ≡ Some (take L s) ∷ chart_marks L (drop step s)
+marks-just L step s low high w e =
+    let ends = eqb (get_or s (step - 1) 0) 10 in
+    let both = and_right (leb 12 (length s)) (near_row L s && ends) e in
+    let long = leb-true 12 (length s) (and_left (leb 12 (length s)) (near_row L s && ends) e) in
+    marks-near L s (drop step s) low high (and_left (near_row L s) ends both)
+    (below-step L step s w (omega arith) (eqb-true (get_or s (step - 1) 0) 10 (and_right (near_row L s) ends both)))
 
 -- ---- what marks come to
 

@@ -135,8 +135,8 @@ near-front L s low high e =
 -- ---- what follows it
 
 -- the newline stands right after the cells
-pub below-once : (L : ℕ) (s : List ℕ) → L < length s → get_or s L 0 ≡ 10 → Below (drop (L + 1) s) (after 10 (drop L s))
-below-once L s h e = inl (rw (drop-cons s L 0 h, after-cons, e, add-one))
+pub below-once : (L : ℕ) (s : List ℕ) → L < length s → get_or s L 0 ≡ 10 → drop (L + 1) s ≡ after 10 (drop L s)
+below-once L s h e = rw (drop-cons s L 0 h, after-cons, e, add-one)
 
 -- or is the last of so many bytes
 pub below-step : (L step : ℕ) (s : List ℕ) → LineStep L step → L + 2 ≤ length s → get_or s (step - 1) 0 ≡ 10 → Below (drop step s) (after 10 (drop L s))
@@ -144,7 +144,7 @@ below-step L step s w h e = elim (dec_lt (L + 1) step) [
   | no n ↦
       let u : step ≡ L + 1 = omega (arith, w) in
       let v : step - 1 ≡ L = omega arith in
-      rw u (below-once L s (omega arith) (rw v at e))
+      rw u (inl (sym (below-once L s (omega arith) (rw v at e))))
   | yes y ↦
       let u : step ≡ suc (suc L) = omega (arith, w) in
       let v : step - 1 ≡ suc L = omega arith in

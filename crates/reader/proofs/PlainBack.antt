@@ -6,7 +6,7 @@ use mathlib.Core.List.{List, [], ◌∷◌, ◌++◌}
 use Prim.Native.Nat.{ℕ, zero, suc, ◌-◌, ◌≤◌, ◌<◌}
 use native.Mathlib.Decide.{dec_lt}
 use native.Mathlib.Omega.{arith}
-use borrow.Author.Tests.{eq-eqb, eqb-true, eqb-false, le-leb, lt-leb, not-true}
+use borrow.Author.Tests.{eq-eqb, eqb-true, eqb-false, leb-true, le-leb, lt-leb, not-true}
 use lib.Dec.{eqb, ltb, leb}
 use lib.ListN.{length, get_or, take, drop}
 use lib.Seq.{get_or-take, length-take-le, take-take}
@@ -16,8 +16,8 @@ use Rattle.definitions.specs.ReadBack.{without_cr, begins_mark, back_row, rows_r
 use Rattle.definitions.proofs.Bools.{and_left, and_right, and-false}
 use Rattle.lines.specs.Lines.{first_line}
 use Rattle.lines.proofs.Trims.{trim-cr-last, trim-cr-none}
-use Rattle.reader.specs.Reading.{near_cells, near_back_row, Below}
-use Rattle.reader.proofs.Plain.{near-front, is-row, first-cells, first-within}
+use Rattle.reader.specs.Reading.{LineStep, near_cells, near_back_row, Below}
+use Rattle.reader.proofs.Plain.{near-front, is-row, first-cells, first-within, below-step}
 use Rattle.reader.proofs.BackReading.{trim-front, trim-less, trim-most}
 use Rattle.reader.proofs.BackLoops.{rows-first, rows-empty}
 
@@ -121,3 +121,13 @@ rows-near L s below low high e w =
     let rest : rows_read_back L (after 10 s) ≡ rows_read_back L below =
     ap (rows_read_back L) p.rest ∙ ⊎_elim (λ q. ap (rows_read_back L) q) (λ q. ap (rows_read_back L) q ∙ rows-empty L below (omega arith)) w in
     rows-step L s true (omega arith) (rw (← row, mark)) ∙ rw rest
+
+-- the same where its line has so many bytes
+pub rows-just : (L step : ℕ) (s : List ℕ) → 4 ≤ L → L ≤ 10 → LineStep L step → (leb 12 (length s) && (near_back_row L s && eqb (get_or s (step - 1) 0) 10)) ≡ true
+    → rows_read_back L s ≡ take L s ∷ rows_read_back L (drop step s)
+rows-just L step s low high w e =
+    let ends = eqb (get_or s (step - 1) 0) 10 in
+    let both = and_right (leb 12 (length s)) (near_back_row L s && ends) e in
+    let long = leb-true 12 (length s) (and_left (leb 12 (length s)) (near_back_row L s && ends) e) in
+    rows-near L s (drop step s) low high (and_left (near_back_row L s) ends both)
+    (below-step L step s w (omega arith) (eqb-true (get_or s (step - 1) 0) 10 (and_right (near_back_row L s) ends both)))

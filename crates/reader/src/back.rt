@@ -1,5 +1,5 @@
 // Reading minimised text back, as `parse_minimized_rows` does: by lines, with no blanks stripped, no comment known and no end at `;`.
-ghost use Rattle.std.specs.Prelude.{◌≡◌, ◌&&◌, not, ◌<◌, length};
+ghost use Rattle.std.specs.Prelude.{◌≡◌, ◌==◌, ◌<◌, ◌-◌, ◌&&◌, not, nat_le, length, slice_index};
 ghost use Rattle.definitions.specs.Lines.{is_row_line};
 ghost use Rattle.definitions.specs.ReadBack.{begins_mark, rows_read_back};
 ghost use Rattle.std.specs.Iterator.{YieldsFirstRef};
@@ -28,6 +28,17 @@ fn is_near_row(text: &[u8], lanes: Lanes) -> bool
     }
     let first = text[0];
     crate::has_cells(text, lanes) & (15 < first) & (first != b',') & (first != b';')
+}
+
+// Whether it does, and its line has `step` bytes with its newline, as most lines have.
+fn is_just_row(text: &[u8], lanes: Lanes, step: usize) -> bool
+    requires { LineStep lanes.count step }
+    ensures { result ≡ (nat_le 12 (length text.now) && (near_back_row lanes.count text.now && slice_index text.now (step - 1) == 10)) }
+{
+    if text.len() < 12 {
+        return false;
+    }
+    is_near_row(text, lanes) & (text[step - 1] == 10)
 }
 
 /// The rows of minimised text that is left to read back, each as a part of it. Clauses see the list of them.
@@ -60,25 +71,24 @@ struct RowAhead<'a> {
 
 // Line by line to the first row, written into each loop as that of a chart is.
 #[inline(always)]
-fn look_ahead(text: &[u8], lanes: Lanes, step: usize) -> RowAhead<'_>
-    requires { LineStep lanes.count step }
+fn look_ahead(text: &[u8], lanes: Lanes) -> RowAhead<'_>
     ensures { YieldsFirstRef (λ s. s)
         (rows_read_back lanes.count text.now)
         result.row (rows_read_back lanes.count result.rest.now) }
 {
     let mut rest = text;
     while !rest.is_empty() {
+        if is_near_row(rest, lanes) {
+            return RowAhead {
+                row: Some(&rest[..lanes.count]),
+                rest: crate::below_cells(rest, lanes),
+            };
+        }
         let below = lines::next_line(rest, 0).1;
         if is_back_row(rest, lanes.count) {
             return RowAhead {
                 row: Some(&rest[..lanes.count]),
                 rest: below,
-            };
-        }
-        if is_near_row(below, lanes) {
-            return RowAhead {
-                row: Some(&below[..lanes.count]),
-                rest: crate::below_row(below, lanes, step),
             };
         }
         rest = below;
@@ -95,15 +105,15 @@ impl<'a> Iterator for BackRows<'a> {
 
     ghost remaining = { item_count (λ rest. rest) };
 
-    // A row, as most lines are, is told by one look at its cells.
+    // A row, as most lines are, is told by one look.
     #[inline(always)]
     fn next(&mut self) -> Option<&'a [u8]> {
         let text = self.rest;
-        if is_near_row(text, self.lanes) {
-            self.rest = crate::below_row(text, self.lanes, self.step);
+        if is_just_row(text, self.lanes, self.step) {
+            self.rest = &text[self.step..];
             return Some(&text[..self.lanes.count]);
         }
-        let ahead = look_ahead(text, self.lanes, self.step);
+        let ahead = look_ahead(text, self.lanes);
         self.rest = ahead.rest;
         ahead.row
     }

@@ -1,5 +1,5 @@
 // The rows of a chart's text and the ends of its measures, one after the other, each row as a part of that text.
-ghost use Rattle.std.specs.Prelude.{◌≡◌, ◌==◌, ◌<◌, ◌&&◌, not, if◌then◌else◌, length, drop, slice_index};
+ghost use Rattle.std.specs.Prelude.{◌≡◌, ◌==◌, ◌<◌, ◌-◌, ◌&&◌, not, nat_le, if◌then◌else◌, length, drop, slice_index};
 ghost use Rattle.definitions.specs.Lists.{after};
 ghost use Rattle.definitions.specs.Lines.{is_blank_byte, is_row_line, trim};
 ghost use Rattle.lines.specs.Lines.{first_line};
@@ -50,6 +50,17 @@ fn is_near_row(text: &[u8], lanes: Lanes) -> bool
     crate::has_cells(text, lanes) & (b'/' < first) & (first != b';')
 }
 
+// Whether it does, and its line has `step` bytes with its newline, as most lines have.
+fn is_just_row(text: &[u8], lanes: Lanes, step: usize) -> bool
+    requires { LineStep lanes.count step }
+    ensures { result ≡ (nat_le 12 (length text.now) && (near_row lanes.count text.now && slice_index text.now (step - 1) == 10)) }
+{
+    if text.len() < 12 {
+        return false;
+    }
+    is_near_row(text, lanes) & (text[step - 1] == 10)
+}
+
 // The first line that counts, if any, and what of the text follows it.
 #[derive(Drop)]
 struct Ahead<'a> {
@@ -83,13 +94,18 @@ fn past_first(text: &[u8]) -> &[u8]
 
 // By the first byte to the first line that counts. It is written into each loop, where a row's length is then known to be the lane count.
 #[inline(always)]
-fn look_ahead(text: &[u8], lanes: Lanes, step: usize) -> Ahead<'_>
-    requires { LineStep lanes.count step }
+fn look_ahead(text: &[u8], lanes: Lanes) -> Ahead<'_>
     ensures { YieldsFirstBy mark_of (λ s. s)
         (chart_marks lanes.count text.now) result.line (chart_marks lanes.count result.rest.now) }
 {
     let mut rest = text;
     while !rest.is_empty() {
+        if is_near_row(rest, lanes) {
+            return Ahead {
+                line: Some(ChartLine::Row(&rest[..lanes.count])),
+                rest: crate::below_cells(rest, lanes),
+            };
+        }
         let first = rest[0];
         if first == b',' {
             return Ahead {
@@ -111,12 +127,6 @@ fn look_ahead(text: &[u8], lanes: Lanes, step: usize) -> Ahead<'_>
                 rest: below,
             };
         }
-        if is_near_row(below, lanes) {
-            return Ahead {
-                line: Some(ChartLine::Row(&below[..lanes.count])),
-                rest: crate::below_row(below, lanes, step),
-            };
-        }
         rest = below;
     }
     Ahead { line: None, rest }
@@ -132,15 +142,15 @@ impl<'a> Iterator for ChartLines<'a> {
 
     ghost remaining = { item_count (λ rest. rest) };
 
-    // A row that nothing stands before, as in most lines, is told by one look at its cells.
+    // A row that nothing stands before, as in most lines, is told by one look.
     #[inline(always)]
     fn next(&mut self) -> Option<ChartLine<'a>> {
         let text = self.rest;
-        if is_near_row(text, self.lanes) {
-            self.rest = crate::below_row(text, self.lanes, self.step);
+        if is_just_row(text, self.lanes, self.step) {
+            self.rest = &text[self.step..];
             return Some(ChartLine::Row(&text[..self.lanes.count]));
         }
-        let ahead = look_ahead(text, self.lanes, self.step);
+        let ahead = look_ahead(text, self.lanes);
         self.rest = ahead.rest;
         ahead.line
     }

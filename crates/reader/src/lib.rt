@@ -9,7 +9,7 @@ ghost use Rattle.std.specs.Prelude.{◌≡◌, ◌≤◌, length, drop, slice_in
 ghost use Rattle.definitions.specs.Lists.{among, after};
 ghost use Rattle.definitions.specs.Lines.{is_row_line};
 ghost use Rattle.lines.specs.Lines.{first_line};
-ghost use Rattle.reader.specs.Reading.{LineStep, near_cells, Below};
+ghost use Rattle.reader.specs.Reading.{LineStep, near_cells};
 
 use definitions::Lanes;
 
@@ -43,18 +43,11 @@ pub fn has_cells(text: &[u8], lanes: Lanes) -> bool
     lines::starts_high(text, lanes.count)
 }
 
-/// What follows the line of a row that the text begins with: its newline is the last of `step` bytes, as in most rows, or stands right after the cells,
-/// or is searched for.
-#[inline(always)]
-pub fn below_row(text: &[u8], lanes: Lanes, step: usize) -> &[u8]
-    requires twelve { 12 ≤ length text.now }
-    requires near { LineStep lanes.count step }
-    ensures { Below result.now (after 10 (drop lanes.count text.now)) }
+/// What follows the line of a row that the text begins with: its newline stands right after the cells, or is searched for.
+pub fn below_cells(text: &[u8], lanes: Lanes) -> &[u8]
+    requires { 12 ≤ length text.now }
+    ensures { result.now ≡ after 10 (drop lanes.count text.now) }
 {
-    let near = text[step - 1] == 10;
-    if near {
-        return &text[step..];
-    }
     let at_once = text[lanes.count] == 10;
     if at_once {
         return &text[lanes.count + 1..];

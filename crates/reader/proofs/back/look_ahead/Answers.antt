@@ -1,5 +1,6 @@
 -- `reader::back::look_ahead` meets its contract: the rows of what is left are those from its first line on.
 use Rattle.std.proofs.Common.{◌∷◌, take, sym, ap, ◌∙◌, arith, rules}
+use mathlib.Core.Logic.{inl}
 use lib.Seq.{length-take-le}
 use Rattle.std.proofs.lemmas.List.{nil_from_length}
 use Rattle.definitions.specs.ReadBack.{rows_read_back}
@@ -8,8 +9,8 @@ use Rattle.reader.proofs.BackLoops.{rows-none}
 use Rattle.reader.proofs.PlainBack.{rows-step, rows-near, row-within}
 use Rattle.reader.proofs.back.look_ahead.Goals as goal
 
-pub slice_bounds-result-end : goal.slice_bounds-result-end
-slice_bounds-result-end c = sym (length-take-le c.args.lanes.count _ (row-within _ _ (sym c.is_back_row.ensures ∙ c.if-is_back_row.true)))
+pub slice_bounds-result-end-then-is_back_row : goal.slice_bounds-result-end-then-is_back_row
+slice_bounds-result-end-then-is_back_row c = sym (length-take-le c.args.lanes.count _ (row-within _ _ (sym c.is_back_row.ensures ∙ c.if-is_back_row.true)))
 
 pub returns-then-is_back_row : goal.returns-then-is_back_row
 returns-then-is_back_row c =
@@ -20,10 +21,7 @@ returns-then-is_back_row c =
 pub returns-then-is_near_row : goal.returns-then-is_near_row
 returns-then-is_near_row c =
     let w = c.args.lanes.within in
-    c.loop-lanes.invariant
-    ∙ rows-step _ _ _ (omega (arith, w)) (sym c.if-is_back_row.false ∙ c.is_back_row.ensures)
-    ∙ ap (rows_read_back c.args.lanes.count) (sym c.next_line.ensures.below)
-    ∙ rows-near _ _ _ w.0 w.1 (sym c.is_near_row.ensures ∙ c.if-is_near_row.true) c.below_row.ensures
+    c.loop-lanes.invariant ∙ rows-near _ _ _ w.0 w.1 (sym c.is_near_row.ensures ∙ c.if-is_near_row.true) (inl (sym c.below_cells.ensures))
 
 pub loop-lanes-smaller : goal.loop-lanes-smaller
 loop-lanes-smaller c = after-less _ _ (search rules) c.next_line.ensures.below

@@ -1,5 +1,6 @@
 -- `reader::charts::look_ahead` meets its contract: the marks of what is left are those from its first line on.
 use Rattle.std.proofs.Common.{None, ◌∷◌, sym, ap, ◌∙◌, rules}
+use mathlib.Core.Logic.{inl}
 use lib.Seq.{length-take-le}
 use Rattle.std.proofs.lemmas.List.{nil_from_length}
 use Rattle.reader.specs.Marks.{chart_marks}
@@ -25,9 +26,7 @@ returns-then-is_row c =
 pub returns-then-is_near_row : goal.returns-then-is_near_row
 returns-then-is_near_row c =
     let w = c.args.lanes.within in
-    c.loop-lanes.invariant
-    ∙ marks-other _ _ _ _ (search rules) c.if-first-eq44.false c.if-ends.false (sym c.if-is_row.false ∙ c.is_row.ensures) c.past_first-below.ensures
-    ∙ marks-near _ _ _ w.0 w.1 (sym c.is_near_row.ensures ∙ c.if-is_near_row.true) c.below_row.ensures
+    c.loop-lanes.invariant ∙ marks-near _ _ _ w.0 w.1 (sym c.is_near_row.ensures ∙ c.if-is_near_row.true) (inl (sym c.below_cells.ensures))
 
 pub loop-lanes-smaller : goal.loop-lanes-smaller
 loop-lanes-smaller c = rest-less _ _ (search rules) c.past_first-below.ensures
