@@ -103,7 +103,14 @@ impl Tracker {
 
     // The cell of a row in a column, after which so many pairs with a judged head have ended at the row, `ends` of them before it.
     #[inline(always)]
-    fn track_cell_at(&mut self, row: u32, cells: &[u8], column: usize, ends: u16, work: &mut [u16]) -> u16
+    fn track_cell_at(
+        &mut self,
+        row: u32,
+        cells: &[u8],
+        column: usize,
+        ends: u16,
+        work: &mut [u16],
+    ) -> u16
         requires inside { column < length cells.now }
         requires reached { Midway row cells.now self.old work.old ends column }
         ensures { SweptOn row cells.now self.old work.old ends column self.new work.new result (column + 1) }
@@ -114,7 +121,14 @@ impl Tracker {
 
     // Four cells of a row from a column on, written one after the other.
     #[inline(always)]
-    fn track_four(&mut self, row: u32, cells: &[u8], column: usize, ends: u16, work: &mut [u16]) -> u16
+    fn track_four(
+        &mut self,
+        row: u32,
+        cells: &[u8],
+        column: usize,
+        ends: u16,
+        work: &mut [u16],
+    ) -> u16
         requires inside { column + 4 ≤ length cells.now }
         requires reached { Midway row cells.now self.old work.old ends column }
         ensures { SweptOn row cells.now self.old work.old ends column self.new work.new result (column + 4) }
@@ -127,7 +141,14 @@ impl Tracker {
 
     // The cells of a row from a column on, one by one.
     #[inline(never)]
-    fn track_from(&mut self, row: u32, cells: &[u8], from: usize, before: u16, work: &mut [u16]) -> u16
+    fn track_from(
+        &mut self,
+        row: u32,
+        cells: &[u8],
+        from: usize,
+        before: u16,
+        work: &mut [u16],
+    ) -> u16
         requires inside { from ≤ length cells.now }
         requires reached { Midway row cells.now self.old work.old before from }
         ensures { SweptOn row cells.now self.old work.old before from self.new work.new result (length cells.now) }

@@ -1,6 +1,6 @@
 // The judged tally of clean rows in one pass, as `process_rows_judgable` of the Rust counts: while every head is paired, the holds open before a
 // row are the open heads of the columns.
-ghost use Rattle.std.specs.Prelude.{◌≡◌, true, not, ℕ, ◌+◌, ◌≤◌, ◌<◌, length, slice_index, is_some, OnSome};
+ghost use Rattle.std.specs.Prelude.{◌≡◌, true, not, ℕ, ◌+◌, ◌≤◌, ◌<◌, length, slice_index, nat_eq, is_some, OnSome};
 ghost use Rattle.definitions.specs.Sizes.{count_bound, most_bytes};
 ghost use Rattle.definitions.specs.Tally.{empty_stats};
 ghost use Rattle.definitions.specs.ReadBack.{rows_read_back};
@@ -65,6 +65,16 @@ impl CleanRows {
         Some(())
     }
 
+    // Whether a column has no open head.
+    #[inline(always)]
+    fn is_free(&self, column: usize) -> bool
+        requires column_narrow { column < 10 }
+        requires ten { length self.now.depths ≡ 10 }
+        ensures { result ≡ nat_eq (slice_index self.now.depths column) 0 }
+    {
+        self.depths[column] == 0
+    }
+
     // A 1, M, L or F may meet no open head.
     #[inline(always)]
     fn meet(&mut self, columns: usize, column: usize, cell: Cell) -> Option<()>
@@ -75,10 +85,10 @@ impl CleanRows {
         ensures passed { OnSome result (CellPassed columns column Blocks cell self.old self.new) }
     {
         self.count(columns, column, cell);
-        if 0 < self.depths[column] {
-            return None;
+        if self.is_free(column) {
+            return Some(());
         }
-        Some(())
+        None
     }
 
     // A head is open from now on. A ninth of its column would not be pushed.
@@ -92,14 +102,14 @@ impl CleanRows {
         ensures passed { OnSome result (CellPassed columns column Opens cell self.old self.new) }
     {
         let depth = self.depths[column];
-        if 8 <= depth {
-            return None;
+        if depth < 8 {
+            self.count(columns, column, cell);
+            self.depths[column] = depth + 1;
+            self.active += 1;
+            self.busy = taps::with_column(self.busy, column);
+            return Some(());
         }
-        self.count(columns, column, cell);
-        self.depths[column] = depth + 1;
-        self.active += 1;
-        self.busy = taps::with_column(self.busy, column);
-        Some(())
+        None
     }
 
     // A tail closes the newest open head of its column, where there is one.

@@ -45,7 +45,13 @@ fn count_one(stats: &mut ArrowStats, direction: usize, cell: Cell, judged: bool)
 
 // A head more where it is paired, and else an empty cell.
 #[inline(always)]
-fn count_head(stats: &mut ArrowStats, direction: usize, cell: Cell, paired: bool, judged: bool) -> u32
+fn count_head(
+    stats: &mut ArrowStats,
+    direction: usize,
+    cell: Cell,
+    paired: bool,
+    judged: bool,
+) -> u32
     requires few { Below (count_bound + 9) stats.old }
     ensures { CellCounted judged direction (if paired then cell else Empty) stats.old stats.new result }
 {
@@ -80,7 +86,14 @@ fn count_byte(stats: &mut ArrowStats, direction: usize, b: u8, paired: bool, jud
 
 // The cell of a row in a column, with the tails among the cells before it and then with it.
 #[inline(always)]
-fn count_at(stats: &mut ArrowStats, row: &[u8], heads: u16, judged: bool, column: usize, tails: u32) -> u32
+fn count_at(
+    stats: &mut ArrowStats,
+    row: &[u8],
+    heads: u16,
+    judged: bool,
+    column: usize,
+    tails: u32,
+) -> u32
     requires narrow { length row.now ≤ 10 }
     requires inside { column < length row.now }
     requires reached { Reached judged heads row.now column stats.old tails }
@@ -93,7 +106,14 @@ fn count_at(stats: &mut ArrowStats, row: &[u8], heads: u16, judged: bool, column
 
 // Four cells of a row from a column on, written one after the other: a loop would take each count of the tally into a register.
 #[inline(always)]
-fn count_four(stats: &mut ArrowStats, row: &[u8], heads: u16, judged: bool, column: usize, tails: u32) -> u32
+fn count_four(
+    stats: &mut ArrowStats,
+    row: &[u8],
+    heads: u16,
+    judged: bool,
+    column: usize,
+    tails: u32,
+) -> u32
     requires narrow { length row.now ≤ 10 }
     requires inside { column + 4 ≤ length row.now }
     requires reached { Reached judged heads row.now column stats.old tails }
@@ -107,7 +127,14 @@ fn count_four(stats: &mut ArrowStats, row: &[u8], heads: u16, judged: bool, colu
 
 // The cell of a row in a column, where a loop asks.
 #[inline(never)]
-fn count_next(stats: &mut ArrowStats, row: &[u8], heads: u16, judged: bool, column: usize, tails: u32) -> u32
+fn count_next(
+    stats: &mut ArrowStats,
+    row: &[u8],
+    heads: u16,
+    judged: bool,
+    column: usize,
+    tails: u32,
+) -> u32
     requires narrow { length row.now ≤ 10 }
     requires inside { column < length row.now }
     requires reached { Reached judged heads row.now column stats.old tails }
@@ -118,7 +145,14 @@ fn count_next(stats: &mut ArrowStats, row: &[u8], heads: u16, judged: bool, colu
 
 // The cells of a row from a column on, one by one.
 #[inline(never)]
-fn count_from(stats: &mut ArrowStats, row: &[u8], heads: u16, judged: bool, from: usize, before: u32) -> u32
+fn count_from(
+    stats: &mut ArrowStats,
+    row: &[u8],
+    heads: u16,
+    judged: bool,
+    from: usize,
+    before: u32,
+) -> u32
     requires narrow { length row.now ≤ 10 }
     requires inside { from ≤ length row.now }
     requires reached { Reached judged heads row.now from stats.old before }
