@@ -15,6 +15,7 @@ ghost use Rattle.corrected_tally.specs.Heads.{Room, Heads};
 use definitions::{ArrowStats, Lanes};
 use holds::{Tracker, entry};
 use phantoms::Phantoms;
+use row_tally::paired;
 use taps::{TapTable, Taps};
 
 // Marks in each row's entry of the work slice, which is all 0, the heads that the tracker pairs.
@@ -41,7 +42,7 @@ fn count_row(stats: &mut ArrowStats, row: &[u8], heads: u16, table: &TapTable)
         Taps::Mask(mask) => row_tally::count_taps(stats, mask, table),
         Taps::Other => {
             if !cells::is_all_zero(row) {
-                row_tally::count_line_masked(stats, row, heads);
+                paired::count_line_masked(stats, row, heads);
             }
         }
     }

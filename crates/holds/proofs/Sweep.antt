@@ -16,23 +16,14 @@ use Rattle.definitions.specs.Cells.{byte_at}
 use Rattle.definitions.specs.Tracker.{next_stack, paired, hold_at, pairs, is_head_of}
 use Rattle.taps.specs.Taps.{FreeAre}
 use Rattle.holds.specs.Stacks.{stack_of, Sized, TrackReady, TrackStepped, ended_at}
-use Rattle.holds.specs.Tracks.{stack_after, ends_in, ends_at, Column, Tracks, LeftByRows, CellsDone, marked, judged_head}
+use Rattle.holds.specs.Tracks.{stack_after, ends_in, ends_at, Column, Tracks, LeftByRows, CellsDone, CellsTracked, marked, judged_head}
+use Rattle.holds.specs.Sweep.{Swept, Sweeping, Midway, SweptOn}
 use Rattle.holds.specs.declared.Tracker.{Tracker}
 use Rattle.holds.proofs.Stacks.{stack-length}
 use Rattle.holds.proofs.Pairs.{stack_snoc, pairs-snoc, stack-beyond, pairs-beyond, heads-append, stacked}
 use Rattle.holds.proofs.Bits.{above-same}
 use Rattle.holds.proofs.Ends.{sum-beyond, ends-late, ends-new}
 use Rattle.holds.proofs.Marks.{Below, ended-below, marked-same, marked_other, marked-high, marked-later, marked-length, judged-ends, judged-one}
-
--- The work slice was work₀ before the row, and n pairs with a judged head end at it in the columns before k.
-pub record Swept (J : ℕ → Bool) (rows : List Row) (cells : Row) (k : ℕ) (work₀ : List ℕ) (t : Tracker) (work : List ℕ) (n : ℕ) : Type 0 where
-  pub done : (c : ℕ) → c < k → c < 10 → Column (rows ++ (cells ∷ [])) c t work
-  pub left : (c : ℕ) → k ≤ c → c < 10 → Column rows c t work
-  pub high : (i : ℕ) → get_or work i 0 / 1024 ≡ get_or work₀ i 0 / 1024
-  pub later : (i : ℕ) → length rows ≤ i → get_or work i 0 ≡ 0
-  pub judged : (i : ℕ) → i < length rows → get_or work i 0 / 16384 ≡ number_of_bool (J i)
-  pub ends : n ≡ sum_columns k (λ c. ends_in J (length rows) (pairs (rows ++ (cells ∷ [])) c))
-  pub few : n ≤ k
 
 pub sweep-start : (J : ℕ → Bool) (rows : List Row) (cells : Row) (t : Tracker) (work : List ℕ) → Tracks J rows t work
     → Swept J rows cells 0 work t work 0
@@ -150,21 +141,16 @@ module _
                 few = omega (arith, s.few, sweep-one);
               }
 
--- which columns are busy is no part of a column
-column-busy : {rows : List Row} {c : ℕ} {t : Tracker} {work : List ℕ} (busy : ℕ) → Column rows c t work → Column rows c (record t { busy = busy }) work
-unfolding stack_of
-column-busy busy q = record { stack = q.stack; marks = q.marks }
-
 -- past the row's last cell
 pub sweep-end : (J : ℕ → Bool) (rows : List Row) (cells : Row) (k : ℕ) (work₀ : List ℕ) (t : Tracker) (work : List ℕ) (n : ℕ)
-    → Swept J rows cells k work₀ t work n → length cells ≤ k → k ≤ 10 → (busy : ℕ) → FreeAre busy 0 t.depths
-    → CellsDone J rows cells work₀ (record t { busy = busy }) work n
+    → Swept J rows cells k work₀ t work n → length cells ≤ k → k ≤ 10 → FreeAre t.busy 0 t.depths
+    → CellsDone J rows cells work₀ t work n
 unfolding ends_at
-sweep-end J rows cells k work₀ t work n s h l busy f =
+sweep-end J rows cells k work₀ t work n s h l f =
     record {
       columns =
           λ c m.
-          column-busy busy (elim (dec_lt c k) [ yes q ↦ s.done c q m | no q ↦ beyond c (omega arith) (s.left c (omega arith) m) ]);
+          elim (dec_lt c k) [ yes q ↦ s.done c q m | no q ↦ beyond c (omega arith) (s.left c (omega arith) m) ];
       busy = f;
       high = s.high;
       later = s.later;
@@ -182,61 +168,73 @@ sweep-end J rows cells k work₀ t work n s h l busy f =
           marks = λ i. q.marks i ∙ sym (ap (is_head_of i) (pairs-beyond rows cells c m));
         }
 
--- The loop's invariant: of whatever rows the tracker and the work slice were, they are swept up to column k.
-pub record Sweeping (row : ℕ) (cells : Row) (work₀ : List ℕ) (t₀ t : Tracker) (work : List ℕ) (n k : ℕ) : Type 0 where
-  pub within : k ≤ length cells
-  pub sized : Sized t
-  pub long : length work ≡ length work₀
-  pub swept : (J : ℕ → Bool) (rows : List Row) → length rows ≡ row → Tracks J rows t₀ work₀ → Swept J rows cells k work₀ t work n
+-- ---- Of whatever rows they were
+pub sweeping-start : (row : ℕ) (cells : Row) (t : Tracker) (work : List ℕ) → Sized t → LeftByRows row t work → Sweeping row cells work t t work 0 0
+sweeping-start row cells t work h x =
+    record { within = omega arith; sized = h; busy = x.tracks.busy; long = refl; swept = λ J rows e. sweep-start J rows cells t work }
 
-pub sweeping-start : (row : ℕ) (cells : Row) (t : Tracker) (work : List ℕ) → Sized t → Sweeping row cells work t t work 0 0
-sweeping-start row cells t work h =
-    record { within = omega arith; sized = h; long = refl; swept = λ J rows e. sweep-start J rows cells t work }
+pub midway-start : (row : ℕ) (cells : Row) (t : Tracker) (work : List ℕ) → Sized t → LeftByRows row t work → length cells ≤ 10 → row < length work
+    → Midway row cells t work 0 0
+midway-start row cells t work h x w r =
+    record { start = t; before = work; from = x; sweeping = sweeping-start row cells t work h x; narrow = w; room = r }
 
-module _
-    (row : ℕ)
-    (cells : Row)
-    (work₀ : List ℕ)
-    (t₀ t : Tracker)
-    (work : List ℕ)
-    (n k : ℕ)
-    (s : Sweeping row cells work₀ t₀ t work n k)
-    (from : LeftByRows row t₀ work₀)
-    (short : length cells ≤ 10)
-  where
-    swept : Swept from.judging from.rows cells k work₀ t work n
-    swept = s.swept from.judging from.rows from.size from.tracks
+pub midway-on : (row : ℕ) (cells : Row) (t t' : Tracker) (work work' : List ℕ) (n k n' k' : ℕ) → SweptOn row cells t work n k t' work' n' k'
+    → Midway row cells t work n k → Midway row cells t' work' n' k'
+midway-on row cells t t' work work' n k n' k' s m =
+    record { start = m.start; before = m.before; from = m.from; sweeping = s m.start m.before m.sweeping; narrow = m.narrow; room = m.room }
 
-    pub sweeping-end : length cells ≤ k → (J : ℕ → Bool) (rows : List Row) → length rows ≡ row → Tracks J rows t₀ work₀
-        → (busy : ℕ) → FreeAre busy 0 t.depths → CellsDone J rows cells work₀ (record t { busy = busy }) work n
-    sweeping-end h J rows e tracks = let in_row = s.within in sweep-end J rows cells k work₀ t work n (s.swept J rows e tracks) h (omega arith)
+module _ (row : ℕ) (cells : Row) (t : Tracker) (work : List ℕ) (n k : ℕ) (m : Midway row cells t work n k) where
+  swept : Swept m.from.judging m.from.rows cells k m.before t work n
+  swept = m.sweeping.swept m.from.judging m.from.rows m.from.size m.from.tracks
 
-    pub sweeping-few : n ≤ k
-    sweeping-few = swept.few
+  pub midway-few : n ≤ 10
+  midway-few = omega (arith, swept.few, m.sweeping.within, m.narrow)
 
-    module _ (more : k < length cells) where
-      pub sweeping-ready : TrackReady k t
-      sweeping-ready = sweep-ready from.judging from.rows cells k work₀ t work n swept (omega arith) s.sized
+  module _ (more : k < length cells) where
+    inside : k < 10
+    inside = omega (arith, m.narrow)
 
-      module _ (t' : Tracker) (ended : Option ℕ) (m : TrackStepped (hold_at (get_or cells k 0)) row k t t' (ended_at row ended)) (room : row < length work₀) where
-        in-room : row < length work
-        in-room = let e = s.long in omega arith
+    pub midway-ready : TrackReady k t
+    midway-ready = sweep-ready m.from.judging m.from.rows cells k m.before t work n swept inside m.sweeping.sized
 
-        pub sweeping-below : Below (length work) ended
-        sweeping-below h q =
-            let size = from.size in
-            let in-work = in-room in
-            omega (arith, sweep-below from.judging from.rows cells k work₀ t work n swept (omega arith) t' ended row from.size more m h q)
+    module _ (t' : Tracker) (ended : Option ℕ) (s : TrackStepped (hold_at (get_or cells k 0)) row k t t' (ended_at row ended)) where
+      in-room : row < length work
+      in-room = omega (arith, m.sweeping.long, m.room)
 
-        pub sweeping-next : (work' : List ℕ) (j : ℕ) → work' ≡ marked ended k work → j ≡ judged_head ended work
-            → Sweeping row cells work₀ t₀ t' work' (n + j) (k + 1)
-        sweeping-next work' j p q =
-            rw (p, q)
-            (record {
-              within = omega arith;
-              sized = m.sized;
-              long = marked-length ended k work ∙ s.long;
-              swept =
-                  λ J rows e tracks.
-                  sweep-next J rows cells k work₀ t work n (s.swept J rows e tracks) (omega arith) t' ended row e more m in-room;
-            })
+      pub midway-below : Below (length work) ended
+      midway-below h q =
+          omega (arith, m.from.size, in-room, sweep-below m.from.judging m.from.rows cells k m.before t work n swept inside t' ended row m.from.size more s h q)
+
+      pub midway-next : (work' : List ℕ) (j : ℕ) → work' ≡ marked ended k work → j ≡ judged_head ended work
+          → SweptOn row cells t work n k t' work' (n + j) (k + 1)
+      midway-next work' j p q t₀ work₀ x =
+          rw (p, q)
+          (record {
+            within = omega arith;
+            sized = s.sized;
+            busy = s.busy x.busy;
+            long = marked-length ended k work ∙ x.long;
+            swept =
+                λ J rows e tracks.
+                sweep-next J rows cells k work₀ t work n (x.swept J rows e tracks) inside t' ended row e more s in-room;
+          })
+
+-- all cells of a row
+pub sweeping-end : (row : ℕ) (cells : Row) (work₀ : List ℕ) (t₀ t : Tracker) (work : List ℕ) (n : ℕ) → length cells ≤ 10
+    → Sweeping row cells work₀ t₀ t work n (length cells) → CellsTracked row cells t₀ work₀ t work n
+sweeping-end row cells work₀ t₀ t work n w s J rows e tracks =
+    sweep-end J rows cells (length cells) work₀ t work n (s.swept J rows e tracks) (omega arith) w s.busy
+
+-- ---- Some columns, and then others
+moved : (row : ℕ) (cells : Row) (work₀ : List ℕ) (t₀ t : Tracker) (work : List ℕ) (n k k' : ℕ) → k ≡ k' → Sweeping row cells work₀ t₀ t work n k
+    → Sweeping row cells work₀ t₀ t work n k'
+moved row cells work₀ t₀ t work n k k' e s = rw (← e) s
+
+-- the next column is swept
+pub swept-to : (row : ℕ) (cells : Row) (t t' : Tracker) (work work' : List ℕ) (n n' k j j' : ℕ) → j ≡ j'
+    → SweptOn row cells t work n k t' work' n' j → SweptOn row cells t work n k t' work' n' j'
+swept-to row cells t t' work work' n n' k j j' e s t₀ work₀ x = moved row cells work₀ t₀ t' work' n' j j' e (s t₀ work₀ x)
+
+pub swept-both : (row : ℕ) (cells : Row) (t t' t'' : Tracker) (work work' work'' : List ℕ) (n n' n'' k k' k'' : ℕ) → SweptOn row cells t work n k t' work' n' k'
+    → SweptOn row cells t' work' n' k' t'' work'' n'' k'' → SweptOn row cells t work n k t'' work'' n'' k''
+swept-both row cells t t' t'' work work' work'' n n' n'' k k' k'' p q t₀ work₀ x = q t₀ work₀ (p t₀ work₀ x)

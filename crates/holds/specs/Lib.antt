@@ -2,3 +2,4 @@
 pub mod Entry
 pub mod Stacks
 pub mod Tracks
+pub mod Sweep

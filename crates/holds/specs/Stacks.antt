@@ -2,6 +2,7 @@
 use Rattle.std.specs.Prelude.{◌≡◌, Option, Some, None, List, [], ◌∷◌, ℕ, zero, suc, ◌+◌, ◌*◌, ◌≤◌, ◌<◌, length, slice_index}
 use Rattle.definitions.specs.Tracker.{Pair, next_stack, paired}
 use Rattle.definitions.specs.declared.DepthEffect.{DepthEffect}
+use Rattle.taps.specs.Taps.{FreeAre}
 use Rattle.holds.specs.declared.Tracker.{Tracker}
 
 -- the first d heads at column c's places, newest first
@@ -39,3 +40,4 @@ pub record TrackStepped (e : DepthEffect) (row c : ℕ) (t t' : Tracker) (ps : L
   pub pairs : ps ≡ paired e row (stack_of t c)
   pub sized : Sized t'
   pub others : (d : ℕ) → d < 10 → (d ≡ c → ⊥) → stack_of t' d ≡ stack_of t d
+  pub busy : FreeAre t.busy 0 t.depths → FreeAre t'.busy 0 t'.depths

@@ -2,6 +2,6 @@
 pub mod Tracking
 pub mod Tallying
 pub mod Paired
-pub mod Columns
+pub mod Cells
 pub mod Rows
 pub mod JudgedPass

@@ -21,7 +21,6 @@ use Rattle.taps.proofs.Free.{Free, zero-cell, tap-there, free-cell}
 use Rattle.judged.specs.Clean.{unpairs}
 use Rattle.judged.specs.JudgedPass.{row_unpairs, DepthsPassed, Ready}
 use Rattle.judged.specs.declared.judged_pass.CleanRows.{CleanRows}
-use Rattle.judged.proofs.Columns.{depth_low}
 
 -- a sum of n numbers of at most k
 sum-most : (k n : ℕ) (f : ℕ → ℕ) → ((c : ℕ) → c < n → f c ≤ k) → sum_columns n f ≤ n * k
@@ -50,16 +49,6 @@ active_few t r = rw r.active (few-open 10 8 t.depths r.ten r.low)
 pub none-unpairs : (row : Row) (depths : List ℕ) → row_unpairs row depths ≡ false → (c : ℕ) → c < 10 → unpairs (hold_at (byte_at c row)) (get_or depths c 0) ≡ false
 unfolding row_unpairs
 none-unpairs row depths k c h = column-each 10 (λ c. unpairs (hold_at (byte_at c row)) (get_or depths c 0)) k c h
-
-pub cells-ready : (row : Row) (t r : CleanRows) → Ready t → row_unpairs row t.depths ≡ false → DepthsPassed row t.depths r.depths
-    → length r.depths ≡ 10 → r.active ≡ sum r.depths → FreeAre r.busy 0 r.depths → Ready r
-cells-ready row t r x e p n a b =
-    record {
-      ten = n;
-      low = λ c h. rw (p c h) (depth_low (hold_at (byte_at c row)) (get_or t.depths c 0) (x.low c h) (none-unpairs row t.depths e c h));
-      active = a;
-      busy = b;
-    }
 
 -- ---- Free taps
 -- in a column of depth d, which is 0 where `busy` has no bit of it

@@ -1,19 +1,22 @@
 -- What the private functions of the one pass leave: of a cell, of a row's cells, and of a row.
-use Rattle.std.specs.Prelude.{◌≡◌, Option, Some, None, Bool, true, if◌then◌else◌, List, ℕ, ◌≤◌, ◌<◌, length, slice_index, sum}
+use Rattle.std.specs.Prelude.{◌≡◌, Option, None, Bool, true, false, List, ℕ, ◌≤◌, ◌<◌, length, slice_index, slice_set, sum}
 use Rattle.definitions.specs.Lists.{some_column}
+use Rattle.definitions.specs.Sizes.{count_bound}
 use Rattle.definitions.specs.Lines.{Row}
 use Rattle.definitions.specs.Cells.{byte_at}
+use Rattle.definitions.specs.Tally.{direction, empty_sum}
+use Rattle.definitions.specs.declared.Cell.{Cell}
 use Rattle.definitions.specs.Tracker.{hold_at}
 use Rattle.definitions.specs.Correction.{phantom_step}
 use Rattle.definitions.specs.Judged.{judged_sum, judge_row}
 use Rattle.definitions.specs.declared.DepthEffect.{DepthEffect}
 use Rattle.taps.specs.Taps.{FreeAre}
+use Rattle.row_tally.specs.Before.{sum_before}
+use Rattle.row_tally.specs.Bounds.{Below}
+use Rattle.row_tally.specs.Raised.{with_cells}
+use Rattle.row_tally.specs.Sums.{add_by}
 use Rattle.judged.specs.Clean.{unpairs}
 use Rattle.judged.specs.declared.judged_pass.CleanRows.{CleanRows}
-
--- The depth of a column after a cell, from the depth d on, unless the cell leaves a head unpaired.
-abbrev pub clean_depth : DepthEffect → ℕ → Option ℕ
-clean_depth e d = if unpairs e d then None else Some (phantom_step e d)
 
 -- some cell of a row leaves a head unpaired, in columns of these depths
 unfoldable pub row_unpairs : Row → List ℕ → Bool
@@ -35,3 +38,39 @@ pub record RowPassed (row : Row) (t t' : CleanRows) : Type 0 where
   pub depths : DepthsPassed row t.depths t'.depths
   pub stats : t'.stats ≡ judge_row t.stats true t.active (judged_sum true row)
   pub ready : Ready t'
+
+-- ---- Cell by cell
+-- One cell more in a column is counted, and the rest is as it was.
+pub record CellCounted (L c : ℕ) (x : Cell) (t t' : CleanRows) : Type 0 where
+  pub stats : t'.stats ≡ with_cells t.stats (add_by true empty_sum (direction L c) x)
+  pub depths : t'.depths ≡ t.depths
+  pub active : t'.active ≡ t.active
+  pub busy : t'.busy ≡ t.busy
+
+-- One cell x more in column c of L, where it does e.
+pub record CellPassed (L c : ℕ) (e : DepthEffect) (x : Cell) (t t' : CleanRows) : Type 0 where
+  pub stats : t'.stats ≡ with_cells t.stats (add_by true empty_sum (direction L c) x)
+  pub depths : t'.depths ≡ slice_set t.depths c (phantom_step e (slice_index t.depths c))
+  pub ready : Ready t'
+
+-- What is left of t when the cells of a row before column i have passed, none of which leaves a head unpaired.
+pub record Passing (row : Row) (i : ℕ) (t t' : CleanRows) : Type 0 where
+  pub stats : t'.stats ≡ with_cells t.stats (sum_before true row i)
+  pub done : (c : ℕ) → c < i → slice_index t'.depths c ≡ phantom_step (hold_at (byte_at c row)) (slice_index t.depths c)
+  pub left : (c : ℕ) → i ≤ c → slice_index t'.depths c ≡ slice_index t.depths c
+  pub whole : some_column i (λ c. unpairs (hold_at (byte_at c row)) (slice_index t.depths c)) ≡ false
+  pub ready : Ready t'
+
+-- It is left of some t whose counts are low.
+pub record Reached (row : Row) (i : ℕ) (t' : CleanRows) : Type 0 where
+  pub start : CleanRows
+  pub few : Below count_bound start.stats
+  pub passing : Passing row i start t'
+
+-- the cells from column i to j pass too
+abbrev pub PassingOn : Row → ℕ → ℕ → CleanRows → CleanRows → Type 0
+PassingOn row i j t' t'' = (t : CleanRows) → Passing row i t t' → Passing row j t t''
+
+-- where they do not, the row leaves a head unpaired
+abbrev pub Unclean : Row → ℕ → CleanRows → Option Unit → Type 0
+Unclean row i t' result = result ≡ None → (t : CleanRows) → Passing row i t t' → row_unpairs row t.depths ≡ true

@@ -1,18 +1,20 @@
 // The judged tally of clean rows in one pass, as `process_rows_judgable` of the Rust counts: while every head is paired, the holds open before a
 // row are the open heads of the columns.
-ghost use Rattle.std.specs.Prelude.{◌≡◌, true, not, ℕ, ◌≤◌, ◌<◌, length, slice_index, is_some, OnSome, IfSome};
+ghost use Rattle.std.specs.Prelude.{◌≡◌, true, not, ℕ, ◌+◌, ◌≤◌, ◌<◌, length, slice_index, nat_eq, is_some, OnSome};
 ghost use Rattle.definitions.specs.Sizes.{count_bound, most_bytes};
 ghost use Rattle.definitions.specs.Tally.{empty_stats};
 ghost use Rattle.definitions.specs.ReadBack.{rows_read_back};
+ghost use Rattle.definitions.specs.Cells.{cell_of};
 ghost use Rattle.definitions.specs.Tracker.{hold_at};
-ghost use Rattle.definitions.specs.Judged.{judged_sum};
 ghost use Rattle.definitions.specs.Lines.{Row};
+ghost use Rattle.definitions.specs.declared.Cell;
+ghost use Rattle.definitions.specs.declared.DepthEffect.TheVariants.{Nothing, Blocks, Opens, Closes};
 ghost use Rattle.taps.specs.Taps.{FreeTaps, masks};
 ghost use Rattle.row_tally.specs.Bounds.{Below};
-ghost use Rattle.judged.specs.Clean.{clean_answer};
-ghost use Rattle.judged.specs.JudgedPass.{clean_depth, row_unpairs, DepthsPassed, Ready, RowPassed};
+ghost use Rattle.judged.specs.Clean.{unpairs, clean_answer};
+ghost use Rattle.judged.specs.JudgedPass.{row_unpairs, Ready, RowPassed, CellCounted, CellPassed, Reached, PassingOn, Unclean};
 
-use definitions::{ArrowStats, Cell, DepthEffect, Lanes, RowSum, direction};
+use definitions::{ArrowStats, Cell, Lanes, direction};
 use taps::{TapTable, Taps};
 
 /// What the pass has of the rows so far: the tally, the open heads of each column, of up to ten, the holds open before the next row, and the
@@ -40,18 +42,231 @@ impl CleanRows {
         }
     }
 
-    // One row more, cell by cell.
+    // A cell of a column is counted, and leaves the column as it is.
+    #[inline(always)]
+    fn count(&mut self, columns: usize, column: usize, cell: Cell)
+        requires column_narrow { column < 10 }
+        requires few { Below (count_bound + 9) self.old.stats }
+        ensures { CellCounted columns column cell self.old self.new }
+    {
+        row_tally::count_cell(&mut self.stats, direction(columns, column), cell, true);
+    }
+
+    // A cell that does nothing to its column.
+    #[inline(always)]
+    fn pass(&mut self, columns: usize, column: usize, cell: Cell) -> Option<()>
+        requires column_narrow { column < 10 }
+        requires few { Below (count_bound + 9) self.old.stats }
+        requires ready { Ready self.old }
+        ensures clean { is_some result ≡ not (unpairs Nothing (slice_index self.old.depths column)) }
+        ensures passed { OnSome result (CellPassed columns column Nothing cell self.old self.new) }
+    {
+        self.count(columns, column, cell);
+        Some(())
+    }
+
+    // Whether a column has no open head.
+    #[inline(always)]
+    fn is_free(&self, column: usize) -> bool
+        requires column_narrow { column < 10 }
+        requires ten { length self.now.depths ≡ 10 }
+        ensures { result ≡ nat_eq (slice_index self.now.depths column) 0 }
+    {
+        self.depths[column] == 0
+    }
+
+    // A 1, M, L or F may meet no open head.
+    #[inline(always)]
+    fn meet(&mut self, columns: usize, column: usize, cell: Cell) -> Option<()>
+        requires column_narrow { column < 10 }
+        requires few { Below (count_bound + 9) self.old.stats }
+        requires ready { Ready self.old }
+        ensures clean { is_some result ≡ not (unpairs Blocks (slice_index self.old.depths column)) }
+        ensures passed { OnSome result (CellPassed columns column Blocks cell self.old self.new) }
+    {
+        self.count(columns, column, cell);
+        if self.is_free(column) {
+            return Some(());
+        }
+        None
+    }
+
+    // A head is open from now on. A ninth of its column would not be pushed.
+    #[inline(always)]
+    #[tactic(auto, using(crate::proofs::Rows::active_few))]
+    fn open(&mut self, columns: usize, column: usize, cell: Cell) -> Option<()>
+        requires column_narrow { column < 10 }
+        requires few { Below (count_bound + 9) self.old.stats }
+        requires ready { Ready self.old }
+        ensures clean { is_some result ≡ not (unpairs Opens (slice_index self.old.depths column)) }
+        ensures passed { OnSome result (CellPassed columns column Opens cell self.old self.new) }
+    {
+        let depth = self.depths[column];
+        if depth < 8 {
+            self.count(columns, column, cell);
+            self.depths[column] = depth + 1;
+            self.active += 1;
+            self.busy = taps::with_column(self.busy, column);
+            return Some(());
+        }
+        None
+    }
+
+    // A tail closes the newest open head of its column, where there is one.
+    #[inline(always)]
+    fn close(&mut self, columns: usize, column: usize) -> Option<()>
+        requires column_narrow { column < 10 }
+        requires few { Below (count_bound + 9) self.old.stats }
+        requires ready { Ready self.old }
+        ensures clean { is_some result ≡ not (unpairs Closes (slice_index self.old.depths column)) }
+        ensures passed { OnSome result (CellPassed columns column Closes Cell.Tail self.old self.new) }
+    {
+        self.count(columns, column, Cell::Tail);
+        let depth = self.depths[column];
+        if 0 < depth {
+            self.depths[column] = depth - 1;
+            self.active -= 1;
+            if depth == 1 {
+                self.busy = taps::without_column(self.busy, column);
+            }
+        }
+        Some(())
+    }
+
+    // One cell of a column more, by one match, unless it leaves a head unpaired.
+    #[inline(always)]
+    #[tactic(auto, unfolding(definitions::specs::Tracker::hold_at))]
+    fn add_cell(&mut self, columns: usize, column: usize, b: u8) -> Option<()>
+        requires column_narrow { column < 10 }
+        requires few { Below (count_bound + 9) self.old.stats }
+        requires ready { Ready self.old }
+        ensures clean { is_some result ≡ not (unpairs (hold_at b) (slice_index self.old.depths column)) }
+        ensures passed { OnSome result
+            (CellPassed columns column (hold_at b) (cell_of b) self.old self.new) }
+    {
+        match cells::cell_of(b) {
+            Cell::Empty => self.pass(columns, column, Cell::Empty),
+            Cell::Tap => self.meet(columns, column, Cell::Tap),
+            Cell::Hold => self.open(columns, column, Cell::Hold),
+            Cell::Tail => self.close(columns, column),
+            Cell::Roll => self.open(columns, column, Cell::Roll),
+            Cell::Mine => self.meet(columns, column, Cell::Mine),
+            Cell::Lift => self.meet(columns, column, Cell::Lift),
+            Cell::Fake => self.meet(columns, column, Cell::Fake),
+            Cell::KeySound => self.pass(columns, column, Cell::KeySound),
+            Cell::LowerMine => self.pass(columns, column, Cell::LowerMine),
+            Cell::LowerLift => self.pass(columns, column, Cell::LowerLift),
+            Cell::LowerFake => self.pass(columns, column, Cell::LowerFake),
+        }
+    }
+
+    // The cell of a row in a column.
+    #[inline(always)]
+    fn add_cell_at(&mut self, row: &[u8], column: usize) -> Option<()>
+        requires narrow { length row.now ≤ 10 }
+        requires inside { column < length row.now }
+        requires reached { Reached row.now column self.old }
+        ensures clean { Unclean row.now column self.old result }
+        ensures passed { OnSome result (PassingOn row.now column (column + 1) self.old self.new) }
+    {
+        self.add_cell(row.len(), column, row[column])
+    }
+
+    // Four cells of a row from a column on, written one after the other: a loop would take each count of the tally into a register.
+    #[inline(always)]
+    fn add_four(&mut self, row: &[u8], column: usize) -> Option<()>
+        requires narrow { length row.now ≤ 10 }
+        requires inside { column + 4 ≤ length row.now }
+        requires reached { Reached row.now column self.old }
+        ensures clean { Unclean row.now column self.old result }
+        ensures passed { OnSome result (PassingOn row.now column (column + 4) self.old self.new) }
+    {
+        self.add_cell_at(row, column)?;
+        self.add_cell_at(row, column + 1)?;
+        self.add_cell_at(row, column + 2)?;
+        self.add_cell_at(row, column + 3)?;
+        Some(())
+    }
+
+    // The cell of a row in a column, where a loop asks.
+    #[inline(never)]
+    fn add_one(&mut self, row: &[u8], column: usize) -> Option<()>
+        requires narrow { length row.now ≤ 10 }
+        requires inside { column < length row.now }
+        requires reached { Reached row.now column self.old }
+        ensures clean { Unclean row.now column self.old result }
+        ensures passed { OnSome result (PassingOn row.now column (column + 1) self.old self.new) }
+    {
+        self.add_cell_at(row, column)
+    }
+
+    // The cells of a row from a column on, one by one.
+    fn add_from(&mut self, row: &[u8], from: usize) -> Option<()>
+        requires narrow { length row.now ≤ 10 }
+        requires inside { from ≤ length row.now }
+        requires reached { Reached row.now from self.old }
+        ensures clean { Unclean row.now from self.old result }
+        ensures passed { OnSome result (PassingOn row.now from (length row.now) self.old self.new) }
+    {
+        let mut column = from;
+        while column < row.len() {
+            self.add_one(row, column)?;
+            column += 1;
+        }
+        Some(())
+    }
+
+    // The cells of a row past its fourth: one or four, and then one by one.
+    #[inline(never)]
+    fn add_rest(&mut self, row: &[u8]) -> Option<()>
+        requires narrow { length row.now ≤ 10 }
+        requires more { 4 < length row.now }
+        requires reached { Reached row.now 4 self.old }
+        ensures clean { Unclean row.now 4 self.old result }
+        ensures passed { OnSome result (PassingOn row.now 4 (length row.now) self.old self.new) }
+    {
+        if row.len() < 8 {
+            self.add_cell_at(row, 4)?;
+            return self.add_from(row, 5);
+        }
+        self.add_four(row, 4)?;
+        self.add_from(row, 8)
+    }
+
+    // All cells of a row.
+    #[inline(always)]
+    fn add_all(&mut self, row: &[u8]) -> Option<()>
+        requires wide { 4 ≤ length row.now }
+        requires narrow { length row.now ≤ 10 }
+        requires reached { Reached row.now 0 self.old }
+        ensures clean { Unclean row.now 0 self.old result }
+        ensures passed { OnSome result (PassingOn row.now 0 (length row.now) self.old self.new) }
+    {
+        self.add_four(row, 0)?;
+        if row.len() == 4 {
+            return Some(());
+        }
+        self.add_rest(row)
+    }
+
+    // One row more, cell by cell. What the tally's arrows, mines and fakes grow by is the row's.
+    #[inline(never)]
     fn add_cells(&mut self, row: &[u8]) -> Option<()>
+        requires wide { 4 ≤ length row.now }
         requires narrow { length row.now ≤ 10 }
         requires ready { Ready self.old }
         requires few { Below count_bound self.old.stats }
         ensures clean { is_some result ≡ not (row_unpairs row.now self.old.depths) }
         ensures passed { OnSome result (RowPassed row.now self.old self.new) }
     {
-        let sum = clean_cells(&mut self.depths, row)?;
-        row_tally::add_judged_row(&mut self.stats, true, self.active, sum);
-        self.active = self.depths.iter().sum();
-        self.busy = taps::unlike(&self.depths, 0);
+        let held = self.active;
+        let arrows = self.stats.total_arrows;
+        let mines = self.stats.mines;
+        let fakes = self.stats.fakes;
+        self.add_all(row)?;
+        let row_arrows = self.stats.total_arrows - arrows;
+        let others = (self.stats.mines - mines) + (self.stats.fakes - fakes);
+        row_tally::end_judged_row(&mut self.stats, true, row_arrows, others, held);
         Some(())
     }
 
@@ -83,43 +298,6 @@ impl CleanRows {
             Taps::Other => self.add_cells(row),
         }
     }
-}
-
-// The depth of a column after a cell, unless the cell leaves a head unpaired: no 1, M, L or F may meet an open head, and a ninth head would not
-// be pushed.
-fn depth_after(b: u8, depth: u32) -> Option<u32>
-    requires { depth ≤ 8 }
-    ensures { result ≡ clean_depth (hold_at b) depth }
-{
-    match cells::hold_effect(b) {
-        DepthEffect::Nothing => Some(depth),
-        DepthEffect::Blocks => { if depth == 0 { Some(0) } else { None } }
-        DepthEffect::Opens => { if depth < 8 { Some(depth + 1) } else { None } }
-        DepthEffect::Closes => Some(depth.saturating_sub(1)),
-    }
-}
-
-// The cells of a row, one column after the other: what they add up to on a judged row, unless one leaves a head unpaired. Most are empty, which
-// change nothing.
-fn clean_cells(depths: &mut [u32; 10], row: &[u8]) -> Option<RowSum>
-    requires narrow { length row.now ≤ 10 }
-    requires ten { length depths.old ≡ 10 }
-    requires depths_bound { (c : ℕ) → c < 10 → slice_index depths.old c ≤ 8 }
-    ensures clean { is_some result ≡ not (row_unpairs row.now depths.old) }
-    ensures sum { IfSome result (λ sum. sum ≡ judged_sum true row.now) }
-    ensures depths_after { OnSome result (DepthsPassed row.now depths.old depths.new) }
-{
-    let mut sum = row_tally::no_sum();
-    for (column, &b) in row.iter().enumerate() {
-        match cells::cell_of(b) {
-            Cell::Empty => {}
-            _ => {
-                depths[column] = depth_after(b, depths[column])?;
-                sum = row_tally::judged_cell(sum, direction(row.len(), column), b);
-            }
-        }
-    }
-    Some(sum)
 }
 
 /// The judged tally of a text's rows, every row judged: an answer is given exactly where they are clean.

@@ -20,6 +20,7 @@ ghost use Rattle.judged.specs.Timing.{judged_by, tally_by, new_holds, empty_timi
 
 use definitions::{ArrowStats, Lanes, Refusal};
 use holds::{Tracker, entry};
+use row_tally::paired;
 use taps::{TapTable, Taps};
 
 /// The judged tally of the rows so far, and the holds open before the next one.
@@ -40,19 +41,26 @@ impl TimingStats {
         }
     }
 
-    // One row more, by its entry. A tail's hold is open through the tail's row; an unjudged row's sum has no head.
+    // One row more, by its entry. A tail's hold is open through the tail's row; an unjudged row opens none.
+    #[inline(always)]
     fn add_row(&mut self, cells: &[u8], entry: u16)
+        requires wide { 4 ≤ length cells.now }
         requires narrow { length cells.now ≤ 10 }
         requires few { Below count_bound self.old.stats }
         requires held_few { self.old.active ≤ count_bound }
         requires ends_open { ends_of entry ≤ self.old.active + new_holds entry cells.now }
         ensures { self.new ≡ timing_row self.old entry cells.now }
     {
-        let judged = entry::is_judged(entry);
-        let sum = row_tally::judged_sum_masked(judged, cells, entry::heads(entry));
-        row_tally::add_judged_row(&mut self.stats, judged, self.active, sum);
-        self.active += sum.holds + sum.rolls;
-        self.active -= entry::ends(entry);
+        let heads = entry::heads(entry);
+        let ends = entry::ends(entry);
+        if !entry::is_judged(entry) {
+            paired::fake_line_masked(&mut self.stats, cells, heads);
+            self.active -= ends;
+            return;
+        }
+        let opened = paired::judge_line_masked(&mut self.stats, cells, heads, self.active);
+        self.active += opened;
+        self.active -= ends;
     }
 
     // One row of taps alone more, by its entry: no hold begins or ends there.

@@ -1,5 +1,5 @@
 -- What the cells of a row do to what is counted, before the row's end: cited by private functions alone.
-use Rattle.std.specs.Prelude.{◌≡◌, ℕ, ◌+◌, false, length, slice_index}
+use Rattle.std.specs.Prelude.{◌≡◌, ℕ, zero, suc, ◌+◌, false, length, slice_index}
 use Rattle.definitions.specs.Lines.{Row}
 use Rattle.definitions.specs.Cells.{cell_of}
 use Rattle.definitions.specs.Tracker.{hold_at}
@@ -35,12 +35,7 @@ pub record CellCounted (columns c b : ℕ) (k r : Counting) : Type 0 where
 abbrev pub ColumnCounted : Row → ℕ → Counting → Counting → Type 0
 ColumnCounted row c = CellCounted (length row) c (slice_index row c)
 
--- those in four columns, one after the other
-pub record FourCounted (row : Row) (c : ℕ) (k r : Counting) : Type 0 where
-  pub one : Counting
-  pub two : Counting
-  pub three : Counting
-  pub first : ColumnCounted row c k one
-  pub second : ColumnCounted row (c + 1) one two
-  pub third : ColumnCounted row (c + 2) two three
-  pub fourth : ColumnCounted row (c + 3) three r
+-- those in n columns from c on, one after the other
+abbrev pub ColumnsCounted : Row → ℕ → ℕ → Counting → Counting → Type 0
+ColumnsCounted row c zero k r = r ≡ k
+ColumnsCounted row c (suc n) k r = (m : Counting) × (ColumnCounted row c k m × ColumnsCounted row (c + 1) n m r)

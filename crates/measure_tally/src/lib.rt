@@ -11,7 +11,7 @@ ghost use Rattle.reduction.specs.States.{HoldingOpen, EndsMeasure};
 ghost use Rattle.row_tally.specs.Bounds.{Below};
 ghost use Rattle.phantoms.specs.Phantoms.{Low};
 ghost use Rattle.definitions.specs.declared.DepthEffect.TheVariants.{Blocks, Opens, Closes};
-ghost use Rattle.measure_tally.specs.Cells.{EffectDone, CellCounted, FourCounted};
+ghost use Rattle.measure_tally.specs.Cells.{EffectDone, CellCounted, ColumnsCounted};
 ghost use Rattle.measure_tally.specs.Counted.{Few, Counted, CountsRow, CountsAll};
 
 use definitions::{ArrowStats, Cell, direction};
@@ -87,9 +87,8 @@ impl Counting {
         }
     }
 
-    // One cell of a row of so many, by one match. It stays a call of its own: written into its loop, each count would go through a register for the
-    // whole row.
-    #[inline(never)]
+    // One cell of a row of so many, by one match. It is written into each column: in a loop each count would go through a register for the whole row.
+    #[inline(always)]
     fn count_cell(&mut self, columns: usize, column: usize, b: u8)
         requires column_narrow { column < 10 }
         requires few { Below (count_bound + 9) self.old.stats }
@@ -164,12 +163,53 @@ impl Counting {
         requires narrow { length row.now ≤ 10 }
         requires few { Below (count_bound + from) self.old.stats }
         requires low { Low (count_bound + from) self.old.phantoms }
-        ensures { FourCounted row.now from self.old self.new }
+        ensures { ColumnsCounted row.now from 4 self.old self.new }
     {
         self.count_column(row, from);
         self.count_column(row, from + 1);
         self.count_column(row, from + 2);
         self.count_column(row, from + 3);
+    }
+
+    // The cells from a column on, of which there are three at most.
+    #[inline(always)]
+    fn count_rest(&mut self, row: &[u8], from: usize)
+        requires few_left { length row.now ≤ from + 3 }
+        requires narrow { length row.now ≤ 10 }
+        requires few { Below (count_bound + from) self.old.stats }
+        requires low { Low (count_bound + from) self.old.phantoms }
+        ensures { ColumnsCounted row.now from (length row.now - from) self.old self.new }
+    {
+        if row.len() <= from {
+            return;
+        }
+        self.count_column(row, from);
+        if row.len() <= from + 1 {
+            return;
+        }
+        self.count_column(row, from + 1);
+        if row.len() <= from + 2 {
+            return;
+        }
+        self.count_column(row, from + 2);
+    }
+
+    // All cells of a row.
+    #[inline(always)]
+    fn count_columns(&mut self, row: &[u8])
+        requires wide { 4 ≤ length row.now }
+        requires narrow { length row.now ≤ 10 }
+        requires few { Below count_bound self.old.stats }
+        requires low { Low count_bound self.old.phantoms }
+        ensures { ColumnsCounted row.now 0 (length row.now) self.old self.new }
+    {
+        self.count_four(row, 0);
+        if row.len() < 8 {
+            self.count_rest(row, 4);
+            return;
+        }
+        self.count_four(row, 4);
+        self.count_rest(row, 8);
     }
 
     // One row more, cell by cell. Its arrows, heads and tails are what these have grown by.
@@ -184,16 +224,7 @@ impl Counting {
         let arrows = self.stats.total_arrows;
         let heads = self.phantoms.heads;
         let tails = self.phantoms.tails;
-        self.count_four(row, 0);
-        let mut i = 4;
-        if 8 <= row.len() {
-            self.count_four(row, 4);
-            i = 8;
-        }
-        while i < row.len() {
-            self.count_column(row, i);
-            i += 1;
-        }
+        self.count_columns(row);
         let arrows = self.stats.total_arrows - arrows;
         let heads = self.phantoms.heads - heads;
         let tails = self.phantoms.tails - tails;

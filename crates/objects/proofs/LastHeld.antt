@@ -10,18 +10,15 @@ use lib.ListN.{length, length-append}
 use Rattle.definitions.specs.Sizes.{measures_bound, row_count_bound}
 use Rattle.definitions.specs.Lists.{joined, only_if}
 use Rattle.definitions.specs.Lines.{Row}
-use Rattle.definitions.specs.Reduction.{all_zero}
 use Rattle.definitions.specs.Objects.{Depths, after_row, after_rows, object_row, Place, objects_in, objects_from, last_of}
 use Rattle.definitions.proofs.Lists.{joined_snoc}
 use Rattle.taps.specs.Taps.{FreeAre}
 use Rattle.beats.proofs.Placed.{placed-nothing, placed_at}
 use Rattle.objects.specs.declared.Depths.{Depths as Held}
-use Rattle.objects.specs.declared.Objects.{Objects}
-use Rattle.objects.specs.Rows.{DepthsHeld, DepthsLow, NoDepths, RowDone}
+use Rattle.objects.specs.Rows.{DepthsHeld, DepthsLow, NoDepths, Objects, RowDone}
 use Rattle.objects.proofs.Scan.{low-more}
 use Rattle.objects.specs.declared.LastScan.{LastScan}
 use Rattle.objects.specs.LastHeld.{row_last, depths_after, LastHeld, counted}
-use Rattle.objects.proofs.Zeros.{zero-after, zero-object}
 
 -- one row more
 rows_snoc : (D : Depths) (xs : List Row) (x : Row) → after_rows D (xs ++ (x ∷ [])) ≡ after_row (after_rows D xs) x
@@ -117,21 +114,6 @@ held-start d n =
     }
 
 module _ (s : LastScan) (done : List (List Row)) (cur : List Row) (x : LastHeld s done cur) where
-  -- a row that is all zero
-  pub held-zero : (row : Row) → all_zero row ≡ true → LastHeld (counted s false) done (cur ++ (row ∷ []))
-  held-zero row z =
-      record {
-        depths = subst (λ E. DepthsHeld E s.depths) (sym (rows_snoc (depths_after done) cur row ∙ zero-after (after_rows (depths_after done) cur) row z)) x.depths;
-        low = low-more _ _ s.depths (rw length-append (omega arith)) x.low;
-        found = x.found;
-        placed = x.placed;
-        row = x.row ∙ sym (row_snoc (depths_after done) 0 None cur row ∙ rw (zero-object (after_rows (depths_after done) cur) row z));
-        inside = λ r e. rw length-append (omega (arith, x.inside r e));
-        rows = rw length-append (omega (arith, x.rows));
-        midx = x.midx;
-        free = x.free;
-      }
-
   -- any row, by what the object row's test says
   module _ (row : Row) (o : Objects) (w : RowDone row s.depths o) (busy : ℕ) (free : FreeAre busy 0 o.depths.depths) where
     depths-after : DepthsHeld (after_rows (depths_after done) (cur ++ (row ∷ []))) o.depths

@@ -2,4 +2,5 @@
 pub mod Scan
 pub mod Zeros
 pub mod LastHeld
+pub mod Columns
 pub mod Free

@@ -79,7 +79,7 @@ past_end : (row : Row) (l : List ℕ) (c : ℕ) → length row ≤ c → get_or 
 unfolding object_at cell_of
 past_end row l c h = rw (get_or-eq_default row 48 h)
 
-deeper-le : (e : DepthEffect) (d : ℕ) → deeper e d ≤ d + 1
+pub deeper-le : (e : DepthEffect) (d : ℕ) → deeper e d ≤ d + 1
 deeper-le Nothing d = omega arith
 deeper-le Blocks d = omega arith
 deeper-le Opens d = omega arith

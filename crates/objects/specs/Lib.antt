@@ -1,3 +1,4 @@
 -- What the contracts of the object rows cite, beside the definitions.
 pub mod Rows
 pub mod LastHeld
+pub mod Columns

@@ -1,11 +1,9 @@
 -- The depths of the last beat in a struct of ten numbers, and what the object row's test leaves there.
-use Rattle.std.specs.Prelude.{◌≡◌, ℕ, ◌+◌, ◌<◌, ◌≤◌, slice_index}
+use Rattle.std.specs.Prelude.{◌≡◌, Bool, ℕ, ◌+◌, ◌<◌, ◌≤◌, slice_index}
 use Rattle.definitions.specs.Lines.{Row}
-use Rattle.definitions.specs.Objects.{object_at, is_object, deeper, after_row, object_row}
+use Rattle.definitions.specs.Objects.{after_row, object_row}
 use Rattle.definitions.specs.Objects as objects
 use Rattle.objects.specs.declared.Depths.{Depths}
-use Rattle.objects.specs.declared.Objects.{Objects}
-use Rattle.objects.specs.declared.ObjectCell.{ObjectCell}
 
 -- the depth of a column
 abbrev pub depth_at : Depths → ℕ → ℕ
@@ -24,10 +22,10 @@ pub record NoDepths (r : Depths) : Type 0 where
   pub none : DepthsHeld (λ c. 0) r
   pub low : DepthsLow 0 r
 
--- One cell: whether it makes its row an object row, and the depth after it.
-pub record CellDone (b d : ℕ) (r : ObjectCell) : Type 0 where
-  pub object : r.object ≡ is_object (object_at b) d
-  pub depth : r.depth ≡ deeper (object_at b) d
+-- Whether a row is an object row, and the depths after it.
+pub record Objects : Type 0 where
+  pub object : Bool
+  pub depths : Depths
 
 -- A row: whatever depths the struct held, the answer is of those, and the struct then holds the depths after the row. Each depth grows by
 -- at most 1.

@@ -1,9 +1,11 @@
 // The object rows of the last beat, and the last of them, one row after the other and measure by measure.
 #![tactic(auto)]
 
-ghost use Rattle.std.specs.Prelude.{◌≡◌, [], ◌≤◌, ◌<◌, length};
-ghost use Rattle.definitions.specs.Sizes.{measures_bound, row_numbers_bound, row_count_bound};
-ghost use Rattle.objects.specs.Rows.{DepthsLow, NoDepths, CellDone, RowDone};
+ghost use Rattle.std.specs.Prelude.{◌≡◌, [], ◌+◌, ◌-◌, ◌≤◌, ◌<◌, length};
+ghost use Rattle.definitions.specs.Sizes.{count_bound, measures_bound, row_numbers_bound, row_count_bound};
+ghost use Rattle.definitions.specs.declared.DepthEffect.TheVariants.{Blocks, Opens, Closes};
+ghost use Rattle.objects.specs.Rows.{DepthsLow, NoDepths};
+ghost use Rattle.objects.specs.Columns.{EffectDone, ColumnDone, ColumnsDone};
 ghost use Rattle.reduction.specs.States.{AddsRow, EndsMeasure};
 ghost use Rattle.objects.specs.LastHeld.{counted, LastHeld};
 
@@ -22,70 +24,6 @@ pub fn no_depths() -> Depths
     ensures { NoDepths result }
 {
     Depths { depths: [0; 10] }
-}
-
-/// Whether a row is an object row, and the depths after it.
-#[derive(Clone, Copy)]
-pub struct Objects {
-    pub object: bool,
-    pub depths: Depths,
-}
-
-/// The same of one cell.
-#[derive(Clone, Copy)]
-pub struct ObjectCell {
-    pub object: bool,
-    pub depth: u32,
-}
-
-/// One cell of an object row's test, in a column of that depth.
-pub fn object_cell(b: u8, depth: u32) -> ObjectCell
-    requires { depth < 4294967295 }
-    ensures { CellDone b depth result }
-{
-    match cells::object_effect(b) {
-        DepthEffect::Nothing => ObjectCell {
-            object: false,
-            depth,
-        },
-        DepthEffect::Blocks => ObjectCell {
-            object: true,
-            depth: 0,
-        },
-        DepthEffect::Opens => ObjectCell {
-            object: false,
-            depth: depth + 1,
-        },
-        DepthEffect::Closes => {
-            if 0 < depth {
-                ObjectCell {
-                    object: true,
-                    depth: depth - 1,
-                }
-            } else {
-                ObjectCell {
-                    object: false,
-                    depth: 0,
-                }
-            }
-        }
-    }
-}
-
-/// Whether the row is an object row where its columns have these depths, and the depths after it. Each grows by at most 1.
-pub fn row_has_object(row: &[u8], old: Depths) -> Objects
-    requires narrow { length row.now ≤ 10 }
-    requires depths_low { DepthsLow 4294967294 old }
-    ensures { RowDone row.now old result }
-{
-    let mut depths = old;
-    let mut object = false;
-    for (i, &b) in row.iter().enumerate() {
-        let cell = object_cell(b, depths.depths[i]);
-        depths.depths[i] = cell.depth;
-        object |= cell.object;
-    }
-    Objects { object, depths }
 }
 
 /// The depths of the columns, the last object row of the measures that have ended and that of the open one, by its number there; the rows of
@@ -126,28 +64,135 @@ impl LastScan {
         self.rows += 1;
     }
 
-    // One row more, by its cells. One that is all zero is no object row and changes no depth.
-    fn add_cells(&mut self, cells: &[u8])
-        requires narrow { length cells.now ≤ 10 }
-        requires rows_few { self.old.rows < row_numbers_bound }
-        requires depths_low { DepthsLow 4294967294 self.old.depths }
-        ensures { AddsRow cells.now (LastHeld self.old) (LastHeld self.new) }
+    // A 1, M, L, F or K in a column: its row is an object row.
+    #[inline(always)]
+    fn block(&mut self, column: usize)
+        requires { column < 10 }
+        ensures { EffectDone column Blocks self.old self.new }
     {
-        if cells::is_all_zero(cells) {
-            self.count_row(false);
+        self.row = Some(self.rows);
+        self.depths.depths[column] = 0;
+        self.busy = taps::without_column(self.busy, column);
+    }
+
+    // A head in a column.
+    #[inline(always)]
+    fn open(&mut self, column: usize)
+        requires column_narrow { column < 10 }
+        requires depths_low { DepthsLow (count_bound + 9) self.old.depths }
+        ensures { EffectDone column Opens self.old self.new }
+    {
+        self.depths.depths[column] += 1;
+        self.busy = taps::with_column(self.busy, column);
+    }
+
+    // A tail in a column: where it closes something its row is an object row.
+    #[inline(always)]
+    fn close(&mut self, column: usize)
+        requires { column < 10 }
+        ensures { EffectDone column Closes self.old self.new }
+    {
+        let depth = self.depths.depths[column];
+        if depth == 0 {
             return;
         }
-        let row = row_has_object(cells, self.depths);
-        self.busy = taps::unlike(&row.depths.depths, 0);
-        self.depths = row.depths;
-        self.count_row(row.object);
+        self.row = Some(self.rows);
+        self.depths.depths[column] = depth - 1;
+        if depth == 1 {
+            self.busy = taps::without_column(self.busy, column);
+        }
+    }
+
+    // The cell in a column.
+    #[inline(always)]
+    fn add_column(&mut self, cells: &[u8], column: usize)
+        requires inside { column < length cells.now }
+        requires narrow { length cells.now ≤ 10 }
+        requires depths_low { DepthsLow (count_bound + 9) self.old.depths }
+        ensures { ColumnDone cells.now column self.old self.new }
+    {
+        match cells::object_effect(cells[column]) {
+            DepthEffect::Nothing => {}
+            DepthEffect::Blocks => self.block(column),
+            DepthEffect::Opens => self.open(column),
+            DepthEffect::Closes => self.close(column),
+        }
+    }
+
+    // The cells of four columns. They are written one by one, which costs less than a loop.
+    #[inline(always)]
+    fn add_four(&mut self, cells: &[u8], from: usize)
+        requires inside { from + 4 ≤ length cells.now }
+        requires narrow { length cells.now ≤ 10 }
+        requires depths_low { DepthsLow (count_bound + from) self.old.depths }
+        ensures { ColumnsDone cells.now from 4 self.old self.new }
+    {
+        self.add_column(cells, from);
+        self.add_column(cells, from + 1);
+        self.add_column(cells, from + 2);
+        self.add_column(cells, from + 3);
+    }
+
+    // The cells from a column on, of which there are three at most.
+    #[inline(always)]
+    fn add_rest(&mut self, cells: &[u8], from: usize)
+        requires few { length cells.now ≤ from + 3 }
+        requires narrow { length cells.now ≤ 10 }
+        requires depths_low { DepthsLow (count_bound + from) self.old.depths }
+        ensures { ColumnsDone cells.now from (length cells.now - from) self.old self.new }
+    {
+        if cells.len() <= from {
+            return;
+        }
+        self.add_column(cells, from);
+        if cells.len() <= from + 1 {
+            return;
+        }
+        self.add_column(cells, from + 1);
+        if cells.len() <= from + 2 {
+            return;
+        }
+        self.add_column(cells, from + 2);
+    }
+
+    // All cells of a row.
+    #[inline(always)]
+    fn add_columns(&mut self, cells: &[u8])
+        requires wide { 4 ≤ length cells.now }
+        requires narrow { length cells.now ≤ 10 }
+        requires depths_low { DepthsLow count_bound self.old.depths }
+        ensures { ColumnsDone cells.now 0 (length cells.now) self.old self.new }
+    {
+        self.add_four(cells, 0);
+        if cells.len() < 8 {
+            self.add_rest(cells, 4);
+            return;
+        }
+        self.add_four(cells, 4);
+        self.add_rest(cells, 8);
+    }
+
+    // One row more, by its cells. Each of ten columns has its depth, by which the laws of a row go.
+    #[inline(never)]
+    fn add_cells(&mut self, cells: &[u8])
+        requires wide { 4 ≤ length cells.now }
+        requires narrow { length cells.now ≤ 10 }
+        requires rows_few { self.old.rows < row_numbers_bound }
+        requires depths_low { DepthsLow count_bound self.old.depths }
+        ensures { AddsRow cells.now (LastHeld self.old) (LastHeld self.new) }
+    {
+        let ten = self.depths.depths.len() == 10;
+        prove!(ten);
+        self.add_columns(cells);
+        self.rows += 1;
     }
 
     /// One row more. One of taps alone, all in columns of the depth 0, is an object row where it has one, and leaves the depths.
     pub fn add_row(&mut self, cells: &[u8])
+        requires wide { 4 ≤ length cells.now }
         requires narrow { length cells.now ≤ 10 }
         requires rows_few { self.old.rows < row_numbers_bound }
-        requires depths_low { DepthsLow 4294967294 self.old.depths }
+        requires depths_low { DepthsLow count_bound self.old.depths }
         ensures { AddsRow cells.now (LastHeld self.old) (LastHeld self.new) }
     {
         match taps::free_taps(cells, self.busy) {

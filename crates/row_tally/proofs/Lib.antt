@@ -5,6 +5,8 @@ pub mod Tallies
 pub mod Loops
 pub mod Masked
 pub mod Raised
+pub mod Before
+pub mod Cells
 pub mod Heads
 pub mod Rows
 pub mod Zeros

@@ -1,28 +1,29 @@
 -- Rows with only some of their heads: the loop over them, and that a mask of paired heads gives the rows that are counted anew.
-use mathlib.Core.Path.{◌≡◌, refl, ap, ap₂, sym}
-use mathlib.Core.Bool.{Bool, true, false}
+use mathlib.Core.Path.{◌≡◌, refl, ap, ap₂, sym, ◌∙◌}
+use mathlib.Core.Bool.{Bool, true, false, cond}
 use mathlib.Core.List.{List, [], ◌∷◌}
 use Prim.Native.Nat.{ℕ, suc, ◌+◌, ◌<◌, ◌≤◌}
+use native.Mathlib.Nat.{zero-add, add-zero, add_assoc}
 use native.Mathlib.Numerals.{add-one}
 use native.Mathlib.Omega.{arith}
 use lib.Dec.{eqb}
-use lib.ListN.{length, get_or, drop}
+use lib.ListN.{length, get_or, drop, drop_of_length-le}
 use lib.Seq.{drop-cons}
 use Rattle.std.specs.List.{count_by}
 use Rattle.definitions.specs.Lists.{number_of_bool}
-use Rattle.definitions.proofs.Lists.{count-cons}
+use Rattle.definitions.proofs.Lists.{one-le, count-cons}
 use Rattle.definitions.specs.Lines.{Row}
-use Rattle.definitions.specs.Cells.{cell_of, byte_at, mine, fake}
+use Rattle.definitions.specs.Cells.{cell_of, byte_at, hold_effect, mine, fake}
 use Rattle.definitions.specs.Tracker.{Pair, is_head_of, hold_at}
 use Rattle.definitions.specs.Tally.{counted_as, place, count_from, counted, row_sum_by}
-use Rattle.definitions.specs.Correction.{head_if_paired, keep_row}
+use Rattle.definitions.specs.Correction.{head_if_paired, is_opening, keep_row}
 use Rattle.definitions.specs.Judged.{is_judged_arrow, is_unjudged_fake, sum_of_fakes, judged_sum}
 use Rattle.definitions.specs.declared.DepthEffect.{DepthEffect}
 use Rattle.definitions.specs.declared.DepthEffect.TheVariants.{Nothing, Blocks, Opens, Closes}
 use Rattle.definitions.specs.declared.Cell.{Cell}
 use Rattle.definitions.specs.declared.Cell.TheVariants.{Empty, Tap, Hold, Tail, Roll, Mine, Lift, Fake, KeySound, LowerMine, LowerLift, LowerFake}
 use Rattle.definitions.specs.declared.RowSum.{RowSum}
-use Rattle.row_tally.specs.Masked.{bit_is_set, byte_by_mask, row_by_mask}
+use Rattle.row_tally.specs.Masked.{bit_is_set, byte_by_mask, cell_if_paired, row_by_mask}
 
 -- A mask of a row's paired heads leaves the row that is counted anew.
 keep-from : (ps : ℕ → List Pair) (i m c : ℕ) (row : Row)
@@ -98,3 +99,51 @@ fake-from c (b ∷ r) =
 pub unjudged : (r : Row) → sum_of_fakes (sum_fakes (row_sum_by is_judged_arrow r)) ≡ judged_sum false r
 unfolding row_sum_by judged_sum
 unjudged r = ap sum_of_fakes (sym (fake-from 0 r))
+
+-- ---- The cell of a byte that is paired, if it is a head, or not
+zero-cell : cell_of 48 ≡ Empty
+unfolding cell_of
+zero-cell = refl
+
+kept-by : (p : Bool) (b : ℕ) (e : DepthEffect) → cell_of (head_if_paired e p b) ≡ cond (is_opening e) (cond p (cell_of b) Empty) (cell_of b)
+kept-by p b Nothing = refl
+kept-by p b Blocks = refl
+kept-by true b Opens = refl
+kept-by false b Opens = zero-cell
+kept-by p b Closes = refl
+
+pub kept_cell : (p : Bool) (b : ℕ) (x : Cell) → cell_of b ≡ x → cell_if_paired p b ≡ cond (is_opening (hold_effect x)) (cond p x Empty) x
+unfolding hold_at
+kept_cell p b x e = kept-by p b (hold_effect (cell_of b)) ∙ ap (λ y. cond (is_opening (hold_effect y)) (cond p y Empty) y) e
+
+-- ---- The loop over an unjudged row: the fakes so far and those of the cells from column i on are those of the row.
+abbrev fake_count : Row → ℕ
+fake_count r = count_by (λ b. is_unjudged_fake (cell_of b)) r
+
+pub record Faking (heads : ℕ) (row : Row) (i fakes : ℕ) : Type 0 where
+  pub within : i ≤ length row
+  pub few : fakes ≤ i
+  pub whole : fakes + fake_count (row_by_mask heads i (drop i row)) ≡ fake_count (row_by_mask heads 0 row)
+
+pub faking-start : (heads : ℕ) (row : Row) → Faking heads row 0 0
+faking-start heads row = record { within = omega arith; few = omega arith; whole = zero-add _ }
+
+pub faking-next : (heads : ℕ) (row : Row) (i fakes : ℕ) → i < length row → Faking heads row i fakes
+    → Faking heads row (i + 1) (fakes + number_of_bool (is_unjudged_fake (cell_of (byte_by_mask heads i (get_or row i 0)))))
+faking-next heads row i fakes h x =
+    let b = byte_by_mask heads i (get_or row i 0) in
+    let rest = row_by_mask heads (i + 1) (drop (i + 1) row) in
+    record {
+      within = omega arith;
+      few = omega (arith, x.few, one-le (is_unjudged_fake (cell_of b)));
+      whole =
+          add_assoc fakes (number_of_bool (is_unjudged_fake (cell_of b))) (fake_count rest)
+          ∙ ap (λ n. fakes + n) (sym (count-cons (λ y. is_unjudged_fake (cell_of y)) b rest) ∙ ap fake_count (sym (keep-next heads row i h)))
+          ∙ x.whole;
+    }
+
+pub faking-end : (heads : ℕ) (row : Row) (i fakes : ℕ) → length row ≤ i → Faking heads row i fakes → sum_of_fakes fakes ≡ judged_sum false (row_by_mask heads 0 row)
+unfolding judged_sum
+faking-end heads row i fakes h x =
+    let none : fake_count (row_by_mask heads i (drop i row)) ≡ 0 = ap (λ r. fake_count (row_by_mask heads i r)) (drop_of_length-le row h) in
+    ap sum_of_fakes (sym (add-zero fakes) ∙ ap (λ n. fakes + n) (sym none) ∙ x.whole)

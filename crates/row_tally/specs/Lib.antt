@@ -1,4 +1,5 @@
 -- What the contracts of the tallies cite, beside the definitions.
+pub mod Before
 pub mod Bounds
 pub mod Masked
 pub mod Raised

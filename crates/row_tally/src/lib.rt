@@ -1,6 +1,8 @@
 // Row sums and tallies: what a row adds up to, the tally with one row more, and the same of rows with only paired heads and of judged rows.
 #![tactic(auto)]
 
+pub mod paired;
+
 ghost use Rattle.std.specs.Prelude.{◌≡◌, ℕ, true, false, ◌+◌, ◌-◌, ◌≤◌, ◌<◌, length};
 ghost use Rattle.definitions.specs.Sizes.{count_bound};
 ghost use Rattle.definitions.specs.Cells.{cell_of, is_arrow};
@@ -224,8 +226,9 @@ pub fn end_judged_row(stats: &mut ArrowStats, judged: bool, arrows: u32, others:
         stats.total_steps += 1;
         stats.jumps += u32::from(2 <= arrows);
     }
-    let hand = judged & (1 <= arrows + others) & (3 <= arrows + held);
-    stats.hands += u32::from(hand);
+    if judged & (3 <= arrows + held) {
+        stats.hands += u32::from(1 <= arrows + others);
+    }
     stats.holding = 0;
 }
 
@@ -274,63 +277,6 @@ pub fn count_taps(stats: &mut ArrowStats, mask: u16, table: &TapTable)
     add_row_into(stats, table.sum(mask));
 }
 
-// Whether the mask has the bit of a column.
-fn has_bit(mask: u16, column: usize) -> bool
-    requires { column < 10 }
-    ensures { result ≡ bit_is_set column mask }
-{
-    (mask >> column) & 1 == 1
-}
-
-// A byte as it is counted anew: a head that is not paired is a `0`.
-fn keep_head(b: u8, paired: bool) -> u8
-    ensures { result ≡ head_if_paired (hold_at b) paired b }
-{
-    match cells::hold_effect(b) {
-        DepthEffect::Opens if !paired => b'0',
-        _ => b,
-    }
-}
-
-// One cell of a row of which only the heads of a mask count, judged or plain.
-fn masked_cell(
-    s: RowSum,
-    direction: usize,
-    column: usize,
-    b: u8,
-    heads: u16,
-    judged: bool,
-) -> RowSum
-    requires column_narrow { column < 10 }
-    requires sum_few { Under 10 s }
-    ensures { result ≡ add_by judged s direction (cell_by_mask heads column b) }
-{
-    let counted = keep_head(b, has_bit(heads, column));
-    add_cell(s, direction, counted, judged)
-}
-
-// What a row adds up to of which only the heads of a mask count, judged or plain.
-#[inline(always)]
-fn masked_sum(row: &[u8], heads: u16, judged: bool) -> RowSum
-    requires { length row.now ≤ 10 }
-    ensures { result ≡ row_sum_by (arrow_of judged) (row_by_mask heads 0 row.now) }
-{
-    let mut s = no_sum();
-    for (column, &b) in row.iter().enumerate() {
-        s = masked_cell(s, direction(row.len(), column), column, b, heads, judged);
-    }
-    s
-}
-
-/// One row more, of which only the heads of a mask count.
-pub fn count_line_masked(stats: &mut ArrowStats, row: &[u8], heads: u16)
-    requires narrow { length row.now ≤ 10 }
-    requires few { Below count_bound stats.old }
-    ensures { stats.new ≡ tally_with_row stats.old (row_sum (row_by_mask heads 0 row.now)) }
-{
-    add_row_into(stats, masked_sum(row, heads, false));
-}
-
 // A sum of fakes alone.
 fn only_fakes(n: u32) -> RowSum
     ensures { result ≡ sum_of_fakes n }
@@ -339,19 +285,6 @@ fn only_fakes(n: u32) -> RowSum
         fakes: n,
         ..no_sum()
     }
-}
-
-/// What a row adds up to, judged or not, of which only the heads of a mask count. On an unjudged row each arrow, mine and fake is one fake.
-#[inline(always)]
-pub fn judged_sum_masked(judged: bool, row: &[u8], heads: u16) -> RowSum
-    requires { length row.now ≤ 10 }
-    ensures { result ≡ judged_sum judged (row_by_mask heads 0 row.now) }
-{
-    let s = masked_sum(row, heads, true);
-    if judged {
-        return s;
-    }
-    only_fakes(s.arrows + s.mines + s.fakes)
 }
 
 // What a row of taps alone adds up to, judged or not. On an unjudged row each tap is one fake.

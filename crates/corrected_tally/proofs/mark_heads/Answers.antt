@@ -15,6 +15,7 @@ pub track_row-requires : goal.track_row-requires
 track_row-requires c =
     let x = c.loop-cells.invariant.come in
     record {
+      wide = omega (arith, c.args.lanes.within.0, next-wide x c.in-Some.ensures.steps);
       narrow = omega (arith, c.args.lanes.within.1, next-wide x c.in-Some.ensures.steps);
       entry_room = omega (arith, c.requires.room.room, c.loop-cells.invariant.held.size, next-inside x c.in-Some.ensures.steps);
       reached = marking-reached _ _ _ _ c.loop-cells.invariant.held;

@@ -69,6 +69,7 @@ add_row-requires c =
     let k = tallying-few _ _ _ _ _ _ tally (few (goal.at.add_row-requires c).In-Some) c.args.lanes.within.1 (short-back _ _) in
     let h = row-here (goal.at.add_row-requires c).In-Some in
     record {
+      wide = omega (arith, h.wide, c.args.lanes.within.0);
       narrow = omega (arith, h.wide, c.args.lanes.within.1);
       few = k.0;
       held_few = k.1;

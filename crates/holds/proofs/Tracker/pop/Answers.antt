@@ -1,10 +1,13 @@
 -- `holds::Tracker::pop` meets its contract: with a head open, and with none.
 use mathlib.Core.Path.{refl}
-use Rattle.holds.proofs.Stacks.{step-closes, step-none}
+use native.Mathlib.Omega.{arith}
+use Rattle.holds.proofs.Stacks.{busy-closed, step-closes, step-none}
 use Rattle.holds.proofs.Tracker.pop.Goals as goal
 
-pub returns-then-depth-gt0 : goal.returns-then-depth-gt0
-returns-then-depth-gt0 c = λ row. step-closes _ _ c.requires row _ c.if-depth-gt0.true refl
+pub returns-then-depth-eq0 : goal.returns-then-depth-eq0
+returns-then-depth-eq0 c = λ row. step-none _ _ c.requires row (omega (arith, c.if-depth-eq0.true))
 
-pub returns-else-depth-gt0 : goal.returns-else-depth-gt0
-returns-else-depth-gt0 c = λ row. step-none _ _ c.requires row c.if-depth-gt0.false
+pub returns : goal.returns
+returns c =
+    λ row.
+    step-closes _ _ c.requires _ row _ (busy-closed _ _ c.requires _ (omega (arith, c.if-depth-eq0.false)) c.busy_after-self.ensures.last c.busy_after-self.ensures.more) (omega (arith, c.if-depth-eq0.false)) refl

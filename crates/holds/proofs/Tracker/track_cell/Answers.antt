@@ -6,7 +6,6 @@ use Rattle.definitions.specs.Tracker.{Pair, hold_at}
 use Rattle.definitions.specs.declared.DepthEffect.{DepthEffect}
 use Rattle.holds.specs.Stacks.{TrackStepped}
 use Rattle.holds.specs.declared.Tracker.{Tracker}
-use Rattle.holds.proofs.Stacks.{step-blocks}
 use Rattle.holds.proofs.Tracker.track_cell.Goals as goal
 
 -- the arm's effect is the byte's
@@ -15,4 +14,4 @@ known : (b : ℕ) {x e : DepthEffect} {row column : ℕ} {t t' : Tracker} {ps : 
 known b p q s = rw (← p, q) s
 
 pub returns-in-Blocks : goal.returns-in-Blocks
-returns-in-Blocks c = known _ c.hold_effect.ensures c.in-Blocks.is (step-blocks _ _ c.requires _)
+returns-in-Blocks c = known _ c.hold_effect.ensures c.in-Blocks.is (c.clear.ensures _)

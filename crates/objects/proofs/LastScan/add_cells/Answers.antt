@@ -1,13 +1,12 @@
--- `objects::LastScan::add_cells` meets its contract.
-use mathlib.Core.Path.{sym, ◌∙◌}
-use Rattle.taps.proofs.Unlikes.{unlike-free}
-use Rattle.objects.proofs.LastHeld.{held-zero, held-row}
+-- `objects::LastScan::add_cells` meets its contract: all columns are done, and the row is counted.
+use native.Mathlib.Omega.{arith}
+use lib.ListN.{length}
+use Rattle.std.proofs.Common.{rules}
+use Rattle.objects.proofs.Columns.{columns-rows, columns-held}
 use Rattle.objects.proofs.LastScan.add_cells.Goals as goal
 
-pub returns-then-is_all_zero : goal.returns-then-is_all_zero
-returns-then-is_all_zero c =
-    λ done cur x. rw c.count_row.ensures (held-zero _ done cur x c.args.cells.now (sym c.is_all_zero.ensures ∙ c.if-is_all_zero.true))
+pub overflow_add-self : goal.overflow_add-self
+overflow_add-self c = omega (arith, columns-rows c.args.cells.now 0 (length c.args.cells.now) _ _ c.add_columns.ensures, c.requires.rows_few)
 
 pub returns : goal.returns
-returns c =
-    λ done cur x. rw c.count_row-2.ensures (held-row _ done cur x c.args.cells.now _ c.row_has_object-row.ensures _ (rw c.unlike-self.ensures (unlike-free 0 _)))
+returns c = λ done cur x. columns-held c.args.cells.now _ _ done cur x (search (rules, c.if-prove.false)) c.requires.narrow c.add_columns.ensures

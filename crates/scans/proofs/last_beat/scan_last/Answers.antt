@@ -14,6 +14,7 @@ add_row-requires c =
     let wide = row-wide c.loop-line.invariant.come c.in-Some.ensures.steps _ c.in-Row.is in
     let x = c.loop-line.invariant in
     record {
+      wide = omega (arith, wide, c.args.lanes.within.0);
       narrow = omega (arith, wide);
       rows_few = omega (arith, x.held.rows, x.few.fifth);
       depths_low = low-more _ _ _ (omega (arith, x.few.fifth)) x.held.low;

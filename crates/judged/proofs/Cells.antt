@@ -1,0 +1,179 @@
+-- The cells of a row: what the pass has when those before a column have passed, a cell more, and the whole row.
+use mathlib.Core.Path.{◌≡◌, refl, ap, sym, ◌∙◌}
+use mathlib.Core.Bool.{Bool, true, false, not, true≢false, or-true}
+use Prim.Native.Nat.{ℕ, zero, suc, ◌+◌, ◌-◌, ◌≤◌, ◌<◌}
+use native.Mathlib.Decide.{dec_lt}
+use native.Mathlib.Nat.{not-suc-le-zero}
+use native.Mathlib.Numerals.{add-one}
+use native.Mathlib.Omega.{arith}
+use lib.ListN.{length, get_or}
+use lib.Seq.{get_or-set_same, get_or-set_other}
+use Rattle.std.specs.Prelude.{Option, Some, None, is_some, OnSome}
+use Rattle.definitions.proofs.Lists.{any-default}
+use Rattle.definitions.specs.Sizes.{count_bound}
+use Rattle.definitions.specs.Lists.{some_column}
+use Rattle.definitions.specs.Lines.{Row}
+use Rattle.definitions.specs.Cells.{cell_of, byte_at}
+use Rattle.definitions.specs.Tracker.{hold_at}
+use Rattle.definitions.specs.Correction.{phantom_step}
+use Rattle.definitions.specs.Judged.{judged_sum, judge_row}
+use Rattle.definitions.specs.declared.DepthEffect.{DepthEffect}
+use Rattle.definitions.specs.declared.DepthEffect.TheVariants.{Nothing}
+use Rattle.definitions.specs.declared.RowSum.{RowSum}
+use Rattle.definitions.proofs.Columns.{past_end}
+use Rattle.phantoms.proofs.Columns.{column-past, column-more}
+use Rattle.row_tally.specs.Before.{sum_before}
+use Rattle.row_tally.specs.Bounds.{Under, Below, EndsBelow}
+use Rattle.row_tally.specs.Raised.{with_cells, judged_row_end}
+use Rattle.row_tally.proofs.Before.{before-under, before-whole, before-next, before-below}
+use Rattle.row_tally.proofs.Bounds.{below_more}
+use Rattle.row_tally.proofs.Raised.{cells-none, judged-row-ended, cells-ends, cells-arrows, cells-mines, cells-fakes}
+use Rattle.judged.specs.Clean.{unpairs}
+use Rattle.judged.specs.JudgedPass.{row_unpairs, DepthsPassed, Ready, RowPassed, CellPassed, Passing, Reached, PassingOn, Unclean}
+use Rattle.judged.specs.declared.judged_pass.CleanRows.{CleanRows}
+
+-- before the first cell
+pub passing-start : (row : Row) (t : CleanRows) → Ready t → Passing row 0 t t
+passing-start row t r =
+    record {
+      stats = sym (cells-none t.stats);
+      done = λ c h. absurd (not-suc-le-zero h);
+      left = λ c h. refl;
+      whole = refl;
+      ready = r;
+    }
+
+pub reached-start : (row : Row) (t : CleanRows) → Ready t → Below count_bound t.stats → Reached row 0 t
+reached-start row t r b = record { start = t; few = b; passing = passing-start row t r }
+
+pub reached-on : (row : Row) (i j : ℕ) (t' t'' : CleanRows) → PassingOn row i j t' t'' → Reached row i t' → Reached row j t''
+reached-on row i j t' t'' p x = record { start = x.start; few = x.few; passing = p x.start x.passing }
+
+pub reached-below : (row : Row) (i : ℕ) (t' : CleanRows) → i ≤ length row → Reached row i t' → Below (count_bound + i) t'.stats
+reached-below row i t' h x = before-below true row x.start.stats t'.stats i x.passing.stats count_bound h x.few
+
+-- ---- A cell more
+module _ (row : Row) (i : ℕ) (h : i < length row) (w : length row ≤ 10) (t t' : CleanRows) (x : Passing row i t t') where
+  depth-there : get_or t'.depths i 0 ≡ get_or t.depths i 0
+  depth-there = x.left i (omega arith)
+
+  byte-there : get_or row i 0 ≡ byte_at i row
+  byte-there = any-default row i 0 48 h
+
+  -- it leaves a head unpaired
+  pub passing-none : unpairs (hold_at (get_or row i 0)) (get_or t'.depths i 0) ≡ true → row_unpairs row t.depths ≡ true
+  unfolding row_unpairs
+  passing-none u = column-there 10 i (omega arith) (rw (depth-there, byte-there) at u)
+    where
+      column-there : (n c : ℕ) → c < n → unpairs (hold_at (byte_at c row)) (get_or t.depths c 0) ≡ true
+          → some_column n (λ c. unpairs (hold_at (byte_at c row)) (get_or t.depths c 0)) ≡ true
+      column-there zero c k e = absurd (not-suc-le-zero k)
+      column-there (suc n) c k e =
+          elim (dec_lt c n) [
+            | yes b ↦ rw (column-there n c b e)
+            | no b ↦ let q : c ≡ n = omega arith in rw (← q, e) (or-true _)
+          ]
+
+  module _ (t'' : CleanRows) (u : unpairs (hold_at (get_or row i 0)) (get_or t'.depths i 0) ≡ false) (p : CellPassed (length row) i (hold_at (get_or row i 0)) (cell_of (get_or row i 0)) t' t'') where
+    next-done : (c : ℕ) → c < i + 1 → get_or t''.depths c 0 ≡ phantom_step (hold_at (byte_at c row)) (get_or t.depths c 0)
+    next-done c m =
+        ap (λ l. get_or l c 0) p.depths
+        ∙ elim (dec_lt c i) [
+          | yes b ↦ get_or-set_other t'.depths i c _ 0 (λ q. omega arith) ∙ x.done c b
+          | no b ↦
+              let q : c ≡ i = omega arith in
+              rw q (get_or-set_same t'.depths i _ 0 (omega (arith, x.ready.ten)) ∙ rw (depth-there, byte-there))
+        ]
+
+    pub passing-next : Passing row (i + 1) t t''
+    passing-next =
+        record {
+          stats = before-next true row t.stats t'.stats i x.stats t''.stats p.stats;
+          done = next-done;
+          left = λ c m. ap (λ l. get_or l c 0) p.depths ∙ get_or-set_other t'.depths i c _ 0 (λ q. omega arith) ∙ x.left c (omega arith);
+          whole = rw (add-one, x.whole) (rw (depth-there, byte-there) at u);
+          ready = p.ready;
+        }
+
+-- ---- What is answered
+pub none-then : (r : Option Unit) (u : Bool) → is_some r ≡ not u → r ≡ None → u ≡ true
+none-then None true e n = refl
+none-then None false e n = absurd (true≢false (sym e))
+none-then (Some x) u e n = cc
+
+pub some-then : {P Q : Type 0} (r : Option Unit) (u : Bool) → is_some r ≡ not u → (u ≡ false → P → Q) → OnSome r P → OnSome r Q
+some-then None u e f p = p
+some-then (Some x) true e f p = absurd (true≢false e)
+some-then (Some x) false e f p = f refl p
+
+-- ---- The whole row
+module _ (row : Row) (t t' : CleanRows) (x : Passing row (length row) t t') (w : length row ≤ 10) where
+  past : (c : ℕ) → length row ≤ c → hold_at (byte_at c row) ≡ Nothing
+  past c m = past_end row c m
+
+  pub passing-clean : row_unpairs row t.depths ≡ false
+  unfolding row_unpairs
+  passing-clean =
+      let e : length row + (10 - length row) ≡ 10 = omega arith in
+      let none = column-past (length row) (10 - length row) (λ c. unpairs (hold_at (byte_at c row)) (get_or t.depths c 0)) (λ c m. ap (λ e. unpairs e (get_or t.depths c 0)) (past c m)) in
+      sym (ap (λ n. some_column n (λ c. unpairs (hold_at (byte_at c row)) (get_or t.depths c 0))) e) ∙ none ∙ x.whole
+
+  passing-depths : DepthsPassed row t.depths t'.depths
+  passing-depths c m =
+      elim (dec_lt c (length row)) [
+        | yes b ↦ x.done c b
+        | no b ↦ x.left c (omega arith) ∙ ap (λ e. phantom_step e (get_or t.depths c 0)) (sym (past c (omega arith)))
+      ]
+
+  abbrev pub sum : RowSum
+  sum = sum_before true row (length row)
+
+  whole-sum : sum ≡ judged_sum true row
+  unfolding judged_sum
+  whole-sum = before-whole true row (length row) refl
+
+  pub sum-under : Under (length row) sum
+  sum-under = before-under true row (length row) (omega arith)
+
+  pub row-arrows : t'.stats.total_arrows ≡ t.stats.total_arrows + sum.arrows
+  row-arrows = cells-arrows t.stats t'.stats sum x.stats
+
+  pub row-mines : t'.stats.mines ≡ t.stats.mines + sum.mines
+  row-mines = cells-mines t.stats t'.stats sum x.stats
+
+  pub row-fakes : t'.stats.fakes ≡ t.stats.fakes + sum.fakes
+  row-fakes = cells-fakes t.stats t'.stats sum x.stats
+
+  pub ends-few : Below count_bound t.stats → EndsBelow count_bound t'.stats
+  ends-few b = rw x.stats (cells-ends count_bound t.stats sum b)
+
+  -- and the tally after the row's end
+  pub row-passed : (t'' : CleanRows) → t''.depths ≡ t'.depths → t''.active ≡ t'.active → t''.busy ≡ t'.busy → (arrows others : ℕ) → arrows ≡ sum.arrows → others ≡ sum.mines + sum.fakes
+      → t''.stats ≡ judged_row_end t'.stats true arrows others t.active → RowPassed row t t''
+  row-passed t'' d a b arrows others ea eo h =
+      record {
+        depths = λ c m. ap (λ l. get_or l c 0) d ∙ passing-depths c m;
+        stats = judged-row-ended t.stats t'.stats t''.stats sum x.stats arrows ea true others t.active eo h ∙ ap (judge_row t.stats true t.active) whole-sum;
+        ready =
+            record {
+              ten = rw d x.ready.ten;
+              low = λ c m. rw d (x.ready.low c m);
+              active = rw (a, d) x.ready.active;
+              busy = rw (b, d) x.ready.busy;
+            };
+      }
+
+-- ---- Some cells, and then others
+pub then-on : (row : Row) (i j k : ℕ) (t t' t'' : CleanRows) (r : Option Unit) → PassingOn row i j t t' → OnSome r (PassingOn row j k t' t'') → OnSome r (PassingOn row i k t t'')
+then-on row i j k t t' t'' None p q = q
+then-on row i j k t t' t'' (Some x) p q = λ s y. q s (p s y)
+
+moved : (row : Row) (i j : ℕ) (t t' : CleanRows) → i ≡ j → Passing row i t t' → Passing row j t t'
+moved row i j t t' e x = rw (← e) x
+
+pub four-on : (row : Row) (i : ℕ) (a b c d e : CleanRows) → PassingOn row i (i + 1) a b → PassingOn row (i + 1) (i + 1 + 1) b c → PassingOn row (i + 2) (i + 2 + 1) c d
+    → PassingOn row (i + 3) (i + 3 + 1) d e → PassingOn row i (i + 4) a e
+four-on row i a b c d e p q r s =
+    λ t x.
+    moved row (i + 3 + 1) (i + 4) t e (omega arith)
+    (s t (moved row (i + 2 + 1) (i + 3) t d (omega arith) (r t (moved row (i + 1 + 1) (i + 2) t c (omega arith) (q t (p t x))))))
