@@ -20,7 +20,7 @@ use Rattle.kept_pass.proofs.Keeping.{kept-all}
 use Rattle.reduction.specs.Rows.{rows_at}
 use Rattle.tap_walk.specs.Walked.{Walking}
 use Rattle.reduction.proofs.RowsAt.{rows-length}
-use Rattle.row_walk.specs.Rows.{Ten}
+use Rattle.row_walk.specs.Columns.{Ten}
 use Rattle.measure_tally.specs.Counted.{Counted}
 use Rattle.tap_walk.specs.Noted.{Noting, Noted}
 use Rattle.measure_walk.specs.declared.Walk.{Walk}
@@ -36,7 +36,7 @@ module _ (L : ℕ) (p : ChartPass) (text densities : List ℕ) (beats : List Flo
   rows_before : p.walk.run.row ≡ length (joined done)
   rows_before = x.kept.counted.rows ∙ ap length (append-nil (joined done))
 
-  pub charted-end : (e : ChartPass) (after dens : List ℕ) → MeasureEnded L (kept_of e) after dens done (reduce cur) → Ten e.walk.columns
+  pub charted-end : (e : ChartPass) (after dens : List ℕ) → MeasureEnded L (kept_of e) after dens done (reduce cur) → Ten e.walk.run.columns
       → p.walk.run.row ≤ length beats → (beats₁ : List Float)
       → beats₁ ≡ (take p.walk.run.row beats ++ row_beats e.draft.midx e.draft.rows 0 e.draft.rows) ++ drop (p.walk.run.row + e.draft.rows) beats
       → (slots₁ : List ℕ)
@@ -75,7 +75,7 @@ walk-room L p text densities beats slots s kept start after less few room least 
 -- The next measure begins.
 pub charted-next : (L : ℕ) (e : ChartPass) (text after densities : List ℕ) (beats : List Float) (slots : List ℕ) (done : List (List Row)) (cur : List Row) → ChartEnded L e text densities beats slots done cur
     → (w : Walk) (d : Draft) → ((L : ℕ) (done : List (List Row)) (cur : List Row) → Counted L (counting e.walk) done cur → Counted L (counting w) (done ++ (cur ∷ [])) [])
-    → noting w ≡ noting e.walk → w.columns ≡ e.walk.columns
+    → noting w ≡ noting e.walk → w.run.columns ≡ e.walk.run.columns
     → ((L : ℕ) (done : List (List Row)) (cur : List Row) → Drafted L e.draft text done cur → Drafted L d after (done ++ (cur ∷ [])) []) → d.midx ≡ e.draft.midx + 1
     → Charted L (record { draft = d; walk = w }) after densities beats slots (done ++ (cur ∷ [])) []
 charted-next L e text after densities beats slots done cur x w d f same columns g next =

@@ -6,7 +6,7 @@ use Rattle.definitions.specs.Reduction.{reduce, minimised}
 use Rattle.definitions.specs.Beats.{beats_from, beats as beats_of}
 use Rattle.reduction.specs.States.{AddsRow}
 use Rattle.kept_pass.specs.KeptPass.{Kept, MeasureEnded, KeptAll}
-use Rattle.row_walk.specs.Rows.{Ten}
+use Rattle.row_walk.specs.Columns.{Ten}
 use Rattle.tap_walk.specs.Noted.{Noted}
 use Rattle.measure_walk.specs.Views.{counting, noting}
 use Rattle.kept_pass.specs.declared.KeptPass.{KeptPass}
@@ -24,14 +24,14 @@ rows_so_far p = p.walk.run.row + p.draft.rows
 pub record Charted (L : ℕ) (p : ChartPass) (text densities : List ℕ) (beats : List Float) (slots : List ℕ) (done : List (List Row)) (cur : List Row) : Type 0 where
   pub kept : Kept L (kept_of p) text densities done cur
   pub noted : Noted L (noting p.walk) slots done
-  pub ten : Ten p.walk.columns
+  pub ten : Ten p.walk.run.columns
   pub beats_are : take p.walk.run.row beats ≡ joined (beats_from 0 done)
 
 -- the open measure has ended with these minimised rows
 pub record ChartEnded (L : ℕ) (p : ChartPass) (text densities : List ℕ) (beats : List Float) (slots : List ℕ) (done : List (List Row)) (cur : List Row) : Type 0 where
   pub ended : MeasureEnded L (kept_of p) text densities done cur
   pub noted : Noted L (noting p.walk) slots (done ++ (cur ∷ []))
-  pub ten : Ten p.walk.columns
+  pub ten : Ten p.walk.run.columns
   pub beats_are : take p.walk.run.row beats ≡ joined (beats_from 0 (done ++ (cur ∷ [])))
 
 -- One row more of the open measure, whatever else is charted.

@@ -1,3 +1,4 @@
 -- Laws of the walk.
+pub mod Walks
 pub mod Runs
 pub mod Starts

@@ -1,55 +1,103 @@
--- What a walk holds while it goes over a measure, with one row more by its cells, and what that asks.
-use mathlib.Core.Path.{◌≡◌, ap}
+-- What a walk holds while it goes over a measure, and what one more row asks.
+use mathlib.Core.Path.{◌≡◌, refl, ap, sym, ◌∙◌, subst}
 use mathlib.Core.List.{List, [], ◌∷◌, ◌++◌}
 use Prim.Native.Nat.{ℕ, ◌+◌, ◌-◌, ◌*◌, ◌≤◌, ◌<◌}
 use native.Mathlib.Omega.{arith}
 use lib.ListN.{length, take}
+use lib.Seq.{take_all}
 use Rattle.definitions.specs.Sizes.{count_bound, row_count_bound}
 use Rattle.definitions.specs.Lines.{Row}
-use Rattle.definitions.specs.Tally.{tally_with_row}
+use Rattle.row_tally.proofs.Bounds.{below_more}
 use Rattle.phantoms.proofs.Loop.{low-more}
-use Rattle.row_walk.specs.declared.Columns.{Columns}
-use Rattle.row_walk.specs.declared.Seen.{Seen}
-use Rattle.row_walk.specs.Rows.{Ten, CellsReady, RowWalked}
-use Rattle.measure_tally.specs.Counted.{Counted, Few}
-use Rattle.measure_tally.proofs.Rows.{counted-row}
-use Rattle.tap_walk.specs.Noted.{NotedRows, RowReady}
-use Rattle.tap_walk.proofs.Rows.{noted-row}
-use Rattle.tap_walk.specs.declared.measure_run.Run.{Run}
-use Rattle.tap_walk.specs.Held.{Rest, counting_of, noting_of, after_cells}
-use Rattle.tap_walk.proofs.Runs.{held_run}
-use Rattle.measure_walk.specs.declared.Walk.{Walk}
+use Rattle.reduction.specs.Rows.{rows_of}
+use Rattle.reduction.proofs.RowsAt.{rows-length}
+use Rattle.reduction.proofs.Powers.{next-at}
+use Rattle.row_walk.specs.Columns.{Ten}
+use Rattle.row_walk.specs.Rows.{CellsReady}
+use Rattle.measure_tally.specs.Counted.{Counted}
+use Rattle.measure_tally.proofs.Places.{part, row-wide, row_more}
+use Rattle.tap_walk.specs.Noted.{NotedRows}
+use Rattle.tap_walk.specs.Held.{counting_of, noting_of}
+use Rattle.tap_walk.specs.Walked.{Walking, RowAdded}
+use Rattle.measure_walk.proofs.Walks.{walked_on, count-few, note-ready}
 use Rattle.measure_walk.specs.Views.{rest, counting, noting}
+use Rattle.row_walk.specs.declared.cell_walk.Run.{Run}
+use Rattle.measure_walk.specs.declared.Walk.{Walk}
 
-module _ (L : ℕ) (q : Rest) (k : Columns) (r : Run) (l l' : List ℕ) (done : List (List Row)) (cur : List Row) (row : Row) where
-  -- of any cells
-  module _ (k' : Columns) (s : Seen) (W : RowWalked row l k r.count r.row r.marks l' k' s) (w : length row ≤ L) (t : Run) (e : t ≡ after_cells r s) where
-    pub counted-cells : L ≤ 10 → Counted L (counting_of q k r) done cur → Counted L (counting_of q k' t) done (cur ++ (row ∷ []))
-    counted-cells v x =
-        rw e (counted-row L _ done cur x row w v _ _ _ (ap (tally_with_row r.stats) W.sum) W.counted (W.depths x.free))
-
-    pub noted-cells : (first : ℕ) → first ≤ r.row → NotedRows L (noting_of first q k r) l done cur → NotedRows L (noting_of first q k' t) l' done (cur ++ (row ∷ []))
-    noted-cells first above x =
-        rw e
-        (noted-row L _ l l' row done cur w x _ _ W.written
-        (held_run first q k r above done cur x.last row k'.object_depths s.object k'.busy W.tested (W.object_depths x.last.free))
-        (W.heads x.free))
-
--- From a walk between two measures the rows of the measure ms are walked, of which there are `rows`, before row `r.row`.
-pub record RowsWalked (L first rows : ℕ) (ms : List Row) (w : Walk) (l : List ℕ) (w' : Walk) (r : Run) (l' : List ℕ) : Type 0 where
-  pub onwards : first ≤ r.row
-  pub inside : r.row ≤ first + rows
+-- From a walk between two measures the first i rows of the measure ms are walked, which has `rows` and stands from start on; the next one stands at `at`.
+pub record RowsWalked (L start rows : ℕ) (ms : List Row) (w : Walk) (l : List ℕ) (w' : Walk) (l' : List ℕ) (i at : ℕ) : Type 0 where
+  pub inside : i ≤ rows
+  pub stands : at ≡ start + i * (L + 1)
+  pub number : w'.run.row ≡ w.run.row + i
   pub same : length l' ≡ length l
-  pub ten : Ten w'.columns
-  pub counted : (done : List (List Row)) → Counted L (counting w) done [] → Counted L (counting_of (rest w') w'.columns r) done (take (r.row - first) ms)
-  pub noted : (done : List (List Row)) → NotedRows L (noting w) l done [] → NotedRows L (noting_of first (rest w') w'.columns r) l' done (take (r.row - first) ms)
+  pub ten : Ten w'.run.columns
+  pub counted : (done : List (List Row)) → Counted L (counting w) done [] → Counted L (counting w') done (take i ms)
+  pub noted : (done : List (List Row)) → NotedRows L (noting w) l done [] → NotedRows L (noting_of w.run.row (rest w') w'.run) l' done (take i ms)
 
--- what it asks
-pub cells-asked : (first : ℕ) (q : Rest) (k : Columns) (r : Run) (row : Row) (l : List ℕ) → r.row < row_count_bound → Few (counting_of q k r) → RowReady (noting_of first q k r) row l → Ten k
-    → CellsReady row l k r.count r.row r.marks
-cells-asked first q k r row l h few ready ten = record {
+-- no row is walked yet
+pub walked-none : (L start rows : ℕ) (ms : List Row) (w : Walk) (l : List ℕ) → Ten w.run.columns → RowsWalked L start rows ms w l w l 0 start
+walked-none L start rows ms w l ten = record {
+  inside = omega arith;
+  stands = omega arith;
+  number = omega arith;
+  same = refl;
   ten = ten;
-  phantoms = low-more (10 * r.row) count_bound _ (omega arith) few.phantoms;
-  objects = ready.low;
-  room = ready.room;
+  counted = λ done x. x;
+  noted = λ done x. x;
 }
+
+-- of a text's rows
+module _ (L rows : ℕ) (text : List ℕ) (start : ℕ) (fits : start + rows * (L + 1) ≤ length text) (narrow : L ≤ 10)
+    (w : Walk) (l : List ℕ) (w' : Walk) (l' : List ℕ) (i at : ℕ) (X : RowsWalked L start rows (rows_of L rows text start) w l w' l' i at)
+    (W : Walking L (counting w) (noting w) l (rows_of L rows text start) 0) where
+  now : Walking L (counting w') (noting_of w.run.row (rest w') w'.run) l' (rows_of L rows text start) i
+  now = walked_on L _ _ _ _ l l' _ 0 i W X.same X.counted X.noted
+
+  -- all are walked
+  pub all-ready : i ≤ length (rows_of L rows text start)
+  all-ready = rw rows-length X.inside
+
+  -- one is left
+  module _ (h : i < rows) where
+    here : i < length (rows_of L rows text start)
+    here = rw rows-length h
+
+    pub width : length (part L text at) ≡ L
+    width = row-wide L rows text start fits i at h X.stands
+
+    pub rows-few : w'.run.row < row_count_bound
+    rows-few = (count-few L _ _ l' _ i now here).0
+
+    pub row-asked : CellsReady (part L text at) w'.run l'
+    row-asked =
+        let few = (count-few L _ _ l' _ i now here).1 in
+        let ready = note-ready L _ _ l' _ i now here (part L text at) width narrow in
+        record {
+          few = below_more (10 * w'.run.row) count_bound w'.run.stats (omega (arith, rows-few)) few.stats;
+          ten = X.ten;
+          free = record { depths = now.counted.free; object_depths = now.noted.last.free; heads = now.noted.free };
+          phantoms = low-more (10 * w'.run.row) count_bound _ (omega (arith, rows-few)) few.phantoms;
+          objects = ready.low;
+          room = ready.room;
+        }
+
+    -- and one more is walked
+    pub walked-next : (r : Run) (m : List ℕ) → length m ≡ length l' → RowAdded (part L text at) w'.run l' r m
+        → RowsWalked L start rows (rows_of L rows text start) w l (record w' { run = r }) m (i + 1) (at + L + 1)
+    walked-next r m e A =
+        let ms = rows_of L rows text start in
+        let more = sym (row_more L rows text start fits i at h X.stands) in
+        record {
+          inside = omega arith;
+          stands = next-at at start i L X.stands;
+          number = omega (arith, A.number, X.number);
+          same = e ∙ X.same;
+          ten = A.ten;
+          counted = λ done x. subst (Counted L _ done) more (A.counted (rest w') L done (take i ms) (omega (arith, width)) narrow (X.counted done x));
+          noted = λ done x. subst (NotedRows L _ m done) more
+              (A.noted (rest w') L w.run.row done (take i ms) (omega (arith, X.number)) (omega (arith, width)) (X.noted done x));
+        }
+
+  -- where no row is left
+  pub whole : rows ≤ i → take i (rows_of L rows text start) ≡ rows_of L rows text start
+  whole h = take_all i (rows_of L rows text start) (rw rows-length h)

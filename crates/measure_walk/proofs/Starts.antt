@@ -9,39 +9,19 @@ use lib.ListN.{get_or, replicate, get_or-replicate}
 use Rattle.std.specs.Prelude.{Option, Some, None}
 use Rattle.definitions.specs.Sizes.{measures_bound, row_count_bound}
 use Rattle.definitions.specs.Lines.{Row}
-use Rattle.definitions.specs.Tally.{empty_stats}
-use Rattle.definitions.specs.declared.ArrowStats.{ArrowStats}
 use Rattle.beats.specs.declared.RowPlace.{RowPlace}
-use Rattle.phantoms.specs.Phantoms.{Counts}
-use Rattle.phantoms.proofs.Columns.{column-none}
 use Rattle.objects.proofs.LastHeld.{held-start, held-none, held_at}
 use Rattle.row_notes.specs.Writer.{no_head}
 use Rattle.row_notes.specs.Drafts.{step_rows}
 use Rattle.row_notes.specs.Written.{Written}
 use Rattle.row_notes.proofs.Rows.{none-stored}
-use Rattle.row_walk.specs.declared.Columns.{Columns}
-use Rattle.measure_tally.specs.Counted.{Counted}
-use Rattle.measure_tally.proofs.Rows.{counted_start}
 use Rattle.tap_walk.specs.Noted.{Noted, NotedRows}
-use Rattle.tap_walk.specs.declared.measure_run.Run.{Run}
+use Rattle.row_walk.specs.declared.cell_walk.Run.{Run}
 use Rattle.tap_walk.specs.Held.{Rest, row_at, noting_of}
 use Rattle.tap_walk.proofs.Rows.{noted-start, noted-measure}
 
 none : (c : ℕ) → c < 10 → ◌≡◌ {A = ℕ} (get_or (replicate 10 0) c 0) 0
 none c h = get_or-replicate 10 c 0 0 h
-
-none-counted : (L : ℕ) → L ≤ 10 → Counts L [] (record { depths = replicate 10 0; heads = 0; tails = 0; met = false })
-none-counted L h = record {
-  depths = λ c k. none c (omega arith);
-  heads = refl;
-  tails = refl;
-  met = sym (column-none L);
-  low = record { depths = λ c k. omega (arith, none c k); heads = omega arith; tails = omega arith };
-}
-
-pub counted-new : (L : ℕ) → L ≤ 10 → (t : ArrowStats) → t ≡ empty_stats
-    → Counted L (record { stats = t; phantoms = record { depths = replicate 10 0; heads = 0; tails = 0; met = false }; rows = 0; before = 0; busy = 0 }) [] []
-counted-new L h t e = counted_start L t _ 0 e (none-counted L h) (λ c k f. none c k)
 
 none-written : (l : List ℕ) → Written [] (record { hold_heads = replicate 10 no_head; count = 0; row_index = 0; has_invalid = false }) l
 unfolding step_rows
@@ -55,13 +35,13 @@ pub noted-new : (L : ℕ) (l : List ℕ)
 noted-new L l = noted-start L l _ _ (none-written l) (held-start _ (record { none = λ c h. none c h; low = λ c h. omega (arith, none c h) }))
 
 -- a measure's end, without an object row and with one
-module _ (L first : ℕ) (q : Rest) (k : Columns) (r : Run) (above : first ≤ r.row) (few : r.row - first < row_count_bound) (least : q.midx ≤ measures_bound)
-    (l : List ℕ) (done : List (List Row)) (cur : List Row) (x : NotedRows L (noting_of first q k r) l done cur) where
+module _ (L first : ℕ) (q : Rest) (r : Run) (above : first ≤ r.row) (few : r.row - first < row_count_bound) (least : q.midx ≤ measures_bound)
+    (l : List ℕ) (done : List (List Row)) (cur : List Row) (x : NotedRows L (noting_of first q r) l done cur) where
   abbrev after : Option RowPlace → Rest
   after found = record { before = q.before; found = found; midx = q.midx + 1 }
 
   abbrev ended : Run
-  ended = record { marks = r.marks; stats = r.stats; count = r.count; row = r.row; last = 0 }
+  ended = record r { last = 0 }
 
   same : r.row - r.row ≡ 0
   same = omega arith
@@ -69,14 +49,14 @@ module _ (L first : ℕ) (q : Rest) (k : Columns) (r : Run) (above : first ≤ r
   gone : row_at r.row 0 ≡ None
   gone = rw (le-ltb r.row 0 (omega arith))
 
-  pub ended-none : r.last ≤ first → Noted L (noting_of r.row (after q.found) k ended) l (done ++ (cur ∷ []))
+  pub ended-none : r.last ≤ first → Noted L (noting_of r.row (after q.found) ended) l (done ++ (cur ∷ []))
   ended-none h =
       let none : row_at first r.last ≡ None = rw (le-ltb first r.last h) in
       let nothing : (n : ℕ) → row_at first r.last ≡ Some n → ⊥ = λ n e. let q : ◌≡◌ {A = Option ℕ} None (Some n) = sym none ∙ e in let z : ◌≡◌ {A = ℕ} 0 1 = cc in absurd (omega arith) in
       rw (same, gone) (noted-measure L _ l done cur x _ (held-none _ done cur x.last nothing) refl)
 
   pub ended-some : first < r.last
-      → Noted L (noting_of r.row (after (Some (record { measure = q.midx; row = r.last - 1 - first; rows = r.row - first }))) k ended) l (done ++ (cur ∷ []))
+      → Noted L (noting_of r.row (after (Some (record { measure = q.midx; row = r.last - 1 - first; rows = r.row - first }))) ended) l (done ++ (cur ∷ []))
   ended-some h =
       let some : row_at first r.last ≡ Some (r.last - 1 - first) = rw (lt-ltb first r.last h) in
       rw (same, gone) (noted-measure L _ l done cur x _ (held_at _ done cur x.last _ some few least) refl)

@@ -10,11 +10,11 @@ abbrev pub rest : Walk → Rest
 rest w = record { before = w.before; found = w.found; midx = w.midx }
 
 abbrev pub counting : Walk → Counting
-counting w = counting_of (rest w) w.columns w.run
+counting w = counting_of (rest w) w.run
 
 -- between two measures: no row is noted of an open one
 abbrev pub noting : Walk → Noting
-noting w = noting_of w.run.row (rest w) w.columns w.run
+noting w = noting_of w.run.row (rest w) w.run
 
 -- All rows of a measure were noted, which then has ended.
 abbrev pub NotesAll : ℕ → List Row → Noting → List ℕ → Noting → List ℕ → Type 0

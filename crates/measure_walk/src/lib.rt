@@ -5,7 +5,7 @@ ghost use Rattle.std.specs.Prelude.{◌≡◌, List, [], ℕ, ◌+◌, ◌-◌, 
 ghost use Rattle.definitions.specs.Sizes.{measures_bound, row_count_bound};
 ghost use Rattle.definitions.specs.Lines.{Row};
 ghost use Rattle.definitions.specs.Figures.{density as density_of};
-ghost use Rattle.row_walk.specs.Rows.{Ten};
+ghost use Rattle.row_walk.specs.Columns.{Ten};
 ghost use Rattle.reduction.specs.Rows.{rows_of};
 ghost use Rattle.reduction.specs.States.{EndsMeasure};
 ghost use Rattle.measure_tally.specs.Counted.{Counted, CountsAll};
@@ -17,14 +17,13 @@ ghost use Rattle.measure_walk.specs.Views.{rest, counting, noting, NotesAll};
 use beats::RowPlace;
 use phantoms::Phantoms;
 use row_notes::ChartNotesScratch;
-use row_walk::{Columns, Marks};
-use tap_walk::measure_run::Run;
+use row_walk::cell_walk::Run;
+use row_walk::columns::Columns;
 use taps::TapTable;
 
-/// The columns and what each row changes; the steps before the open measure, the last object row of the measures that are walked, and their number.
+/// What rows change; the steps before the open measure, the last object row of the measures that are walked, and their number.
 #[derive(Clone, Copy)]
 pub struct Walk {
-    pub columns: Columns,
     pub run: Run,
     pub before: u32,
     pub found: Option<RowPlace>,
@@ -34,29 +33,24 @@ pub struct Walk {
 impl Walk {
     /// Before the first row.
     pub fn new() -> Self
-        ensures ten { Ten result.columns }
+        ensures ten { Ten result.run.columns }
         ensures counted { (L : ℕ) → L ≤ 10 → Counted L (counting result) [] [] }
         ensures noted { (L : ℕ) (l : List ℕ) → Noted L (noting result) l [] }
         ensures nothing_walked { result.run.row ≡ 0 }
     {
         Walk {
-            columns: Columns {
-                depths: [0; 10],
-                object_depths: [0; 10],
-                hold_heads: [row_notes::NO_HEAD; 10],
-                busy: 0,
-            },
             run: Run {
-                marks: Marks {
-                    heads: 0,
-                    tails: 0,
-                    met: false,
-                    invalid: false,
+                columns: Columns {
+                    phantoms: phantoms::no_phantoms(),
+                    object_depths: [0; 10],
+                    hold_heads: [row_notes::NO_HEAD; 10],
+                    busy: 0,
                 },
                 stats: row_tally::no_stats(),
                 count: 0,
                 row: 0,
                 last: 0,
+                invalid: false,
             },
             before: 0,
             found: None,
@@ -70,10 +64,10 @@ impl Walk {
         requires rows_few { self.old.run.row - first < row_count_bound }
         requires measures_few { self.old.midx ≤ measures_bound }
         ensures noted { (L : ℕ) (l : List ℕ) → EndsMeasure
-            (NotedRows L (noting_of first (rest self.old) self.old.columns self.old.run) l)
+            (NotedRows L (noting_of first (rest self.old) self.old.run) l)
             (NotedRows L (noting self.new) l) }
         ensures counting_stays { counting self.new ≡ counting self.old }
-        ensures columns_stay { self.new.columns ≡ self.old.columns }
+        ensures columns_stay { self.new.run.columns ≡ self.old.run.columns }
     {
         if first < self.run.last {
             self.found = Some(RowPlace {
@@ -87,7 +81,6 @@ impl Walk {
     }
 
     /// The rows of a measure that stand in a text from `start` on, each with a newline byte after it; for the notes the measure then ends.
-    /// The run is taken out for the measure and put back, so that it stays in registers.
     pub fn walk_rows(
         &mut self,
         text: &[u8],
@@ -97,11 +90,11 @@ impl Walk {
         table: &TapTable,
     )
         requires in_text { start + rows * (table.now.lanes.count + 1) ≤ length text.now }
-        requires ten { Ten self.old.columns }
+        requires ten { Ten self.old.run.columns }
         requires walking { Walking table.now.lanes.count
             (counting self.old) (noting self.old) slots.old
             (rows_of table.now.lanes.count rows text.now start) 0 }
-        ensures ten { Ten self.new.columns }
+        ensures ten { Ten self.new.run.columns }
         ensures counted { CountsAll table.now.lanes.count
             (rows_of table.now.lanes.count rows text.now start)
             (counting self.old) (counting self.new) }
@@ -111,31 +104,15 @@ impl Walk {
     {
         let lanes = table.lanes.count;
         let first = self.run.row;
-        let mut run = self.run;
-        loop {
-            tap_walk::walk_taps(
-                &mut run,
-                &self.columns,
-                first,
-                text,
-                start,
-                rows,
-                slots,
-                table,
-            );
-            let i = (run.row - first) as usize;
-            if rows <= i {
-                self.run = run;
-                self.end_rows(first);
-                return;
-            }
-            let at = start + i * (lanes + 1);
+        let mut at = start;
+        let mut i = 0;
+        while i < rows {
             let end = at + lanes;
-            let s = self
-                .columns
-                .walk_cells(run.marks, run.count, run.row, &text[at..end], slots);
-            run.add_cells(s);
+            tap_walk::add_row(&mut self.run, &text[at..end], slots, table);
+            at = end + 1;
+            i += 1;
         }
+        self.end_rows(first);
     }
 
     /// The density of the open measure.
@@ -152,7 +129,7 @@ impl Walk {
         ensures counted { (L : ℕ)
             → EndsMeasure (Counted L (counting self.old)) (Counted L (counting self.new)) }
         ensures noting_stays { noting self.new ≡ noting self.old }
-        ensures columns_stay { self.new.columns ≡ self.old.columns }
+        ensures columns_stay { self.new.run.columns ≡ self.old.run.columns }
     {
         self.before = self.run.stats.total_steps;
     }
@@ -161,12 +138,7 @@ impl Walk {
     pub fn phantoms(&self) -> Phantoms
         ensures { result ≡ (counting self.now).phantoms }
     {
-        Phantoms {
-            depths: self.columns.depths,
-            heads: self.run.marks.heads,
-            tails: self.run.marks.tails,
-            met: self.run.marks.met,
-        }
+        self.run.columns.phantoms
     }
 
     /// What the notes' end asks.
@@ -174,10 +146,10 @@ impl Walk {
         ensures { result ≡ (noting self.now).scratch }
     {
         ChartNotesScratch {
-            hold_heads: self.columns.hold_heads,
+            hold_heads: self.run.columns.hold_heads,
             count: self.run.count,
             row_index: self.run.row,
-            has_invalid: self.run.marks.invalid,
+            has_invalid: self.run.invalid,
         }
     }
 }

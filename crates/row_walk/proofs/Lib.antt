@@ -1,4 +1,4 @@
--- Laws of a cell, and of a row that is walked by its cells.
+-- Laws of a column, of a cell, and of a row that is walked by its cells.
+pub mod Places
 pub mod Effects
-pub mod Bits
-pub mod Cells
+pub mod Rows

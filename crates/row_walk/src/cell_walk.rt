@@ -1,175 +1,246 @@
-// One cell of a row that is not ordinary: what it does to the phantom depth, the object depth and the notes of its column, told by one match
-// over the letters.
-ghost use Rattle.row_walk.specs.Cells.{CellFits, Blocking, Lower, Opening, Closing, Unnoted, ByteWalked};
+// One cell of a row that is not ordinary: what it does to the tally, and to the phantom depth, the object depth and the notes of its column, told by
+// one match over the letters, all in place.
+ghost use Rattle.std.specs.Prelude.{◌≡◌, ◌+◌, ◌-◌, ◌≤◌, ◌<◌};
+ghost use Rattle.definitions.specs.Sizes.{count_bound, row_numbers_bound};
+ghost use Rattle.definitions.specs.Cells.{cell_of};
+ghost use Rattle.definitions.specs.declared.Cell.TheVariants.{Mine, KeySound};
+ghost use Rattle.taps.specs.Taps.{bit};
+ghost use Rattle.row_tally.specs.Bounds.{Below, EndsBelow};
+ghost use Rattle.row_tally.specs.Raised.{row_end};
+ghost use Rattle.row_walk.specs.Cells.{CellFits, Blocking, Lower, Opening, Closing, Sounding, CellDone, object_ended, with_cell, counted_in};
 
-use definitions::{Cell, Kind};
-use objects::ObjectCell;
-use phantoms::PhantomCell;
+use crate::columns::Columns;
+use definitions::{ArrowStats, Cell, Kind, direction};
 
-/// Where a cell stands: the phantom depth, the object depth and the open head of its column, the number of records, its row and its column.
+/// What rows change: the columns, the tally, the number of records, the number of rows, how many of these there are up to the measure's last object
+/// row, and whether a record was dropped. Where `last` is no more than before the measure, it has no object row.
 #[derive(Clone, Copy)]
-pub struct CellAt {
-    pub depth: u32,
-    pub object_depth: u32,
-    pub head: u32,
+pub struct Run {
+    pub columns: Columns,
+    pub stats: ArrowStats,
     pub count: usize,
     pub row: u32,
-    pub column: usize,
-}
-
-/// What a cell leaves: its phantom and its object depth, the open head of its column, the number of records, and whether it dropped one.
-#[derive(Clone, Copy)]
-pub struct WalkCell {
-    pub phantom: PhantomCell,
-    pub object: ObjectCell,
-    pub head: u32,
-    pub count: usize,
+    pub last: u32,
     pub invalid: bool,
 }
 
-// A 1, M, L or F.
-fn walk_blocking(at: CellAt, kind: Kind, slots: &mut [u8]) -> WalkCell
-    requires { CellFits at slots.old }
-    ensures { Blocking kind at slots.old slots.new result }
-{
-    row_notes::put_note(at.head, at.count, at.row, at.column, kind, slots);
-    WalkCell {
-        phantom: PhantomCell {
-            depth: at.depth,
-            heads: 0,
-            tails: 0,
-            met: 0 < at.depth,
-        },
-        object: ObjectCell {
-            object: true,
-            depth: 0,
-        },
-        head: row_notes::NO_HEAD,
-        count: at.count + 1,
-        invalid: at.head != row_notes::NO_HEAD,
+impl Run {
+    // A 1, M, L or F in a column where nothing is open.
+    #[inline(always)]
+    fn block_free(&mut self, column: usize, kind: Kind, slots: &mut [u8])
+        requires fits { CellFits self.old column slots.old }
+        requires free { bit column self.old.columns.busy ≡ 0 }
+        ensures walked { Blocking kind column self.old slots.old self.new slots.new }
+        ensures stats_stay { self.new.stats ≡ self.old.stats }
+    {
+        row_notes::put_note(
+            row_notes::NO_HEAD,
+            self.count,
+            self.row,
+            column,
+            kind,
+            slots,
+        );
+        self.count += 1;
+        self.last = self.row + 1;
     }
-}
 
-// An m, l or f.
-fn walk_lower(at: CellAt, kind: Kind, slots: &mut [u8]) -> WalkCell
-    requires { CellFits at slots.old }
-    ensures { Lower kind at slots.old slots.new result }
-{
-    row_notes::put_note(at.head, at.count, at.row, at.column, kind, slots);
-    WalkCell {
-        phantom: PhantomCell {
-            depth: at.depth,
-            heads: 0,
-            tails: 0,
-            met: false,
-        },
-        object: ObjectCell {
-            object: false,
-            depth: at.object_depth,
-        },
-        head: row_notes::NO_HEAD,
-        count: at.count + 1,
-        invalid: at.head != row_notes::NO_HEAD,
+    // The same in any column.
+    #[inline(always)]
+    fn block_busy(&mut self, column: usize, kind: Kind, slots: &mut [u8])
+        requires { CellFits self.old column slots.old }
+        ensures walked { Blocking kind column self.old slots.old self.new slots.new }
+        ensures stats_stay { self.new.stats ≡ self.old.stats }
+    {
+        let head = self.columns.hold_heads[column];
+        row_notes::put_note(head, self.count, self.row, column, kind, slots);
+        self.count += 1;
+        self.last = self.row + 1;
+        self.invalid |= head != row_notes::NO_HEAD;
+        self.columns.block(column);
     }
-}
 
-// A 2 or 4.
-fn walk_opening(at: CellAt, kind: Kind, slots: &mut [u8]) -> WalkCell
-    requires { CellFits at slots.old }
-    ensures { Opening kind at slots.old slots.new result }
-{
-    row_notes::put_note(at.head, at.count, at.row, at.column, kind, slots);
-    WalkCell {
-        phantom: PhantomCell {
-            depth: at.depth + 1,
-            heads: 1,
-            tails: 0,
-            met: false,
-        },
-        object: ObjectCell {
-            object: false,
-            depth: at.object_depth + 1,
-        },
-        head: at.count as u32,
-        count: at.count + 1,
-        invalid: at.head != row_notes::NO_HEAD,
-    }
-}
-
-// A 3.
-fn walk_closing(at: CellAt, slots: &mut [u8]) -> WalkCell
-    requires { CellFits at slots.old }
-    ensures { Closing at slots.old slots.new result }
-{
-    row_notes::end_note(at.head, at.row, slots);
-    WalkCell {
-        phantom: PhantomCell {
-            depth: at.depth.saturating_sub(1),
-            heads: 0,
-            tails: 1,
-            met: false,
-        },
-        object: ObjectCell {
-            object: 0 < at.object_depth,
-            depth: at.object_depth.saturating_sub(1),
-        },
-        head: row_notes::NO_HEAD,
-        count: at.count,
-        invalid: false,
-    }
-}
-
-// A K, or a cell that changes nothing, which leave this object depth.
-fn walk_unnoted(at: CellAt, object: ObjectCell) -> WalkCell
-    ensures { Unnoted at object result }
-{
-    WalkCell {
-        phantom: PhantomCell {
-            depth: at.depth,
-            heads: 0,
-            tails: 0,
-            met: false,
-        },
-        object,
-        head: at.head,
-        count: at.count,
-        invalid: false,
-    }
-}
-
-/// One cell.
-pub fn walk_cell(b: u8, at: CellAt, slots: &mut [u8]) -> WalkCell
-    requires { CellFits at slots.old }
-    ensures { ByteWalked b at slots.old slots.new result }
-{
-    match cells::cell_of(b) {
-        Cell::Tap => walk_blocking(at, Kind::Tap, slots),
-        Cell::Hold => walk_opening(at, Kind::Hold, slots),
-        Cell::Tail => walk_closing(at, slots),
-        Cell::Roll => walk_opening(at, Kind::Roll, slots),
-        Cell::Mine => walk_blocking(at, Kind::Mine, slots),
-        Cell::Lift => walk_blocking(at, Kind::Lift, slots),
-        Cell::Fake => walk_blocking(at, Kind::Fake, slots),
-        Cell::KeySound => {
-            walk_unnoted(
-                at,
-                ObjectCell {
-                    object: true,
-                    depth: 0,
-                },
-            )
+    // A 1, M, L or F.
+    #[inline(always)]
+    fn block(&mut self, column: usize, kind: Kind, slots: &mut [u8])
+        requires { CellFits self.old column slots.old }
+        ensures walked { Blocking kind column self.old slots.old self.new slots.new }
+        ensures stats_stay { self.new.stats ≡ self.old.stats }
+    {
+        if self.columns.is_busy(column) {
+            self.block_busy(column, kind, slots);
+        } else {
+            self.block_free(column, kind, slots);
         }
-        Cell::LowerMine => walk_lower(at, Kind::Mine, slots),
-        Cell::LowerLift => walk_lower(at, Kind::Lift, slots),
-        Cell::LowerFake => walk_lower(at, Kind::Fake, slots),
-        Cell::Empty => {
-            walk_unnoted(
-                at,
-                ObjectCell {
-                    object: false,
-                    depth: at.object_depth,
-                },
-            )
+    }
+
+    // An m, l or f.
+    #[inline(always)]
+    fn lower(&mut self, column: usize, kind: Kind, slots: &mut [u8])
+        requires { CellFits self.old column slots.old }
+        ensures walked { Lower kind column self.old slots.old self.new slots.new }
+        ensures stats_stay { self.new.stats ≡ self.old.stats }
+    {
+        let head = self.columns.hold_heads[column];
+        row_notes::put_note(head, self.count, self.row, column, kind, slots);
+        self.count += 1;
+        self.invalid |= head != row_notes::NO_HEAD;
+        self.columns.drop_head(column);
+    }
+
+    // A 2 or 4.
+    #[inline(always)]
+    fn open(&mut self, column: usize, kind: Kind, slots: &mut [u8])
+        requires { CellFits self.old column slots.old }
+        ensures walked { Opening kind column self.old slots.old self.new slots.new }
+        ensures stats_stay { self.new.stats ≡ self.old.stats }
+    {
+        let head = self.columns.hold_heads[column];
+        row_notes::put_note(head, self.count, self.row, column, kind, slots);
+        self.invalid |= head != row_notes::NO_HEAD;
+        self.columns.open(column, self.count as u32);
+        self.count += 1;
+    }
+
+    // Whether the tail makes its row an object row: it does where it ends an object depth.
+    #[inline(always)]
+    fn end_object(&mut self, column: usize)
+        requires column_narrow { column < 10 }
+        requires rows_few { self.old.row < row_numbers_bound }
+        ensures { self.new ≡ object_ended self.old column }
+    {
+        if 0 < self.columns.object_depths[column] {
+            self.last = self.row + 1;
         }
+    }
+
+    // A 3.
+    #[inline(always)]
+    fn close(&mut self, column: usize, slots: &mut [u8])
+        requires { CellFits self.old column slots.old }
+        ensures walked { Closing column self.old slots.old self.new slots.new }
+        ensures stats_stay { self.new.stats ≡ self.old.stats }
+    {
+        row_notes::end_note(self.columns.hold_heads[column], self.row, slots);
+        self.end_object(column);
+        self.columns.close(column);
+    }
+
+    // A K.
+    #[inline(always)]
+    fn sound(&mut self, column: usize, slots: &mut [u8])
+        requires { CellFits self.old column slots.old }
+        ensures walked { Sounding column self.old slots.old self.new slots.new }
+        ensures stats_stay { self.new.stats ≡ self.old.stats }
+    {
+        self.last = self.row + 1;
+        self.columns.block_objects(column);
+    }
+
+    // The tally counts a cell of a row of so many.
+    #[inline(always)]
+    fn count(&mut self, columns: usize, column: usize, cell: Cell)
+        requires { Below (count_bound + 9) self.old.stats }
+        ensures { self.new ≡ with_cell self.old columns column cell }
+    {
+        row_tally::count_cell(&mut self.stats, direction(columns, column), cell, false);
+    }
+
+    /// An M of a row of so many.
+    #[inline(always)]
+    pub fn walk_mine(&mut self, columns: usize, column: usize, slots: &mut [u8])
+        requires { CellFits self.old column slots.old }
+        ensures walked { CellDone Mine column self.old slots.old self.new slots.new }
+        ensures counted { self.new.stats ≡ counted_in self.old columns column Mine }
+    {
+        self.block(column, Kind::Mine, slots);
+        self.count(columns, column, Cell::Mine);
+    }
+
+    /// A K.
+    #[inline(always)]
+    pub fn walk_keysound(&mut self, columns: usize, column: usize, slots: &mut [u8])
+        requires { CellFits self.old column slots.old }
+        ensures walked { CellDone KeySound column self.old slots.old self.new slots.new }
+        ensures counted { self.new.stats ≡ counted_in self.old columns column KeySound }
+    {
+        self.sound(column, slots);
+        self.count(columns, column, Cell::KeySound);
+    }
+
+    /// Any cell, by its byte. It stays a call of its own: written into its loop, each count would go through a register for the whole row.
+    #[inline(never)]
+    pub fn walk_cell(&mut self, columns: usize, column: usize, b: u8, slots: &mut [u8])
+        requires { CellFits self.old column slots.old }
+        ensures walked { CellDone (cell_of b) column
+            self.old slots.old self.new slots.new }
+        ensures counted { self.new.stats ≡ counted_in self.old columns column (cell_of b) }
+    {
+        match cells::cell_of(b) {
+            Cell::Tap => {
+                self.block(column, Kind::Tap, slots);
+                self.count(columns, column, Cell::Tap);
+            }
+            Cell::Hold => {
+                self.open(column, Kind::Hold, slots);
+                self.count(columns, column, Cell::Hold);
+            }
+            Cell::Tail => {
+                self.close(column, slots);
+                self.count(columns, column, Cell::Tail);
+            }
+            Cell::Roll => {
+                self.open(column, Kind::Roll, slots);
+                self.count(columns, column, Cell::Roll);
+            }
+            Cell::Mine => self.walk_mine(columns, column, slots),
+            Cell::Lift => {
+                self.block(column, Kind::Lift, slots);
+                self.count(columns, column, Cell::Lift);
+            }
+            Cell::Fake => {
+                self.block(column, Kind::Fake, slots);
+                self.count(columns, column, Cell::Fake);
+            }
+            Cell::KeySound => self.walk_keysound(columns, column, slots),
+            Cell::LowerMine => {
+                self.lower(column, Kind::Mine, slots);
+                self.count(columns, column, Cell::LowerMine);
+            }
+            Cell::LowerLift => {
+                self.lower(column, Kind::Lift, slots);
+                self.count(columns, column, Cell::LowerLift);
+            }
+            Cell::LowerFake => {
+                self.lower(column, Kind::Fake, slots);
+                self.count(columns, column, Cell::LowerFake);
+            }
+            Cell::Empty => {}
+        }
+    }
+
+    /// The row ends, before which there were so many arrows, heads and tails.
+    #[inline(always)]
+    pub fn end_row(&mut self, arrows: u32, heads: u32, tails: u32)
+        requires few { EndsBelow count_bound self.old.stats }
+        requires arrows_few { (arrows ≤ self.old.stats.total_arrows) × (self.old.stats.total_arrows ≤ arrows + 10) }
+        requires heads_few { (heads ≤ self.old.columns.phantoms.heads) × (self.old.columns.phantoms.heads ≤ heads + 10) }
+        requires tails_few { tails ≤ self.old.columns.phantoms.tails }
+        requires rows_few { self.old.row < 4294967295 }
+        ensures counted { self.new.stats ≡ row_end self.old.stats
+            (self.old.stats.total_arrows - arrows)
+            (self.old.columns.phantoms.heads - heads)
+            (self.old.columns.phantoms.tails - tails) }
+        ensures row { self.new.row ≡ self.old.row + 1 }
+        ensures columns_stay { self.new.columns ≡ self.old.columns }
+        ensures invalid_stays { self.new.invalid ≡ self.old.invalid }
+        ensures count_stays { self.new.count ≡ self.old.count }
+        ensures last_stays { self.new.last ≡ self.old.last }
+    {
+        let arrows = self.stats.total_arrows - arrows;
+        let heads = self.columns.phantoms.heads - heads;
+        let tails = self.columns.phantoms.tails - tails;
+        row_tally::end_row(&mut self.stats, arrows, heads, tails);
+        self.row += 1;
     }
 }

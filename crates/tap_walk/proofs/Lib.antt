@@ -1,4 +1,3 @@
 -- Laws of what is noted, and of ordinary rows.
 pub mod Rows
-pub mod Walks
 pub mod Runs

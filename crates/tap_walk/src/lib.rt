@@ -1,14 +1,12 @@
-// Ordinary rows of a measure, which the main call counts and notes by their masks.
+// One row of a measure more: an ordinary one is counted and noted by its mask, any other by its cells.
 #![tactic(auto)]
 
-pub mod measure_run;
+ghost use Rattle.std.specs.Prelude.{◌≡◌, ◌<◌, length};
+ghost use Rattle.definitions.specs.Sizes.{row_count_bound};
+ghost use Rattle.row_walk.specs.Rows.{CellsReady};
+ghost use Rattle.tap_walk.specs.Walked.{TapsReady, TapsAdded, RowAdded};
 
-ghost use Rattle.std.specs.Prelude.{◌+◌, ◌*◌, ◌≤◌, length};
-ghost use Rattle.reduction.specs.Rows.{rows_of};
-ghost use Rattle.tap_walk.specs.Walked.{TapsReady, TapsAdded, Running, RunCounts, RunNotes};
-
-use crate::measure_run::Run;
-use row_walk::Columns;
+use row_walk::cell_walk::Run;
 use taps::{TapTable, Taps};
 
 // One row of taps more, all in columns that are not busy.
@@ -22,39 +20,16 @@ fn add_taps(run: &mut Run, mask: u16, slots: &mut [u8], table: &TapTable)
     run.last = if mask != 0 { run.row } else { run.last };
 }
 
-/// Ordinary rows of a measure, up to the first row that is not: it stands in a text from `start` on, and `first` rows stand before it.
-pub fn walk_taps(
-    run: &mut Run,
-    columns: &Columns,
-    first: u32,
-    text: &[u8],
-    start: usize,
-    rows: usize,
-    slots: &mut [u8],
-    table: &TapTable,
-)
-    requires in_text { start + rows * (table.now.lanes.count + 1) ≤ length text.now }
-    requires first_row { first ≤ run.old.row }
-    requires in_measure { run.old.row ≤ first + rows }
-    requires running { Running table.now.lanes.count first columns.now run.old slots.old
-        (rows_of table.now.lanes.count rows text.now start) }
-    ensures onwards { run.old.row ≤ run.new.row }
-    ensures in_measure { run.new.row ≤ first + rows }
-    ensures counted { RunCounts table.now.lanes.count first columns.now
-        (rows_of table.now.lanes.count rows text.now start) run.old run.new }
-    ensures noted_rows { RunNotes table.now.lanes.count first columns.now
-        (rows_of table.now.lanes.count rows text.now start)
-        run.old slots.old run.new slots.new }
+/// One row more. It is written into its loop, so that the columns and the counts stay where they are.
+#[inline(always)]
+pub fn add_row(run: &mut Run, row: &[u8], slots: &mut [u8], table: &TapTable)
+    requires ready { CellsReady row.now run.old slots.old }
+    requires width { length row.now ≡ table.now.lanes.count }
+    requires rows_few { run.old.row < row_count_bound }
+    ensures { RowAdded row.now run.old slots.old run.new slots.new }
 {
-    let lanes = table.lanes.count;
-    let stop = first + rows as u32;
-    let mut at = start + (run.row - first) as usize * (lanes + 1);
-    while run.row < stop {
-        let end = at + lanes;
-        match taps::free_taps(&text[at..end], columns.busy) {
-            Taps::Mask(mask) => add_taps(run, mask, slots, table),
-            Taps::Other => return,
-        }
-        at = end + 1;
+    match taps::free_taps(row, run.columns.busy) {
+        Taps::Mask(mask) => add_taps(run, mask, slots, table),
+        Taps::Other => row_walk::walk_cells(run, row, slots),
     }
 }

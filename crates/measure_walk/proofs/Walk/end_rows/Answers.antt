@@ -8,8 +8,8 @@ pub returns-clause-noted : goal.returns-clause-noted
 returns-clause-noted c = λ L l done cur x. elim c.if-first-self.branch [
   | then-first-self w ↦
       rw w.self-is
-      (ended-some L c.args.first (rest c.args.self.now) c.args.self.now.columns c.args.self.now.run c.requires.first_row c.requires.rows_few c.requires.measures_few l done cur x w.if-first-self.true)
+      (ended-some L c.args.first (rest c.args.self.now) c.args.self.now.run c.requires.first_row c.requires.rows_few c.requires.measures_few l done cur x w.if-first-self.true)
   | else-first-self w ↦
       rw w.self-is
-      (ended-none L c.args.first (rest c.args.self.now) c.args.self.now.columns c.args.self.now.run c.requires.first_row c.requires.rows_few c.requires.measures_few l done cur x w.if-first-self.false)
+      (ended-none L c.args.first (rest c.args.self.now) c.args.self.now.run c.requires.first_row c.requires.rows_few c.requires.measures_few l done cur x w.if-first-self.false)
 ]

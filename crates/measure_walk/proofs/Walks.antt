@@ -8,22 +8,11 @@ use lib.Seq.{length-take-le}
 use Rattle.definitions.specs.Sizes.{measures_bound, row_count_bound}
 use Rattle.definitions.specs.Lists.{joined}
 use Rattle.definitions.specs.Lines.{Row}
-use Rattle.row_walk.specs.declared.Columns.{Columns}
 use Rattle.measure_tally.specs.declared.Counting.{Counting}
 use Rattle.measure_tally.specs.Counted.{Few, Counted}
 use Rattle.tap_walk.specs.Noted.{Noting, NotedRows, RowReady}
 use Rattle.tap_walk.proofs.Rows.{row_number, row-ready, one-room}
-use Rattle.tap_walk.specs.declared.measure_run.Run.{Run}
-use Rattle.tap_walk.specs.Walked.{Walking, RunCounts, RunNotes}
-
--- From one run to another the rows of the measure ms are walked, of which there are `rows`; the next one stands at `at`.
-pub record TapsWalked (L first start rows : ℕ) (k : Columns) (ms : List Row) (r : Run) (l : List ℕ) (r' : Run) (l' : List ℕ) (at : ℕ) : Type 0 where
-  pub onwards : r.row ≤ r'.row
-  pub inside : r'.row ≤ first + rows
-  pub stands : at ≡ start + (r'.row - first) * (L + 1)
-  pub same : length l' ≡ length l
-  pub counted : RunCounts L first k ms r r'
-  pub noted : RunNotes L first k ms r l r' l'
+use Rattle.tap_walk.specs.Walked.{Walking}
 
 -- the walk goes on
 pub walked_on : (L : ℕ) (c c' : Counting) (n n' : Noting) (l l' : List ℕ) (ms : List Row) (i j : ℕ) → Walking L c n l ms i → length l' ≡ length l
