@@ -87,9 +87,8 @@ impl Counting {
         }
     }
 
-    // One cell of a row of so many, by one match. It stays a call of its own: written into its loop, each count would go through a register for the
-    // whole row.
-    #[inline(never)]
+    // One cell of a row of so many, by one match. It is written into each column: in a loop each count would go through a register for the whole row.
+    #[inline(always)]
     fn count_cell(&mut self, columns: usize, column: usize, b: u8)
         requires column_narrow { column < 10 }
         requires few { Below (count_bound + 9) self.old.stats }

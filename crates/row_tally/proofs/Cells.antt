@@ -1,6 +1,6 @@
 -- The cells of a row of which only the heads of a mask count, one after the other.
 use mathlib.Core.Path.{◌≡◌, refl, ap, sym, ◌∙◌}
-use mathlib.Core.Bool.{Bool, true, false}
+use mathlib.Core.Bool.{Bool, true}
 use mathlib.Core.List.{[], ◌∷◌}
 use Prim.Native.Nat.{ℕ, zero, suc, ◌+◌, ◌≤◌, ◌<◌}
 use native.Mathlib.Numerals.{add-one}
@@ -12,8 +12,8 @@ use Rattle.definitions.specs.Lines.{Row}
 use Rattle.definitions.specs.Cells.{cell_of}
 use Rattle.definitions.specs.Sizes.{count_bound}
 use Rattle.definitions.proofs.Lists.{one-le}
-use Rattle.definitions.specs.Tally.{counted_as, place, direction, row_sum, row_sum_by, empty_sum, tally_with_row}
-use Rattle.definitions.specs.Judged.{judged_sum, judge_row}
+use Rattle.definitions.specs.Tally.{counted_as, place, direction, row_sum_by, empty_sum, tally_with_row}
+use Rattle.definitions.specs.Judged.{judge_row}
 use Rattle.definitions.specs.declared.ArrowStats.{ArrowStats}
 use Rattle.definitions.specs.declared.Cell.{Cell}
 use Rattle.definitions.specs.declared.RowSum.{RowSum}
@@ -23,7 +23,6 @@ use Rattle.row_tally.specs.Masked.{bit_is_set, byte_by_mask, cell_if_paired, row
 use Rattle.row_tally.specs.Raised.{with_cells, row_end, judged_row_end}
 use Rattle.row_tally.specs.Sums.{sum_with_cell, add_by, arrow_of}
 use Rattle.row_tally.proofs.Before.{before-under, before-whole, before-next, before-below}
-use Rattle.row_tally.proofs.Bounds.{below_more}
 use Rattle.row_tally.proofs.Masked.{keep-length}
 use Rattle.row_tally.proofs.Raised.{cells-none, cells-ends, cells-arrows, cells-holds, cells-rolls, cells-mines, cells-fakes, row-ended, judged-row-ended}
 

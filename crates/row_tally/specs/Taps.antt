@@ -3,7 +3,6 @@ use Rattle.std.specs.Prelude.{◌≡◌, Bool, ℕ}
 use Rattle.definitions.specs.Lines.{Row}
 use Rattle.definitions.specs.Tally.{row_sum, tally_with_row}
 use Rattle.definitions.specs.Judged.{judged_sum, judge_row}
-use Rattle.definitions.specs.declared.RowSum.{RowSum}
 use Rattle.definitions.specs.declared.ArrowStats.{ArrowStats}
 use Rattle.taps.specs.Taps.{mask_of_line}
 use Rattle.taps.specs.declared.Taps.TheVariants.{Mask}
@@ -11,10 +10,6 @@ use Rattle.taps.specs.declared.Taps.TheVariants.{Mask}
 -- the tally r is t with the row
 abbrev pub TapsCounted : ℕ → ArrowStats → ArrowStats → Type 0
 TapsCounted mask t r = (row : Row) → mask_of_line row ≡ Mask mask → r ≡ tally_with_row t (row_sum row)
-
--- the row, judged or not, adds up to s
-abbrev pub TapsSummed : Bool → ℕ → RowSum → Type 0
-TapsSummed judged mask s = (row : Row) → mask_of_line row ≡ Mask mask → s ≡ judged_sum judged row
 
 -- the judged tally r is t with the row, before which `held` holds are open
 abbrev pub TapsJudged : Bool → ℕ → ℕ → ArrowStats → ArrowStats → Type 0

@@ -1,109 +1,22 @@
-// Row sums and tallies: what a row adds up to, the tally with one row more, and the same of rows with only paired heads and of judged rows.
+// Tallies that are raised cell by cell: the tally with one row more, and the same of rows with only paired heads and of judged rows.
 #![tactic(auto)]
 
 pub mod paired;
 
-ghost use Rattle.std.specs.Prelude.{◌≡◌, ℕ, true, false, ◌+◌, ◌-◌, ◌≤◌, ◌<◌, length};
+ghost use Rattle.std.specs.Prelude.{◌≡◌, ℕ, true, false, ◌+◌, ◌-◌, ◌≤◌, ◌<◌};
 ghost use Rattle.definitions.specs.Sizes.{count_bound};
-ghost use Rattle.definitions.specs.Cells.{cell_of, is_arrow};
-ghost use Rattle.definitions.specs.Tracker.{hold_at};
-ghost use Rattle.definitions.specs.Tally.{empty_stats, row_sum, row_sum_by, tally_with_sum, tally_with_row, empty_sum};
-ghost use Rattle.definitions.specs.Correction.{head_if_paired, tally_with_steps};
-ghost use Rattle.definitions.specs.Judged.{is_judged_arrow, sum_of_fakes, judged_sum, judge_row};
+ghost use Rattle.definitions.specs.Tally.{empty_stats, tally_with_row, empty_sum};
+ghost use Rattle.definitions.specs.Correction.{tally_with_steps};
+ghost use Rattle.definitions.specs.Judged.{sum_of_fakes, judge_row};
 ghost use Rattle.taps.specs.Taps.{masks};
 ghost use Rattle.definitions.specs.declared.Cell.TheVariants.{Tap};
 ghost use Rattle.row_tally.specs.Bounds.{Under, Below, EndsBelow};
-ghost use Rattle.row_tally.specs.Masked.{bit_is_set, cell_by_mask, row_by_mask};
-ghost use Rattle.row_tally.specs.Sums.{sum_with_cell, arrow_of, add_by};
-ghost use Rattle.row_tally.specs.Taps.{TapsCounted, TapsSummed, TapsJudged};
+ghost use Rattle.row_tally.specs.Sums.{sum_with_cell, add_by};
+ghost use Rattle.row_tally.specs.Taps.{TapsCounted, TapsJudged};
 ghost use Rattle.row_tally.specs.Raised.{with_cells, row_end, judged_row_end};
 
-use definitions::{ArrowStats, Cell, DepthEffect, RowSum, direction};
+use definitions::{ArrowStats, Cell, RowSum};
 use taps::TapTable;
-
-/// The sum of no cells.
-pub fn no_sum() -> RowSum
-    ensures { result ≡ empty_sum }
-{
-    RowSum::default()
-}
-
-// With an arrow of a direction: left, down, up, right, up-left, up-right. A cell may have raised another count by one before.
-#[tactic(auto, unfolding(crate::specs::Sums::sum_with_cell))]
-fn bump_dir(mut s: RowSum, direction: usize) -> RowSum
-    requires { Under 11 s }
-    ensures { result ≡ sum_with_cell s direction Tap true }
-{
-    s.arrows += 1;
-    match direction {
-        0 => s.left += 1,
-        1 => s.down += 1,
-        2 => s.up += 1,
-        3 => s.right += 1,
-        4 => s.up_left += 1,
-        5 => s.up_right += 1,
-        _ => {}
-    }
-    s
-}
-
-// One cell of a row, in a column of a direction, by one match: an arrow, what else it is counted as, or both. On a judged row an L is an arrow too.
-// It is written into its loops, since a sum that is copied for each cell costs them a third.
-#[inline(always)]
-#[tactic(auto, unfolding(crate::specs::Sums::sum_with_cell))]
-fn add_cell(mut s: RowSum, direction: usize, b: u8, judged: bool) -> RowSum
-    requires { Under 10 s }
-    ensures { result ≡ add_by judged s direction (cell_of b) }
-{
-    match cells::cell_of(b) {
-        Cell::Tap => bump_dir(s, direction),
-        Cell::Hold => {
-            s.holds += 1;
-            bump_dir(s, direction)
-        }
-        Cell::Roll => {
-            s.rolls += 1;
-            bump_dir(s, direction)
-        }
-        Cell::Tail => {
-            s.tails += 1;
-            s
-        }
-        Cell::Mine | Cell::LowerMine => {
-            s.mines += 1;
-            s
-        }
-        Cell::Lift | Cell::LowerLift => {
-            s.lifts += 1;
-            if judged { bump_dir(s, direction) } else { s }
-        }
-        Cell::Fake | Cell::LowerFake => {
-            s.fakes += 1;
-            s
-        }
-        Cell::KeySound => {
-            s.keysounds += 1;
-            s
-        }
-        Cell::Empty => s,
-    }
-}
-
-/// One cell of a plain row.
-pub fn sum_cell(s: RowSum, direction: usize, b: u8) -> RowSum
-    requires { Under 10 s }
-    ensures { result ≡ sum_with_cell s direction (cell_of b) (is_arrow (cell_of b)) }
-{
-    add_cell(s, direction, b, false)
-}
-
-/// One cell of a judged row.
-pub fn judged_cell(s: RowSum, direction: usize, b: u8) -> RowSum
-    requires { Under 10 s }
-    ensures { result ≡ sum_with_cell s direction (cell_of b) (is_judged_arrow (cell_of b)) }
-{
-    add_cell(s, direction, b, true)
-}
 
 /// The tally of no rows.
 pub fn no_stats() -> ArrowStats
@@ -232,28 +145,16 @@ pub fn end_judged_row(stats: &mut ArrowStats, judged: bool, arrows: u32, others:
     stats.holding = 0;
 }
 
-/// The running tally is lent by the caller and altered there.
+// A row's sum is added, and the row ends.
 #[inline(always)]
 #[tactic(auto, unfolding(crate::specs::Raised::with_cells, crate::specs::Raised::with_end, definitions::specs::Tally::tally_with_row))]
-pub fn add_row_into(stats: &mut ArrowStats, s: RowSum)
+fn add_row_into(stats: &mut ArrowStats, s: RowSum)
     requires few { Below count_bound stats.old }
     requires sum_few { Under 10 s }
     ensures { stats.new ≡ tally_with_row stats.old s }
 {
     add_cells(stats, s);
     end_row(stats, s.arrows, s.holds + s.rolls, s.tails);
-}
-
-/// One row more in a judged tally, before which `held` holds are open: a hand is told otherwise than on a plain row, and nothing is held.
-#[tactic(auto, unfolding(crate::specs::Raised::with_cells, crate::specs::Raised::with_end, definitions::specs::Judged::judge_row))]
-pub fn add_judged_row(stats: &mut ArrowStats, judged: bool, held: u32, s: RowSum)
-    requires few { Below count_bound stats.old }
-    requires sum_few { Under 10 s }
-    requires held_few { held ≤ count_bound }
-    ensures { stats.new ≡ judge_row stats.old judged held s }
-{
-    add_cells(stats, s);
-    end_judged_row(stats, judged, s.arrows, s.mines + s.fakes, held);
 }
 
 /// One row more that is not judged, of so many fakes.
@@ -277,29 +178,6 @@ pub fn count_taps(stats: &mut ArrowStats, mask: u16, table: &TapTable)
     add_row_into(stats, table.sum(mask));
 }
 
-// A sum of fakes alone.
-fn only_fakes(n: u32) -> RowSum
-    ensures { result ≡ sum_of_fakes n }
-{
-    RowSum {
-        fakes: n,
-        ..no_sum()
-    }
-}
-
-// What a row of taps alone adds up to, judged or not. On an unjudged row each tap is one fake.
-fn judged_taps(judged: bool, mask: u16, table: &TapTable) -> RowSum
-    requires { mask < masks table.now.wide }
-    ensures sum_few { Under 10 result }
-    ensures summed { TapsSummed judged mask result }
-{
-    let s = table.sum(mask);
-    if judged {
-        return s;
-    }
-    only_fakes(s.arrows)
-}
-
 /// One row of taps alone more in a judged tally, before which `held` holds are open.
 pub fn judge_taps(stats: &mut ArrowStats, judged: bool, held: u32, mask: u16, table: &TapTable)
     requires mask_known { mask < masks table.now.wide }
@@ -307,8 +185,13 @@ pub fn judge_taps(stats: &mut ArrowStats, judged: bool, held: u32, mask: u16, ta
     requires held_few { held ≤ count_bound }
     ensures { TapsJudged judged held mask stats.old stats.new }
 {
-    let s = judged_taps(judged, mask, table);
-    add_judged_row(stats, judged, held, s);
+    let s = table.sum(mask);
+    if judged {
+        add_cells(stats, s);
+        end_judged_row(stats, true, s.arrows, s.mines + s.fakes, held);
+    } else {
+        count_fakes(stats, s.arrows);
+    }
 }
 
 /// A tally that keeps the steps of another.

@@ -10,22 +10,19 @@ use Rattle.definitions.specs.Sizes.{count_bound}
 use Rattle.definitions.specs.Cells.{cell_of, is_arrow}
 use Rattle.definitions.specs.Objects.{object_at, is_object, deeper}
 use Rattle.definitions.specs.Notes.{effect_at}
-use Rattle.definitions.specs.Tally.{direction, row_sum, row_sum_by, empty_sum}
-use Rattle.definitions.specs.declared.ArrowStats.{ArrowStats}
+use Rattle.definitions.specs.Tally.{row_sum, row_sum_by}
 use Rattle.phantoms.proofs.Loop.{low-more, Passed, passed_start, passed-next, passed-end, passed-heads, passed-tails}
 use Rattle.objects.proofs.Scan.{Scanned, scan-start, scan-depth, scan-next, scan-end}
 use Rattle.row_tally.specs.Bounds.{EndsBelow}
-use Rattle.row_tally.specs.Sums.{add_by}
 use Rattle.row_tally.specs.Raised.{with_cells, row_end}
 use Rattle.row_tally.proofs.Bounds.{below_more}
 use Rattle.row_tally.proofs.Heads.{sum-heads, sum-tails}
-use Rattle.row_tally.proofs.Raised.{cell-none, cells-arrows, cells-ends, row-ended, Raised, raised-start, raised-next, raised-below, raised-end}
+use Rattle.row_tally.proofs.Raised.{cells-arrows, cells-ends, row-ended, Raised, raised-start, raised-next, raised-below, raised-end}
 use Rattle.row_tally.proofs.Loops.{drop-next}
 use Rattle.row_notes.proofs.Rows.{Midrow, mid_start, mid-ready, mid_step, row_written}
 use Rattle.row_walk.specs.Columns.{Ten, Free}
-use Rattle.row_walk.specs.Cells.{notes_of, object_depth_in, CellFits, ByteWalked}
+use Rattle.row_walk.specs.Cells.{notes_of, object_depth_in, CellFits, ByteWalked, counted_in}
 use Rattle.row_walk.specs.Rows.{objects_of, CellsReady, RowWalked}
-use Rattle.row_walk.proofs.Effects.{walked-zero}
 use Rattle.row_walk.specs.declared.columns.Columns.{Columns}
 use Rattle.row_walk.specs.declared.cell_walk.Run.{Run}
 
@@ -52,11 +49,6 @@ cells-start row r l R = record {
   free = R.free;
 }
 
--- a `0` adds nothing
-zero-none : (t : ArrowStats) (d b : ℕ) → b ≡ 48 → with_cells t (add_by false empty_sum d (cell_of b)) ≡ t
-unfolding cell_of
-zero-none t d b e = rw e (cell-none t false d)
-
 -- the last object row, where a cell makes this one an object row or not
 last-next : (object o : Bool) (n k last : ℕ) → last ≡ cond object n k → cond o n last ≡ cond (object || o) n k
 last-next true true n k last e = refl
@@ -64,22 +56,24 @@ last-next true false n k last e = e
 last-next false true n k last e = refl
 last-next false false n k last e = e
 
-module _ (row : Row) (r₀ : Run) (l₀ : List ℕ) (r : Run) (l : List ℕ) (i : ℕ) (C : Cells row r₀ l₀ r l i) (h : i < length row) (u : i < 10) where
+module _ (row : Row) (r₀ : Run) (l₀ : List ℕ) (r : Run) (l : List ℕ) (i : ℕ) (C : Cells row r₀ l₀ r l i) (h : i < length row) (R : CellsReady row r₀ l₀) where
+  u : i < 10
+  u = omega (arith, R.room.narrow)
+
   -- what the cell asks
-  pub cells-fits : CellsReady row r₀ l₀ → CellFits r i l
-  cells-fits R = record {
-    few = below_more (count_bound + i) (count_bound + 9) r.stats (omega arith) (raised-below _ _ _ _ _ _ _ C.raised count_bound R.few);
-    low = low-more (count_bound + i) 4294967294 _ (omega arith) (C.passed.low count_bound R.phantoms);
+  pub cells-fits : CellFits r i l
+  cells-fits = record {
+    few = below_more (count_bound + i) (count_bound + 9) r.stats (omega (arith, u)) (raised-below _ _ _ _ _ _ _ C.raised count_bound R.few);
+    low = low-more (count_bound + i) 4294967294 _ (omega (arith, u)) (C.passed.low count_bound R.phantoms);
     object_depth = omega (arith, scan-depth _ _ _ _ _ C.scanned, R.objects i u);
     column = record { inside = u; ten = C.ten; free = C.free };
     note = mid-ready _ _ _ _ _ _ C.mid R.room h;
   }
 
   -- one cell more
-  pub cells-next : (r' : Run) (l' : List ℕ) → length l' ≡ length l → ByteWalked (get_or row i 0) i r l r' l'
-      → r'.stats ≡ with_cells r.stats (add_by false empty_sum (direction (length row) i) (cell_of (get_or row i 0)))
-      → Cells row r₀ l₀ r' l' (i + 1)
-  cells-next r' l' el W S =
+  next : (r' : Run) (l' : List ℕ) → length l' ≡ length l → ByteWalked (get_or row i 0) i r l r' l'
+      → r'.stats ≡ counted_in r (length row) i (cell_of (get_or row i 0)) → Cells row r₀ l₀ r' l' (i + 1)
+  next r' l' el W S =
       let b = get_or row i 0 in
       let o = is_object (object_at b) (object_depth_in r i) in
       record {
@@ -93,9 +87,9 @@ module _ (row : Row) (r₀ : Run) (l₀ : List ℕ) (r : Run) (l : List ℕ) (i 
         free = W.free;
       }
 
-  -- a `0` changes nothing
-  pub cells-zero : get_or row i 0 ≡ 48 → Cells row r₀ l₀ r l (i + 1)
-  cells-zero e = cells-next r l refl (walked-zero _ i r l e C.ten C.free) (sym (zero-none r.stats (direction (length row) i) _ e))
+  pub cells-next : (j : ℕ) → j ≡ i + 1 → (r' : Run) (l' : List ℕ) → length l' ≡ length l → ByteWalked (get_or row i 0) i r l r' l'
+      → r'.stats ≡ counted_in r (length row) i (cell_of (get_or row i 0)) → Cells row r₀ l₀ r' l' j
+  cells-next j e r' l' el W S = rw e (next r' l' el W S)
 
 -- ---- all cells are done
 module _ (row : Row) (r₀ : Run) (l₀ : List ℕ) (r : Run) (l : List ℕ) (i : ℕ) (C : Cells row r₀ l₀ r l i) (h : length row ≤ i) (R : CellsReady row r₀ l₀) where

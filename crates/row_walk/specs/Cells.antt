@@ -6,6 +6,7 @@ use Rattle.definitions.specs.Tracker.{hold_at}
 use Rattle.definitions.specs.Tally.{direction, empty_sum}
 use Rattle.definitions.specs.Objects.{object_at, is_object, deeper}
 use Rattle.definitions.specs.Notes.{effect_of, effect_at}
+use Rattle.definitions.specs.declared.ArrowStats.{ArrowStats}
 use Rattle.definitions.specs.declared.Cell.{Cell}
 use Rattle.definitions.specs.declared.Kind.{Kind}
 use Rattle.definitions.specs.declared.DepthEffect.{DepthEffect}
@@ -52,8 +53,11 @@ abbrev pub object_ended : Run → ℕ → Run
 object_ended r c = record r { last = if nat_lt 0 (object_depth_in r c) then r.row + 1 else r.last }
 
 -- the tally with a cell in column c of so many
+abbrev pub counted_in : Run → ℕ → ℕ → Cell → ArrowStats
+counted_in r L c x = with_cells r.stats (add_by false empty_sum (direction L c) x)
+
 abbrev pub with_cell : Run → ℕ → ℕ → Cell → Run
-with_cell r L c x = record r { stats = with_cells r.stats (add_by false empty_sum (direction L c) x) }
+with_cell r L c x = record r { stats = counted_in r L c x }
 
 abbrev pub Blocking : Kind → ℕ → Run → List ℕ → Run → List ℕ → Type 0
 Blocking k = CellWalked depth.TheVariants.Blocks depth.TheVariants.Blocks (Single k)

@@ -1,14 +1,13 @@
 // One cell of a row that is not ordinary: what it does to the tally, and to the phantom depth, the object depth and the notes of its column, told by
 // one match over the letters, all in place.
-ghost use Rattle.std.specs.Prelude.{◌≡◌, false, ◌+◌, ◌-◌, ◌≤◌, ◌<◌};
+ghost use Rattle.std.specs.Prelude.{◌≡◌, ◌+◌, ◌-◌, ◌≤◌, ◌<◌};
 ghost use Rattle.definitions.specs.Sizes.{count_bound, row_numbers_bound};
 ghost use Rattle.definitions.specs.Cells.{cell_of};
-ghost use Rattle.definitions.specs.Tally.{direction as direction_of, empty_sum};
+ghost use Rattle.definitions.specs.declared.Cell.TheVariants.{Mine, KeySound};
 ghost use Rattle.taps.specs.Taps.{bit};
 ghost use Rattle.row_tally.specs.Bounds.{Below, EndsBelow};
-ghost use Rattle.row_tally.specs.Sums.{add_by};
-ghost use Rattle.row_tally.specs.Raised.{with_cells, row_end};
-ghost use Rattle.row_walk.specs.Cells.{CellFits, Blocking, Lower, Opening, Closing, Sounding, CellDone, ByteWalked, object_ended, with_cell};
+ghost use Rattle.row_tally.specs.Raised.{row_end};
+ghost use Rattle.row_walk.specs.Cells.{CellFits, Blocking, Lower, Opening, Closing, Sounding, CellDone, object_ended, with_cell, counted_in};
 
 use crate::columns::Columns;
 use definitions::{ArrowStats, Cell, Kind, direction};
@@ -147,15 +146,37 @@ impl Run {
         row_tally::count_cell(&mut self.stats, direction(columns, column), cell, false);
     }
 
-    /// One cell of a row of so many.
+    /// An M of a row of so many.
     #[inline(always)]
-    pub fn walk_as(&mut self, cell: Cell, columns: usize, column: usize, slots: &mut [u8])
+    pub fn walk_mine(&mut self, columns: usize, column: usize, slots: &mut [u8])
         requires { CellFits self.old column slots.old }
-        ensures walked { CellDone cell column self.old slots.old self.new slots.new }
-        ensures counted { self.new.stats ≡ with_cells self.old.stats
-            (add_by false empty_sum (direction_of columns column) cell) }
+        ensures walked { CellDone Mine column self.old slots.old self.new slots.new }
+        ensures counted { self.new.stats ≡ counted_in self.old columns column Mine }
     {
-        match cell {
+        self.block(column, Kind::Mine, slots);
+        self.count(columns, column, Cell::Mine);
+    }
+
+    /// A K.
+    #[inline(always)]
+    pub fn walk_keysound(&mut self, columns: usize, column: usize, slots: &mut [u8])
+        requires { CellFits self.old column slots.old }
+        ensures walked { CellDone KeySound column self.old slots.old self.new slots.new }
+        ensures counted { self.new.stats ≡ counted_in self.old columns column KeySound }
+    {
+        self.sound(column, slots);
+        self.count(columns, column, Cell::KeySound);
+    }
+
+    /// Any cell, by its byte. It stays a call of its own: written into its loop, each count would go through a register for the whole row.
+    #[inline(never)]
+    pub fn walk_cell(&mut self, columns: usize, column: usize, b: u8, slots: &mut [u8])
+        requires { CellFits self.old column slots.old }
+        ensures walked { CellDone (cell_of b) column
+            self.old slots.old self.new slots.new }
+        ensures counted { self.new.stats ≡ counted_in self.old columns column (cell_of b) }
+    {
+        match cells::cell_of(b) {
             Cell::Tap => {
                 self.block(column, Kind::Tap, slots);
                 self.count(columns, column, Cell::Tap);
@@ -172,10 +193,7 @@ impl Run {
                 self.open(column, Kind::Roll, slots);
                 self.count(columns, column, Cell::Roll);
             }
-            Cell::Mine => {
-                self.block(column, Kind::Mine, slots);
-                self.count(columns, column, Cell::Mine);
-            }
+            Cell::Mine => self.walk_mine(columns, column, slots),
             Cell::Lift => {
                 self.block(column, Kind::Lift, slots);
                 self.count(columns, column, Cell::Lift);
@@ -184,10 +202,7 @@ impl Run {
                 self.block(column, Kind::Fake, slots);
                 self.count(columns, column, Cell::Fake);
             }
-            Cell::KeySound => {
-                self.sound(column, slots);
-                self.count(columns, column, Cell::KeySound);
-            }
+            Cell::KeySound => self.walk_keysound(columns, column, slots),
             Cell::LowerMine => {
                 self.lower(column, Kind::Mine, slots);
                 self.count(columns, column, Cell::LowerMine);
@@ -202,17 +217,6 @@ impl Run {
             }
             Cell::Empty => {}
         }
-    }
-
-    /// The same by its byte. It stays a call of its own: written into its loop, each count would go through a register for the whole row.
-    #[inline(never)]
-    pub fn walk_cell(&mut self, columns: usize, column: usize, b: u8, slots: &mut [u8])
-        requires { CellFits self.old column slots.old }
-        ensures walked { ByteWalked b column self.old slots.old self.new slots.new }
-        ensures counted { self.new.stats ≡ with_cells self.old.stats
-            (add_by false empty_sum (direction_of columns column) (cell_of b)) }
-    {
-        self.walk_as(cells::cell_of(b), columns, column, slots);
     }
 
     /// The row ends, before which there were so many arrows, heads and tails.

@@ -5,4 +5,3 @@ pub mod Numbers
 pub mod Words
 pub mod Free
 pub mod Marks
-pub mod Unlikes

@@ -1,5 +1,5 @@
 -- Specification, Tap masks: the mask of a row of `0` and `1` alone, and the counts that the table has for it.
-use Rattle.std.specs.Prelude.{Bool, ◌||◌, not, ◌≡◌, List, [], ◌∷◌, ℕ, zero, suc, ◌+◌, ◌*◌, ◌/◌, ◌%◌, ◌^◌, ◌<◌, ◌≤◌, ◌==◌, length, slice_index, if◌then◌else◌}
+use Rattle.std.specs.Prelude.{Bool, ◌||◌, not, ◌≡◌, List, [], ◌∷◌, ℕ, ◌+◌, ◌*◌, ◌/◌, ◌%◌, ◌^◌, ◌<◌, ◌≤◌, ◌==◌, length, slice_index, if◌then◌else◌}
 use Rattle.std.specs.Int.Bits.{bit_and}
 use Rattle.definitions.specs.Lists.{sum_columns, number_of_bool}
 use Rattle.definitions.specs.Lines.{Row}
@@ -68,14 +68,6 @@ FreeAre busy n l = (c : ℕ) → c < 10 → bit c busy ≡ 0 → slice_index l c
 pub record Marked (busy i : ℕ) (used : Bool) (r : ℕ) : Type 0 where
   pub here : bit i r ≡ number_of_bool used
   pub others : (c : ℕ) → c < 10 → (c ≡ i → ⊥) → bit c r ≡ bit c busy
-
--- Which of k numbers from place c on are not n, as a mask: the first of them in the lowest bit.
-abbrev pub unlike_from : ℕ → List ℕ → ℕ → ℕ → ℕ
-unlike_from n l c zero = 0
-unlike_from n l c (suc k) = number_of_bool (not (slice_index l c == n)) + 2 * unlike_from n l (suc c) k
-
-unfoldable pub unlike_mask : ℕ → List ℕ → ℕ
-unlike_mask n l = unlike_from n l 0 10
 
 -- the ones of a mask in the columns of a direction
 abbrev pub towards : ℕ → ℕ → ℕ

@@ -1,4 +1,4 @@
-// Rows of taps alone: their masks, the table of what a mask counts (`table`), and which of ten columns differ from a number.
+// Rows of taps alone: their masks, the table of what a mask counts (`table`), and masks of columns.
 #![tactic(auto)]
 
 mod counts;
@@ -6,7 +6,7 @@ mod five_counts;
 mod table;
 
 ghost use Rattle.std.specs.Prelude.{◌≡◌, true, false, ◌<◌, ◌≤◌, length, take};
-ghost use Rattle.taps.specs.Taps.{number_of, Small, Tells, tap_mask, mask_of_line, taps_if_free, Marked, unlike_mask};
+ghost use Rattle.taps.specs.Taps.{number_of, Small, Tells, tap_mask, mask_of_line, taps_if_free, Marked};
 ghost use Rattle.taps.specs.declared.Taps;
 
 use lines::words;
@@ -165,20 +165,4 @@ pub fn without_column(busy: u32, column: usize) -> u32
     ensures { Marked busy column false result }
 {
     busy & !(1 << column)
-}
-
-/// The columns of ten whose number is not this one, as a mask.
-pub fn unlike(numbers: &[u32; 10], n: u32) -> u32
-    ensures { result ≡ unlike_mask n numbers.now }
-{
-    let mut mask: u32 = 0;
-    let mut c: usize = 10;
-    while 0 < c {
-        c -= 1;
-        mask *= 2;
-        if numbers[c] != n {
-            mask += 1;
-        }
-    }
-    mask
 }

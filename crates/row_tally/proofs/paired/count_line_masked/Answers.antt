@@ -1,9 +1,7 @@
 -- `paired::count_line_masked` meets its contract: what the counts grew by is the row's sum.
-use Prim.Native.Nat.{◌+◌, ◌≤◌}
 use mathlib.Core.Bool.{false}
 use native.Mathlib.Omega.{arith}
 use Rattle.definitions.specs.Tally.{row_sum, row_sum_by}
-use Rattle.definitions.specs.declared.RowSum.{RowSum}
 use Rattle.row_tally.specs.Bounds.{Under}
 use Rattle.row_tally.specs.Masked.{row_by_mask}
 use Rattle.row_tally.specs.Sums.{arrow_of}

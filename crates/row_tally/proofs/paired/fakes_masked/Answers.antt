@@ -1,5 +1,4 @@
 -- `paired::fakes_masked` meets its contract. The loop's invariant: the fakes so far, with those of the cells from `column` on, are those of the row.
-use native.Mathlib.Omega.{arith}
 use Rattle.row_tally.proofs.Masked.{faking-start, faking-next, faking-end}
 use Rattle.row_tally.proofs.paired.fakes_masked.Goals as goal
 

@@ -1,5 +1,4 @@
 -- `paired::judge_line_masked` meets its contract: what the counts grew by is the row's sum.
-use Prim.Native.Nat.{◌+◌, ◌≤◌}
 use mathlib.Core.Bool.{true}
 use native.Mathlib.Omega.{arith}
 use Rattle.definitions.specs.Tally.{row_sum_by}
