@@ -53,7 +53,8 @@ fn is_near_row(text: &[u8], lanes: Lanes) -> bool
 // Whether it does, and its line has `step` bytes with its newline, as most lines have.
 fn is_just_row(text: &[u8], lanes: Lanes, step: usize) -> bool
     requires { LineStep lanes.count step }
-    ensures { result ≡ (nat_le 12 (length text.now) && (near_row lanes.count text.now && slice_index text.now (step - 1) == 10)) }
+    ensures { result ≡ (nat_le 12 (length text.now)
+        && (near_row lanes.count text.now && slice_index text.now (step - 1) == 10)) }
 {
     if text.len() < 12 {
         return false;
