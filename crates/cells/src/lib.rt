@@ -12,7 +12,8 @@ ghost use Rattle.lines.specs.Words.{bytes_of_word};
 use definitions::{Cell, DepthEffect};
 use lines::words;
 
-/// What a byte of a row stands for.
+/// What a byte of a row stands for. It is written into its callers, where its match and theirs become one.
+#[inline(always)]
 #[tactic(auto, unfolding(definitions::specs::Cells::cell_of))]
 pub fn cell_of(b: u8) -> Cell
     ensures { result ≡ cell_of b }
@@ -56,6 +57,7 @@ fn word_has_note(word: u64) -> bool
 }
 
 /// Whether the row has an arrow: by words of eight cells where it has four to twelve, which may overlap.
+#[inline(always)]
 pub fn row_has_note(row: &[u8]) -> bool
     ensures { result ≡ is_step row.now }
 {

@@ -142,7 +142,7 @@ impl Tracker {
     }
 
     // The cells of a row from a column on, one by one.
-    #[inline(never)]
+    #[inline(always)]
     fn track_from(
         &mut self,
         row: u32,

@@ -80,7 +80,8 @@ fn is_row(text: &[u8], lanes: usize) -> bool
 }
 
 // What is left of a text past blanks that it begins with, else past its first line. Blanks are taken off the text and not off a line, since a line of
-// blanks is passed over too.
+// blanks is passed over too. It stays out of the loops over rows.
+#[inline(never)]
 fn past_first(text: &[u8]) -> &[u8]
     requires { 0 < length text.now }
     ensures { result.now ≡ (if is_blank_byte (slice_index text.now 0)

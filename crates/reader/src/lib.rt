@@ -43,7 +43,9 @@ pub fn has_cells(text: &[u8], lanes: Lanes) -> bool
     lines::starts_high(text, lanes.count)
 }
 
-/// What follows the line of a row that the text begins with: its newline stands right after the cells, or is searched for.
+/// What follows the line of a row that the text begins with: its newline stands right after the cells, or is searched for. Few lines are so, and out of
+/// line it leaves the loops over the others their registers.
+#[inline(never)]
 pub fn below_cells(text: &[u8], lanes: Lanes) -> &[u8]
     requires { 12 ≤ length text.now }
     ensures { result.now ≡ after 10 (drop lanes.count text.now) }
