@@ -2,6 +2,7 @@
 //! had resident is asked of the kernel, so each test runs in a process of its own.
 
 #[path = "../../../bench/chart.rs"]
+#[allow(dead_code)] // Not every kind of text is asked about here.
 mod chart;
 mod loan;
 
