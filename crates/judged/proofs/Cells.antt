@@ -17,19 +17,17 @@ use Rattle.definitions.specs.Cells.{cell_of, byte_at}
 use Rattle.definitions.specs.Tracker.{hold_at}
 use Rattle.definitions.specs.Correction.{phantom_step}
 use Rattle.definitions.specs.Judged.{judged_sum, judge_row}
-use Rattle.definitions.specs.declared.DepthEffect.{DepthEffect}
 use Rattle.definitions.specs.declared.DepthEffect.TheVariants.{Nothing}
 use Rattle.definitions.specs.declared.RowSum.{RowSum}
 use Rattle.definitions.proofs.Columns.{past_end}
-use Rattle.phantoms.proofs.Columns.{column-past, column-more}
+use Rattle.phantoms.proofs.Columns.{column-past}
 use Rattle.row_tally.specs.Before.{sum_before}
 use Rattle.row_tally.specs.Bounds.{Under, Below, EndsBelow}
-use Rattle.row_tally.specs.Raised.{with_cells, judged_row_end}
+use Rattle.row_tally.specs.Raised.{judged_row_end}
 use Rattle.row_tally.proofs.Before.{before-under, before-whole, before-next, before-below}
-use Rattle.row_tally.proofs.Bounds.{below_more}
 use Rattle.row_tally.proofs.Raised.{cells-none, judged-row-ended, cells-ends, cells-arrows, cells-mines, cells-fakes}
 use Rattle.judged.specs.Clean.{unpairs}
-use Rattle.judged.specs.JudgedPass.{row_unpairs, DepthsPassed, Ready, RowPassed, CellPassed, Passing, Reached, PassingOn, Unclean}
+use Rattle.judged.specs.JudgedPass.{row_unpairs, DepthsPassed, Ready, RowPassed, CellPassed, Passing, Reached, PassingOn}
 use Rattle.judged.specs.declared.judged_pass.CleanRows.{CleanRows}
 
 -- before the first cell
@@ -168,12 +166,5 @@ pub then-on : (row : Row) (i j k : ℕ) (t t' t'' : CleanRows) (r : Option Unit)
 then-on row i j k t t' t'' None p q = q
 then-on row i j k t t' t'' (Some x) p q = λ s y. q s (p s y)
 
-moved : (row : Row) (i j : ℕ) (t t' : CleanRows) → i ≡ j → Passing row i t t' → Passing row j t t'
+pub moved : (row : Row) (i j : ℕ) (t t' : CleanRows) → i ≡ j → Passing row i t t' → Passing row j t t'
 moved row i j t t' e x = rw (← e) x
-
-pub four-on : (row : Row) (i : ℕ) (a b c d e : CleanRows) → PassingOn row i (i + 1) a b → PassingOn row (i + 1) (i + 1 + 1) b c → PassingOn row (i + 2) (i + 2 + 1) c d
-    → PassingOn row (i + 3) (i + 3 + 1) d e → PassingOn row i (i + 4) a e
-four-on row i a b c d e p q r s =
-    λ t x.
-    moved row (i + 3 + 1) (i + 4) t e (omega arith)
-    (s t (moved row (i + 2 + 1) (i + 3) t d (omega arith) (r t (moved row (i + 1 + 1) (i + 2) t c (omega arith) (q t (p t x))))))

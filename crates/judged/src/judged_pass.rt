@@ -135,7 +135,7 @@ impl CleanRows {
         Some(())
     }
 
-    // One cell of a column more, by one match, unless it leaves a head unpaired.
+    // One cell of a column more, unless it leaves a head unpaired. Most are a `0`, and a blank is below it: neither is asked of the match.
     #[inline(always)]
     #[tactic(auto, unfolding(definitions::specs::Tracker::hold_at))]
     fn add_cell(&mut self, columns: usize, column: usize, b: u8) -> Option<()>
@@ -147,6 +147,9 @@ impl CleanRows {
         ensures passed { OnSome result
             (CellPassed columns column (hold_at b) (cell_of b) self.old self.new) }
     {
+        if b <= b'0' {
+            return self.pass(columns, column, Cell::Empty);
+        }
         match cells::cell_of(b) {
             Cell::Empty => self.pass(columns, column, Cell::Empty),
             Cell::Tap => self.meet(columns, column, Cell::Tap),
@@ -173,22 +176,6 @@ impl CleanRows {
         ensures passed { OnSome result (PassingOn row.now column (column + 1) self.old self.new) }
     {
         self.add_cell(row.len(), column, row[column])
-    }
-
-    // Four cells of a row from a column on, written one after the other: a loop would take each count of the tally into a register.
-    #[inline(always)]
-    fn add_four(&mut self, row: &[u8], column: usize) -> Option<()>
-        requires narrow { length row.now ≤ 10 }
-        requires inside { column + 4 ≤ length row.now }
-        requires reached { Reached row.now column self.old }
-        ensures clean { Unclean row.now column self.old result }
-        ensures passed { OnSome result (PassingOn row.now column (column + 4) self.old self.new) }
-    {
-        self.add_cell_at(row, column)?;
-        self.add_cell_at(row, column + 1)?;
-        self.add_cell_at(row, column + 2)?;
-        self.add_cell_at(row, column + 3)?;
-        Some(())
     }
 
     // The cell of a row in a column, where a loop asks.
@@ -219,25 +206,34 @@ impl CleanRows {
         Some(())
     }
 
-    // The cells of a row past its fourth: one or four, and then one by one.
+    // The cells of a row past its fifth.
     #[inline(never)]
     fn add_rest(&mut self, row: &[u8]) -> Option<()>
         requires narrow { length row.now ≤ 10 }
-        requires more { 4 < length row.now }
-        requires reached { Reached row.now 4 self.old }
-        ensures clean { Unclean row.now 4 self.old result }
-        ensures passed { OnSome result (PassingOn row.now 4 (length row.now) self.old self.new) }
+        requires more { 5 < length row.now }
+        requires reached { Reached row.now 5 self.old }
+        ensures clean { Unclean row.now 5 self.old result }
+        ensures passed { OnSome result (PassingOn row.now 5 (length row.now) self.old self.new) }
     {
         if row.len() < 8 {
-            self.add_cell_at(row, 4)?;
             return self.add_from(row, 5);
         }
-        self.add_four(row, 4)?;
-        self.add_from(row, 8)
+        self.add_cell_at(row, 5)?;
+        self.add_cell_at(row, 6)?;
+        self.add_cell_at(row, 7)?;
+        if row.len() == 8 {
+            return Some(());
+        }
+        self.add_cell_at(row, 8)?;
+        if row.len() == 9 {
+            return Some(());
+        }
+        self.add_cell_at(row, 9)
     }
 
-    // All cells of a row.
-    #[inline(always)]
+    // All cells of a row, written one after the other: a loop would take each count of the tally into a register, and what four of them are
+    // together is not written into its callers.
+    #[inline(never)]
     fn add_all(&mut self, row: &[u8]) -> Option<()>
         requires wide { 4 ≤ length row.now }
         requires narrow { length row.now ≤ 10 }
@@ -245,15 +241,22 @@ impl CleanRows {
         ensures clean { Unclean row.now 0 self.old result }
         ensures passed { OnSome result (PassingOn row.now 0 (length row.now) self.old self.new) }
     {
-        self.add_four(row, 0)?;
+        self.add_cell_at(row, 0)?;
+        self.add_cell_at(row, 1)?;
+        self.add_cell_at(row, 2)?;
+        self.add_cell_at(row, 3)?;
         if row.len() == 4 {
+            return Some(());
+        }
+        self.add_cell_at(row, 4)?;
+        if row.len() == 5 {
             return Some(());
         }
         self.add_rest(row)
     }
 
     // One row more, cell by cell. What the tally's arrows, mines and fakes grow by is the row's.
-    #[inline(never)]
+    #[inline(always)]
     fn add_cells(&mut self, row: &[u8]) -> Option<()>
         requires wide { 4 ≤ length row.now }
         requires narrow { length row.now ≤ 10 }

@@ -1,7 +1,6 @@
 -- `judged_pass::CleanRows::add_cells` meets its contract: what the counts grew by is the row's sum.
-use mathlib.Core.Path.{◌≡◌, refl, ap, sym}
+use mathlib.Core.Path.{refl, ap, sym}
 use mathlib.Core.Bool.{not}
-use Prim.Native.Nat.{◌+◌, ◌≤◌}
 use native.Mathlib.Nat.{le_trans}
 use native.Mathlib.Omega.{arith}
 use Rattle.judged.specs.JudgedPass.{Passing}
