@@ -17,14 +17,14 @@ ghost use Rattle.judged.specs.JudgedPass.{row_unpairs, Ready, RowPassed, CellCou
 use definitions::{ArrowStats, Cell, Lanes, direction};
 use taps::{TapTable, Taps};
 
-/// What the pass has of the rows so far: the tally, the open heads of each column, of up to ten, the holds open before the next row, and the
-/// columns that have one as a mask.
+/// What the pass has of the rows so far: the tally, the columns that have an open head as a mask, the open heads of each column, of up to ten, and
+/// the holds open before the next row. The mask and the holds stand apart: beside each other they were raised together, which costs three times as much.
 #[derive(Drop)]
 pub struct CleanRows {
     pub stats: ArrowStats,
+    pub busy: u32,
     pub depths: [u32; 10],
     pub active: u32,
-    pub busy: u32,
 }
 
 impl CleanRows {
@@ -36,9 +36,9 @@ impl CleanRows {
     {
         CleanRows {
             stats: row_tally::no_stats(),
+            busy: 0,
             depths: [0; 10],
             active: 0,
-            busy: 0,
         }
     }
 
@@ -206,6 +206,22 @@ impl CleanRows {
         Some(())
     }
 
+    // The cells of a row of six, whose columns lie otherwise than those of all others.
+    #[inline(never)]
+    fn add_six(&mut self, row: &[u8]) -> Option<()>
+        requires six { length row.now ≡ 6 }
+        requires reached { Reached row.now 0 self.old }
+        ensures clean { Unclean row.now 0 self.old result }
+        ensures passed { OnSome result (PassingOn row.now 0 (length row.now) self.old self.new) }
+    {
+        self.add_cell_at(row, 0)?;
+        self.add_cell_at(row, 1)?;
+        self.add_cell_at(row, 2)?;
+        self.add_cell_at(row, 3)?;
+        self.add_cell_at(row, 4)?;
+        self.add_cell_at(row, 5)
+    }
+
     // The cells of a row past its fifth.
     #[inline(never)]
     fn add_rest(&mut self, row: &[u8]) -> Option<()>
@@ -241,6 +257,9 @@ impl CleanRows {
         ensures clean { Unclean row.now 0 self.old result }
         ensures passed { OnSome result (PassingOn row.now 0 (length row.now) self.old self.new) }
     {
+        if row.len() == 6 {
+            return self.add_six(row);
+        }
         self.add_cell_at(row, 0)?;
         self.add_cell_at(row, 1)?;
         self.add_cell_at(row, 2)?;
