@@ -27,7 +27,7 @@ use Rattle.row_tally.specs.Raised.{judged_row_end}
 use Rattle.row_tally.proofs.Before.{before-under, before-whole, before-next, before-below}
 use Rattle.row_tally.proofs.Raised.{cells-none, judged-row-ended, cells-ends, cells-arrows, cells-mines, cells-fakes}
 use Rattle.judged.specs.Clean.{unpairs}
-use Rattle.judged.specs.JudgedPass.{row_unpairs, DepthsPassed, Ready, RowPassed, CellPassed, Passing, Reached, PassingOn}
+use Rattle.judged.specs.JudgedPass.{row_unpairs, DepthsPassed, Ready, RowPassed, CellPassed, Passing, Reached, PassingOn, Before, Begun, Ended, EndsOn}
 use Rattle.judged.specs.declared.judged_pass.CleanRows.{CleanRows}
 
 -- before the first cell
@@ -168,3 +168,43 @@ then-on row i j k t t' t'' (Some x) p q = λ s y. q s (p s y)
 
 pub moved : (row : Row) (i j : ℕ) (t t' : CleanRows) → i ≡ j → Passing row i t t' → Passing row j t t'
 moved row i j t t' e x = rw (← e) x
+
+-- ---- The row's end
+module _ (row : Row) (i arrows others held : ℕ) (t' : CleanRows) where
+  pub begun-on : (j : ℕ) (t'' : CleanRows) → PassingOn row i j t' t'' → Begun row i arrows others held t' → Begun row j arrows others held t''
+  begun-on j t'' p b = record { reached = record { start = b.reached.start; few = b.reached.few; passing = p b.reached.start b.reached.passing }; ready = b.ready; before = b.before }
+
+  -- the row is as long as those that have passed
+  pub ended-at : (n : ℕ) (t'' : CleanRows) → length row ≡ n → length row ≤ 10 → PassingOn row i n t' t'' → Begun row i arrows others held t' → Ended arrows others held t''
+  ended-at n t'' e w p b = record { row = row; narrow = w; begun = rw e (begun-on n t'' p b) }
+
+  pub ends-at : (n : ℕ) (t'' t3 : CleanRows) → length row ≡ n → PassingOn row i n t' t'' → EndsOn row (length row) arrows others held t'' t3
+      → EndsOn row i arrows others held t' t3
+  ends-at n t'' t3 l p e = λ t r b x. e t r b (rw l (p t x))
+
+  pub then-ends : (j : ℕ) (t'' t3 : CleanRows) (r : Option Unit) → PassingOn row i j t' t'' → OnSome r (EndsOn row j arrows others held t'' t3)
+      → OnSome r (EndsOn row i arrows others held t' t3)
+  then-ends j t'' t3 None p e = e
+  then-ends j t'' t3 (Some y) p e = λ t r b x. e t r b (p t x)
+
+-- what is answered of a whole row
+pub row-told : (r : Option Unit) (u : Bool) → (r ≡ None → u ≡ true) → OnSome r (u ≡ false) → is_some r ≡ not u
+row-told None u n s = sym (ap not (n refl))
+row-told (Some x) u n s = sym (ap not s)
+
+-- before the row
+pub before-row : (t : CleanRows) (others : ℕ) → others ≡ t.stats.mines + t.stats.fakes → Before t.stats.total_arrows others t.active t
+before-row t others e = record { arrows_then = refl; others_then = e; held_then = refl }
+
+module _ (row : Row) (arrows others held : ℕ) (t : CleanRows) (b : Before arrows others held t) (ready : Ready t) where
+  pub begun-start : Below count_bound t.stats → Begun row 0 arrows others held t
+  begun-start f = record { reached = record { start = t; few = f; passing = passing-start row t ready }; ready = ready; before = b }
+
+  module _ (t' : CleanRows) where
+    pub ended-whole : (r : Option Unit) → OnSome r (EndsOn row 0 arrows others held t t') → OnSome r (row_unpairs row t.depths ≡ false)
+    ended-whole None e = e
+    ended-whole (Some x) e = (e t ready b (passing-start row t ready)).whole
+
+    pub ended-passed : (r : Option Unit) → OnSome r (EndsOn row 0 arrows others held t t') → OnSome r (RowPassed row t t')
+    ended-passed None e = e
+    ended-passed (Some x) e = (e t ready b (passing-start row t ready)).passed

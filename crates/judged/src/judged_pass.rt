@@ -12,7 +12,7 @@ ghost use Rattle.definitions.specs.declared.DepthEffect.TheVariants.{Nothing, Bl
 ghost use Rattle.taps.specs.Taps.{FreeTaps, masks};
 ghost use Rattle.row_tally.specs.Bounds.{Below};
 ghost use Rattle.judged.specs.Clean.{unpairs, clean_answer};
-ghost use Rattle.judged.specs.JudgedPass.{row_unpairs, Ready, RowPassed, CellCounted, CellPassed, Reached, PassingOn, Unclean};
+ghost use Rattle.judged.specs.JudgedPass.{row_unpairs, Ready, RowPassed, CellCounted, CellPassed, Reached, PassingOn, Unclean, Begun, Ended, EndsOn};
 
 use definitions::{ArrowStats, Cell, Lanes, direction};
 use taps::{TapTable, Taps};
@@ -178,104 +178,114 @@ impl CleanRows {
         self.add_cell(row.len(), column, row[column])
     }
 
-    // The cell of a row in a column, where a loop asks.
-    #[inline(never)]
-    fn add_one(&mut self, row: &[u8], column: usize) -> Option<()>
-        requires narrow { length row.now ≤ 10 }
-        requires inside { column < length row.now }
-        requires reached { Reached row.now column self.old }
-        ensures clean { Unclean row.now column self.old result }
-        ensures passed { OnSome result (PassingOn row.now column (column + 1) self.old self.new) }
+    // The row's end, as many arrows, mines and fakes and open holds as there were before it. What the tally's grew by is the row's.
+    #[inline(always)]
+    fn end_row(&mut self, arrows: u32, others: u64, held: u32)
+        requires { Ended arrows others held self.old }
+        ensures { (row : Row) → length row ≤ 10
+            → EndsOn row (length row) arrows others held self.old self.new }
     {
-        self.add_cell_at(row, column)
+        let row_arrows = self.stats.total_arrows - arrows;
+        let row_others = u64::from(self.stats.mines) + u64::from(self.stats.fakes) - others;
+        row_tally::end_judged_row(&mut self.stats, true, row_arrows, row_others as u32, held);
     }
 
-    // The cells of a row from a column on, one by one.
-    fn add_from(&mut self, row: &[u8], from: usize) -> Option<()>
+    // The cells of a row past its fifth one by one, and its end. No lane count that is known has such rows.
+    #[inline(never)]
+    fn add_seven(&mut self, row: &[u8], arrows: u32, others: u64, held: u32) -> Option<()>
         requires narrow { length row.now ≤ 10 }
-        requires inside { from ≤ length row.now }
-        requires reached { Reached row.now from self.old }
-        ensures clean { Unclean row.now from self.old result }
-        ensures passed { OnSome result (PassingOn row.now from (length row.now) self.old self.new) }
+        requires more { 5 < length row.now }
+        requires begun { Begun row.now 5 arrows others held self.old }
+        ensures clean { Unclean row.now 5 self.old result }
+        ensures ended { OnSome result (EndsOn row.now 5 arrows others held self.old self.new) }
     {
-        let mut column = from;
+        let mut column = 5;
         while column < row.len() {
-            self.add_one(row, column)?;
+            self.add_cell_at(row, column)?;
             column += 1;
         }
+        self.end_row(arrows, others, held);
         Some(())
     }
 
-    // The cells of a row of six, whose columns lie otherwise than those of all others.
+    // A row of six, whose columns lie otherwise than those of all others.
     #[inline(never)]
-    fn add_six(&mut self, row: &[u8]) -> Option<()>
+    fn add_six(&mut self, row: &[u8], arrows: u32, others: u64, held: u32) -> Option<()>
         requires six { length row.now ≡ 6 }
-        requires reached { Reached row.now 0 self.old }
+        requires begun { Begun row.now 0 arrows others held self.old }
         ensures clean { Unclean row.now 0 self.old result }
-        ensures passed { OnSome result (PassingOn row.now 0 (length row.now) self.old self.new) }
+        ensures ended { OnSome result (EndsOn row.now 0 arrows others held self.old self.new) }
     {
         self.add_cell_at(row, 0)?;
         self.add_cell_at(row, 1)?;
         self.add_cell_at(row, 2)?;
         self.add_cell_at(row, 3)?;
         self.add_cell_at(row, 4)?;
-        self.add_cell_at(row, 5)
+        self.add_cell_at(row, 5)?;
+        self.end_row(arrows, others, held);
+        Some(())
     }
 
-    // The cells of a row past its fifth.
+    // The cells of a row past its fifth, and its end.
     #[inline(never)]
-    fn add_rest(&mut self, row: &[u8]) -> Option<()>
+    fn add_rest(&mut self, row: &[u8], arrows: u32, others: u64, held: u32) -> Option<()>
         requires narrow { length row.now ≤ 10 }
         requires more { 5 < length row.now }
-        requires reached { Reached row.now 5 self.old }
+        requires begun { Begun row.now 5 arrows others held self.old }
         ensures clean { Unclean row.now 5 self.old result }
-        ensures passed { OnSome result (PassingOn row.now 5 (length row.now) self.old self.new) }
+        ensures ended { OnSome result (EndsOn row.now 5 arrows others held self.old self.new) }
     {
         if row.len() < 8 {
-            return self.add_from(row, 5);
+            return self.add_seven(row, arrows, others, held);
         }
         self.add_cell_at(row, 5)?;
         self.add_cell_at(row, 6)?;
         self.add_cell_at(row, 7)?;
         if row.len() == 8 {
+            self.end_row(arrows, others, held);
             return Some(());
         }
         self.add_cell_at(row, 8)?;
         if row.len() == 9 {
+            self.end_row(arrows, others, held);
             return Some(());
         }
-        self.add_cell_at(row, 9)
+        self.add_cell_at(row, 9)?;
+        self.end_row(arrows, others, held);
+        Some(())
     }
 
-    // All cells of a row, written one after the other: a loop would take each count of the tally into a register, and what four of them are
-    // together is not written into its callers.
+    // A row's cells and its end. The cells are written one after the other: a loop would take each count of the tally into a register. Where others
+    // do the rest of a row they end it too, so that nothing is kept for after them.
     #[inline(never)]
-    fn add_all(&mut self, row: &[u8]) -> Option<()>
+    fn add_begun(&mut self, row: &[u8], arrows: u32, others: u64, held: u32) -> Option<()>
         requires wide { 4 ≤ length row.now }
         requires narrow { length row.now ≤ 10 }
-        requires reached { Reached row.now 0 self.old }
+        requires begun { Begun row.now 0 arrows others held self.old }
         ensures clean { Unclean row.now 0 self.old result }
-        ensures passed { OnSome result (PassingOn row.now 0 (length row.now) self.old self.new) }
+        ensures ended { OnSome result (EndsOn row.now 0 arrows others held self.old self.new) }
     {
         if row.len() == 6 {
-            return self.add_six(row);
+            return self.add_six(row, arrows, others, held);
         }
         self.add_cell_at(row, 0)?;
         self.add_cell_at(row, 1)?;
         self.add_cell_at(row, 2)?;
         self.add_cell_at(row, 3)?;
         if row.len() == 4 {
+            self.end_row(arrows, others, held);
             return Some(());
         }
         self.add_cell_at(row, 4)?;
         if row.len() == 5 {
+            self.end_row(arrows, others, held);
             return Some(());
         }
-        self.add_rest(row)
+        self.add_rest(row, arrows, others, held)
     }
 
-    // One row more, cell by cell. What the tally's arrows, mines and fakes grow by is the row's.
-    #[inline(always)]
+    // One row more, cell by cell. What the row's end is told is read here, so that the cells do not keep it in registers.
+    #[inline(never)]
     fn add_cells(&mut self, row: &[u8]) -> Option<()>
         requires wide { 4 ≤ length row.now }
         requires narrow { length row.now ≤ 10 }
@@ -284,15 +294,10 @@ impl CleanRows {
         ensures clean { is_some result ≡ not (row_unpairs row.now self.old.depths) }
         ensures passed { OnSome result (RowPassed row.now self.old self.new) }
     {
-        let held = self.active;
         let arrows = self.stats.total_arrows;
-        let mines = self.stats.mines;
-        let fakes = self.stats.fakes;
-        self.add_all(row)?;
-        let row_arrows = self.stats.total_arrows - arrows;
-        let others = (self.stats.mines - mines) + (self.stats.fakes - fakes);
-        row_tally::end_judged_row(&mut self.stats, true, row_arrows, others, held);
-        Some(())
+        let others = u64::from(self.stats.mines) + u64::from(self.stats.fakes);
+        let held = self.active;
+        self.add_begun(row, arrows, others, held)
     }
 
     // One row more of taps alone, none in a column with an open head: it leaves the depths as they are.
