@@ -6,22 +6,17 @@ use Prim.Native.Nat.{ℕ, zero, suc, ◌+◌, ◌*◌, ◌≤◌, ◌<◌}
 use native.Mathlib.Nat.{suc-mul}
 use native.Mathlib.Numerals.{add-one}
 use native.Mathlib.Omega.{arith}
-use lib.Dec.{eqb}
 use lib.ListN.{length, get_or, take}
 use lib.Seq.{take_all}
 use Rattle.std.specs.Prelude.{sum}
 use Rattle.std.proofs.lemmas.List.Sums.{sum_by_more}
-use Rattle.std.proofs.lemmas.Bool.{ne_eqb}
 use Rattle.definitions.specs.Lists.{sum_columns}
 use Rattle.definitions.specs.Lines.{Row}
 use Rattle.definitions.specs.Cells.{cell_of, byte_at}
 use Rattle.definitions.specs.Tracker.{hold_at}
 use Rattle.definitions.specs.Correction.{phantom_step}
-use Rattle.definitions.specs.declared.Cell.TheVariants.{Empty}
-use Rattle.definitions.specs.declared.DepthEffect.TheVariants.{Nothing}
-use Rattle.phantoms.proofs.Loop.{empty-hold}
 use Rattle.phantoms.proofs.Columns.{column-same, column-none, column-each}
-use Rattle.taps.specs.Taps.{bit, FreeTaps}
+use Rattle.taps.specs.Taps.{bit, FreeTaps, FreeAre}
 use Rattle.taps.proofs.Free.{Free, zero-cell, tap-there, free-cell}
 use Rattle.judged.specs.Clean.{unpairs}
 use Rattle.judged.specs.JudgedPass.{row_unpairs, DepthsPassed, Ready}
@@ -54,18 +49,6 @@ active_few t r = rw r.active (few-open 10 8 t.depths r.ten r.low)
 pub none-unpairs : (row : Row) (depths : List ℕ) → row_unpairs row depths ≡ false → (c : ℕ) → c < 10 → unpairs (hold_at (byte_at c row)) (get_or depths c 0) ≡ false
 unfolding row_unpairs
 none-unpairs row depths k c h = column-each 10 (λ c. unpairs (hold_at (byte_at c row)) (get_or depths c 0)) k c h
-
--- ---- Low bytes
--- What is no more than a `0` is an empty cell.
-pub low-empty : (b : ℕ) → b ≤ 48 → cell_of b ≡ Empty
-unfolding cell_of
-low-empty b h = rw (other 0, other 1, other 2, other 3, other 28, other 27, other 21, other 26, other 60, other 59, other 53)
-  where
-    other : (k : ℕ) → eqb b (49 + k) ≡ false
-    other k = ne_eqb b (49 + k) (λ e. omega arith)
-
-pub low-hold : (b : ℕ) → b ≤ 48 → hold_at b ≡ Nothing
-low-hold b h = empty-hold b (low-empty b h)
 
 -- ---- Free taps
 -- in a column of depth d, which is 0 where `busy` has no bit of it

@@ -18,7 +18,8 @@ use definitions::{ArrowStats, Cell, Lanes, direction};
 use taps::{TapTable, Taps};
 
 /// What the pass has of the rows so far: the tally, the columns that have an open head as a mask, the open heads of each column, of up to ten, and
-/// the holds open before the next row. The mask and the holds stand apart: beside each other they were raised together, which costs three times as much.
+/// the holds open before the next row. The mask and the holds stand apart: beside each other they would be raised together, which costs three
+/// times as much.
 #[derive(Drop)]
 pub struct CleanRows {
     pub stats: ArrowStats,
@@ -137,7 +138,7 @@ impl CleanRows {
 
     // One cell of a column more, unless it leaves a head unpaired. Most are a `0`, and a blank is below it: neither is asked of the match.
     #[inline(always)]
-    #[tactic(auto, unfolding(definitions::specs::Tracker::hold_at))]
+    #[tactic(auto, unfolding(definitions::specs::Tracker::hold_at, definitions::specs::Cells::cell_of))]
     fn add_cell(&mut self, columns: usize, column: usize, b: u8) -> Option<()>
         requires column_narrow { column < 10 }
         requires few { Below (count_bound + 9) self.old.stats }
@@ -190,7 +191,7 @@ impl CleanRows {
         row_tally::end_judged_row(&mut self.stats, true, row_arrows, row_others as u32, held);
     }
 
-    // The cells of a row past its fifth one by one, and its end. No lane count that is known has such rows.
+    // The cells of a row of six or seven past its fifth one by one, and its end. No lane count brings one here.
     #[inline(never)]
     fn add_seven(&mut self, row: &[u8], arrows: u32, others: u64, held: u32) -> Option<()>
         requires narrow { length row.now ≤ 10 }

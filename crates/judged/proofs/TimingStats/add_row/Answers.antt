@@ -1,7 +1,7 @@
 -- `judged::TimingStats::add_row` meets its contract: an unjudged row opens no hold, and no more holds end than are open.
-use mathlib.Core.Path.{◌≡◌, sym, ap₂, ◌∙◌}
+use mathlib.Core.Path.{◌≡◌, refl, sym, ap, ap₂, ◌∙◌}
 use mathlib.Core.Bool.{true, false}
-use Prim.Native.Nat.{ℕ, ◌+◌, ◌-◌}
+use Prim.Native.Nat.{ℕ, ◌+◌, ◌-◌, ◌≤◌}
 use native.Mathlib.Omega.{arith}
 use Rattle.definitions.specs.Lines.{Row}
 use Rattle.definitions.specs.Judged.{judged_sum, judge_row}
