@@ -187,8 +187,9 @@ impl CleanRows {
             → EndsOn row (length row) arrows others held self.old self.new }
     {
         let row_arrows = self.stats.total_arrows - arrows;
-        let row_others = u64::from(self.stats.mines) + u64::from(self.stats.fakes) - others;
-        row_tally::end_judged_row(&mut self.stats, true, row_arrows, row_others as u32, held);
+        let row_others = (u64::from(self.stats.mines) + u64::from(self.stats.fakes)
+            - others) as u32;
+        row_tally::end_judged_row(&mut self.stats, true, row_arrows, row_others, held);
     }
 
     // The cells of a row of six or seven past its fifth one by one, and its end. No lane count brings one here.
