@@ -17,19 +17,17 @@ use Rattle.definitions.specs.Cells.{cell_of, byte_at}
 use Rattle.definitions.specs.Tracker.{hold_at}
 use Rattle.definitions.specs.Correction.{phantom_step}
 use Rattle.definitions.specs.Judged.{judged_sum, judge_row}
-use Rattle.definitions.specs.declared.DepthEffect.{DepthEffect}
 use Rattle.definitions.specs.declared.DepthEffect.TheVariants.{Nothing}
 use Rattle.definitions.specs.declared.RowSum.{RowSum}
 use Rattle.definitions.proofs.Columns.{past_end}
-use Rattle.phantoms.proofs.Columns.{column-past, column-more}
+use Rattle.phantoms.proofs.Columns.{column-past}
 use Rattle.row_tally.specs.Before.{sum_before}
 use Rattle.row_tally.specs.Bounds.{Under, Below, EndsBelow}
-use Rattle.row_tally.specs.Raised.{with_cells, judged_row_end}
+use Rattle.row_tally.specs.Raised.{judged_row_end}
 use Rattle.row_tally.proofs.Before.{before-under, before-whole, before-next, before-below}
-use Rattle.row_tally.proofs.Bounds.{below_more}
 use Rattle.row_tally.proofs.Raised.{cells-none, judged-row-ended, cells-ends, cells-arrows, cells-mines, cells-fakes}
 use Rattle.judged.specs.Clean.{unpairs}
-use Rattle.judged.specs.JudgedPass.{row_unpairs, DepthsPassed, Ready, RowPassed, CellPassed, Passing, Reached, PassingOn, Unclean}
+use Rattle.judged.specs.JudgedPass.{row_unpairs, DepthsPassed, Ready, RowPassed, CellPassed, Passing, Reached, PassingOn, Before, Begun, Ended, EndsOn}
 use Rattle.judged.specs.declared.judged_pass.CleanRows.{CleanRows}
 
 -- before the first cell
@@ -168,12 +166,45 @@ pub then-on : (row : Row) (i j k : ℕ) (t t' t'' : CleanRows) (r : Option Unit)
 then-on row i j k t t' t'' None p q = q
 then-on row i j k t t' t'' (Some x) p q = λ s y. q s (p s y)
 
-moved : (row : Row) (i j : ℕ) (t t' : CleanRows) → i ≡ j → Passing row i t t' → Passing row j t t'
+pub moved : (row : Row) (i j : ℕ) (t t' : CleanRows) → i ≡ j → Passing row i t t' → Passing row j t t'
 moved row i j t t' e x = rw (← e) x
 
-pub four-on : (row : Row) (i : ℕ) (a b c d e : CleanRows) → PassingOn row i (i + 1) a b → PassingOn row (i + 1) (i + 1 + 1) b c → PassingOn row (i + 2) (i + 2 + 1) c d
-    → PassingOn row (i + 3) (i + 3 + 1) d e → PassingOn row i (i + 4) a e
-four-on row i a b c d e p q r s =
-    λ t x.
-    moved row (i + 3 + 1) (i + 4) t e (omega arith)
-    (s t (moved row (i + 2 + 1) (i + 3) t d (omega arith) (r t (moved row (i + 1 + 1) (i + 2) t c (omega arith) (q t (p t x))))))
+-- ---- The row's end
+module _ (row : Row) (i arrows others held : ℕ) (t' : CleanRows) where
+  pub begun-on : (j : ℕ) (t'' : CleanRows) → PassingOn row i j t' t'' → Begun row i arrows others held t' → Begun row j arrows others held t''
+  begun-on j t'' p b = record { reached = record { start = b.reached.start; few = b.reached.few; passing = p b.reached.start b.reached.passing }; ready = b.ready; before = b.before }
+
+  -- the row is as long as those that have passed
+  pub ended-at : (n : ℕ) (t'' : CleanRows) → length row ≡ n → length row ≤ 10 → PassingOn row i n t' t'' → Begun row i arrows others held t' → Ended arrows others held t''
+  ended-at n t'' e w p b = record { row = row; narrow = w; begun = rw e (begun-on n t'' p b) }
+
+  pub ends-at : (n : ℕ) (t'' t3 : CleanRows) → length row ≡ n → PassingOn row i n t' t'' → EndsOn row (length row) arrows others held t'' t3
+      → EndsOn row i arrows others held t' t3
+  ends-at n t'' t3 l p e = λ t r b x. e t r b (rw l (p t x))
+
+  pub then-ends : (j : ℕ) (t'' t3 : CleanRows) (r : Option Unit) → PassingOn row i j t' t'' → OnSome r (EndsOn row j arrows others held t'' t3)
+      → OnSome r (EndsOn row i arrows others held t' t3)
+  then-ends j t'' t3 None p e = e
+  then-ends j t'' t3 (Some y) p e = λ t r b x. e t r b (p t x)
+
+-- what is answered of a whole row
+pub row-told : (r : Option Unit) (u : Bool) → (r ≡ None → u ≡ true) → OnSome r (u ≡ false) → is_some r ≡ not u
+row-told None u n s = sym (ap not (n refl))
+row-told (Some x) u n s = sym (ap not s)
+
+-- before the row
+pub before-row : (t : CleanRows) (others : ℕ) → others ≡ t.stats.mines + t.stats.fakes → Before t.stats.total_arrows others t.active t
+before-row t others e = record { arrows_then = refl; others_then = e; held_then = refl }
+
+module _ (row : Row) (arrows others held : ℕ) (t : CleanRows) (b : Before arrows others held t) (ready : Ready t) where
+  pub begun-start : Below count_bound t.stats → Begun row 0 arrows others held t
+  begun-start f = record { reached = record { start = t; few = f; passing = passing-start row t ready }; ready = ready; before = b }
+
+  module _ (t' : CleanRows) where
+    pub ended-whole : (r : Option Unit) → OnSome r (EndsOn row 0 arrows others held t t') → OnSome r (row_unpairs row t.depths ≡ false)
+    ended-whole None e = e
+    ended-whole (Some x) e = (e t ready b (passing-start row t ready)).whole
+
+    pub ended-passed : (r : Option Unit) → OnSome r (EndsOn row 0 arrows others held t t') → OnSome r (RowPassed row t t')
+    ended-passed None e = e
+    ended-passed (Some x) e = (e t ready b (passing-start row t ready)).passed

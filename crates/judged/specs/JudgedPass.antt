@@ -1,5 +1,5 @@
 -- What the private functions of the one pass leave: of a cell, of a row's cells, and of a row.
-use Rattle.std.specs.Prelude.{◌≡◌, Option, None, Bool, true, false, List, ℕ, ◌≤◌, ◌<◌, length, slice_index, slice_set, sum}
+use Rattle.std.specs.Prelude.{◌≡◌, Option, None, Bool, true, false, List, ℕ, ◌≤◌, ◌<◌, length, slice_index, slice_set, sum, ◌+◌}
 use Rattle.definitions.specs.Lists.{some_column}
 use Rattle.definitions.specs.Sizes.{count_bound}
 use Rattle.definitions.specs.Lines.{Row}
@@ -74,3 +74,31 @@ PassingOn row i j t' t'' = (t : CleanRows) → Passing row i t t' → Passing ro
 -- where they do not, the row leaves a head unpaired
 abbrev pub Unclean : Row → ℕ → CleanRows → Option Unit → Type 0
 Unclean row i t' result = result ≡ None → (t : CleanRows) → Passing row i t t' → row_unpairs row t.depths ≡ true
+
+-- ---- The row's end
+-- The pass t had so many arrows, so many mines and fakes, and so many open holds.
+pub record Before (arrows others held : ℕ) (t : CleanRows) : Type 0 where
+  pub arrows_then : arrows ≡ t.stats.total_arrows
+  pub others_then : others ≡ t.stats.mines + t.stats.fakes
+  pub held_then : held ≡ t.active
+
+-- The cells before column i have passed, of a row before which the pass had these.
+pub record Begun (row : Row) (i arrows others held : ℕ) (t' : CleanRows) : Type 0 where
+  pub reached : Reached row i t'
+  pub ready : Ready reached.start
+  pub before : Before arrows others held reached.start
+
+-- all cells of such a row have passed
+pub record Ended (arrows others held : ℕ) (t' : CleanRows) : Type 0 where
+  pub row : Row
+  pub narrow : length row ≤ 10
+  pub begun : Begun row (length row) arrows others held t'
+
+-- One row more, none of whose cells leaves a head unpaired.
+pub record RowClean (row : Row) (t t' : CleanRows) : Type 0 where
+  pub whole : row_unpairs row t.depths ≡ false
+  pub passed : RowPassed row t t'
+
+-- with the cells from column i on and the row's end, the row has passed
+abbrev pub EndsOn : Row → ℕ → ℕ → ℕ → ℕ → CleanRows → CleanRows → Type 0
+EndsOn row i arrows others held t' t'' = (t : CleanRows) → Ready t → Before arrows others held t → Passing row i t t' → RowClean row t t''

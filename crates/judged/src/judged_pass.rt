@@ -12,19 +12,20 @@ ghost use Rattle.definitions.specs.declared.DepthEffect.TheVariants.{Nothing, Bl
 ghost use Rattle.taps.specs.Taps.{FreeTaps, masks};
 ghost use Rattle.row_tally.specs.Bounds.{Below};
 ghost use Rattle.judged.specs.Clean.{unpairs, clean_answer};
-ghost use Rattle.judged.specs.JudgedPass.{row_unpairs, Ready, RowPassed, CellCounted, CellPassed, Reached, PassingOn, Unclean};
+ghost use Rattle.judged.specs.JudgedPass.{row_unpairs, Ready, RowPassed, CellCounted, CellPassed, Reached, PassingOn, Unclean, Begun, Ended, EndsOn};
 
 use definitions::{ArrowStats, Cell, Lanes, direction};
 use taps::{TapTable, Taps};
 
-/// What the pass has of the rows so far: the tally, the open heads of each column, of up to ten, the holds open before the next row, and the
-/// columns that have one as a mask.
+/// What the pass has of the rows so far: the tally, the columns that have an open head as a mask, the open heads of each column, of up to ten, and
+/// the holds open before the next row. The mask and the holds stand apart: beside each other they would be raised together, which costs three
+/// times as much.
 #[derive(Drop)]
 pub struct CleanRows {
     pub stats: ArrowStats,
+    pub busy: u32,
     pub depths: [u32; 10],
     pub active: u32,
-    pub busy: u32,
 }
 
 impl CleanRows {
@@ -36,9 +37,9 @@ impl CleanRows {
     {
         CleanRows {
             stats: row_tally::no_stats(),
+            busy: 0,
             depths: [0; 10],
             active: 0,
-            busy: 0,
         }
     }
 
@@ -135,9 +136,9 @@ impl CleanRows {
         Some(())
     }
 
-    // One cell of a column more, by one match, unless it leaves a head unpaired.
+    // One cell of a column more, unless it leaves a head unpaired. Most are a `0`, and a blank is below it: neither is asked of the match.
     #[inline(always)]
-    #[tactic(auto, unfolding(definitions::specs::Tracker::hold_at))]
+    #[tactic(auto, unfolding(definitions::specs::Tracker::hold_at, definitions::specs::Cells::cell_of))]
     fn add_cell(&mut self, columns: usize, column: usize, b: u8) -> Option<()>
         requires column_narrow { column < 10 }
         requires few { Below (count_bound + 9) self.old.stats }
@@ -147,6 +148,9 @@ impl CleanRows {
         ensures passed { OnSome result
             (CellPassed columns column (hold_at b) (cell_of b) self.old self.new) }
     {
+        if b <= b'0' {
+            return self.pass(columns, column, Cell::Empty);
+        }
         match cells::cell_of(b) {
             Cell::Empty => self.pass(columns, column, Cell::Empty),
             Cell::Tap => self.meet(columns, column, Cell::Tap),
@@ -175,84 +179,114 @@ impl CleanRows {
         self.add_cell(row.len(), column, row[column])
     }
 
-    // Four cells of a row from a column on, written one after the other: a loop would take each count of the tally into a register.
+    // The row's end, as many arrows, mines and fakes and open holds as there were before it. What the tally's grew by is the row's.
     #[inline(always)]
-    fn add_four(&mut self, row: &[u8], column: usize) -> Option<()>
-        requires narrow { length row.now ≤ 10 }
-        requires inside { column + 4 ≤ length row.now }
-        requires reached { Reached row.now column self.old }
-        ensures clean { Unclean row.now column self.old result }
-        ensures passed { OnSome result (PassingOn row.now column (column + 4) self.old self.new) }
+    fn end_row(&mut self, arrows: u32, others: u64, held: u32)
+        requires { Ended arrows others held self.old }
+        ensures { (row : Row) → length row ≤ 10
+            → EndsOn row (length row) arrows others held self.old self.new }
     {
-        self.add_cell_at(row, column)?;
-        self.add_cell_at(row, column + 1)?;
-        self.add_cell_at(row, column + 2)?;
-        self.add_cell_at(row, column + 3)?;
-        Some(())
+        let row_arrows = self.stats.total_arrows - arrows;
+        let row_others = (u64::from(self.stats.mines) + u64::from(self.stats.fakes)
+            - others) as u32;
+        row_tally::end_judged_row(&mut self.stats, true, row_arrows, row_others, held);
     }
 
-    // The cell of a row in a column, where a loop asks.
+    // The cells of a row of six or seven past its fifth one by one, and its end. No lane count brings one here.
     #[inline(never)]
-    fn add_one(&mut self, row: &[u8], column: usize) -> Option<()>
+    fn add_seven(&mut self, row: &[u8], arrows: u32, others: u64, held: u32) -> Option<()>
         requires narrow { length row.now ≤ 10 }
-        requires inside { column < length row.now }
-        requires reached { Reached row.now column self.old }
-        ensures clean { Unclean row.now column self.old result }
-        ensures passed { OnSome result (PassingOn row.now column (column + 1) self.old self.new) }
+        requires more { 5 < length row.now }
+        requires begun { Begun row.now 5 arrows others held self.old }
+        ensures clean { Unclean row.now 5 self.old result }
+        ensures ended { OnSome result (EndsOn row.now 5 arrows others held self.old self.new) }
     {
-        self.add_cell_at(row, column)
-    }
-
-    // The cells of a row from a column on, one by one.
-    fn add_from(&mut self, row: &[u8], from: usize) -> Option<()>
-        requires narrow { length row.now ≤ 10 }
-        requires inside { from ≤ length row.now }
-        requires reached { Reached row.now from self.old }
-        ensures clean { Unclean row.now from self.old result }
-        ensures passed { OnSome result (PassingOn row.now from (length row.now) self.old self.new) }
-    {
-        let mut column = from;
+        let mut column = 5;
         while column < row.len() {
-            self.add_one(row, column)?;
+            self.add_cell_at(row, column)?;
             column += 1;
         }
+        self.end_row(arrows, others, held);
         Some(())
     }
 
-    // The cells of a row past its fourth: one or four, and then one by one.
+    // A row of six, whose columns lie otherwise than those of all others.
     #[inline(never)]
-    fn add_rest(&mut self, row: &[u8]) -> Option<()>
+    fn add_six(&mut self, row: &[u8], arrows: u32, others: u64, held: u32) -> Option<()>
+        requires six { length row.now ≡ 6 }
+        requires begun { Begun row.now 0 arrows others held self.old }
+        ensures clean { Unclean row.now 0 self.old result }
+        ensures ended { OnSome result (EndsOn row.now 0 arrows others held self.old self.new) }
+    {
+        self.add_cell_at(row, 0)?;
+        self.add_cell_at(row, 1)?;
+        self.add_cell_at(row, 2)?;
+        self.add_cell_at(row, 3)?;
+        self.add_cell_at(row, 4)?;
+        self.add_cell_at(row, 5)?;
+        self.end_row(arrows, others, held);
+        Some(())
+    }
+
+    // The cells of a row past its fifth, and its end.
+    #[inline(never)]
+    fn add_rest(&mut self, row: &[u8], arrows: u32, others: u64, held: u32) -> Option<()>
         requires narrow { length row.now ≤ 10 }
-        requires more { 4 < length row.now }
-        requires reached { Reached row.now 4 self.old }
-        ensures clean { Unclean row.now 4 self.old result }
-        ensures passed { OnSome result (PassingOn row.now 4 (length row.now) self.old self.new) }
+        requires more { 5 < length row.now }
+        requires begun { Begun row.now 5 arrows others held self.old }
+        ensures clean { Unclean row.now 5 self.old result }
+        ensures ended { OnSome result (EndsOn row.now 5 arrows others held self.old self.new) }
     {
         if row.len() < 8 {
-            self.add_cell_at(row, 4)?;
-            return self.add_from(row, 5);
+            return self.add_seven(row, arrows, others, held);
         }
-        self.add_four(row, 4)?;
-        self.add_from(row, 8)
-    }
-
-    // All cells of a row.
-    #[inline(always)]
-    fn add_all(&mut self, row: &[u8]) -> Option<()>
-        requires wide { 4 ≤ length row.now }
-        requires narrow { length row.now ≤ 10 }
-        requires reached { Reached row.now 0 self.old }
-        ensures clean { Unclean row.now 0 self.old result }
-        ensures passed { OnSome result (PassingOn row.now 0 (length row.now) self.old self.new) }
-    {
-        self.add_four(row, 0)?;
-        if row.len() == 4 {
+        self.add_cell_at(row, 5)?;
+        self.add_cell_at(row, 6)?;
+        self.add_cell_at(row, 7)?;
+        if row.len() == 8 {
+            self.end_row(arrows, others, held);
             return Some(());
         }
-        self.add_rest(row)
+        self.add_cell_at(row, 8)?;
+        if row.len() == 9 {
+            self.end_row(arrows, others, held);
+            return Some(());
+        }
+        self.add_cell_at(row, 9)?;
+        self.end_row(arrows, others, held);
+        Some(())
     }
 
-    // One row more, cell by cell. What the tally's arrows, mines and fakes grow by is the row's.
+    // A row's cells and its end. The cells are written one after the other: a loop would take each count of the tally into a register. Where others
+    // do the rest of a row they end it too, so that nothing is kept for after them.
+    #[inline(never)]
+    fn add_begun(&mut self, row: &[u8], arrows: u32, others: u64, held: u32) -> Option<()>
+        requires wide { 4 ≤ length row.now }
+        requires narrow { length row.now ≤ 10 }
+        requires begun { Begun row.now 0 arrows others held self.old }
+        ensures clean { Unclean row.now 0 self.old result }
+        ensures ended { OnSome result (EndsOn row.now 0 arrows others held self.old self.new) }
+    {
+        if row.len() == 6 {
+            return self.add_six(row, arrows, others, held);
+        }
+        self.add_cell_at(row, 0)?;
+        self.add_cell_at(row, 1)?;
+        self.add_cell_at(row, 2)?;
+        self.add_cell_at(row, 3)?;
+        if row.len() == 4 {
+            self.end_row(arrows, others, held);
+            return Some(());
+        }
+        self.add_cell_at(row, 4)?;
+        if row.len() == 5 {
+            self.end_row(arrows, others, held);
+            return Some(());
+        }
+        self.add_rest(row, arrows, others, held)
+    }
+
+    // One row more, cell by cell. What the row's end is told is read here, so that the cells do not keep it in registers.
     #[inline(never)]
     fn add_cells(&mut self, row: &[u8]) -> Option<()>
         requires wide { 4 ≤ length row.now }
@@ -262,15 +296,10 @@ impl CleanRows {
         ensures clean { is_some result ≡ not (row_unpairs row.now self.old.depths) }
         ensures passed { OnSome result (RowPassed row.now self.old self.new) }
     {
-        let held = self.active;
         let arrows = self.stats.total_arrows;
-        let mines = self.stats.mines;
-        let fakes = self.stats.fakes;
-        self.add_all(row)?;
-        let row_arrows = self.stats.total_arrows - arrows;
-        let others = (self.stats.mines - mines) + (self.stats.fakes - fakes);
-        row_tally::end_judged_row(&mut self.stats, true, row_arrows, others, held);
-        Some(())
+        let others = u64::from(self.stats.mines) + u64::from(self.stats.fakes);
+        let held = self.active;
+        self.add_begun(row, arrows, others, held)
     }
 
     // One row more of taps alone, none in a column with an open head: it leaves the depths as they are.

@@ -137,7 +137,9 @@ pub fn end_judged_row(stats: &mut ArrowStats, judged: bool, arrows: u32, others:
 {
     if 0 < arrows {
         stats.total_steps += 1;
-        stats.jumps += u32::from(2 <= arrows);
+        if 2 <= arrows {
+            stats.jumps += 1;
+        }
     }
     if judged & (3 <= arrows + held) {
         stats.hands += u32::from(1 <= arrows + others);
