@@ -22,7 +22,7 @@ use Rattle.definitions.proofs.ChartRows.{test-length}
 use Rattle.reader.proofs.Cuts.{line-front}
 use Rattle.lines.specs.Lines.{first_line}
 use Rattle.lines.specs.Words.{first_below}
-use Rattle.reader.specs.Reading.{LineStep, near_cells, Below}
+use Rattle.reader.specs.Reading.{near_cells}
 
 -- ---- such a line is a row
 
@@ -138,21 +138,18 @@ near-front L s low high e =
 pub below-once : (L : ℕ) (s : List ℕ) → L < length s → get_or s L 0 ≡ 10 → drop (L + 1) s ≡ after 10 (drop L s)
 below-once L s h e = rw (drop-cons s L 0 h, after-cons, e, add-one)
 
--- or is the last of so many bytes
-pub below-step : (L step : ℕ) (s : List ℕ) → LineStep L step → L + 2 ≤ length s → get_or s (step - 1) 0 ≡ 10 → Below (drop step s) (after 10 (drop L s))
-below-step L step s w h e = elim (dec_lt (L + 1) step) [
-  | no n ↦
-      let u : step ≡ L + 1 = omega (arith, w) in
-      let v : step - 1 ≡ L = omega arith in
-      rw u (inl (sym (below-once L s (omega arith) (rw v at e))))
-  | yes y ↦
-      let u : step ≡ suc (suc L) = omega (arith, w) in
-      let v : step - 1 ≡ suc L = omega arith in
-      let nl : get_or s (suc L) 0 ≡ 10 = rw v at e in
-      rw (u, drop-cons s L 0 (omega arith), after-cons, drop-cons s (suc L) 0 (omega arith), nl)
-      (later (eqb (get_or s L 0) 10) (drop (suc (suc L)) s))
-]
-  where
-    later : (t : Bool) (l : List ℕ) → Below l (cond t (10 ∷ l) (after 10 (10 ∷ l)))
-    later true l = inr refl
-    later false l = inl (after-cons 10 10 l)
+-- a byte that is none is passed over
+below-past : (L : ℕ) (s : List ℕ) → L < length s → (get_or s L 0 ≡ 10 → ⊥) → after 10 (drop L s) ≡ after 10 (drop (L + 1) s)
+below-past L s h n = rw (drop-cons s L 0 h, after-cons, ne_eqb (get_or s L 0) 10 n, add-one)
+
+-- or the newline stands one byte further
+pub below-twice : (L : ℕ) (s : List ℕ) → L + 1 < length s → (get_or s L 0 ≡ 10 → ⊥) → get_or s (L + 1) 0 ≡ 10 → drop (L + 2) s ≡ after 10 (drop L s)
+below-twice L s h n e =
+    let two : L + 2 ≡ L + 1 + 1 = omega arith in
+    rw two (below-once (L + 1) s (omega arith) e ∙ sym (below-past L s (omega arith) n))
+
+-- or past both
+pub below-both : (L : ℕ) (s : List ℕ) → L + 1 < length s → (get_or s L 0 ≡ 10 → ⊥) → (get_or s (L + 1) 0 ≡ 10 → ⊥) → after 10 (drop (L + 2) s) ≡ after 10 (drop L s)
+below-both L s h n m =
+    let two : L + 2 ≡ L + 1 + 1 = omega arith in
+    rw two (sym (below-past L s (omega arith) n ∙ below-past (L + 1) s (omega arith) m))

@@ -1,12 +1,12 @@
 // The rows of a chart's text and the ends of its measures, one after the other, each row as a part of that text.
-ghost use Rattle.std.specs.Prelude.{◌≡◌, ◌==◌, ◌<◌, ◌-◌, ◌&&◌, not, nat_le, if◌then◌else◌, length, drop, slice_index};
+ghost use Rattle.std.specs.Prelude.{◌≡◌, ◌==◌, ◌<◌, ◌&&◌, not, length, slice_index};
 ghost use Rattle.definitions.specs.Lists.{after};
-ghost use Rattle.definitions.specs.Lines.{is_blank_byte, is_row_line, trim};
+ghost use Rattle.definitions.specs.Lines.{is_row_line};
 ghost use Rattle.lines.specs.Lines.{first_line};
 ghost use Rattle.std.specs.Iterator.{YieldsFirstBy};
 ghost use Rattle.reader.specs.Marks.{chart_marks};
 ghost use Rattle.reader.specs.ChartLines.{mark_of};
-ghost use Rattle.reader.specs.Reading.{LineStep, near_row};
+ghost use Rattle.reader.specs.Reading.{near_row};
 
 use definitions::Lanes;
 use std::marker::Model;
@@ -23,23 +23,19 @@ pub enum ChartLine<'a> {
 pub struct ChartLines<'a> {
     rest: &'a [u8],
     lanes: Lanes,
-    step: usize,
 }
 
 impl<'a> Model for ChartLines<'a> {
     ghost use Rattle.std.specs.Prelude.{List, Option};
     ghost use Rattle.definitions.specs.Lines.{Row};
-    ghost use Rattle.reader.specs.Reading.{LineStep};
     ghost use Rattle.reader.specs.Marks.{chart_marks};
 
     ghost Value = { List (Option Row) };
 
     ghost view = { λ it. chart_marks it.lanes.count it.rest.now };
-
-    ghost invariant = { λ it. LineStep it.lanes.count it.step };
 }
 
-// Whether a text begins with a row, with nothing before it, as most of a chart's lines do. The tests are joined without a branch.
+// Whether a text begins with a row, with nothing before it, as most of a chart's lines do. What begins with a blank or a `,` leaves before a word is read.
 fn is_near_row(text: &[u8], lanes: Lanes) -> bool
     ensures { result ≡ near_row lanes.count text.now }
 {
@@ -47,19 +43,13 @@ fn is_near_row(text: &[u8], lanes: Lanes) -> bool
         return false;
     }
     let first = text[0];
-    crate::has_cells(text, lanes) & (b'/' < first) & (first != b';')
-}
-
-// Whether it does, and its line has `step` bytes with its newline, as most lines have.
-fn is_just_row(text: &[u8], lanes: Lanes, step: usize) -> bool
-    requires { LineStep lanes.count step }
-    ensures { result ≡ (nat_le 12 (length text.now)
-        && (near_row lanes.count text.now && slice_index text.now (step - 1) == 10)) }
-{
-    if text.len() < 12 {
+    if first <= b'/' {
         return false;
     }
-    is_near_row(text, lanes) & (text[step - 1] == 10)
+    if first == b';' {
+        return false;
+    }
+    crate::has_cells(text, lanes)
 }
 
 // The first line that counts, if any, and what of the text follows it.
@@ -69,50 +59,52 @@ struct Ahead<'a> {
     rest: &'a [u8],
 }
 
-// Whether the first line of a text is a row: where it begins with no blank and no `/`, and is told from `,` and `;` lines.
+// Whether the first line of a text is a row: where it begins with no `/`, and is told from `,` and `;` lines and from blanks. It stays out of the loops
+// over rows, as what follows does: few lines are asked so.
+#[inline(never)]
 fn is_row(text: &[u8], lanes: usize) -> bool
     requires { 0 < length text.now }
-    ensures { result ≡ (not (is_blank_byte (slice_index text.now 0))
-        && (not (slice_index text.now 0 == 47) && is_row_line lanes (first_line text.now))) }
+    ensures { result ≡ (not (slice_index text.now 0 == 47)
+        && is_row_line lanes (first_line text.now)) }
 {
-    let first = text[0];
-    !lines::is_blank(first) && first != b'/' && crate::begins_row(text, lanes)
+    text[0] != b'/' && crate::begins_row(text, lanes)
 }
 
-// What is left of a text past blanks that it begins with, else past its first line. Blanks are taken off the text and not off a line, since a line of
-// blanks is passed over too. It stays out of the loops over rows.
+// What follows the first line of a text.
 #[inline(never)]
-fn past_first(text: &[u8]) -> &[u8]
-    requires { 0 < length text.now }
-    ensures { result.now ≡ (if is_blank_byte (slice_index text.now 0)
-        then trim (drop 1 text.now) else after 10 text.now) }
+fn below_line(text: &[u8]) -> &[u8]
+    ensures { result.now ≡ after 10 text.now }
 {
-    if lines::is_blank(text[0]) {
-        lines::skip_ws(&text[1..])
-    } else {
-        lines::next_line(text, 0).1
-    }
+    lines::next_line(text, 0).1
 }
 
-// By the first byte to the first line that counts. It is written into each loop, where a row's length is then known to be the lane count.
+// By the first byte to the first line that counts. It is written into each loop, where a row's length is then known to be the lane count. A row that
+// nothing stands before, as in most lines, is told by one look. Blanks are taken off the text and not off a line, since a line of blanks is passed over too.
 #[inline(always)]
 fn look_ahead(text: &[u8], lanes: Lanes) -> Ahead<'_>
     ensures { YieldsFirstBy mark_of (λ s. s)
         (chart_marks lanes.count text.now) result.line (chart_marks lanes.count result.rest.now) }
 {
     let mut rest = text;
-    while !rest.is_empty() {
+    loop {
         if is_near_row(rest, lanes) {
             return Ahead {
                 line: Some(ChartLine::Row(&rest[..lanes.count])),
                 rest: crate::below_cells(rest, lanes),
             };
         }
+        if rest.is_empty() {
+            return Ahead { line: None, rest };
+        }
         let first = rest[0];
+        if lines::is_blank(first) {
+            rest = lines::skip_ws(&rest[1..]);
+            continue;
+        }
         if first == b',' {
             return Ahead {
                 line: Some(ChartLine::Comma),
-                rest: lines::next_line(rest, 0).1,
+                rest: below_line(rest),
             };
         }
         let ends = first == b';';
@@ -122,7 +114,7 @@ fn look_ahead(text: &[u8], lanes: Lanes) -> Ahead<'_>
                 rest: &rest[..0],
             };
         }
-        let below = past_first(rest);
+        let below = below_line(rest);
         if is_row(rest, lanes.count) {
             return Ahead {
                 line: Some(ChartLine::Row(&rest[..lanes.count])),
@@ -131,7 +123,6 @@ fn look_ahead(text: &[u8], lanes: Lanes) -> Ahead<'_>
         }
         rest = below;
     }
-    Ahead { line: None, rest }
 }
 
 impl<'a> Iterator for ChartLines<'a> {
@@ -144,15 +135,9 @@ impl<'a> Iterator for ChartLines<'a> {
 
     ghost remaining = { item_count (λ rest. rest) };
 
-    // A row that nothing stands before, as in most lines, is told by one look.
     #[inline(always)]
     fn next(&mut self) -> Option<ChartLine<'a>> {
-        let text = self.rest;
-        if is_just_row(text, self.lanes, self.step) {
-            self.rest = &text[self.step..];
-            return Some(ChartLine::Row(&text[..self.lanes.count]));
-        }
-        let ahead = look_ahead(text, self.lanes);
+        let ahead = look_ahead(self.rest, self.lanes);
         self.rest = ahead.rest;
         ahead.line
     }
@@ -162,9 +147,5 @@ impl<'a> Iterator for ChartLines<'a> {
 pub fn chart_lines(data: &[u8], lanes: Lanes) -> ChartLines<'_>
     ensures { result ≡ chart_marks lanes.count «data».now }
 {
-    ChartLines {
-        rest: data,
-        lanes,
-        step: crate::line_step(data, lanes),
-    }
+    ChartLines { rest: data, lanes }
 }

@@ -9,7 +9,7 @@ ghost use Rattle.std.specs.Prelude.{◌≡◌, ◌≤◌, length, drop, slice_in
 ghost use Rattle.definitions.specs.Lists.{among, after};
 ghost use Rattle.definitions.specs.Lines.{is_row_line};
 ghost use Rattle.lines.specs.Lines.{first_line};
-ghost use Rattle.reader.specs.Reading.{LineStep, near_cells};
+ghost use Rattle.reader.specs.Reading.{near_cells};
 
 use definitions::Lanes;
 
@@ -43,9 +43,9 @@ pub fn has_cells(text: &[u8], lanes: Lanes) -> bool
     lines::starts_high(text, lanes.count)
 }
 
-/// What follows the line of a row that the text begins with: its newline stands right after the cells, or is searched for. Few lines are so, and out of
-/// line it leaves the loops over the others their registers.
-#[inline(never)]
+/// What follows the line of a row that the text begins with: its newline stands right after the cells or one byte further, as in nearly all lines, or is
+/// searched for out of line. It is asked line by line, so that lines may end as they like.
+#[inline(always)]
 pub fn below_cells(text: &[u8], lanes: Lanes) -> &[u8]
     requires { 12 ≤ length text.now }
     ensures { result.now ≡ after 10 (drop lanes.count text.now) }
@@ -54,17 +54,9 @@ pub fn below_cells(text: &[u8], lanes: Lanes) -> &[u8]
     if at_once {
         return &text[lanes.count + 1..];
     }
-    lines::text_below(text, lanes.count)
-}
-
-/// How many bytes the line of a row has with its newline, as the first line of the text tells it: two more than its cells where byte 13 is its last. So
-/// many of the text's bytes are looked at. Where other lines end otherwise, reading them takes longer, and nothing else changes.
-pub fn line_step(text: &[u8], lanes: Lanes) -> usize
-    ensures { LineStep lanes.count result }
-{
-    let front = &text[..usize::min(text.len(), 256)];
-    match lines::next_line(front, 0).0 {
-        [.., 13] => lanes.count + 2,
-        _ => lanes.count + 1,
+    let past_one = text[lanes.count + 1] == 10;
+    if past_one {
+        return &text[lanes.count + 2..];
     }
+    lines::text_below(text, lanes.count + 2)
 }
