@@ -46,10 +46,7 @@ fn is_near_row(text: &[u8], lanes: Lanes) -> bool
     if first <= b'/' {
         return false;
     }
-    if first == b';' {
-        return false;
-    }
-    crate::has_cells(text, lanes)
+    crate::has_cells(text, lanes) && first != b';'
 }
 
 // The first line that counts, if any, and what of the text follows it.
@@ -78,23 +75,20 @@ fn below_line(text: &[u8]) -> &[u8]
     lines::next_line(text, 0).1
 }
 
-// By the first byte to the first line that counts. It is written into each loop, where a row's length is then known to be the lane count. A row that
-// nothing stands before, as in most lines, is told by one look. Blanks are taken off the text and not off a line, since a line of blanks is passed over too.
+// By the first byte to the first line that counts, from a text on that is not told by one look. It is written into each loop, where a row's length is then
+// known to be the lane count. Blanks are taken off the text and not off a line, since a line of blanks is passed over too.
 #[inline(always)]
 fn look_ahead(text: &[u8], lanes: Lanes) -> Ahead<'_>
     ensures { YieldsFirstBy mark_of (λ s. s)
         (chart_marks lanes.count text.now) result.line (chart_marks lanes.count result.rest.now) }
 {
     let mut rest = text;
-    loop {
+    while !rest.is_empty() {
         if is_near_row(rest, lanes) {
             return Ahead {
                 line: Some(ChartLine::Row(&rest[..lanes.count])),
                 rest: crate::below_cells(rest, lanes),
             };
-        }
-        if rest.is_empty() {
-            return Ahead { line: None, rest };
         }
         let first = rest[0];
         if lines::is_blank(first) {
@@ -123,6 +117,7 @@ fn look_ahead(text: &[u8], lanes: Lanes) -> Ahead<'_>
         }
         rest = below;
     }
+    Ahead { line: None, rest }
 }
 
 impl<'a> Iterator for ChartLines<'a> {
@@ -137,7 +132,12 @@ impl<'a> Iterator for ChartLines<'a> {
 
     #[inline(always)]
     fn next(&mut self) -> Option<ChartLine<'a>> {
-        let ahead = look_ahead(self.rest, self.lanes);
+        let text = self.rest;
+        if is_near_row(text, self.lanes) {
+            self.rest = crate::below_cells(text, self.lanes);
+            return Some(ChartLine::Row(&text[..self.lanes.count]));
+        }
+        let ahead = look_ahead(text, self.lanes);
         self.rest = ahead.rest;
         ahead.line
     }
