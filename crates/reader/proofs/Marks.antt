@@ -18,9 +18,9 @@ use Rattle.definitions.specs.declared.LineKind.{LineKind}
 use Rattle.definitions.specs.declared.LineKind.TheVariants as line
 use Rattle.lines.specs.Lines.{first_line}
 use Rattle.definitions.proofs.Lists.{after-cons}
-use Rattle.reader.specs.Reading.{near_cells, near_row}
+use Rattle.reader.specs.Reading.{LineStep, near_cells, near_row, Below}
 use Rattle.reader.proofs.Cuts.{cut-below}
-use Rattle.reader.proofs.Plain.{near-front, bare, bare-row, first-cells, first-within}
+use Rattle.reader.proofs.Plain.{near-long, near-front, bare, bare-row, first-cells, first-within, below-step}
 use Rattle.reader.specs.Marks.{add_mark, marks, chart_marks, Held, held_with, held}
 
 -- ---- the first line of a text, and what follows it
@@ -126,9 +126,9 @@ pub row-within : (L : ℕ) (s : List ℕ) → (not (eqb (get_or s 0 0) 47) && is
 row-within L s e = first-within L s (and_right (not (eqb (get_or s 0 0) 47)) (is_row_line L (first_line s)) e)
 
 -- a row that one look tells
-pub marks-near : (L : ℕ) (s : List ℕ) → 4 ≤ L → L ≤ 10 → near_row L s ≡ true → chart_marks L s ≡ Some (take L s) ∷ chart_marks L (after 10 (drop L s))
+pub marks-near : (L : ℕ) (s below : List ℕ) → 4 ≤ L → L ≤ 10 → near_row L s ≡ true → Below below (after 10 (drop L s)) → chart_marks L s ≡ Some (take L s) ∷ chart_marks L below
 unfolding line_kind
-marks-near L s low high e =
+marks-near L s below low high e w =
     let cells = near_cells L s in
     let past = ltb 47 (get_or s 0 0) in
     let semi = eqb (get_or s 0 0) 59 in
@@ -140,7 +140,20 @@ marks-near L s low high e =
     let whole = bare l far in
     let kind = bare-row L l p.long (ap (among 13) p.cells ∙ p.plain) far (λ q. other (sym p.first ∙ q)) in
     let row : take L (trim l) ≡ take L s = ap (take L) (sym whole) ∙ p.cells in
-    marks-first L s ∙ rw (row, p.rest, ← whole, ← kind)
+    let rest : chart_marks L (after 10 s) ≡ chart_marks L below =
+    ap (chart_marks L) p.rest ∙ ⊎_elim (λ q. ap (chart_marks L) q) (λ q. ap (chart_marks L) q ∙ marks-empty L below) w in
+    marks-first L s ∙ rw (row, rest, ← whole, ← kind)
+
+-- it has twelve bytes
+pub row-long : (L : ℕ) (s : List ℕ) → near_row L s ≡ true → 12 ≤ length s
+row-long L s e =
+    let past = ltb 47 (get_or s 0 0) in
+    near-long L s (and_left (near_cells L s) past (and_left (near_cells L s && past) (not (eqb (get_or s 0 0) 59)) e))
+
+-- the same where its line has so many bytes
+pub marks-just : (L step : ℕ) (s : List ℕ) → 4 ≤ L → L ≤ 10 → LineStep L step → near_row L s ≡ true → get_or s (step - 1) 0 ≡ 10
+    → chart_marks L s ≡ Some (take L s) ∷ chart_marks L (drop step s)
+marks-just L step s low high w e n = marks-near L s (drop step s) low high e (below-step L step s w (omega (arith, row-long L s e)) n)
 
 -- ---- what marks come to
 

@@ -10,7 +10,7 @@ use native.Mathlib.Decide.{dec_lt}
 use native.Mathlib.Omega.{arith}
 use borrow.Author.Tests.{ne_eqb, ltb-false, leb-true, le-leb, lt-leb}
 use lib.Dec.{eqb, ltb, leb}
-use lib.ListN.{length, get_or, take, drop, length-append, length-take}
+use lib.ListN.{length, get_or, take, drop, length-append, length-take, length-drop}
 use lib.Seq.{drop-cons, length-take-le, get_or-take, take-take}
 use Rattle.std.proofs.lemmas.List.{take_at}
 use Rattle.definitions.specs.Lists.{among, up_to, after}
@@ -19,10 +19,10 @@ use Rattle.definitions.specs.declared.LineKind.TheVariants as line
 use Rattle.definitions.proofs.Bools.{and_left, and_right, and-false, equal-turned}
 use Rattle.definitions.proofs.Lists.{after-cons}
 use Rattle.definitions.proofs.ChartRows.{test-length}
-use Rattle.reader.proofs.Cuts.{line-front}
+use Rattle.reader.proofs.Cuts.{line-front, after-less}
 use Rattle.lines.specs.Lines.{first_line}
 use Rattle.lines.specs.Words.{first_below}
-use Rattle.reader.specs.Reading.{near_cells}
+use Rattle.reader.specs.Reading.{LineStep, near_cells, Below}
 
 -- ---- such a line is a row
 
@@ -127,6 +127,9 @@ front L s some h f =
       rest = b.1;
     }
 
+pub near-long : (L : ℕ) (s : List ℕ) → near_cells L s ≡ true → 12 ≤ length s
+near-long L s e = leb-true 12 (length s) (and_left (leb 12 (length s)) (leb L (first_below 16 s)) e)
+
 pub near-front : (L : ℕ) (s : List ℕ) → 4 ≤ L → L ≤ 10 → near_cells L s ≡ true → Front L s
 near-front L s low high e =
     let long = leb-true 12 (length s) (and_left (leb 12 (length s)) (leb L (first_below 16 s)) e) in
@@ -153,3 +156,26 @@ pub below-both : (L : ℕ) (s : List ℕ) → L + 1 < length s → (get_or s L 0
 below-both L s h n m =
     let two : L + 2 ≡ L + 1 + 1 = omega arith in
     rw two (sym (below-past L s (omega arith) n ∙ below-past (L + 1) s (omega arith) m))
+
+-- or the newline is the last of so many bytes
+pub below-step : (L step : ℕ) (s : List ℕ) → LineStep L step → L + 2 ≤ length s → get_or s (step - 1) 0 ≡ 10 → Below (drop step s) (after 10 (drop L s))
+below-step L step s w h e = elim (dec_lt (L + 1) step) [
+  | no n ↦
+      let u : step ≡ L + 1 = omega (arith, w) in
+      let v : step - 1 ≡ L = omega arith in
+      rw u (inl (sym (below-once L s (omega arith) (rw v at e))))
+  | yes y ↦
+      let u : step ≡ suc (suc L) = omega (arith, w) in
+      let v : step - 1 ≡ suc L = omega arith in
+      let nl : get_or s (suc L) 0 ≡ 10 = rw v at e in
+      rw (u, drop-cons s L 0 (omega arith), after-cons, drop-cons s (suc L) 0 (omega arith), nl)
+      (later (eqb (get_or s L 0) 10) (drop (suc (suc L)) s))
+]
+  where
+    later : (t : Bool) (l : List ℕ) → Below l (cond t (10 ∷ l) (after 10 (10 ∷ l)))
+    later true l = inr refl
+    later false l = inl (after-cons 10 10 l)
+
+-- it is no more than the text
+pub below-shorter : (L : ℕ) (s below : List ℕ) → L < length s → below ≡ after 10 (drop L s) → length below ≤ length s
+below-shorter L s below h e = omega (arith, after-less (drop L s) below (rw length-drop (omega arith)) e, length-drop L s)

@@ -16,8 +16,8 @@ use Rattle.definitions.specs.ReadBack.{without_cr, begins_mark, back_row, rows_r
 use Rattle.definitions.proofs.Bools.{and_left, and_right, and-false}
 use Rattle.lines.specs.Lines.{first_line}
 use Rattle.lines.proofs.Trims.{trim-cr-last, trim-cr-none}
-use Rattle.reader.specs.Reading.{near_cells, near_back_row}
-use Rattle.reader.proofs.Plain.{near-front, is-row, first-cells, first-within}
+use Rattle.reader.specs.Reading.{LineStep, near_cells, near_back_row, Below}
+use Rattle.reader.proofs.Plain.{near-front, is-row, first-cells, first-within, below-step}
 use Rattle.reader.proofs.BackReading.{trim-front, trim-less, trim-most}
 use Rattle.reader.proofs.BackLoops.{rows-first, rows-empty}
 
@@ -105,8 +105,8 @@ pub row-within : (L : ℕ) (s : List ℕ) → (is_row_line L (first_line s) && n
 row-within L s e = first-within L s (and_left (is_row_line L (first_line s)) (not (begins_mark (first_line s))) e)
 
 -- The row that a text begins with, and what follows its line.
-pub rows-near : (L : ℕ) (s : List ℕ) → 4 ≤ L → L ≤ 10 → near_back_row L s ≡ true → rows_read_back L s ≡ take L s ∷ rows_read_back L (after 10 (drop L s))
-rows-near L s low high e =
+pub rows-near : (L : ℕ) (s below : List ℕ) → 4 ≤ L → L ≤ 10 → near_back_row L s ≡ true → Below below (after 10 (drop L s)) → rows_read_back L s ≡ take L s ∷ rows_read_back L below
+rows-near L s below low high e w =
     let cells = near_cells L s in
     let past = ltb 15 (get_or s 0 0) in
     let comma = eqb (get_or s 0 0) 44 in
@@ -118,4 +118,16 @@ rows-near L s low high e =
     let row : true ≡ is_row_line L l = is-row L l p.long (ap (among 13) p.cells ∙ p.plain) in
     let mark : begins_mark l ≡ false =
     mark-of l ∙ ap (λ b. among b (44 ∷ 59 ∷ [])) p.first ∙ rw (not-true comma (and_right (cells && past) (not comma) three), not-true semi (and_right ((cells && past) && not comma) (not semi) e)) in
-    rows-step L s true (omega arith) (rw (← row, mark)) ∙ rw p.rest
+    let rest : rows_read_back L (after 10 s) ≡ rows_read_back L below =
+    ap (rows_read_back L) p.rest ∙ ⊎_elim (λ q. ap (rows_read_back L) q) (λ q. ap (rows_read_back L) q ∙ rows-empty L below (omega arith)) w in
+    rows-step L s true (omega arith) (rw (← row, mark)) ∙ rw rest
+
+-- the same where its line has so many bytes
+pub rows-just : (L step : ℕ) (s : List ℕ) → 4 ≤ L → L ≤ 10 → LineStep L step → (leb 12 (length s) && (near_back_row L s && eqb (get_or s (step - 1) 0) 10)) ≡ true
+    → rows_read_back L s ≡ take L s ∷ rows_read_back L (drop step s)
+rows-just L step s low high w e =
+    let ends = eqb (get_or s (step - 1) 0) 10 in
+    let both = and_right (leb 12 (length s)) (near_back_row L s && ends) e in
+    let long = leb-true 12 (length s) (and_left (leb 12 (length s)) (near_back_row L s && ends) e) in
+    rows-near L s (drop step s) low high (and_left (near_back_row L s) ends both)
+    (below-step L step s w (omega arith) (eqb-true (get_or s (step - 1) 0) 10 (and_right (near_back_row L s) ends both)))

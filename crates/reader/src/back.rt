@@ -1,10 +1,10 @@
 // Reading minimised text back, as `parse_minimized_rows` does: by lines, with no blanks stripped, no comment known and no end at `;`.
-ghost use Rattle.std.specs.Prelude.{◌≡◌, ◌<◌, ◌&&◌, not, length};
+ghost use Rattle.std.specs.Prelude.{◌≡◌, ◌==◌, ◌<◌, ◌-◌, ◌&&◌, not, nat_le, length, slice_index};
 ghost use Rattle.definitions.specs.Lines.{is_row_line};
 ghost use Rattle.definitions.specs.ReadBack.{begins_mark, rows_read_back};
 ghost use Rattle.std.specs.Iterator.{YieldsFirstRef};
 ghost use Rattle.lines.specs.Lines.{first_line};
-ghost use Rattle.reader.specs.Reading.{near_back_row};
+ghost use Rattle.reader.specs.Reading.{LineStep, near_back_row};
 
 use definitions::Lanes;
 use std::marker::Model;
@@ -19,7 +19,7 @@ fn is_back_row(text: &[u8], lanes: usize) -> bool
     (first != b',') & (first != b';') & crate::begins_row(text, lanes)
 }
 
-// Whether a text begins with a row, as most lines of minimised text do.
+// Whether a text begins with a row, as most lines of minimised text do. The tests are joined without a branch.
 fn is_near_row(text: &[u8], lanes: Lanes) -> bool
     ensures { result ≡ near_back_row lanes.count text.now }
 {
@@ -27,16 +27,19 @@ fn is_near_row(text: &[u8], lanes: Lanes) -> bool
         return false;
     }
     let first = text[0];
-    if first <= 15 {
+    crate::has_cells(text, lanes) & (15 < first) & (first != b',') & (first != b';')
+}
+
+// Whether it does, and its line has `step` bytes with its newline, as most lines have.
+fn is_just_row(text: &[u8], lanes: Lanes, step: usize) -> bool
+    requires { LineStep lanes.count step }
+    ensures { result ≡ (nat_le 12 (length text.now)
+        && (near_back_row lanes.count text.now && slice_index text.now (step - 1) == 10)) }
+{
+    if text.len() < 12 {
         return false;
     }
-    if first == b',' {
-        return false;
-    }
-    if first == b';' {
-        return false;
-    }
-    crate::has_cells(text, lanes)
+    is_near_row(text, lanes) & (text[step - 1] == 10)
 }
 
 /// The rows of minimised text that is left to read back, each as a part of it. Clauses see the list of them.
@@ -44,16 +47,20 @@ fn is_near_row(text: &[u8], lanes: Lanes) -> bool
 pub struct BackRows<'a> {
     rest: &'a [u8],
     lanes: Lanes,
+    step: usize,
 }
 
 impl<'a> Model for BackRows<'a> {
     ghost use Rattle.std.specs.Prelude.{List};
     ghost use Rattle.definitions.specs.Lines.{Row};
     ghost use Rattle.definitions.specs.ReadBack.{rows_read_back};
+    ghost use Rattle.reader.specs.Reading.{LineStep};
 
     ghost Value = { List Row };
 
     ghost view = { λ it. rows_read_back it.lanes.count it.rest.now };
+
+    ghost invariant = { λ it. LineStep it.lanes.count it.step };
 }
 
 // The first row, if any, and what of the text follows its line.
@@ -71,15 +78,12 @@ fn look_ahead(text: &[u8], lanes: Lanes) -> RowAhead<'_>
         result.row (rows_read_back lanes.count result.rest.now) }
 {
     let mut rest = text;
-    loop {
+    while !rest.is_empty() {
         if is_near_row(rest, lanes) {
             return RowAhead {
                 row: Some(&rest[..lanes.count]),
                 rest: crate::below_cells(rest, lanes),
             };
-        }
-        if rest.is_empty() {
-            return RowAhead { row: None, rest };
         }
         let below = lines::next_line(rest, 0).1;
         if is_back_row(rest, lanes.count) {
@@ -90,6 +94,7 @@ fn look_ahead(text: &[u8], lanes: Lanes) -> RowAhead<'_>
         }
         rest = below;
     }
+    RowAhead { row: None, rest }
 }
 
 impl<'a> Iterator for BackRows<'a> {
@@ -101,9 +106,15 @@ impl<'a> Iterator for BackRows<'a> {
 
     ghost remaining = { item_count (λ rest. rest) };
 
+    // A row, as most lines are, is told by one look.
     #[inline(always)]
     fn next(&mut self) -> Option<&'a [u8]> {
-        let ahead = look_ahead(self.rest, self.lanes);
+        let text = self.rest;
+        if is_just_row(text, self.lanes, self.step) {
+            self.rest = &text[self.step..];
+            return Some(&text[..self.lanes.count]);
+        }
+        let ahead = look_ahead(text, self.lanes);
         self.rest = ahead.rest;
         ahead.row
     }
@@ -114,7 +125,7 @@ impl<'a> BackRows<'a> {
     pub fn again(&self) -> BackRows<'a>
         ensures { result ≡ self.now }
     {
-        BackRows { rest: self.rest, lanes: self.lanes }
+        BackRows { rest: self.rest, lanes: self.lanes, step: self.step }
     }
 }
 
@@ -122,5 +133,9 @@ impl<'a> BackRows<'a> {
 pub fn back_rows(text: &[u8], lanes: Lanes) -> BackRows<'_>
     ensures { result ≡ rows_read_back lanes.count text.now }
 {
-    BackRows { rest: text, lanes }
+    BackRows {
+        rest: text,
+        lanes,
+        step: crate::line_step(text, lanes),
+    }
 }

@@ -6,7 +6,7 @@ ghost use Rattle.lines.specs.Lines.{first_line};
 ghost use Rattle.std.specs.Iterator.{YieldsFirstBy};
 ghost use Rattle.reader.specs.Marks.{chart_marks};
 ghost use Rattle.reader.specs.ChartLines.{mark_of};
-ghost use Rattle.reader.specs.Reading.{near_row};
+ghost use Rattle.reader.specs.Reading.{LineStep, near_row};
 
 use definitions::Lanes;
 use std::marker::Model;
@@ -23,16 +23,20 @@ pub enum ChartLine<'a> {
 pub struct ChartLines<'a> {
     rest: &'a [u8],
     lanes: Lanes,
+    step: usize,
 }
 
 impl<'a> Model for ChartLines<'a> {
     ghost use Rattle.std.specs.Prelude.{List, Option};
     ghost use Rattle.definitions.specs.Lines.{Row};
+    ghost use Rattle.reader.specs.Reading.{LineStep};
     ghost use Rattle.reader.specs.Marks.{chart_marks};
 
     ghost Value = { List (Option Row) };
 
     ghost view = { λ it. chart_marks it.lanes.count it.rest.now };
+
+    ghost invariant = { λ it. LineStep it.lanes.count it.step };
 }
 
 // Whether a text begins with a row, with nothing before it, as most of a chart's lines do. What begins with a blank or a `,` leaves before a word is read.
@@ -75,24 +79,32 @@ fn below_line(text: &[u8]) -> &[u8]
     lines::next_line(text, 0).1
 }
 
-// By the first byte to the first line that counts, from a text on that is not told by one look. It is written into each loop, where a row's length is then
-// known to be the lane count. Blanks are taken off the text and not off a line, since a line of blanks is passed over too.
+// The first line that counts of a text that begins with no row, by its first byte. It is written into each loop, where a row's length is then known to be
+// the lane count. Blanks are taken off the text and not off a line, since a line of blanks is passed over too; most stand before a row.
 #[inline(always)]
-fn look_ahead(text: &[u8], lanes: Lanes) -> Ahead<'_>
+fn look_ahead(text: &[u8], lanes: Lanes, step: usize) -> Ahead<'_>
+    requires { LineStep lanes.count step }
     ensures { YieldsFirstBy mark_of (λ s. s)
         (chart_marks lanes.count text.now) result.line (chart_marks lanes.count result.rest.now) }
 {
     let mut rest = text;
     while !rest.is_empty() {
-        if is_near_row(rest, lanes) {
-            return Ahead {
-                line: Some(ChartLine::Row(&rest[..lanes.count])),
-                rest: crate::below_cells(rest, lanes),
-            };
-        }
         let first = rest[0];
         if lines::is_blank(first) {
-            rest = lines::skip_ws(&rest[1..]);
+            let bare = lines::skip_ws(&rest[1..]);
+            if is_near_row(bare, lanes) {
+                if bare[step - 1] == 10 {
+                    return Ahead {
+                        line: Some(ChartLine::Row(&bare[..lanes.count])),
+                        rest: &bare[step..],
+                    };
+                }
+                return Ahead {
+                    line: Some(ChartLine::Row(&bare[..lanes.count])),
+                    rest: crate::below_cells(bare, lanes),
+                };
+            }
+            rest = bare;
             continue;
         }
         if first == b',' {
@@ -134,10 +146,16 @@ impl<'a> Iterator for ChartLines<'a> {
     fn next(&mut self) -> Option<ChartLine<'a>> {
         let text = self.rest;
         if is_near_row(text, self.lanes) {
-            self.rest = crate::below_cells(text, self.lanes);
+            if text[self.step - 1] == 10 {
+                self.rest = &text[self.step..];
+                return Some(ChartLine::Row(&text[..self.lanes.count]));
+            }
+            let below = crate::below_cells(text, self.lanes);
+            self.step = crate::step_seen(text, below, self.lanes, self.step);
+            self.rest = below;
             return Some(ChartLine::Row(&text[..self.lanes.count]));
         }
-        let ahead = look_ahead(text, self.lanes);
+        let ahead = look_ahead(text, self.lanes, self.step);
         self.rest = ahead.rest;
         ahead.line
     }
@@ -147,5 +165,9 @@ impl<'a> Iterator for ChartLines<'a> {
 pub fn chart_lines(data: &[u8], lanes: Lanes) -> ChartLines<'_>
     ensures { result ≡ chart_marks lanes.count «data».now }
 {
-    ChartLines { rest: data, lanes }
+    ChartLines {
+        rest: data,
+        lanes,
+        step: crate::line_step(data, lanes),
+    }
 }

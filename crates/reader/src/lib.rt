@@ -9,7 +9,7 @@ ghost use Rattle.std.specs.Prelude.{◌≡◌, ◌≤◌, length, drop, slice_in
 ghost use Rattle.definitions.specs.Lists.{among, after};
 ghost use Rattle.definitions.specs.Lines.{is_row_line};
 ghost use Rattle.lines.specs.Lines.{first_line};
-ghost use Rattle.reader.specs.Reading.{near_cells};
+ghost use Rattle.reader.specs.Reading.{LineStep, near_cells};
 
 use definitions::Lanes;
 
@@ -43,9 +43,9 @@ pub fn has_cells(text: &[u8], lanes: Lanes) -> bool
     lines::starts_high(text, lanes.count)
 }
 
-/// What follows the line of a row that the text begins with: its newline stands right after the cells or one byte further, as in nearly all lines, or is
-/// searched for out of line. It is asked line by line, so that lines may end as they like.
-#[inline(always)]
+/// What follows the line of a row that the text begins with: its newline stands right after the cells or one byte further, or is searched for. Out of line
+/// it leaves the loops over rows their registers.
+#[inline(never)]
 pub fn below_cells(text: &[u8], lanes: Lanes) -> &[u8]
     requires { 12 ≤ length text.now }
     ensures { result.now ≡ after 10 (drop lanes.count text.now) }
@@ -59,4 +59,32 @@ pub fn below_cells(text: &[u8], lanes: Lanes) -> &[u8]
         return &text[lanes.count + 2..];
     }
     lines::text_below(text, lanes.count + 2)
+}
+
+/// How many bytes the line of a row is taken to have from now on: as many as that line had which stood before `below`, where they are known lengths.
+pub fn step_seen(text: &[u8], below: &[u8], lanes: Lanes, step: usize) -> usize
+    requires shorter { length below.now ≤ length text.now }
+    requires known { LineStep lanes.count step }
+    ensures { LineStep lanes.count result }
+{
+    let seen = text.len() - below.len();
+    if seen <= lanes.count {
+        return step;
+    }
+    if lanes.count + 2 < seen {
+        return step;
+    }
+    seen
+}
+
+/// How many bytes the line of a row has with its newline, as the first line of the text tells it: two more than its cells where byte 13 is its last. So
+/// many of the text's bytes are looked at. A line that ends otherwise tells it anew.
+pub fn line_step(text: &[u8], lanes: Lanes) -> usize
+    ensures { LineStep lanes.count result }
+{
+    let front = &text[..usize::min(text.len(), 256)];
+    match lines::next_line(front, 0).0 {
+        [.., 13] => lanes.count + 2,
+        _ => lanes.count + 1,
+    }
 }

@@ -1,5 +1,6 @@
 -- `reader::back::look_ahead` meets its contract: the rows of what is left are those from its first line on.
 use Rattle.std.proofs.Common.{◌∷◌, take, sym, ap, ◌∙◌, arith, rules}
+use mathlib.Core.Logic.{inl}
 use lib.Seq.{length-take-le}
 use Rattle.std.proofs.lemmas.List.{nil_from_length}
 use Rattle.definitions.specs.ReadBack.{rows_read_back}
@@ -13,28 +14,26 @@ slice_bounds-result-end-then-is_back_row c = sym (length-take-le c.args.lanes.co
 
 pub returns-then-is_back_row : goal.returns-then-is_back_row
 returns-then-is_back_row c =
-    c.loop-rest.invariant
+    c.loop-lanes.invariant
     ∙ rows-step _ _ _ (omega (arith, c.args.lanes.within)) (sym c.if-is_back_row.true ∙ c.is_back_row.ensures)
-    ∙ ap (λ s. take c.args.lanes.count c.loop-rest.rest.now ∷ rows_read_back c.args.lanes.count s) (sym c.next_line.ensures.below)
+    ∙ ap (λ s. take c.args.lanes.count c.loop-lanes.rest.now ∷ rows_read_back c.args.lanes.count s) (sym c.next_line.ensures.below)
 
 pub returns-then-is_near_row : goal.returns-then-is_near_row
 returns-then-is_near_row c =
     let w = c.args.lanes.within in
-    c.loop-rest.invariant
-    ∙ rows-near _ _ w.0 w.1 (sym c.is_near_row.ensures ∙ c.if-is_near_row.true)
-    ∙ ap (λ s. take c.args.lanes.count c.loop-rest.rest.now ∷ rows_read_back c.args.lanes.count s) (sym c.below_cells.ensures)
+    c.loop-lanes.invariant ∙ rows-near _ _ _ w.0 w.1 (sym c.is_near_row.ensures ∙ c.if-is_near_row.true) (inl (sym c.below_cells.ensures))
 
-pub loop-rest-smaller : goal.loop-rest-smaller
-loop-rest-smaller c = after-less _ _ (search rules) c.next_line.ensures.below
+pub loop-lanes-smaller : goal.loop-lanes-smaller
+loop-lanes-smaller c = after-less _ _ (search rules) c.next_line.ensures.below
 
-pub loop-rest-preserved : goal.loop-rest-preserved
-loop-rest-preserved c =
-    c.loop-rest.invariant
+pub loop-lanes-preserved : goal.loop-lanes-preserved
+loop-lanes-preserved c =
+    c.loop-lanes.invariant
     ∙ rows-step _ _ _ (omega (arith, c.args.lanes.within)) (sym c.if-is_back_row.false ∙ c.is_back_row.ensures)
     ∙ ap (rows_read_back c.args.lanes.count) (sym c.next_line.ensures.below)
 
-pub returns-then-is_empty : goal.returns-then-is_empty
-returns-then-is_empty c =
-    let ended = nil_from_length c.loop-rest.rest.now (search rules) in
+pub returns : goal.returns
+returns c =
+    let ended = nil_from_length c.loop-lanes.rest.now (search rules) in
     let none = ap (rows_read_back c.args.lanes.count) ended ∙ rows-none c.args.lanes.count (omega (arith, c.args.lanes.within)) in
-    (c.loop-rest.invariant ∙ none, none)
+    (c.loop-lanes.invariant ∙ none, none)
