@@ -10,7 +10,7 @@ use native.Mathlib.Decide.{dec_lt}
 use native.Mathlib.Omega.{arith}
 use borrow.Author.Tests.{ne_eqb, ltb-false, leb-true, le-leb, lt-leb}
 use lib.Dec.{eqb, ltb, leb}
-use lib.ListN.{length, get_or, take, drop, length-append, length-take, length-drop}
+use lib.ListN.{length, get_or, take, drop, length-append, length-take}
 use lib.Seq.{drop-cons, length-take-le, get_or-take, take-take}
 use Rattle.std.proofs.lemmas.List.{take_at}
 use Rattle.definitions.specs.Lists.{among, up_to, after}
@@ -19,7 +19,7 @@ use Rattle.definitions.specs.declared.LineKind.TheVariants as line
 use Rattle.definitions.proofs.Bools.{and_left, and_right, and-false, equal-turned}
 use Rattle.definitions.proofs.Lists.{after-cons}
 use Rattle.definitions.proofs.ChartRows.{test-length}
-use Rattle.reader.proofs.Cuts.{line-front, after-less}
+use Rattle.reader.proofs.Cuts.{line-front}
 use Rattle.lines.specs.Lines.{first_line}
 use Rattle.lines.specs.Words.{first_below}
 use Rattle.reader.specs.Reading.{LineStep, near_cells, Below}
@@ -175,7 +175,3 @@ below-step L step s w h e = elim (dec_lt (L + 1) step) [
     later : (t : Bool) (l : List ℕ) → Below l (cond t (10 ∷ l) (after 10 (10 ∷ l)))
     later true l = inr refl
     later false l = inl (after-cons 10 10 l)
-
--- it is no more than the text
-pub below-shorter : (L : ℕ) (s below : List ℕ) → L < length s → below ≡ after 10 (drop L s) → length below ≤ length s
-below-shorter L s below h e = omega (arith, after-less (drop L s) below (rw length-drop (omega arith)) e, length-drop L s)

@@ -1,5 +1,5 @@
 // The rows of a chart's text and the ends of its measures, one after the other, each row as a part of that text.
-ghost use Rattle.std.specs.Prelude.{◌≡◌, ◌==◌, ◌<◌, ◌&&◌, not, length, slice_index};
+ghost use Rattle.std.specs.Prelude.{◌≡◌, ◌==◌, ◌<◌, ◌-◌, ◌&&◌, not, nat_le, length, slice_index};
 ghost use Rattle.definitions.specs.Lists.{after};
 ghost use Rattle.definitions.specs.Lines.{is_row_line};
 ghost use Rattle.lines.specs.Lines.{first_line};
@@ -53,6 +53,21 @@ fn is_near_row(text: &[u8], lanes: Lanes) -> bool
     crate::has_cells(text, lanes) && first != b';'
 }
 
+// Whether it does, and its line has `step` bytes with its newline, as most lines have: asked by that newline first.
+fn is_just_row(text: &[u8], lanes: Lanes, step: usize) -> bool
+    requires { LineStep lanes.count step }
+    ensures { result ≡ (nat_le 12 (length text.now)
+        && (slice_index text.now (step - 1) == 10 && near_row lanes.count text.now)) }
+{
+    if text.len() < 12 {
+        return false;
+    }
+    if text[step - 1] != 10 {
+        return false;
+    }
+    is_near_row(text, lanes)
+}
+
 // The first line that counts, if any, and what of the text follows it.
 #[derive(Drop)]
 struct Ahead<'a> {
@@ -82,8 +97,7 @@ fn below_line(text: &[u8]) -> &[u8]
 // The first line that counts of a text that begins with no row, by its first byte. It is written into each loop, where a row's length is then known to be
 // the lane count. Blanks are taken off the text and not off a line, since a line of blanks is passed over too; most stand before a row.
 #[inline(always)]
-fn look_ahead(text: &[u8], lanes: Lanes, step: usize) -> Ahead<'_>
-    requires { LineStep lanes.count step }
+fn look_ahead(text: &[u8], lanes: Lanes) -> Ahead<'_>
     ensures { YieldsFirstBy mark_of (λ s. s)
         (chart_marks lanes.count text.now) result.line (chart_marks lanes.count result.rest.now) }
 {
@@ -93,12 +107,6 @@ fn look_ahead(text: &[u8], lanes: Lanes, step: usize) -> Ahead<'_>
         if lines::is_blank(first) {
             let bare = lines::skip_ws(&rest[1..]);
             if is_near_row(bare, lanes) {
-                if bare[step - 1] == 10 {
-                    return Ahead {
-                        line: Some(ChartLine::Row(&bare[..lanes.count])),
-                        rest: &bare[step..],
-                    };
-                }
                 return Ahead {
                     line: Some(ChartLine::Row(&bare[..lanes.count])),
                     rest: crate::below_cells(bare, lanes),
@@ -145,17 +153,16 @@ impl<'a> Iterator for ChartLines<'a> {
     #[inline(always)]
     fn next(&mut self) -> Option<ChartLine<'a>> {
         let text = self.rest;
-        if is_near_row(text, self.lanes) {
-            if text[self.step - 1] == 10 {
-                self.rest = &text[self.step..];
-                return Some(ChartLine::Row(&text[..self.lanes.count]));
-            }
-            let below = crate::below_cells(text, self.lanes);
-            self.step = crate::step_seen(text, below, self.lanes, self.step);
-            self.rest = below;
+        if is_just_row(text, self.lanes, self.step) {
+            self.rest = &text[self.step..];
             return Some(ChartLine::Row(&text[..self.lanes.count]));
         }
-        let ahead = look_ahead(text, self.lanes, self.step);
+        if is_near_row(text, self.lanes) {
+            self.step = crate::step_seen(text, self.lanes, self.step);
+            self.rest = crate::below_cells(text, self.lanes);
+            return Some(ChartLine::Row(&text[..self.lanes.count]));
+        }
+        let ahead = look_ahead(text, self.lanes);
         self.rest = ahead.rest;
         ahead.line
     }

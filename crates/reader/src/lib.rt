@@ -43,9 +43,8 @@ pub fn has_cells(text: &[u8], lanes: Lanes) -> bool
     lines::starts_high(text, lanes.count)
 }
 
-/// What follows the line of a row that the text begins with: its newline stands right after the cells or one byte further, or is searched for. Out of line
-/// it leaves the loops over rows their registers.
-#[inline(never)]
+/// What follows the line of a row that the text begins with: its newline stands right after the cells or one byte further, or is searched for out of line.
+#[inline(always)]
 pub fn below_cells(text: &[u8], lanes: Lanes) -> &[u8]
     requires { 12 ≤ length text.now }
     ensures { result.now ≡ after 10 (drop lanes.count text.now) }
@@ -61,20 +60,20 @@ pub fn below_cells(text: &[u8], lanes: Lanes) -> &[u8]
     lines::text_below(text, lanes.count + 2)
 }
 
-/// How many bytes the line of a row is taken to have from now on: as many as that line had which stood before `below`, where they are known lengths.
-pub fn step_seen(text: &[u8], below: &[u8], lanes: Lanes, step: usize) -> usize
-    requires shorter { length below.now ≤ length text.now }
+/// How many bytes the lines of rows are taken to have from now on: as many as that of the row which the text begins with, where its newline is near.
+#[inline(always)]
+pub fn step_seen(text: &[u8], lanes: Lanes, step: usize) -> usize
+    requires long { 12 ≤ length text.now }
     requires known { LineStep lanes.count step }
     ensures { LineStep lanes.count result }
 {
-    let seen = text.len() - below.len();
-    if seen <= lanes.count {
-        return step;
+    if text[lanes.count] == 10 {
+        return lanes.count + 1;
     }
-    if lanes.count + 2 < seen {
-        return step;
+    if text[lanes.count + 1] == 10 {
+        return lanes.count + 2;
     }
-    seen
+    step
 }
 
 /// How many bytes the line of a row has with its newline, as the first line of the text tells it: two more than its cells where byte 13 is its last. So

@@ -8,7 +8,7 @@ use Rattle.definitions.specs.Lines.{trim}
 use Rattle.lines.proofs.Trims.{part-all}
 use Rattle.reader.specs.Marks.{chart_marks}
 use Rattle.reader.proofs.Cuts.{after-less}
-use Rattle.reader.proofs.Marks.{marks-blanks, marks-comma, marks-semi, marks-other, marks-near, marks-just, marks-none, row-within, blanks-less}
+use Rattle.reader.proofs.Marks.{marks-blanks, marks-comma, marks-semi, marks-other, marks-near, marks-none, row-long, row-within, blanks-less}
 use Rattle.reader.proofs.charts.look_ahead.Goals as goal
 use Rattle.reader.proofs.charts.look_ahead.Goals.{After-is_near_row}
 
@@ -19,15 +19,13 @@ bare c =
     ∙ marks-blanks _ c.loop-lanes.rest.now (search rules) (sym c.is_blank.ensures ∙ c.if-is_blank.true)
     ∙ ap (chart_marks c.args.lanes.count) (sym (c.skip_ws-bare.ensures ∙ ap trim (part-all c.loop-lanes.rest.now 1)))
 
-pub returns-then-bare-step-eq10 : goal.returns-then-bare-step-eq10
-returns-then-bare-step-eq10 c =
-    let w = c.args.lanes.within in
-    rw part-all (bare (goal.at.returns-then-bare-step-eq10 c).After-is_near_row ∙ marks-just _ _ _ w.0 w.1 c.requires (sym c.is_near_row.ensures ∙ c.if-is_near_row.true) c.if-bare-step-eq10.true)
-
 pub returns-then-is_near_row : goal.returns-then-is_near_row
 returns-then-is_near_row c =
     let w = c.args.lanes.within in
     bare (goal.at.returns-then-is_near_row c).After-is_near_row ∙ marks-near _ _ _ w.0 w.1 (sym c.is_near_row.ensures ∙ c.if-is_near_row.true) (inl (sym c.below_cells.ensures))
+
+pub below_cells-requires : goal.below_cells-requires
+below_cells-requires c = row-long _ _ (sym c.is_near_row.ensures ∙ c.if-is_near_row.true)
 
 pub loop-lanes-smaller-then-is_blank : goal.loop-lanes-smaller-then-is_blank
 loop-lanes-smaller-then-is_blank c =

@@ -1,34 +1,28 @@
 -- `next` of `reader::charts::ChartLines` meets its contract: a row that one look tells is the first mark.
-use Rattle.std.proofs.Common.{length, sym, ap, ◌∙◌, rules, arith}
+use Rattle.std.proofs.Common.{length, sym, ap, ◌∙◌, rules}
 use mathlib.Core.Logic.{inl}
 use Rattle.lines.proofs.Trims.{part-all}
-use Rattle.reader.proofs.Plain.{below-shorter}
 use Rattle.reader.proofs.Marks.{marks-near, marks-just, row-long}
 use Rattle.reader.proofs.charts.ChartLinesIterator.next.Goals as goal
 
-pub returns-then-text-self-eq10-clause-steps : goal.returns-then-text-self-eq10-clause-steps
-returns-then-text-self-eq10-clause-steps c =
+pub returns-then-is_just_row-clause-steps : goal.returns-then-is_just_row-clause-steps
+returns-then-is_just_row-clause-steps c =
     let w = c.self.inside.lanes.within in
-    rw part-all (sym c.self.view_is ∙ marks-just _ _ _ w.0 w.1 c.self.invariant (sym c.is_near_row.ensures ∙ c.if-is_near_row.true) c.if-text-self-eq10.true)
+    rw part-all (sym c.self.view_is ∙ marks-just _ _ _ w.0 w.1 c.self.invariant (sym c.is_just_row.ensures ∙ c.if-is_just_row.true))
 
-pub returns-then-text-self-eq10-clause-goes : goal.returns-then-text-self-eq10-clause-goes
-returns-then-text-self-eq10-clause-goes c =
+pub returns-then-is_just_row-clause-goes : goal.returns-then-is_just_row-clause-goes
+returns-then-is_just_row-clause-goes c =
     let w = c.self.inside.lanes.within in
-    let shorter = ap length (sym c.self.view_is ∙ marks-just _ _ _ w.0 w.1 c.self.invariant (sym c.is_near_row.ensures ∙ c.if-is_near_row.true) c.if-text-self-eq10.true) in
+    let shorter = ap length (sym c.self.view_is ∙ marks-just _ _ _ w.0 w.1 c.self.invariant (sym c.is_just_row.ensures ∙ c.if-is_just_row.true)) in
     rw part-all (search rules)
-
-pub step_seen-self-inside-requires-clause-shorter : goal.step_seen-self-inside-requires-clause-shorter
-step_seen-self-inside-requires-clause-shorter c =
-    let w = c.self.inside.lanes.within in
-    below-shorter c.self.inside.lanes.count _ _ (omega (arith, w.1, row-long _ _ (sym c.is_near_row.ensures ∙ c.if-is_near_row.true))) c.below_cells-below.ensures
 
 pub returns-then-is_near_row-clause-steps : goal.returns-then-is_near_row-clause-steps
 returns-then-is_near_row-clause-steps c =
     let w = c.self.inside.lanes.within in
-    sym c.self.view_is ∙ marks-near _ _ _ w.0 w.1 (sym c.is_near_row.ensures ∙ c.if-is_near_row.true) (inl (sym c.below_cells-below.ensures))
+    sym c.self.view_is ∙ marks-near _ _ _ w.0 w.1 (sym c.is_near_row.ensures ∙ c.if-is_near_row.true) (inl (sym c.below_cells-self-inside.ensures))
 
 pub returns-then-is_near_row-clause-goes : goal.returns-then-is_near_row-clause-goes
 returns-then-is_near_row-clause-goes c =
     let w = c.self.inside.lanes.within in
-    let shorter = ap length (sym c.self.view_is ∙ marks-near _ _ _ w.0 w.1 (sym c.is_near_row.ensures ∙ c.if-is_near_row.true) (inl (sym c.below_cells-below.ensures))) in
+    let shorter = ap length (sym c.self.view_is ∙ marks-near _ _ _ w.0 w.1 (sym c.is_near_row.ensures ∙ c.if-is_near_row.true) (inl (sym c.below_cells-self-inside.ensures))) in
     search rules
