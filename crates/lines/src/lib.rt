@@ -228,7 +228,7 @@ pub fn next_line(data: &[u8], start: usize) -> (&[u8], &[u8])
     }
 }
 
-/// What follows the first newline from `start` on, nothing where there is none, by the search of a long line.
+/// What follows the first newline of a text from `start` on, nothing where there is none, by the search of a long line.
 #[inline(never)]
 fn text_far(data: &[u8], start: usize) -> &[u8]
     requires { start ≤ length «data».now }
@@ -240,20 +240,19 @@ fn text_far(data: &[u8], start: usize) -> &[u8]
     }
 }
 
-/// The same, by two words first, since what stands after a row's cells is mostly a comment. It calls nothing on the way of one, and keeps no register.
-#[inline(never)]
-pub fn text_below(data: &[u8], start: usize) -> &[u8]
-    requires { start ≤ length «data».now }
-    ensures { result.now ≡ after 10 (drop start «data».now) }
+/// What follows the first newline of a text, nothing where there is none: by two words first, since what stands after a row's cells is mostly a comment.
+/// It calls nothing on the way of one, and keeps no register.
+pub fn text_below(data: &[u8]) -> &[u8]
+    ensures { result.now ≡ after 10 «data».now }
 {
-    if data.len() < start + 16 {
-        return text_far(data, start);
+    if data.len() < 16 {
+        return text_far(data, 0);
     }
-    if let Some(near) = find_in_word(data, 10, start) {
+    if let Some(near) = find_in_word(data, 10, 0) {
         return &data[near + 1..];
     }
-    if let Some(next) = find_in_word(data, 10, start + 8) {
+    if let Some(next) = find_in_word(data, 10, 8) {
         return &data[next + 1..];
     }
-    text_far(data, start + 16)
+    text_far(data, 16)
 }

@@ -39,7 +39,7 @@ impl<'a> Model for ChartLines<'a> {
     ghost invariant = { λ it. LineStep it.lanes.count it.step };
 }
 
-// Whether a text begins with a row, with nothing before it, as most of a chart's lines do. What begins with a blank or a `,` leaves before a word is read.
+// Whether a text begins with a row, with nothing before it, as most of a chart's lines do. The tests are joined without a branch.
 fn is_near_row(text: &[u8], lanes: Lanes) -> bool
     ensures { result ≡ near_row lanes.count text.now }
 {
@@ -47,32 +47,27 @@ fn is_near_row(text: &[u8], lanes: Lanes) -> bool
         return false;
     }
     let first = text[0];
-    if first <= b'/' {
-        return false;
-    }
-    crate::has_cells(text, lanes) && first != b';'
+    crate::has_cells(text, lanes) & (b'/' < first) & (first != b';')
 }
 
-// Whether it does, and its line has `step` bytes with its newline, as most lines have: asked by that newline first.
+// Whether it does, and its line has `step` bytes with its newline, as most lines have.
 fn is_just_row(text: &[u8], lanes: Lanes, step: usize) -> bool
     requires { LineStep lanes.count step }
     ensures { result ≡ (nat_le 12 (length text.now)
-        && (slice_index text.now (step - 1) == 10 && near_row lanes.count text.now)) }
+        && (near_row lanes.count text.now && slice_index text.now (step - 1) == 10)) }
 {
     if text.len() < 12 {
         return false;
     }
-    if text[step - 1] != 10 {
-        return false;
-    }
-    is_near_row(text, lanes)
+    is_near_row(text, lanes) & (text[step - 1] == 10)
 }
 
-// The first line that counts, if any, and what of the text follows it.
+// The first line that counts, if any, what of the text follows it, and how many bytes the lines of rows are taken to have there.
 #[derive(Drop)]
 struct Ahead<'a> {
     line: Option<ChartLine<'a>>,
     rest: &'a [u8],
+    step: usize,
 }
 
 // Whether the first line of a text is a row: where it begins with no `/`, and is told from `,` and `;` lines and from blanks. It stays out of the loops
@@ -94,50 +89,55 @@ fn below_line(text: &[u8]) -> &[u8]
     lines::next_line(text, 0).1
 }
 
-// The first line that counts of a text that begins with no row, by its first byte. It is written into each loop, where a row's length is then known to be
-// the lane count. Blanks are taken off the text and not off a line, since a line of blanks is passed over too; most stand before a row.
+// By the first byte to the first line that counts. It is written into each loop, where a row's length is then known to be the lane count. Blanks are taken
+// off the text and not off a line, since a line of blanks is passed over too; most stand before a row.
 #[inline(always)]
-fn look_ahead(text: &[u8], lanes: Lanes) -> Ahead<'_>
-    ensures { YieldsFirstBy mark_of (λ s. s)
+fn look_ahead(text: &[u8], lanes: Lanes, step: usize) -> Ahead<'_>
+    requires { LineStep lanes.count step }
+    ensures lines { YieldsFirstBy mark_of (λ s. s)
         (chart_marks lanes.count text.now) result.line (chart_marks lanes.count result.rest.now) }
+    ensures step { LineStep lanes.count result.step }
 {
     let mut rest = text;
     while !rest.is_empty() {
+        if is_near_row(rest, lanes) {
+            return Ahead {
+                line: Some(ChartLine::Row(&rest[..lanes.count])),
+                rest: crate::below_cells(rest, lanes),
+                step,
+            };
+        }
         let first = rest[0];
         if lines::is_blank(first) {
-            let bare = lines::skip_ws(&rest[1..]);
-            if is_near_row(bare, lanes) {
-                return Ahead {
-                    line: Some(ChartLine::Row(&bare[..lanes.count])),
-                    rest: crate::below_cells(bare, lanes),
-                };
-            }
-            rest = bare;
+            rest = lines::skip_ws(&rest[1..]);
             continue;
-        }
-        if first == b',' {
-            return Ahead {
-                line: Some(ChartLine::Comma),
-                rest: below_line(rest),
-            };
         }
         let ends = first == b';';
         if ends {
             return Ahead {
                 line: None,
                 rest: &rest[..0],
+                step,
             };
         }
         let below = below_line(rest);
+        if first == b',' {
+            return Ahead {
+                line: Some(ChartLine::Comma),
+                rest: below,
+                step: crate::step_told(rest, below, lanes),
+            };
+        }
         if is_row(rest, lanes.count) {
             return Ahead {
                 line: Some(ChartLine::Row(&rest[..lanes.count])),
                 rest: below,
+                step,
             };
         }
         rest = below;
     }
-    Ahead { line: None, rest }
+    Ahead { line: None, rest, step }
 }
 
 impl<'a> Iterator for ChartLines<'a> {
@@ -157,13 +157,9 @@ impl<'a> Iterator for ChartLines<'a> {
             self.rest = &text[self.step..];
             return Some(ChartLine::Row(&text[..self.lanes.count]));
         }
-        if is_near_row(text, self.lanes) {
-            self.step = crate::step_seen(text, self.lanes, self.step);
-            self.rest = crate::below_cells(text, self.lanes);
-            return Some(ChartLine::Row(&text[..self.lanes.count]));
-        }
-        let ahead = look_ahead(text, self.lanes);
+        let ahead = look_ahead(text, self.lanes, self.step);
         self.rest = ahead.rest;
+        self.step = ahead.step;
         ahead.line
     }
 }

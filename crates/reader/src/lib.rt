@@ -5,7 +5,7 @@
 pub mod back;
 pub mod charts;
 
-ghost use Rattle.std.specs.Prelude.{◌≡◌, ◌≤◌, length, drop, slice_index};
+ghost use Rattle.std.specs.Prelude.{◌≡◌, ◌<◌, ◌≤◌, length, drop, slice_index};
 ghost use Rattle.definitions.specs.Lists.{among, after};
 ghost use Rattle.definitions.specs.Lines.{is_row_line};
 ghost use Rattle.lines.specs.Lines.{first_line};
@@ -43,8 +43,9 @@ pub fn has_cells(text: &[u8], lanes: Lanes) -> bool
     lines::starts_high(text, lanes.count)
 }
 
-/// What follows the line of a row that the text begins with: its newline stands right after the cells or one byte further, or is searched for out of line.
-#[inline(always)]
+/// What follows the line of a row that the text begins with: its newline stands right after the cells or one byte further, or is searched for. Out of line
+/// it leaves the loops over rows their registers.
+#[inline(never)]
 pub fn below_cells(text: &[u8], lanes: Lanes) -> &[u8]
     requires { 12 ≤ length text.now }
     ensures { result.now ≡ after 10 (drop lanes.count text.now) }
@@ -57,27 +58,26 @@ pub fn below_cells(text: &[u8], lanes: Lanes) -> &[u8]
     if past_one {
         return &text[lanes.count + 2..];
     }
-    lines::text_below(text, lanes.count + 2)
+    lines::text_below(&text[lanes.count + 2..])
 }
 
-/// How many bytes the lines of rows are taken to have from now on: as many as that of the row which the text begins with, where its newline is near.
-#[inline(always)]
-pub fn step_seen(text: &[u8], lanes: Lanes, step: usize) -> usize
-    requires long { 12 ≤ length text.now }
-    requires known { LineStep lanes.count step }
+/// How many bytes the lines of rows are taken to have from now on, as the line tells it which a text begins with and `below` follows.
+pub fn step_told(text: &[u8], below: &[u8], lanes: Lanes) -> usize
+    requires { length below.now < length text.now }
     ensures { LineStep lanes.count result }
 {
-    if text[lanes.count] == 10 {
+    let bytes = text.len() - below.len();
+    if bytes < 2 {
         return lanes.count + 1;
     }
-    if text[lanes.count + 1] == 10 {
+    if text[bytes - 2] == 13 {
         return lanes.count + 2;
     }
-    step
+    lanes.count + 1
 }
 
 /// How many bytes the line of a row has with its newline, as the first line of the text tells it: two more than its cells where byte 13 is its last. So
-/// many of the text's bytes are looked at. A line that ends otherwise tells it anew.
+/// many of the text's bytes are looked at. Each `,` line tells it anew.
 pub fn line_step(text: &[u8], lanes: Lanes) -> usize
     ensures { LineStep lanes.count result }
 {

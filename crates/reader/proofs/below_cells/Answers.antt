@@ -1,5 +1,6 @@
 -- `reader::below_cells` meets its contract: a newline right after the cells, or one byte further, is the first past them.
-use Rattle.std.proofs.Common.{arith, ◌∙◌}
+use Rattle.std.proofs.Common.{arith, ◌+◌, ap, ◌∙◌}
+use Rattle.definitions.specs.Lists.{after}
 use Rattle.lines.proofs.Trims.{part-all}
 use Rattle.reader.proofs.Plain.{below-once, below-twice, below-both}
 use Rattle.reader.proofs.below_cells.Goals as goal
@@ -17,4 +18,4 @@ returns-then-past_one c =
 pub returns : goal.returns
 returns c =
     let w = c.args.lanes.within in
-    c.text_below.ensures ∙ below-both c.args.lanes.count c.args.text.now (omega (arith, w.1, c.requires)) c.if-at_once.false c.if-past_one.false
+    c.text_below.ensures ∙ ap (after 10) (part-all c.args.text.now (c.args.lanes.count + 2)) ∙ below-both c.args.lanes.count c.args.text.now (omega (arith, w.1, c.requires)) c.if-at_once.false c.if-past_one.false
