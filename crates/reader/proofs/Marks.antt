@@ -151,14 +151,9 @@ row-long L s e =
     near-long L s (and_left (near_cells L s) past (and_left (near_cells L s && past) (not (eqb (get_or s 0 0) 59)) e))
 
 -- the same where its line has so many bytes
-pub marks-just : (L step : ℕ) (s : List ℕ) → 4 ≤ L → L ≤ 10 → LineStep L step → (leb 12 (length s) && (near_row L s && eqb (get_or s (step - 1) 0) 10)) ≡ true
+pub marks-just : (L step : ℕ) (s : List ℕ) → 4 ≤ L → L ≤ 10 → LineStep L step → near_row L s ≡ true → get_or s (step - 1) 0 ≡ 10
     → chart_marks L s ≡ Some (take L s) ∷ chart_marks L (drop step s)
-marks-just L step s low high w e =
-    let ends = eqb (get_or s (step - 1) 0) 10 in
-    let both = and_right (leb 12 (length s)) (near_row L s && ends) e in
-    let long = leb-true 12 (length s) (and_left (leb 12 (length s)) (near_row L s && ends) e) in
-    marks-near L s (drop step s) low high (and_left (near_row L s) ends both)
-    (below-step L step s w (omega arith) (eqb-true (get_or s (step - 1) 0) 10 (and_right (near_row L s) ends both)))
+marks-just L step s low high w e n = marks-near L s (drop step s) low high e (below-step L step s w (omega (arith, row-long L s e)) n)
 
 -- ---- what marks come to
 

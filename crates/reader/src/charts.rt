@@ -1,5 +1,5 @@
 // The rows of a chart's text and the ends of its measures, one after the other, each row as a part of that text.
-ghost use Rattle.std.specs.Prelude.{◌≡◌, ◌==◌, ◌<◌, ◌-◌, ◌&&◌, not, nat_le, length, slice_index};
+ghost use Rattle.std.specs.Prelude.{◌≡◌, ◌==◌, ◌<◌, ◌&&◌, not, length, slice_index};
 ghost use Rattle.definitions.specs.Lists.{after};
 ghost use Rattle.definitions.specs.Lines.{is_row_line};
 ghost use Rattle.lines.specs.Lines.{first_line};
@@ -39,7 +39,7 @@ impl<'a> Model for ChartLines<'a> {
     ghost invariant = { λ it. LineStep it.lanes.count it.step };
 }
 
-// Whether a text begins with a row, with nothing before it, as most of a chart's lines do. The tests are joined without a branch.
+// Whether a text begins with a row, with nothing before it, as most of a chart's lines do. What begins with a blank or a `,` leaves before a word is read.
 fn is_near_row(text: &[u8], lanes: Lanes) -> bool
     ensures { result ≡ near_row lanes.count text.now }
 {
@@ -47,19 +47,10 @@ fn is_near_row(text: &[u8], lanes: Lanes) -> bool
         return false;
     }
     let first = text[0];
-    crate::has_cells(text, lanes) & (b'/' < first) & (first != b';')
-}
-
-// Whether it does, and its line has `step` bytes with its newline, as most lines have.
-fn is_just_row(text: &[u8], lanes: Lanes, step: usize) -> bool
-    requires { LineStep lanes.count step }
-    ensures { result ≡ (nat_le 12 (length text.now)
-        && (near_row lanes.count text.now && slice_index text.now (step - 1) == 10)) }
-{
-    if text.len() < 12 {
+    if first <= b'/' {
         return false;
     }
-    is_near_row(text, lanes) & (text[step - 1] == 10)
+    crate::has_cells(text, lanes) && first != b';'
 }
 
 // The first line that counts, if any, what of the text follows it, and how many bytes the lines of rows are taken to have there.
@@ -89,8 +80,8 @@ fn below_line(text: &[u8]) -> &[u8]
     lines::next_line(text, 0).1
 }
 
-// By the first byte to the first line that counts. It is written into each loop, where a row's length is then known to be the lane count. Blanks are taken
-// off the text and not off a line, since a line of blanks is passed over too; most stand before a row.
+// The first line that counts of a text that begins with no row, by its first byte. It is written into each loop, where a row's length is then known to be
+// the lane count. Blanks are taken off the text and not off a line, since a line of blanks is passed over too; most stand before a row.
 #[inline(always)]
 fn look_ahead(text: &[u8], lanes: Lanes, step: usize) -> Ahead<'_>
     requires { LineStep lanes.count step }
@@ -100,16 +91,24 @@ fn look_ahead(text: &[u8], lanes: Lanes, step: usize) -> Ahead<'_>
 {
     let mut rest = text;
     while !rest.is_empty() {
-        if is_near_row(rest, lanes) {
-            return Ahead {
-                line: Some(ChartLine::Row(&rest[..lanes.count])),
-                rest: crate::below_cells(rest, lanes),
-                step,
-            };
-        }
         let first = rest[0];
         if lines::is_blank(first) {
-            rest = lines::skip_ws(&rest[1..]);
+            let bare = lines::skip_ws(&rest[1..]);
+            if is_near_row(bare, lanes) {
+                if bare[step - 1] == 10 {
+                    return Ahead {
+                        line: Some(ChartLine::Row(&bare[..lanes.count])),
+                        rest: &bare[step..],
+                        step,
+                    };
+                }
+                return Ahead {
+                    line: Some(ChartLine::Row(&bare[..lanes.count])),
+                    rest: crate::below_cells(bare, lanes),
+                    step,
+                };
+            }
+            rest = bare;
             continue;
         }
         let ends = first == b';';
@@ -153,8 +152,12 @@ impl<'a> Iterator for ChartLines<'a> {
     #[inline(always)]
     fn next(&mut self) -> Option<ChartLine<'a>> {
         let text = self.rest;
-        if is_just_row(text, self.lanes, self.step) {
-            self.rest = &text[self.step..];
+        if is_near_row(text, self.lanes) {
+            if text[self.step - 1] == 10 {
+                self.rest = &text[self.step..];
+                return Some(ChartLine::Row(&text[..self.lanes.count]));
+            }
+            self.rest = crate::below_cells(text, self.lanes);
             return Some(ChartLine::Row(&text[..self.lanes.count]));
         }
         let ahead = look_ahead(text, self.lanes, self.step);
