@@ -80,6 +80,23 @@ fn below_line(text: &[u8]) -> &[u8]
     lines::next_line(text, 0).1
 }
 
+// What follows a `,` line: mostly its newline stands right after the comma.
+#[inline(always)]
+fn below_comma(text: &[u8]) -> &[u8]
+    requires some { 0 < length text.now }
+    requires comma { slice_index text.now 0 ≡ 44 }
+    ensures { result.now ≡ after 10 text.now }
+{
+    if text.len() < 2 {
+        return below_line(text);
+    }
+    let bare = text[1] == 10;
+    if bare {
+        return &text[2..];
+    }
+    below_line(text)
+}
+
 // The first line that counts of a text that begins with no row, by its first byte. It is written into each loop, where a row's length is then known to be
 // the lane count. Blanks are taken off the text and not off a line, since a line of blanks is passed over too; most stand before a row.
 #[inline(always)]
@@ -111,6 +128,14 @@ fn look_ahead(text: &[u8], lanes: Lanes, step: usize) -> Ahead<'_>
             rest = bare;
             continue;
         }
+        if first == b',' {
+            let next = below_comma(rest);
+            return Ahead {
+                line: Some(ChartLine::Comma),
+                rest: next,
+                step: crate::step_told(rest, next, lanes),
+            };
+        }
         let ends = first == b';';
         if ends {
             return Ahead {
@@ -120,13 +145,6 @@ fn look_ahead(text: &[u8], lanes: Lanes, step: usize) -> Ahead<'_>
             };
         }
         let below = below_line(rest);
-        if first == b',' {
-            return Ahead {
-                line: Some(ChartLine::Comma),
-                rest: below,
-                step: crate::step_told(rest, below, lanes),
-            };
-        }
         if is_row(rest, lanes.count) {
             return Ahead {
                 line: Some(ChartLine::Row(&rest[..lanes.count])),

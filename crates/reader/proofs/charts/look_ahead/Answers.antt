@@ -43,13 +43,13 @@ loop-lanes-preserved-then-is_blank c =
     ∙ ap (chart_marks c.args.lanes.count) (sym (c.skip_ws-bare.ensures ∙ ap trim (part-all c.loop-lanes.rest.now 1)))
 
 pub step_told-requires : goal.step_told-requires
-step_told-requires c = after-less _ _ (search rules) c.below_line-below.ensures
+step_told-requires c = after-less _ _ (search rules) c.below_comma-next.ensures
 
 pub returns-then-first-eq44-clause-lines : goal.returns-then-first-eq44-clause-lines
 returns-then-first-eq44-clause-lines c =
     c.loop-lanes.invariant
     ∙ marks-comma _ _ (search rules) c.if-first-eq44.true
-    ∙ ap (λ s. None ∷ chart_marks c.args.lanes.count s) (sym c.below_line-below.ensures)
+    ∙ ap (λ s. None ∷ chart_marks c.args.lanes.count s) (sym c.below_comma-next.ensures)
 
 pub returns-then-ends-clause-lines : goal.returns-then-ends-clause-lines
 returns-then-ends-clause-lines c = (c.loop-lanes.invariant ∙ marks-semi _ _ (search rules) c.if-ends.true, marks-none _)
