@@ -142,7 +142,7 @@ pub below-once : (L : ℕ) (s : List ℕ) → L < length s → get_or s L 0 ≡ 
 below-once L s h e = rw (drop-cons s L 0 h, after-cons, e, add-one)
 
 -- a byte that is none is passed over
-below-past : (L : ℕ) (s : List ℕ) → L < length s → (get_or s L 0 ≡ 10 → ⊥) → after 10 (drop L s) ≡ after 10 (drop (L + 1) s)
+pub below-past : (L : ℕ) (s : List ℕ) → L < length s → (get_or s L 0 ≡ 10 → ⊥) → after 10 (drop L s) ≡ after 10 (drop (L + 1) s)
 below-past L s h n = rw (drop-cons s L 0 h, after-cons, ne_eqb (get_or s L 0) 10 n, add-one)
 
 -- or the newline stands one byte further

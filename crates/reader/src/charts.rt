@@ -80,19 +80,23 @@ fn below_line(text: &[u8]) -> &[u8]
     lines::next_line(text, 0).1
 }
 
-// What follows a `,` line: mostly its newline stands right after the comma.
+// What follows a `,` line: mostly its newline stands right after the comma, or one byte further.
 #[inline(always)]
 fn below_comma(text: &[u8]) -> &[u8]
     requires some { 0 < length text.now }
     requires comma { slice_index text.now 0 ≡ 44 }
     ensures { result.now ≡ after 10 text.now }
 {
-    if text.len() < 2 {
+    if text.len() < 3 {
         return below_line(text);
     }
     let bare = text[1] == 10;
     if bare {
         return &text[2..];
+    }
+    let past_one = text[2] == 10;
+    if past_one {
+        return &text[3..];
     }
     below_line(text)
 }
