@@ -171,6 +171,7 @@ impl<'a> Iterator for ChartLines<'a> {
 
     ghost remaining = { item_count (λ rest. rest) };
 
+    // A row that nothing stands before, as in most lines, is told by one look, and by the newline where the last `,` line told it to stand.
     #[inline(always)]
     fn next(&mut self) -> Option<ChartLine<'a>> {
         let text = self.rest;
