@@ -101,7 +101,11 @@ fn look_ahead(text: &[u8], lanes: Lanes, step: usize) -> RowAhead<'_>
         told = crate::step_told(rest, below, lanes);
         rest = below;
     }
-    RowAhead { row: None, rest, step: told }
+    RowAhead {
+        row: None,
+        rest,
+        step: told,
+    }
 }
 
 impl<'a> Iterator for BackRows<'a> {
@@ -133,7 +137,11 @@ impl<'a> BackRows<'a> {
     pub fn again(&self) -> BackRows<'a>
         ensures { result ≡ self.now }
     {
-        BackRows { rest: self.rest, lanes: self.lanes, step: self.step }
+        BackRows {
+            rest: self.rest,
+            lanes: self.lanes,
+            step: self.step,
+        }
     }
 }
 

@@ -158,7 +158,11 @@ fn look_ahead(text: &[u8], lanes: Lanes, step: usize) -> Ahead<'_>
         }
         rest = below;
     }
-    Ahead { line: None, rest, step }
+    Ahead {
+        line: None,
+        rest,
+        step,
+    }
 }
 
 impl<'a> Iterator for ChartLines<'a> {

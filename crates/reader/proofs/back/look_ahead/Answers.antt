@@ -28,10 +28,10 @@ loop-lanes-smaller c = after-less _ _ (search rules) c.next_line.ensures.below
 
 pub loop-lanes-preserved : goal.loop-lanes-preserved
 loop-lanes-preserved c = (
-    c.step_told-told.ensures,
-    c.loop-lanes.invariant.1
-    ∙ rows-step _ _ _ (omega (arith, c.args.lanes.within)) (sym c.if-is_back_row.false ∙ c.is_back_row.ensures)
-    ∙ ap (rows_read_back c.args.lanes.count) (sym c.next_line.ensures.below),
+  c.step_told-told.ensures,
+  c.loop-lanes.invariant.1
+      ∙ rows-step _ _ _ (omega (arith, c.args.lanes.within)) (sym c.if-is_back_row.false ∙ c.is_back_row.ensures)
+      ∙ ap (rows_read_back c.args.lanes.count) (sym c.next_line.ensures.below),
 )
 
 pub step_told-told-requires : goal.step_told-told-requires

@@ -1,5 +1,5 @@
 -- `reader::charts::look_ahead` meets its contract: the marks of what is left are those from its first line on.
-use Rattle.std.proofs.Common.{Some, None, ◌∷◌, take, sym, ap, ◌∙◌, rules}
+use Rattle.std.proofs.Common.{None, ◌∷◌, sym, ap, ◌∙◌, rules}
 use mathlib.Core.Logic.{inl}
 use mathlib.Core.Path.{◌≡◌}
 use lib.Seq.{length-take-le}
