@@ -137,3 +137,12 @@ below-none b s k e =
     let l = drop k s in
     let all : length l ≤ suc (length l) = omega arith in
     rw (front-none b l k (sym (found_from b k l) ∙ e)) (sym (drop_of_length-le l all))
+
+-- and where the search from further on finds the same, the same follows
+pub below-same : (b : ℕ) (s : List ℕ) (k m : ℕ) → k ≤ length s → m ≤ length s
+    → position_from (λ x. x == b) k (drop k s) ≡ position_from (λ x. x == b) m (drop m s) → after b (drop k s) ≡ after b (drop m s)
+below-same b s k m h g e = go (position_from (λ x. x == b) m (drop m s)) refl
+  where
+    go : (o : Option ℕ) → position_from (λ x. x == b) m (drop m s) ≡ o → after b (drop k s) ≡ after b (drop m s)
+    go (Some r) q = sym (below-found b s k r h (e ∙ q)).1 ∙ (below-found b s m r g q).1
+    go None q = sym (below-none b s k (e ∙ q)) ∙ below-none b s m q

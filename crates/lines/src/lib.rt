@@ -228,14 +228,31 @@ pub fn next_line(data: &[u8], start: usize) -> (&[u8], &[u8])
     }
 }
 
-/// What follows the first newline from `start` on, nothing where there is none: by words from there on, since what stands after a row's cells is
-/// mostly a comment.
-pub fn text_below(data: &[u8], start: usize) -> &[u8]
+/// What follows the first newline of a text from `start` on, nothing where there is none, by the search of a long line.
+#[inline(never)]
+fn text_far(data: &[u8], start: usize) -> &[u8]
     requires { start ≤ length «data».now }
     ensures { result.now ≡ after 10 (drop start «data».now) }
 {
-    match find_far(data, 10, start) {
+    match find_long(data, 10, start) {
         Some(at) => &data[at + 1..],
         None => &data[..0],
     }
+}
+
+/// What follows the first newline of a text, nothing where there is none: by two words first, since what stands after a row's cells is mostly a comment.
+/// It calls nothing on the way of one, and keeps no register.
+pub fn text_below(data: &[u8]) -> &[u8]
+    ensures { result.now ≡ after 10 «data».now }
+{
+    if data.len() < 16 {
+        return text_far(data, 0);
+    }
+    if let Some(near) = find_in_word(data, 10, 0) {
+        return &data[near + 1..];
+    }
+    if let Some(next) = find_in_word(data, 10, 8) {
+        return &data[next + 1..];
+    }
+    text_far(data, 16)
 }

@@ -6,8 +6,8 @@ use mathlib.Core.List.{List, [], ◌∷◌, ◌++◌, append_assoc, append-nil}
 use Prim.Native.Nat.{ℕ, ◌-◌, ◌<◌, ◌≤◌}
 use native.Mathlib.Omega.{arith}
 use lib.ListN.{length, take, drop, get_or}
-use lib.Dec.{eqb, ltb, leb}
-use borrow.Author.Tests.{eqb-true, eqb-false, ne_eqb, ltb-true, leb-true, not-true}
+use lib.Dec.{eqb, ltb}
+use borrow.Author.Tests.{eqb-true, eqb-false, ne_eqb, ltb-true, not-true}
 use Rattle.definitions.proofs.Bools.{and_left, and_right}
 use Rattle.std.specs.Prelude.{Option, Some, None, fold}
 use Rattle.std.specs.List.{onto_first}
@@ -19,8 +19,8 @@ use Rattle.definitions.specs.declared.LineKind.TheVariants as line
 use Rattle.lines.specs.Lines.{first_line}
 use Rattle.definitions.proofs.Lists.{after-cons}
 use Rattle.reader.specs.Reading.{LineStep, near_cells, near_row, Below}
-use Rattle.reader.proofs.Cuts.{cut-below, after-less}
-use Rattle.reader.proofs.Plain.{near-front, bare, bare-row, first-cells, first-within, below-step}
+use Rattle.reader.proofs.Cuts.{cut-below}
+use Rattle.reader.proofs.Plain.{near-long, near-front, bare, bare-row, first-cells, first-within, below-step}
 use Rattle.reader.specs.Marks.{add_mark, marks, chart_marks, Held, held_with, held}
 
 -- ---- the first line of a text, and what follows it
@@ -86,61 +86,44 @@ no-newline x b = go (eqb x 10) refl
     go true e = let z : ◌≡◌ {A = ℕ} 0 1 = (let y : is_blank_byte x ≡ true = rw (eqb-true x 10 e) refl in cc) in absurd (omega arith)
     go false e = e
 
--- any other line: a row where it begins with no blank and no `/` and passes the row test, else nothing
+-- what begins with a blank
+pub marks-blanks : (L : ℕ) (s : List ℕ) → 0 < length s → is_blank_byte (get_or s 0 0) ≡ true → chart_marks L s ≡ chart_marks L (trim (drop 1 s))
+marks-blanks L [] h b = absurd (omega arith)
+marks-blanks L (x ∷ s) h b = marks-blank L x s b ∙ marks-trim L s
+
+pub blanks-less : (s : List ℕ) → 0 < length s → length (trim (drop 1 s)) < length s
+blanks-less [] h = absurd (omega arith)
+blanks-less (x ∷ s) h = omega (arith, trim-less s)
+
+-- any other line: a row where it begins with no `/` and passes the row test, else nothing
 abbrev pub row_if : Bool → Row → List (Option Row) → List (Option Row)
 row_if true r ms = Some r ∷ ms
 row_if false r ms = ms
 
-abbrev pub rest_of : List ℕ → List ℕ
-rest_of s = cond (is_blank_byte (get_or s 0 0)) (trim (drop 1 s)) (after 10 s)
-
-pub marks-other : (L : ℕ) (s below : List ℕ) (t : Bool) → 0 < length s → (get_or s 0 0 ≡ 44 → ⊥) → (get_or s 0 0 ≡ 59 → ⊥)
-    → t ≡ (not (is_blank_byte (get_or s 0 0)) && (not (eqb (get_or s 0 0) 47) && is_row_line L (first_line s))) → below ≡ rest_of s
-    → chart_marks L s ≡ row_if t (take L s) (chart_marks L below)
+pub marks-other : (L : ℕ) (s below : List ℕ) (t : Bool) → 0 < length s → is_blank_byte (get_or s 0 0) ≡ false → (get_or s 0 0 ≡ 44 → ⊥) → (get_or s 0 0 ≡ 59 → ⊥)
+    → t ≡ (not (eqb (get_or s 0 0) 47) && is_row_line L (first_line s)) → below ≡ after 10 s → chart_marks L s ≡ row_if t (take L s) (chart_marks L below)
 unfolding first_line up_to line_kind kind_of
-marks-other L [] below t h comma semi e eb = absurd (omega arith)
-marks-other L (x ∷ s) below t h comma semi e eb = go (is_blank_byte x) refl
+marks-other L [] below t h b comma semi e eb = absurd (omega arith)
+marks-other L (x ∷ s) below t h b comma semi e eb = rw eb (line-told (eqb x 47) refl)
   where
-    row : (r : Bool) → is_row_line L (first_line (x ∷ s)) ≡ r → eqb x 10 ≡ false → is_blank_byte x ≡ false → eqb x 47 ≡ false → t ≡ r
+    row : (r : Bool) → is_row_line L (first_line (x ∷ s)) ≡ r → eqb x 10 ≡ false → eqb x 47 ≡ false → t ≡ r
         → chart_marks L (x ∷ s) ≡ row_if t (take L (x ∷ s)) (chart_marks L (after 10 (x ∷ s)))
-    row true r n b slash q =
+    row true r n slash q =
         marks-first L (x ∷ s) ∙ rw (n, b, slash, ne_eqb x 44 comma, ne_eqb x 59 semi, q, rw n at r)
         (ap (λ c. Some c ∷ chart_marks L (after 10 (x ∷ s))) (rw n at (first-cells L (x ∷ s) r)))
-    row false r n b slash q =
+    row false r n slash q =
         marks-first L (x ∷ s) ∙ rw (n, b, slash, ne_eqb x 44 comma, ne_eqb x 59 semi, q, rw n at r)
 
-    line-told : (u : Bool) → eqb x 47 ≡ u → is_blank_byte x ≡ false → chart_marks L (x ∷ s) ≡ row_if t (take L (x ∷ s)) (chart_marks L (after 10 (x ∷ s)))
-    line-told true u b =
-        let q : t ≡ false = rw (b, u) at e in
+    line-told : (u : Bool) → eqb x 47 ≡ u → chart_marks L (x ∷ s) ≡ row_if t (take L (x ∷ s)) (chart_marks L (after 10 (x ∷ s)))
+    line-told true u =
+        let q : t ≡ false = rw u at e in
         let n = no-newline x b in
         marks-first L (x ∷ s) ∙ rw (n, b, u, q)
-    line-told false u b = row (is_row_line L (first_line (x ∷ s))) refl (no-newline x b) b u (rw (b, u) at e)
-
-    go : (b : Bool) → is_blank_byte x ≡ b → chart_marks L (x ∷ s) ≡ row_if t (take L (x ∷ s)) (chart_marks L below)
-    go true b =
-        let q : t ≡ false = rw b at e in
-        let r : below ≡ trim s = rw b at eb in
-        rw (q, r) (rw b at (marks-trim L (x ∷ s)))
-    go false b =
-        let r : below ≡ after 10 (x ∷ s) = rw b at eb in
-        rw r (line-told (eqb x 47) refl b)
+    line-told false u = row (is_row_line L (first_line (x ∷ s))) refl (no-newline x b) u (rw u at e)
 
 -- a row's cells lie in the text
-pub row-within : (L : ℕ) (s : List ℕ) → (not (is_blank_byte (get_or s 0 0)) && (not (eqb (get_or s 0 0) 47) && is_row_line L (first_line s))) ≡ true → L ≤ length s
-row-within L s e =
-    let blank = not (is_blank_byte (get_or s 0 0)) in
-    let slash = not (eqb (get_or s 0 0) 47) in
-    let row = and_right slash (is_row_line L (first_line s)) (and_right blank (slash && is_row_line L (first_line s)) e) in
-    first-within L s row
-
--- and less of the text is left
-pub rest-less : (s below : List ℕ) → 0 < length s → below ≡ rest_of s → length below < length s
-rest-less [] below h e = absurd (omega arith)
-rest-less (x ∷ s) below h e = go (is_blank_byte x) refl
-  where
-    go : (b : Bool) → is_blank_byte x ≡ b → length below < length (x ∷ s)
-    go true b = let r : below ≡ trim s = rw b at e in rw r (omega (arith, trim-less s))
-    go false b = after-less (x ∷ s) below h (rw b at e)
+pub row-within : (L : ℕ) (s : List ℕ) → (not (eqb (get_or s 0 0) 47) && is_row_line L (first_line s)) ≡ true → L ≤ length s
+row-within L s e = first-within L s (and_right (not (eqb (get_or s 0 0) 47)) (is_row_line L (first_line s)) e)
 
 -- a row that one look tells
 pub marks-near : (L : ℕ) (s below : List ℕ) → 4 ≤ L → L ≤ 10 → near_row L s ≡ true → Below below (after 10 (drop L s)) → chart_marks L s ≡ Some (take L s) ∷ chart_marks L below
@@ -161,15 +144,16 @@ marks-near L s below low high e w =
     ap (chart_marks L) p.rest ∙ ⊎_elim (λ q. ap (chart_marks L) q) (λ q. ap (chart_marks L) q ∙ marks-empty L below) w in
     marks-first L s ∙ rw (row, rest, ← whole, ← kind)
 
+-- it has twelve bytes
+pub row-long : (L : ℕ) (s : List ℕ) → near_row L s ≡ true → 12 ≤ length s
+row-long L s e =
+    let past = ltb 47 (get_or s 0 0) in
+    near-long L s (and_left (near_cells L s) past (and_left (near_cells L s && past) (not (eqb (get_or s 0 0) 59)) e))
+
 -- the same where its line has so many bytes
-pub marks-just : (L step : ℕ) (s : List ℕ) → 4 ≤ L → L ≤ 10 → LineStep L step → (leb 12 (length s) && (near_row L s && eqb (get_or s (step - 1) 0) 10)) ≡ true
+pub marks-just : (L step : ℕ) (s : List ℕ) → 4 ≤ L → L ≤ 10 → LineStep L step → near_row L s ≡ true → get_or s (step - 1) 0 ≡ 10
     → chart_marks L s ≡ Some (take L s) ∷ chart_marks L (drop step s)
-marks-just L step s low high w e =
-    let ends = eqb (get_or s (step - 1) 0) 10 in
-    let both = and_right (leb 12 (length s)) (near_row L s && ends) e in
-    let long = leb-true 12 (length s) (and_left (leb 12 (length s)) (near_row L s && ends) e) in
-    marks-near L s (drop step s) low high (and_left (near_row L s) ends both)
-    (below-step L step s w (omega arith) (eqb-true (get_or s (step - 1) 0) 10 (and_right (near_row L s) ends both)))
+marks-just L step s low high w e n = marks-near L s (drop step s) low high e (below-step L step s w (omega (arith, row-long L s e)) n)
 
 -- ---- what marks come to
 

@@ -127,6 +127,9 @@ front L s some h f =
       rest = b.1;
     }
 
+pub near-long : (L : ℕ) (s : List ℕ) → near_cells L s ≡ true → 12 ≤ length s
+near-long L s e = leb-true 12 (length s) (and_left (leb 12 (length s)) (leb L (first_below 16 s)) e)
+
 pub near-front : (L : ℕ) (s : List ℕ) → 4 ≤ L → L ≤ 10 → near_cells L s ≡ true → Front L s
 near-front L s low high e =
     let long = leb-true 12 (length s) (and_left (leb 12 (length s)) (leb L (first_below 16 s)) e) in
@@ -138,7 +141,23 @@ near-front L s low high e =
 pub below-once : (L : ℕ) (s : List ℕ) → L < length s → get_or s L 0 ≡ 10 → drop (L + 1) s ≡ after 10 (drop L s)
 below-once L s h e = rw (drop-cons s L 0 h, after-cons, e, add-one)
 
--- or is the last of so many bytes
+-- a byte that is none is passed over
+pub below-past : (L : ℕ) (s : List ℕ) → L < length s → (get_or s L 0 ≡ 10 → ⊥) → after 10 (drop L s) ≡ after 10 (drop (L + 1) s)
+below-past L s h n = rw (drop-cons s L 0 h, after-cons, ne_eqb (get_or s L 0) 10 n, add-one)
+
+-- or the newline stands one byte further
+pub below-twice : (L : ℕ) (s : List ℕ) → L + 1 < length s → (get_or s L 0 ≡ 10 → ⊥) → get_or s (L + 1) 0 ≡ 10 → drop (L + 2) s ≡ after 10 (drop L s)
+below-twice L s h n e =
+    let two : L + 2 ≡ L + 1 + 1 = omega arith in
+    rw two (below-once (L + 1) s (omega arith) e ∙ sym (below-past L s (omega arith) n))
+
+-- or past both
+pub below-both : (L : ℕ) (s : List ℕ) → L + 1 < length s → (get_or s L 0 ≡ 10 → ⊥) → (get_or s (L + 1) 0 ≡ 10 → ⊥) → after 10 (drop (L + 2) s) ≡ after 10 (drop L s)
+below-both L s h n m =
+    let two : L + 2 ≡ L + 1 + 1 = omega arith in
+    rw two (sym (below-past L s (omega arith) n ∙ below-past (L + 1) s (omega arith) m))
+
+-- or the newline is the last of so many bytes
 pub below-step : (L step : ℕ) (s : List ℕ) → LineStep L step → L + 2 ≤ length s → get_or s (step - 1) 0 ≡ 10 → Below (drop step s) (after 10 (drop L s))
 below-step L step s w h e = elim (dec_lt (L + 1) step) [
   | no n ↦

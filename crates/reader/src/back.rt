@@ -63,26 +63,31 @@ impl<'a> Model for BackRows<'a> {
     ghost invariant = { λ it. LineStep it.lanes.count it.step };
 }
 
-// The first row, if any, and what of the text follows its line.
+// The first row, if any, what of the text follows its line, and how many bytes the lines of rows are taken to have there.
 #[derive(Drop)]
 struct RowAhead<'a> {
     row: Option<&'a [u8]>,
     rest: &'a [u8],
+    step: usize,
 }
 
-// Line by line to the first row, written into each loop as that of a chart is.
+// Line by line to the first row, written into each loop as that of a chart is. A line that is none tells how those of rows end.
 #[inline(always)]
-fn look_ahead(text: &[u8], lanes: Lanes) -> RowAhead<'_>
-    ensures { YieldsFirstRef (λ s. s)
+fn look_ahead(text: &[u8], lanes: Lanes, step: usize) -> RowAhead<'_>
+    requires { LineStep lanes.count step }
+    ensures step { LineStep lanes.count result.step }
+    ensures rows { YieldsFirstRef (λ s. s)
         (rows_read_back lanes.count text.now)
         result.row (rows_read_back lanes.count result.rest.now) }
 {
     let mut rest = text;
+    let mut told = step;
     while !rest.is_empty() {
         if is_near_row(rest, lanes) {
             return RowAhead {
                 row: Some(&rest[..lanes.count]),
                 rest: crate::below_cells(rest, lanes),
+                step: told,
             };
         }
         let below = lines::next_line(rest, 0).1;
@@ -90,11 +95,17 @@ fn look_ahead(text: &[u8], lanes: Lanes) -> RowAhead<'_>
             return RowAhead {
                 row: Some(&rest[..lanes.count]),
                 rest: below,
+                step: told,
             };
         }
+        told = crate::step_told(rest, below, lanes);
         rest = below;
     }
-    RowAhead { row: None, rest }
+    RowAhead {
+        row: None,
+        rest,
+        step: told,
+    }
 }
 
 impl<'a> Iterator for BackRows<'a> {
@@ -114,8 +125,9 @@ impl<'a> Iterator for BackRows<'a> {
             self.rest = &text[self.step..];
             return Some(&text[..self.lanes.count]);
         }
-        let ahead = look_ahead(text, self.lanes);
+        let ahead = look_ahead(text, self.lanes, self.step);
         self.rest = ahead.rest;
+        self.step = ahead.step;
         ahead.row
     }
 }
@@ -125,7 +137,11 @@ impl<'a> BackRows<'a> {
     pub fn again(&self) -> BackRows<'a>
         ensures { result ≡ self.now }
     {
-        BackRows { rest: self.rest, lanes: self.lanes, step: self.step }
+        BackRows {
+            rest: self.rest,
+            lanes: self.lanes,
+            step: self.step,
+        }
     }
 }
 

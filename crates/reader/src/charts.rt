@@ -1,7 +1,7 @@
 // The rows of a chart's text and the ends of its measures, one after the other, each row as a part of that text.
-ghost use Rattle.std.specs.Prelude.{◌≡◌, ◌==◌, ◌<◌, ◌-◌, ◌&&◌, not, nat_le, if◌then◌else◌, length, drop, slice_index};
+ghost use Rattle.std.specs.Prelude.{◌≡◌, ◌==◌, ◌<◌, ◌&&◌, not, length, slice_index};
 ghost use Rattle.definitions.specs.Lists.{after};
-ghost use Rattle.definitions.specs.Lines.{is_blank_byte, is_row_line, trim};
+ghost use Rattle.definitions.specs.Lines.{is_row_line};
 ghost use Rattle.lines.specs.Lines.{first_line};
 ghost use Rattle.std.specs.Iterator.{YieldsFirstBy};
 ghost use Rattle.reader.specs.Marks.{chart_marks};
@@ -39,7 +39,7 @@ impl<'a> Model for ChartLines<'a> {
     ghost invariant = { λ it. LineStep it.lanes.count it.step };
 }
 
-// Whether a text begins with a row, with nothing before it, as most of a chart's lines do. The tests are joined without a branch.
+// Whether a text begins with a row, with nothing before it, as most of a chart's lines do. What begins with a blank or a `,` leaves before a word is read.
 fn is_near_row(text: &[u8], lanes: Lanes) -> bool
     ensures { result ≡ near_row lanes.count text.now }
 {
@@ -47,72 +47,97 @@ fn is_near_row(text: &[u8], lanes: Lanes) -> bool
         return false;
     }
     let first = text[0];
-    crate::has_cells(text, lanes) & (b'/' < first) & (first != b';')
-}
-
-// Whether it does, and its line has `step` bytes with its newline, as most lines have.
-fn is_just_row(text: &[u8], lanes: Lanes, step: usize) -> bool
-    requires { LineStep lanes.count step }
-    ensures { result ≡ (nat_le 12 (length text.now)
-        && (near_row lanes.count text.now && slice_index text.now (step - 1) == 10)) }
-{
-    if text.len() < 12 {
+    if first <= b'/' {
         return false;
     }
-    is_near_row(text, lanes) & (text[step - 1] == 10)
+    crate::has_cells(text, lanes) && first != b';'
 }
 
-// The first line that counts, if any, and what of the text follows it.
+// The first line that counts, if any, what of the text follows it, and how many bytes the lines of rows are taken to have there.
 #[derive(Drop)]
 struct Ahead<'a> {
     line: Option<ChartLine<'a>>,
     rest: &'a [u8],
+    step: usize,
 }
 
-// Whether the first line of a text is a row: where it begins with no blank and no `/`, and is told from `,` and `;` lines.
+// Whether the first line of a text is a row: where it begins with no `/`, and is told from `,` and `;` lines and from blanks. It stays out of the loops
+// over rows, as what follows does: few lines are asked so.
+#[inline(never)]
 fn is_row(text: &[u8], lanes: usize) -> bool
     requires { 0 < length text.now }
-    ensures { result ≡ (not (is_blank_byte (slice_index text.now 0))
-        && (not (slice_index text.now 0 == 47) && is_row_line lanes (first_line text.now))) }
+    ensures { result ≡ (not (slice_index text.now 0 == 47)
+        && is_row_line lanes (first_line text.now)) }
 {
-    let first = text[0];
-    !lines::is_blank(first) && first != b'/' && crate::begins_row(text, lanes)
+    text[0] != b'/' && crate::begins_row(text, lanes)
 }
 
-// What is left of a text past blanks that it begins with, else past its first line. Blanks are taken off the text and not off a line, since a line of
-// blanks is passed over too. It stays out of the loops over rows.
+// What follows the first line of a text.
 #[inline(never)]
-fn past_first(text: &[u8]) -> &[u8]
-    requires { 0 < length text.now }
-    ensures { result.now ≡ (if is_blank_byte (slice_index text.now 0)
-        then trim (drop 1 text.now) else after 10 text.now) }
+fn below_line(text: &[u8]) -> &[u8]
+    ensures { result.now ≡ after 10 text.now }
 {
-    if lines::is_blank(text[0]) {
-        lines::skip_ws(&text[1..])
-    } else {
-        lines::next_line(text, 0).1
-    }
+    lines::next_line(text, 0).1
 }
 
-// By the first byte to the first line that counts. It is written into each loop, where a row's length is then known to be the lane count.
+// What follows a `,` line: mostly its newline stands right after the comma, or one byte further.
 #[inline(always)]
-fn look_ahead(text: &[u8], lanes: Lanes) -> Ahead<'_>
-    ensures { YieldsFirstBy mark_of (λ s. s)
+fn below_comma(text: &[u8]) -> &[u8]
+    requires some { 0 < length text.now }
+    requires comma { slice_index text.now 0 ≡ 44 }
+    ensures { result.now ≡ after 10 text.now }
+{
+    if text.len() < 3 {
+        return below_line(text);
+    }
+    let bare = text[1] == 10;
+    if bare {
+        return &text[2..];
+    }
+    let past_one = text[2] == 10;
+    if past_one {
+        return &text[3..];
+    }
+    below_line(text)
+}
+
+// The first line that counts of a text that begins with no row, by its first byte. It is written into each loop, where a row's length is then known to be
+// the lane count. Blanks are taken off the text and not off a line, since a line of blanks is passed over too; most stand before a row.
+#[inline(always)]
+fn look_ahead(text: &[u8], lanes: Lanes, step: usize) -> Ahead<'_>
+    requires { LineStep lanes.count step }
+    ensures lines { YieldsFirstBy mark_of (λ s. s)
         (chart_marks lanes.count text.now) result.line (chart_marks lanes.count result.rest.now) }
+    ensures step { LineStep lanes.count result.step }
 {
     let mut rest = text;
     while !rest.is_empty() {
-        if is_near_row(rest, lanes) {
-            return Ahead {
-                line: Some(ChartLine::Row(&rest[..lanes.count])),
-                rest: crate::below_cells(rest, lanes),
-            };
-        }
         let first = rest[0];
+        if lines::is_blank(first) {
+            let bare = lines::skip_ws(&rest[1..]);
+            if is_near_row(bare, lanes) {
+                if bare[step - 1] == 10 {
+                    return Ahead {
+                        line: Some(ChartLine::Row(&bare[..lanes.count])),
+                        rest: &bare[step..],
+                        step,
+                    };
+                }
+                return Ahead {
+                    line: Some(ChartLine::Row(&bare[..lanes.count])),
+                    rest: crate::below_cells(bare, lanes),
+                    step,
+                };
+            }
+            rest = bare;
+            continue;
+        }
         if first == b',' {
+            let next = below_comma(rest);
             return Ahead {
                 line: Some(ChartLine::Comma),
-                rest: lines::next_line(rest, 0).1,
+                rest: next,
+                step: crate::step_told(rest, next, lanes),
             };
         }
         let ends = first == b';';
@@ -120,18 +145,24 @@ fn look_ahead(text: &[u8], lanes: Lanes) -> Ahead<'_>
             return Ahead {
                 line: None,
                 rest: &rest[..0],
+                step,
             };
         }
-        let below = past_first(rest);
+        let below = below_line(rest);
         if is_row(rest, lanes.count) {
             return Ahead {
                 line: Some(ChartLine::Row(&rest[..lanes.count])),
                 rest: below,
+                step,
             };
         }
         rest = below;
     }
-    Ahead { line: None, rest }
+    Ahead {
+        line: None,
+        rest,
+        step,
+    }
 }
 
 impl<'a> Iterator for ChartLines<'a> {
@@ -144,16 +175,21 @@ impl<'a> Iterator for ChartLines<'a> {
 
     ghost remaining = { item_count (λ rest. rest) };
 
-    // A row that nothing stands before, as in most lines, is told by one look.
+    // A row that nothing stands before, as in most lines, is told by one look, and by the newline where the last `,` line told it to stand.
     #[inline(always)]
     fn next(&mut self) -> Option<ChartLine<'a>> {
         let text = self.rest;
-        if is_just_row(text, self.lanes, self.step) {
-            self.rest = &text[self.step..];
+        if is_near_row(text, self.lanes) {
+            if text[self.step - 1] == 10 {
+                self.rest = &text[self.step..];
+                return Some(ChartLine::Row(&text[..self.lanes.count]));
+            }
+            self.rest = crate::below_cells(text, self.lanes);
             return Some(ChartLine::Row(&text[..self.lanes.count]));
         }
-        let ahead = look_ahead(text, self.lanes);
+        let ahead = look_ahead(text, self.lanes, self.step);
         self.rest = ahead.rest;
+        self.step = ahead.step;
         ahead.line
     }
 }

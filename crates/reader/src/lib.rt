@@ -5,7 +5,7 @@
 pub mod back;
 pub mod charts;
 
-ghost use Rattle.std.specs.Prelude.{◌≡◌, ◌≤◌, length, drop, slice_index};
+ghost use Rattle.std.specs.Prelude.{◌≡◌, ◌<◌, ◌≤◌, length, drop, slice_index};
 ghost use Rattle.definitions.specs.Lists.{among, after};
 ghost use Rattle.definitions.specs.Lines.{is_row_line};
 ghost use Rattle.lines.specs.Lines.{first_line};
@@ -43,8 +43,8 @@ pub fn has_cells(text: &[u8], lanes: Lanes) -> bool
     lines::starts_high(text, lanes.count)
 }
 
-/// What follows the line of a row that the text begins with: its newline stands right after the cells, or is searched for. Few lines are so, and out of
-/// line it leaves the loops over the others their registers.
+/// What follows the line of a row that the text begins with: its newline stands right after the cells or one byte further, or is searched for. Out of line
+/// it leaves the loops over rows their registers.
 #[inline(never)]
 pub fn below_cells(text: &[u8], lanes: Lanes) -> &[u8]
     requires { 12 ≤ length text.now }
@@ -54,11 +54,30 @@ pub fn below_cells(text: &[u8], lanes: Lanes) -> &[u8]
     if at_once {
         return &text[lanes.count + 1..];
     }
-    lines::text_below(text, lanes.count)
+    let past_one = text[lanes.count + 1] == 10;
+    if past_one {
+        return &text[lanes.count + 2..];
+    }
+    lines::text_below(&text[lanes.count + 2..])
+}
+
+/// How many bytes the lines of rows are taken to have from now on, as the line tells it which a text begins with and `below` follows.
+pub fn step_told(text: &[u8], below: &[u8], lanes: Lanes) -> usize
+    requires { length below.now < length text.now }
+    ensures { LineStep lanes.count result }
+{
+    let bytes = text.len() - below.len();
+    if bytes < 2 {
+        return lanes.count + 1;
+    }
+    if text[bytes - 2] == 13 {
+        return lanes.count + 2;
+    }
+    lanes.count + 1
 }
 
 /// How many bytes the line of a row has with its newline, as the first line of the text tells it: two more than its cells where byte 13 is its last. So
-/// many of the text's bytes are looked at. Where other lines end otherwise, reading them takes longer, and nothing else changes.
+/// many of the text's bytes are looked at. Each `,` line tells it anew.
 pub fn line_step(text: &[u8], lanes: Lanes) -> usize
     ensures { LineStep lanes.count result }
 {
