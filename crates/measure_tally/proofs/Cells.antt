@@ -1,10 +1,8 @@
 -- One cell: what it leaves of the columns' mask, by the match over its letter, and how large the counts are.
 use mathlib.Core.Path.{◌≡◌, refl, ap, sym, ◌∙◌}
 use mathlib.Core.Bool.{Bool, false}
-use Prim.Native.Nat.{ℕ, ◌+◌, ◌<◌, ◌≤◌}
+use Prim.Native.Nat.{ℕ, ◌+◌}
 use native.Mathlib.Decide.{ℕ_discrete}
-use native.Mathlib.Omega.{arith}
-use borrow.Author.Tests.{ne_eqb}
 use Rattle.definitions.specs.Cells.{cell_of, hold_effect}
 use Rattle.definitions.specs.Tracker.{hold_at}
 use Rattle.definitions.specs.Tally.{direction}
@@ -37,37 +35,7 @@ module _ (busy : ℕ) (p : Phantoms) (c : ℕ) (e : DepthEffect) (free : FreeAre
         | no n ↦ effect-others p c e d n ∙ free d k b
       ]
 
--- ---- bytes that are no letter of the table
-
-other-empty : (b : ℕ) → (b ≡ 49 → ⊥) → (b ≡ 50 → ⊥) → (b ≡ 51 → ⊥) → (b ≡ 52 → ⊥) → (b ≡ 77 → ⊥) → (b ≡ 76 → ⊥) → (b ≡ 70 → ⊥) → (b ≡ 75 → ⊥) → (b ≡ 109 → ⊥)
-    → (b ≡ 108 → ⊥) → (b ≡ 102 → ⊥) → cell_of b ≡ Empty
-unfolding cell_of
-other-empty b n1 n2 n3 n4 nM nL nF nK nm nl nf =
-    rw (ne_eqb b 49 n1, ne_eqb b 50 n2, ne_eqb b 51 n3, ne_eqb b 52 n4, ne_eqb b 77 nM, ne_eqb b 76 nL, ne_eqb b 70 nF, ne_eqb b 75 nK, ne_eqb b 109 nm, ne_eqb b 108 nl, ne_eqb b 102 nf)
-
--- below `3`
-pub empty-digit : (b : ℕ) → b < 51 → (b ≡ 49 → ⊥) → (b ≡ 50 → ⊥) → cell_of b ≡ Empty
-empty-digit b h n m =
-    let past : (k : ℕ) → 50 < k → b ≡ k → ⊥ = λ k l e. omega arith in
-    other-empty b n m (past 51 (omega arith)) (past 52 (omega arith)) (past 77 (omega arith)) (past 76 (omega arith)) (past 70 (omega arith)) (past 75 (omega arith))
-    (past 109 (omega arith)) (past 108 (omega arith)) (past 102 (omega arith))
-
--- past `4`, below `a`
-pub empty-upper : (b : ℕ) → 52 < b → b < 97 → (b ≡ 77 → ⊥) → (b ≡ 75 → ⊥) → (b ≡ 76 → ⊥) → (b ≡ 70 → ⊥) → cell_of b ≡ Empty
-empty-upper b h l nM nK nL nF =
-    let before : (k : ℕ) → k < 53 → b ≡ k → ⊥ = λ k m e. omega arith in
-    let past : (k : ℕ) → 96 < k → b ≡ k → ⊥ = λ k m e. omega arith in
-    other-empty b (before 49 (omega arith)) (before 50 (omega arith)) (before 51 (omega arith)) (before 52 (omega arith)) nM nL nF nK
-    (past 109 (omega arith)) (past 108 (omega arith)) (past 102 (omega arith))
-
--- from `a` on
-pub empty-lower : (b : ℕ) → 97 ≤ b → (b ≡ 109 → ⊥) → (b ≡ 108 → ⊥) → (b ≡ 102 → ⊥) → cell_of b ≡ Empty
-empty-lower b h nm nl nf =
-    let before : (k : ℕ) → k < 97 → b ≡ k → ⊥ = λ k l e. omega arith in
-    other-empty b (before 49 (omega arith)) (before 50 (omega arith)) (before 51 (omega arith)) (before 52 (omega arith)) (before 77 (omega arith)) (before 76 (omega arith))
-    (before 70 (omega arith)) (before 75 (omega arith)) nm nl nf
-
--- ---- a cell by what its letter does
+-- a cell by what its letter does
 
 pub cell-counted : (columns c b : ℕ) (k m r : Counting) (x : Cell) → cell_of b ≡ x → EffectDone c (hold_effect x) k m → r ≡ with_cell m columns c x
     → CellCounted columns c b k r

@@ -2,7 +2,8 @@
 use native.Mathlib.Omega.{arith}
 use mathlib.Core.Path.{◌≡◌}
 use Rattle.definitions.specs.Cells.{cell_of}
-use Rattle.measure_tally.proofs.Cells.{empty-digit, cell-counted, cell-empty}
+use Rattle.cells.proofs.Letters.{empty-digit}
+use Rattle.measure_tally.proofs.Cells.{cell-counted, cell-empty}
 use Rattle.measure_tally.proofs.Counting.count_digit.Goals as goal
 
 pub returns-in-49 : goal.returns-in-49

@@ -2,7 +2,8 @@
 use native.Mathlib.Omega.{arith}
 use mathlib.Core.Path.{refl}
 use Rattle.definitions.specs.Cells.{cell_of}
-use Rattle.measure_tally.proofs.Cells.{empty-upper, empty-lower, cell-counted, cell-unheld, cell-empty}
+use Rattle.cells.proofs.Letters.{empty-upper, empty-lower}
+use Rattle.measure_tally.proofs.Cells.{cell-counted, cell-unheld, cell-empty}
 use Rattle.measure_tally.proofs.Counting.count_rare.Goals as goal
 
 pub returns-in-76 : goal.returns-in-76
