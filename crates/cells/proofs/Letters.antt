@@ -19,17 +19,8 @@ empty-digit b h n m =
     other-empty b n m (past 51 (omega arith)) (past 52 (omega arith)) (past 77 (omega arith)) (past 76 (omega arith)) (past 70 (omega arith)) (past 75 (omega arith))
     (past 109 (omega arith)) (past 108 (omega arith)) (past 102 (omega arith))
 
--- past `4`, below `a`
-pub empty-upper : (b : ℕ) → 52 < b → b < 97 → (b ≡ 77 → ⊥) → (b ≡ 75 → ⊥) → (b ≡ 76 → ⊥) → (b ≡ 70 → ⊥) → cell_of b ≡ Empty
-empty-upper b h l nM nK nL nF =
+-- past `4`
+pub empty-letter : (b : ℕ) → 52 < b → (b ≡ 77 → ⊥) → (b ≡ 76 → ⊥) → (b ≡ 70 → ⊥) → (b ≡ 75 → ⊥) → (b ≡ 109 → ⊥) → (b ≡ 108 → ⊥) → (b ≡ 102 → ⊥) → cell_of b ≡ Empty
+empty-letter b h nM nL nF nK nm nl nf =
     let before : (k : ℕ) → k < 53 → b ≡ k → ⊥ = λ k m e. omega arith in
-    let past : (k : ℕ) → 96 < k → b ≡ k → ⊥ = λ k m e. omega arith in
-    other-empty b (before 49 (omega arith)) (before 50 (omega arith)) (before 51 (omega arith)) (before 52 (omega arith)) nM nL nF nK
-    (past 109 (omega arith)) (past 108 (omega arith)) (past 102 (omega arith))
-
--- from `a` on
-pub empty-lower : (b : ℕ) → 97 ≤ b → (b ≡ 109 → ⊥) → (b ≡ 108 → ⊥) → (b ≡ 102 → ⊥) → cell_of b ≡ Empty
-empty-lower b h nm nl nf =
-    let before : (k : ℕ) → k < 97 → b ≡ k → ⊥ = λ k l e. omega arith in
-    other-empty b (before 49 (omega arith)) (before 50 (omega arith)) (before 51 (omega arith)) (before 52 (omega arith)) (before 77 (omega arith)) (before 76 (omega arith))
-    (before 70 (omega arith)) (before 75 (omega arith)) nm nl nf
+    other-empty b (before 49 (omega arith)) (before 50 (omega arith)) (before 51 (omega arith)) (before 52 (omega arith)) nM nL nF nK nm nl nf
