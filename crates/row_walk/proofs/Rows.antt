@@ -1,5 +1,5 @@
 -- A row's cells, one after the other: what is counted, scanned and noted of those before column i.
-use mathlib.Core.Path.{◌≡◌, refl, ap, sym, ◌∙◌}
+use mathlib.Core.Path.{◌≡◌, refl, ap, ◌∙◌}
 use mathlib.Core.Bool.{Bool, true, false, cond, ◌||◌}
 use mathlib.Core.List.{List}
 use Prim.Native.Nat.{ℕ, zero, suc, ◌+◌, ◌-◌, ◌<◌, ◌≤◌}
@@ -8,7 +8,7 @@ use lib.ListN.{length, get_or, drop, drop_of_length-le}
 use Rattle.definitions.specs.Lines.{Row}
 use Rattle.definitions.specs.Sizes.{count_bound}
 use Rattle.definitions.specs.Cells.{cell_of, is_arrow}
-use Rattle.definitions.specs.Objects.{object_at, is_object, deeper}
+use Rattle.definitions.specs.Objects.{object_at, is_object}
 use Rattle.definitions.specs.Notes.{effect_at}
 use Rattle.definitions.specs.Tally.{row_sum, row_sum_by}
 use Rattle.phantoms.proofs.Loop.{low-more, Passed, passed_start, passed-next, passed-end, passed-heads, passed-tails}

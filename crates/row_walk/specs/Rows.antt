@@ -1,5 +1,5 @@
 -- A row that is walked by its cells.
-use Rattle.std.specs.Prelude.{◌≡◌, Bool, if◌then◌else◌, List, [], ◌∷◌, ◌++◌, ℕ, zero, suc, ◌+◌, ◌<◌, length, slice_index}
+use Rattle.std.specs.Prelude.{◌≡◌, Bool, if◌then◌else◌, List, [], ◌∷◌, ◌++◌, ℕ, zero, suc, ◌+◌, length, slice_index}
 use Rattle.definitions.specs.Sizes.{count_bound}
 use Rattle.definitions.specs.Lines.{Row}
 use Rattle.definitions.specs.Cells.{cell_of}
@@ -26,7 +26,20 @@ pub record CellsReady (row : Row) (r : Run) (l : List ℕ) : Type 0 where
   pub objects : DepthsLow 4294967294 (objects_of r)
   pub room : RecordRoom (notes_of r) row l
 
+-- The row's cells are done: it is counted, tested for an object and noted.
+pub record RowWalked (row : Row) (r : Run) (l : List ℕ) (r' : Run) (l' : List ℕ) : Type 0 where
+  pub object : Bool
+  pub stats : r'.stats ≡ tally_with_row r.stats (row_sum row)
+  pub counted : RowCounted row r.columns.phantoms r'.columns.phantoms
+  pub tested : RowDone row (objects_of r) (record { object = object; depths = objects_of r' })
+  pub last : r'.last ≡ if object then r.row + 1 else r.last
+  pub written : (rows : List Row) → Written rows (notes_of r) l → Written (rows ++ (row ∷ [])) (notes_of r') l'
+  pub number : r'.row ≡ r.row + 1
+  pub ten : Ten r'.columns
+  pub free : Free r'.columns
+
 -- ---- For the private functions
+
 -- the byte in column c of a row
 pub record ColumnWalked (row : Row) (c : ℕ) (r : Run) (l : List ℕ) (r' : Run) (l' : List ℕ) : Type 0 where
   pub walked : ByteWalked (slice_index row c) c r l r' l'
@@ -44,16 +57,3 @@ pub record Reached (row : Row) (c : ℕ) (r : Run) (l : List ℕ) : Type 0 where
   pub slots : List ℕ
   pub ready : CellsReady row start slots
   pub walked : ColumnsWalked row 0 c start slots r l
-
--- ----
--- The row's cells are done: it is counted, tested for an object and noted.
-pub record RowWalked (row : Row) (r : Run) (l : List ℕ) (r' : Run) (l' : List ℕ) : Type 0 where
-  pub object : Bool
-  pub stats : r'.stats ≡ tally_with_row r.stats (row_sum row)
-  pub counted : RowCounted row r.columns.phantoms r'.columns.phantoms
-  pub tested : RowDone row (objects_of r) (record { object = object; depths = objects_of r' })
-  pub last : r'.last ≡ if object then r.row + 1 else r.last
-  pub written : (rows : List Row) → Written rows (notes_of r) l → Written (rows ++ (row ∷ [])) (notes_of r') l'
-  pub number : r'.row ≡ r.row + 1
-  pub ten : Ten r'.columns
-  pub free : Free r'.columns

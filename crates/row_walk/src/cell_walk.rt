@@ -1,5 +1,5 @@
 // One cell of a row that is not ordinary: what it does to the tally, and to the phantom depth, the object depth and the notes of its column, told by
-// one match over the letters, all in place.
+// its byte, all in place.
 ghost use Rattle.std.specs.Prelude.{◌≡◌, ◌+◌, ◌-◌, ◌≤◌, ◌<◌};
 ghost use Rattle.definitions.specs.Sizes.{count_bound, row_numbers_bound};
 ghost use Rattle.definitions.specs.Cells.{cell_of};
@@ -89,7 +89,7 @@ impl Run {
         self.columns.drop_head(column);
     }
 
-    // A 1. It stays a call of its own, as each of the next three does: written into the cells of a row, they would be too much for one function.
+    // A 1. Taps, heads and tails stay calls of their own: written into each column of a row, they would be too much for one function.
     #[inline(never)]
     fn tap(&mut self, column: usize, slots: &mut [u8])
         requires { CellFits self.old column slots.old }
@@ -185,9 +185,9 @@ impl Run {
         row_tally::count_cell(&mut self.stats, direction(columns, column), cell, false);
     }
 
-    /// An M of a row of so many.
+    // An M of a row of so many.
     #[inline(always)]
-    pub fn walk_mine(&mut self, columns: usize, column: usize, slots: &mut [u8])
+    fn walk_mine(&mut self, columns: usize, column: usize, slots: &mut [u8])
         requires { CellFits self.old column slots.old }
         ensures walked { CellDone Mine column self.old slots.old self.new slots.new }
         ensures counted { self.new.stats ≡ counted_in self.old columns column Mine }
@@ -196,9 +196,9 @@ impl Run {
         self.count(columns, column, Cell::Mine);
     }
 
-    /// A K.
+    // A K.
     #[inline(always)]
-    pub fn walk_keysound(&mut self, columns: usize, column: usize, slots: &mut [u8])
+    fn walk_keysound(&mut self, columns: usize, column: usize, slots: &mut [u8])
         requires { CellFits self.old column slots.old }
         ensures walked { CellDone KeySound column self.old slots.old self.new slots.new }
         ensures counted { self.new.stats ≡ counted_in self.old columns column KeySound }
@@ -273,12 +273,26 @@ impl Run {
         }
     }
 
-    /// A cell that is no M and no K, by its byte.
+    // A letter.
+    #[inline(always)]
+    fn walk_letter(&mut self, columns: usize, column: usize, b: u8, slots: &mut [u8])
+        requires fits { CellFits self.old column slots.old }
+        requires letter { 52 < b }
+        ensures walked { CellDone (cell_of b) column
+            self.old slots.old self.new slots.new }
+        ensures counted { self.new.stats ≡ counted_in self.old columns column (cell_of b) }
+    {
+        match b {
+            b'M' => self.walk_mine(columns, column, slots),
+            b'K' => self.walk_keysound(columns, column, slots),
+            _ => self.walk_rare(columns, column, b, slots),
+        }
+    }
+
+    /// Any cell, by its byte.
     #[inline(always)]
     pub fn walk_cell(&mut self, columns: usize, column: usize, b: u8, slots: &mut [u8])
-        requires fits { CellFits self.old column slots.old }
-        requires no_mine { b ≡ 77 → ⊥ }
-        requires no_keysound { b ≡ 75 → ⊥ }
+        requires { CellFits self.old column slots.old }
         ensures walked { CellDone (cell_of b) column
             self.old slots.old self.new slots.new }
         ensures counted { self.new.stats ≡ counted_in self.old columns column (cell_of b) }
@@ -286,7 +300,7 @@ impl Run {
         if b < b'5' {
             self.walk_digit(columns, column, b, slots);
         } else {
-            self.walk_rare(columns, column, b, slots);
+            self.walk_letter(columns, column, b, slots);
         }
     }
 

@@ -10,8 +10,7 @@ ghost use Rattle.row_walk.specs.Rows.{CellsReady, ColumnWalked, ColumnsWalked, R
 
 use crate::cell_walk::Run;
 
-// The cell in a column. Most bytes of a chart are `0`, which changes nothing. The three tests are as many as are made one after the other; a fourth
-// would make a table of them, which costs each cell more.
+// The cell in a column. Most bytes of a chart are `0`, which changes nothing.
 #[inline(always)]
 fn walk_column(run: &mut Run, row: &[u8], column: usize, slots: &mut [u8])
     requires inside { column < length row.now }
@@ -19,12 +18,10 @@ fn walk_column(run: &mut Run, row: &[u8], column: usize, slots: &mut [u8])
     ensures { ColumnWalked row.now column run.old slots.old run.new slots.new }
 {
     let b = row[column];
-    match b {
-        b'0' => {}
-        b'M' => run.walk_mine(row.len(), column, slots),
-        b'K' => run.walk_keysound(row.len(), column, slots),
-        _ => run.walk_cell(row.len(), column, b, slots),
+    if b == b'0' {
+        return;
     }
+    run.walk_cell(row.len(), column, b, slots);
 }
 
 // The cells of the first four columns. Cells are written one by one, which costs less than a loop.
