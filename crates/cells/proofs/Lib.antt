@@ -4,3 +4,4 @@ pub mod Arrows
 pub mod Ends
 pub mod RowWords
 pub mod ZeroRows
+pub mod Letters

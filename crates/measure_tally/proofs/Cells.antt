@@ -5,8 +5,9 @@ use Prim.Native.Nat.{ℕ, ◌+◌}
 use native.Mathlib.Decide.{ℕ_discrete}
 use Rattle.definitions.specs.Cells.{cell_of, hold_effect}
 use Rattle.definitions.specs.Tracker.{hold_at}
-use Rattle.definitions.specs.Tally.{direction, empty_sum}
+use Rattle.definitions.specs.Tally.{direction}
 use Rattle.definitions.specs.Correction.{phantom_step}
+use Rattle.definitions.specs.declared.ArrowStats.{ArrowStats}
 use Rattle.definitions.specs.declared.Cell.{Cell}
 use Rattle.definitions.specs.declared.Cell.TheVariants.{Empty}
 use Rattle.definitions.specs.declared.DepthEffect.{DepthEffect}
@@ -17,11 +18,9 @@ use Rattle.phantoms.specs.Phantoms.{phantom_at, Low, with_effect}
 use Rattle.phantoms.specs.declared.Phantoms.{Phantoms}
 use Rattle.phantoms.proofs.Effects.{effect-none, effect-others, effect-zero, effect-low}
 use Rattle.row_tally.specs.Bounds.{Below}
-use Rattle.row_tally.specs.Sums.{add_by}
-use Rattle.row_tally.specs.Raised.{with_cells}
 use Rattle.row_tally.proofs.Raised.{cell-none, cell-below}
 use Rattle.measure_tally.specs.declared.Counting.{Counting}
-use Rattle.measure_tally.specs.Cells.{EffectDone, CellCounted}
+use Rattle.measure_tally.specs.Cells.{EffectDone, CellCounted, with_cell}
 
 module _ (busy : ℕ) (p : Phantoms) (c : ℕ) (e : DepthEffect) (free : FreeAre busy 0 p.depths) where
   -- the column's bit is as told, and where it has none the depth is 0 now
@@ -36,31 +35,32 @@ module _ (busy : ℕ) (p : Phantoms) (c : ℕ) (e : DepthEffect) (free : FreeAre
         | no n ↦ effect-others p c e d n ∙ free d k b
       ]
 
--- a cell by the match over its letter
-pub cell-counted : (columns c b : ℕ) (k m r : Counting) (x : Cell) (d : ℕ) → cell_of b ≡ x → d ≡ direction columns c → EffectDone c (hold_effect x) k m
-    → r.stats ≡ with_cells m.stats (add_by false empty_sum d x) → r.phantoms ≡ m.phantoms → r.rows ≡ m.rows → r.before ≡ m.before → r.busy ≡ m.busy
+-- a cell by what its letter does
+
+pub cell-counted : (columns c b : ℕ) (k m r : Counting) (x : Cell) → cell_of b ≡ x → EffectDone c (hold_effect x) k m → r ≡ with_cell m columns c x
     → CellCounted columns c b k r
 unfolding hold_at
-cell-counted columns c b k m r x d e g w s p n f y = record {
-  phantoms = p ∙ w.phantoms ∙ ap (λ z. with_effect k.phantoms c (hold_effect z)) (sym e);
-  stats = s ∙ rw (e, g, w.stats);
-  rows = n ∙ w.rows;
-  before = f ∙ w.before;
-  free = λ q. rw (p, y) (w.free q);
-}
+cell-counted columns c b k m r x e w v =
+    rw v
+    (record {
+      phantoms = w.phantoms ∙ ap (λ z. with_effect k.phantoms c (hold_effect z)) (sym e);
+      stats = rw (e, w.stats);
+      rows = w.rows;
+      before = w.before;
+      free = w.free;
+    })
 
 -- a cell that leaves its column's depth
-pub cell-unheld : (columns c b : ℕ) (k r : Counting) (x : Cell) (d : ℕ) → cell_of b ≡ x → hold_effect x ≡ Nothing → d ≡ direction columns c
-    → r.stats ≡ with_cells k.stats (add_by false empty_sum d x) → r.phantoms ≡ k.phantoms → r.rows ≡ k.rows → r.before ≡ k.before → r.busy ≡ k.busy
+pub cell-unheld : (columns c b : ℕ) (k r : Counting) (x : Cell) → cell_of b ≡ x → hold_effect x ≡ Nothing → r ≡ with_cell k columns c x
     → CellCounted columns c b k r
-cell-unheld columns c b k r x d e z g s p n f y =
-    cell-counted columns c b k k r x d e g
-    (record { phantoms = rw z (sym (effect-none k.phantoms c)); stats = refl; rows = refl; before = refl; free = λ q. q }) s p n f y
+cell-unheld columns c b k r x e z v =
+    cell-counted columns c b k k r x e
+    (record { phantoms = rw z (sym (effect-none k.phantoms c)); stats = refl; rows = refl; before = refl; free = λ q. q }) v
 
 -- an empty cell changes nothing
 pub cell-empty : (columns c b : ℕ) (k : Counting) → cell_of b ≡ Empty → CellCounted columns c b k k
 cell-empty columns c b k e =
-    cell-unheld columns c b k k Empty (direction columns c) e refl refl (sym (cell-none k.stats false (direction columns c))) refl refl refl refl
+    cell-unheld columns c b k k Empty e refl (ap (λ (t : ArrowStats). record k { stats = t }) (sym (cell-none k.stats false (direction columns c))))
 
 -- a cell adds at most 1 to each count
 module _ (columns c b n : ℕ) (k r : Counting) (w : CellCounted columns c b k r) where

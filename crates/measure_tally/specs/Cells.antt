@@ -4,6 +4,7 @@ use Rattle.definitions.specs.Lines.{Row}
 use Rattle.definitions.specs.Cells.{cell_of}
 use Rattle.definitions.specs.Tracker.{hold_at}
 use Rattle.definitions.specs.Tally.{direction, empty_sum}
+use Rattle.definitions.specs.declared.Cell.{Cell}
 use Rattle.definitions.specs.declared.DepthEffect.{DepthEffect}
 use Rattle.phantoms.specs.Phantoms.{with_effect}
 use Rattle.row_tally.specs.Sums.{add_by}
@@ -22,6 +23,10 @@ pub record EffectDone (c : ℕ) (e : DepthEffect) (k r : Counting) : Type 0 wher
   pub rows : r.rows ≡ k.rows
   pub before : r.before ≡ k.before
   pub free : StaysFree k r
+
+-- the tally with a cell in column c of so many
+abbrev pub with_cell : Counting → ℕ → ℕ → Cell → Counting
+with_cell k columns c x = record k { stats = with_cells k.stats (add_by false empty_sum (direction columns c) x) }
 
 -- A byte in column c of so many.
 pub record CellCounted (columns c b : ℕ) (k r : Counting) : Type 0 where

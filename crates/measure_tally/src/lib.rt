@@ -11,7 +11,7 @@ ghost use Rattle.reduction.specs.States.{HoldingOpen, EndsMeasure};
 ghost use Rattle.row_tally.specs.Bounds.{Below};
 ghost use Rattle.phantoms.specs.Phantoms.{Low};
 ghost use Rattle.definitions.specs.declared.DepthEffect.TheVariants.{Blocks, Opens, Closes};
-ghost use Rattle.measure_tally.specs.Cells.{EffectDone, CellCounted, ColumnsCounted};
+ghost use Rattle.measure_tally.specs.Cells.{EffectDone, CellCounted, ColumnsCounted, with_cell};
 ghost use Rattle.measure_tally.specs.Counted.{Few, Counted, CountsRow, CountsAll};
 
 use definitions::{ArrowStats, Cell, direction};
@@ -87,56 +87,94 @@ impl Counting {
         }
     }
 
-    // One cell of a row of so many, by one match. It is written into each column: in a loop each count would go through a register for the whole row.
+    // The tally counts a cell of a row of so many.
     #[inline(always)]
-    fn count_cell(&mut self, columns: usize, column: usize, b: u8)
+    fn count(&mut self, columns: usize, column: usize, cell: Cell)
+        requires { Below (count_bound + 9) self.old.stats }
+        ensures { self.new ≡ with_cell self.old columns column cell }
+    {
+        row_tally::count_cell(&mut self.stats, direction(columns, column), cell, false);
+    }
+
+    // A digit in a column of a row of so many. Which one is told by comparisons alone: a match over four bytes or more becomes a table, which costs
+    // each cell more.
+    #[inline(always)]
+    fn count_digit(&mut self, columns: usize, column: usize, b: u8)
         requires column_narrow { column < 10 }
+        requires digit { b < 53 }
         requires few { Below (count_bound + 9) self.old.stats }
         requires low { Low (count_bound + 9) self.old.phantoms }
         ensures { CellCounted columns column b self.old self.new }
     {
-        let direction = direction(columns, column);
-        match cells::cell_of(b) {
-            Cell::Empty => {}
-            Cell::Tap => {
+        if b < b'3' {
+            match b {
+                b'1' => {
+                    self.block(column);
+                    self.count(columns, column, Cell::Tap);
+                }
+                b'2' => {
+                    self.open(column);
+                    self.count(columns, column, Cell::Hold);
+                }
+                _ => {}
+            }
+        } else if b == b'3' {
+            self.close(column);
+            self.count(columns, column, Cell::Tail);
+        } else {
+            self.open(column);
+            self.count(columns, column, Cell::Roll);
+        }
+    }
+
+    // A letter, likewise.
+    #[inline(always)]
+    fn count_letter(&mut self, columns: usize, column: usize, b: u8)
+        requires column_narrow { column < 10 }
+        requires letter { 52 < b }
+        requires few { Below (count_bound + 9) self.old.stats }
+        requires low { Low (count_bound + 9) self.old.phantoms }
+        ensures { CellCounted columns column b self.old self.new }
+    {
+        match b {
+            b'M' => {
                 self.block(column);
-                row_tally::count_cell(&mut self.stats, direction, Cell::Tap, false);
+                self.count(columns, column, Cell::Mine);
             }
-            Cell::Hold => {
-                self.open(column);
-                row_tally::count_cell(&mut self.stats, direction, Cell::Hold, false);
+            b'K' => self.count(columns, column, Cell::KeySound),
+            _ => self.count_rare(columns, column, b),
+        }
+    }
+
+    // One that is no M and no K.
+    #[inline(always)]
+    fn count_rare(&mut self, columns: usize, column: usize, b: u8)
+        requires column_narrow { column < 10 }
+        requires letter { 52 < b }
+        requires no_mine { b ≡ 77 → ⊥ }
+        requires no_keysound { b ≡ 75 → ⊥ }
+        requires few { Below (count_bound + 9) self.old.stats }
+        requires low { Low (count_bound + 9) self.old.phantoms }
+        ensures { CellCounted columns column b self.old self.new }
+    {
+        if b < b'a' {
+            match b {
+                b'L' => {
+                    self.block(column);
+                    self.count(columns, column, Cell::Lift);
+                }
+                b'F' => {
+                    self.block(column);
+                    self.count(columns, column, Cell::Fake);
+                }
+                _ => {}
             }
-            Cell::Roll => {
-                self.open(column);
-                row_tally::count_cell(&mut self.stats, direction, Cell::Roll, false);
-            }
-            Cell::Tail => {
-                self.close(column);
-                row_tally::count_cell(&mut self.stats, direction, Cell::Tail, false);
-            }
-            Cell::Mine => {
-                self.block(column);
-                row_tally::count_cell(&mut self.stats, direction, Cell::Mine, false);
-            }
-            Cell::Lift => {
-                self.block(column);
-                row_tally::count_cell(&mut self.stats, direction, Cell::Lift, false);
-            }
-            Cell::Fake => {
-                self.block(column);
-                row_tally::count_cell(&mut self.stats, direction, Cell::Fake, false);
-            }
-            Cell::KeySound => {
-                row_tally::count_cell(&mut self.stats, direction, Cell::KeySound, false)
-            }
-            Cell::LowerMine => {
-                row_tally::count_cell(&mut self.stats, direction, Cell::LowerMine, false)
-            }
-            Cell::LowerLift => {
-                row_tally::count_cell(&mut self.stats, direction, Cell::LowerLift, false)
-            }
-            Cell::LowerFake => {
-                row_tally::count_cell(&mut self.stats, direction, Cell::LowerFake, false)
+        } else {
+            match b {
+                b'm' => self.count(columns, column, Cell::LowerMine),
+                b'l' => self.count(columns, column, Cell::LowerLift),
+                b'f' => self.count(columns, column, Cell::LowerFake),
+                _ => {}
             }
         }
     }
@@ -152,47 +190,64 @@ impl Counting {
             self.old self.new }
     {
         let b = row[column];
-        if b != b'0' {
-            self.count_cell(row.len(), column, b);
+        if b == b'0' {
+            return;
+        }
+        if b <= b'4' {
+            self.count_digit(row.len(), column, b);
+        } else {
+            self.count_letter(row.len(), column, b);
         }
     }
 
-    // The cells of four columns. They are written one by one, which costs less than a loop.
+    // The cells of the first four columns. Cells are written one by one: in a loop each count would go through a register for the whole row.
     #[inline(always)]
-    fn count_four(&mut self, row: &[u8], from: usize)
-        requires inside { from + 4 ≤ length row.now }
+    fn count_four(&mut self, row: &[u8])
+        requires wide { 4 ≤ length row.now }
         requires narrow { length row.now ≤ 10 }
-        requires few { Below (count_bound + from) self.old.stats }
-        requires low { Low (count_bound + from) self.old.phantoms }
-        ensures { ColumnsCounted row.now from 4 self.old self.new }
+        requires few { Below count_bound self.old.stats }
+        requires low { Low count_bound self.old.phantoms }
+        ensures { ColumnsCounted row.now 0 4 self.old self.new }
     {
-        self.count_column(row, from);
-        self.count_column(row, from + 1);
-        self.count_column(row, from + 2);
-        self.count_column(row, from + 3);
+        self.count_column(row, 0);
+        self.count_column(row, 1);
+        self.count_column(row, 2);
+        self.count_column(row, 3);
     }
 
-    // The cells from a column on, of which there are three at most.
+    // The cells of a row from its fifth on.
     #[inline(always)]
-    fn count_rest(&mut self, row: &[u8], from: usize)
-        requires few_left { length row.now ≤ from + 3 }
+    fn count_rest(&mut self, row: &[u8])
+        requires wide { 4 ≤ length row.now }
         requires narrow { length row.now ≤ 10 }
-        requires few { Below (count_bound + from) self.old.stats }
-        requires low { Low (count_bound + from) self.old.phantoms }
-        ensures { ColumnsCounted row.now from (length row.now - from) self.old self.new }
+        requires few { Below (count_bound + 4) self.old.stats }
+        requires low { Low (count_bound + 4) self.old.phantoms }
+        ensures { ColumnsCounted row.now 4 (length row.now - 4) self.old self.new }
     {
-        if row.len() <= from {
+        if row.len() == 4 {
             return;
         }
-        self.count_column(row, from);
-        if row.len() <= from + 1 {
+        self.count_column(row, 4);
+        if row.len() == 5 {
             return;
         }
-        self.count_column(row, from + 1);
-        if row.len() <= from + 2 {
+        self.count_column(row, 5);
+        if row.len() == 6 {
             return;
         }
-        self.count_column(row, from + 2);
+        self.count_column(row, 6);
+        if row.len() == 7 {
+            return;
+        }
+        self.count_column(row, 7);
+        if row.len() == 8 {
+            return;
+        }
+        self.count_column(row, 8);
+        if row.len() == 9 {
+            return;
+        }
+        self.count_column(row, 9);
     }
 
     // All cells of a row.
@@ -204,13 +259,8 @@ impl Counting {
         requires low { Low count_bound self.old.phantoms }
         ensures { ColumnsCounted row.now 0 (length row.now) self.old self.new }
     {
-        self.count_four(row, 0);
-        if row.len() < 8 {
-            self.count_rest(row, 4);
-            return;
-        }
-        self.count_four(row, 4);
-        self.count_rest(row, 8);
+        self.count_four(row);
+        self.count_rest(row);
     }
 
     // One row more, cell by cell. Its arrows, heads and tails are what these have grown by.

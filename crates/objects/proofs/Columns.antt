@@ -1,22 +1,39 @@
 -- A row's cells, column by column: how large the depths are, and what is held when all are done.
-use mathlib.Core.Path.{◌≡◌, refl, ap, ◌∙◌}
+use mathlib.Core.Path.{◌≡◌, refl, ap, sym, ◌∙◌}
 use mathlib.Core.Bool.{Bool, true, false, cond, ◌||◌}
+use mathlib.Core.Logic.{inl, inr}
 use mathlib.Core.List.{List, ◌∷◌, [], ◌++◌}
 use Rattle.std.specs.Prelude.{Some}
 use Prim.Native.Nat.{ℕ, zero, suc, ◌+◌, ◌<◌, ◌≤◌}
 use native.Mathlib.Decide.{dec_lt, ℕ_discrete}
 use native.Mathlib.Omega.{arith}
 use lib.ListN.{length, get_or, set, length-set, get_or-eq_default}
-use lib.Seq.{get_or-set_same, get_or-set_other}
+use types.Run.{OneOf}
+use lib.Seq.{set-get_or, get_or-set_same, get_or-set_other}
 use Rattle.definitions.specs.Lines.{Row}
+use Rattle.definitions.specs.Cells.{cell_of}
+use Rattle.definitions.specs.declared.Cell.TheVariants.{Empty}
+use Rattle.definitions.specs.declared.DepthEffect.TheVariants.{Blocks}
 use Rattle.definitions.specs.Objects.{object_at, is_object, deeper}
 use Rattle.objects.specs.declared.LastScan.{LastScan}
 use Rattle.objects.specs.Rows.{depth_at, DepthsLow}
 use Rattle.objects.specs.LastHeld.{LastHeld}
-use Rattle.objects.specs.Columns.{ColumnDone, ColumnsDone}
+use Rattle.objects.specs.Columns.{EffectDone, ColumnDone, ColumnsDone}
 use Rattle.objects.proofs.Scan.{Scanned, scan-start, scan-next, scan-end, deeper-le}
 use Rattle.objects.proofs.LastHeld.{held-row}
 use Rattle.taps.specs.Taps.{FreeAre}
+
+-- ---- by the byte
+
+pub done-empty : (c b : ℕ) (s : LastScan) → cell_of b ≡ Empty → EffectDone c (object_at b) s s
+unfolding object_at
+done-empty c b s e =
+    rw e (record { depths = sym (set-get_or s.depths.depths c 0); row = refl; found = refl; rows = refl; midx = refl; free = λ f. f })
+
+pub blocking : (b : ℕ) → OneOf (75 ∷ 77 ∷ []) b → object_at b ≡ Blocks
+unfolding object_at cell_of
+blocking b (inl e) = rw e
+blocking b (inr e) = rw e
 
 -- ---- each depth grows by at most 1
 

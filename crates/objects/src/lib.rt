@@ -3,6 +3,7 @@
 
 ghost use Rattle.std.specs.Prelude.{◌≡◌, [], ◌+◌, ◌-◌, ◌≤◌, ◌<◌, length};
 ghost use Rattle.definitions.specs.Sizes.{count_bound, measures_bound, row_numbers_bound, row_count_bound};
+ghost use Rattle.definitions.specs.Objects.{object_at};
 ghost use Rattle.definitions.specs.declared.DepthEffect.TheVariants.{Blocks, Opens, Closes};
 ghost use Rattle.objects.specs.Rows.{DepthsLow, NoDepths};
 ghost use Rattle.objects.specs.Columns.{EffectDone, ColumnDone, ColumnsDone};
@@ -103,7 +104,47 @@ impl LastScan {
         }
     }
 
-    // The cell in a column.
+    // A digit in a column. Which one is told by comparisons alone: a match over four bytes or more becomes a table, which costs each cell more.
+    #[inline(always)]
+    fn add_digit(&mut self, column: usize, b: u8)
+        requires column_narrow { column < 10 }
+        requires digit { b < 53 }
+        requires depths_low { DepthsLow (count_bound + 9) self.old.depths }
+        ensures { EffectDone column (object_at b) self.old self.new }
+    {
+        if b < b'3' {
+            match b {
+                b'1' => self.block(column),
+                b'2' => self.open(column),
+                _ => {}
+            }
+        } else if b == b'3' {
+            self.close(column);
+        } else {
+            self.open(column);
+        }
+    }
+
+    // Any cell.
+    #[inline(always)]
+    fn add_cell(&mut self, column: usize, b: u8)
+        requires column_narrow { column < 10 }
+        requires depths_low { DepthsLow (count_bound + 9) self.old.depths }
+        ensures { EffectDone column (object_at b) self.old self.new }
+    {
+        if b < b'5' {
+            self.add_digit(column, b);
+            return;
+        }
+        match cells::object_effect(b) {
+            DepthEffect::Nothing => {}
+            DepthEffect::Blocks => self.block(column),
+            DepthEffect::Opens => self.open(column),
+            DepthEffect::Closes => self.close(column),
+        }
+    }
+
+    // The cell in a column. Most are a `0`, which changes nothing.
     #[inline(always)]
     fn add_column(&mut self, cells: &[u8], column: usize)
         requires inside { column < length cells.now }
@@ -111,11 +152,11 @@ impl LastScan {
         requires depths_low { DepthsLow (count_bound + 9) self.old.depths }
         ensures { ColumnDone cells.now column self.old self.new }
     {
-        match cells::object_effect(cells[column]) {
-            DepthEffect::Nothing => {}
-            DepthEffect::Blocks => self.block(column),
-            DepthEffect::Opens => self.open(column),
-            DepthEffect::Closes => self.close(column),
+        let b = cells[column];
+        match b {
+            b'0' => {}
+            b'M' | b'K' => self.block(column),
+            _ => self.add_cell(column, b),
         }
     }
 

@@ -1,6 +1,6 @@
 -- What one cell does to the drafts that lie in the record slice, by its effect.
-use mathlib.Core.Path.{◌≡◌, refl, sym, ◌∙◌, subst}
-use mathlib.Core.Bool.{Bool, true, false, cond, ◌||◌, not, or-false}
+use mathlib.Core.Path.{◌≡◌, refl}
+use mathlib.Core.Bool.{Bool, true, false, cond, ◌||◌, not}
 use mathlib.Core.List.{List, map, append-nil}
 use Rattle.std.specs.Prelude.{Some, None}
 use Prim.Native.Nat.{ℕ, ◌+◌, ◌*◌, ◌≤◌, ◌<◌}
@@ -16,7 +16,7 @@ use Rattle.definitions.specs.declared.Kind.{Kind}
 use Rattle.definitions.specs.declared.NoteEffect.{NoteEffect}
 use Rattle.definitions.specs.declared.NoteEffect.TheVariants.{Nothing, Closes, Single, Head}
 use Rattle.row_notes.specs.Drafts.{State, plain, waiting, NoteDraft, settle, step_cell}
-use Rattle.row_notes.specs.Writer.{no_head, dropped, draft_bytes, FineState, Fine, DraftsHeld, Stored, NoteReady, HoldEnded, NotePushed, CellReady, CellNoted, after_cell, end_at, note_at, end_head, invalid_after, NoteStepped}
+use Rattle.row_notes.specs.Writer.{no_head, dropped, draft_bytes, FineState, Fine, DraftsHeld, Stored, NoteReady, HoldEnded, NotePushed, end_at, end_head, invalid_after, NoteStepped}
 use Rattle.row_notes.specs.declared.ChartNotesScratch.{ChartNotesScratch}
 use Rattle.row_notes.proofs.Stored.{stored-settle, stored-plain, stored-head}
 
@@ -102,39 +102,3 @@ module _ (l : List ℕ) (s : ChartNotesScratch) (c : ℕ) (R : NoteReady l s c) 
     bound = omega (arith, N.count);
     row = N.row;
   }
-
--- ---- the same in numbers
-
-module _ (l : List ℕ) (head count row column : ℕ) (R : CellReady l head count row column) (l' : List ℕ) where
-  ready : (s : ChartNotesScratch) → get_or s.hold_heads column 0 ≡ head → s.count ≡ count → s.row_index ≡ row → NoteReady l s column
-  ready s eh ec er =
-      record {
-        inside = R.inside;
-        low = rw er R.low;
-        room = rw ec R.room;
-        few = rw ec R.few;
-        head = λ ne. rw (eh, ec) (R.there (λ z. ne (eh ∙ z)));
-      }
-
-  pub noted-closes : (x : NoteEffect) → x ≡ Closes → l' ≡ end_at l head row → CellNoted l head count row column x l' no_head count false
-  noted-closes x e b s eh ec er =
-      let t = after_cell s column no_head count false in
-      subst (λ (q : ℕ). NoteStepped l s l' t 1 (step_cell q column x)) er
-      (step-closes l s column (ready s eh ec er) l' t x e
-      (record { bytes = rw (eh, er) b; heads = refl; count = sym ec; row = refl; invalid = or-false s.has_invalid }))
-
-  pub noted-single : (x : NoteEffect) (k : Kind) → x ≡ Single k → l' ≡ note_at l head count row column k
-      → CellNoted l head count row column x l' no_head (count + 1) (not (eqb head no_head))
-  noted-single x k e b s eh ec er =
-      let t = after_cell s column no_head (count + 1) (not (eqb head no_head)) in
-      subst (λ (q : ℕ). NoteStepped l s l' t 1 (step_cell q column x)) er
-      (step-single l s column (ready s eh ec er) l' t x k e
-      (record { bytes = rw (eh, ec, er) b; heads = refl; count = rw ec; row = refl; invalid = rw eh }))
-
-  pub noted-head : (x : NoteEffect) (k : Kind) → x ≡ Head k → l' ≡ note_at l head count row column k
-      → CellNoted l head count row column x l' count (count + 1) (not (eqb head no_head))
-  noted-head x k e b s eh ec er =
-      let t = after_cell s column count (count + 1) (not (eqb head no_head)) in
-      subst (λ (q : ℕ). NoteStepped l s l' t 1 (step_cell q column x)) er
-      (step-head l s column (ready s eh ec er) l' t x k e
-      (record { bytes = rw (eh, ec, er) b; heads = rw ec; count = rw ec; row = refl; invalid = rw eh }))

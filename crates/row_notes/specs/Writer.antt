@@ -10,8 +10,7 @@ use Rattle.definitions.specs.Records.{fields, bytes4, number_of_kind, records}
 use Rattle.definitions.specs.declared.Kind.{Kind}
 use Rattle.definitions.specs.declared.Kind.TheVariants.{Tap}
 use Rattle.taps.specs.Taps.{FreeTaps, FreeAre}
-use Rattle.definitions.specs.declared.NoteEffect.{NoteEffect}
-use Rattle.row_notes.specs.Drafts.{State, plain, waiting, ended, NoteDraft, notes_left, step_cell}
+use Rattle.row_notes.specs.Drafts.{State, plain, waiting, ended, NoteDraft, notes_left}
 use Rattle.row_notes.specs.declared.ChartNotesScratch.{ChartNotesScratch}
 
 -- in place of an open head, and the tail fields of records without a tail and of dropped ones
@@ -142,17 +141,6 @@ pub record NoteStepped (l : List ℕ) (s : ChartNotesScratch) (l' : List ℕ) (r
   pub stored : (ds : List NoteDraft) → DraftsHeld l s ds → DraftsHeld l' r (f ds)
   pub bound : r.count ≤ s.count + m
   pub row : r.row_index ≡ s.row_index
-
--- the struct after a cell of a column, with the column's open head and the number of records, and whether the cell dropped a record
-abbrev pub after_cell : ChartNotesScratch → ℕ → ℕ → ℕ → Bool → ChartNotesScratch
-after_cell s column head count invalid =
-    record { hold_heads = set s.hold_heads column head; count = count; row_index = s.row_index; has_invalid = s.has_invalid || invalid }
-
--- the same in numbers: whatever struct has them, and whatever drafts were there, is one step on
-abbrev pub CellNoted : List ℕ → ℕ → ℕ → ℕ → ℕ → NoteEffect → List ℕ → ℕ → ℕ → Bool → Type 0
-CellNoted l head count row column x l' head' count' invalid =
-    (s : ChartNotesScratch) → slice_index s.hold_heads column ≡ head → s.count ≡ count → s.row_index ≡ row
-    → NoteStepped l s l' (after_cell s column head' count' invalid) 1 (step_cell row column x)
 
 -- ---- the end
 

@@ -23,6 +23,10 @@ with_cells t s =
       up_right = t.up_right + s.up_right;
     }
 
+-- a step of so many arrows
+abbrev pub step_counted : ArrowStats → ℕ → ArrowStats
+step_counted t arrows = record t { total_steps = t.total_steps + 1; jumps = t.jumps + number_of_bool (nat_le 2 arrows) }
+
 -- The end of a row of so many arrows, where `hand` says whether it is a hand and `holding` what is held after it: together with the row's cells
 -- this is tally_with_sum.
 unfoldable pub with_end : ArrowStats → ℕ → Bool → ℕ → ArrowStats

@@ -13,7 +13,7 @@ ghost use Rattle.definitions.specs.declared.Cell.TheVariants.{Tap};
 ghost use Rattle.row_tally.specs.Bounds.{Under, Below, EndsBelow};
 ghost use Rattle.row_tally.specs.Sums.{sum_with_cell, add_by};
 ghost use Rattle.row_tally.specs.Taps.{TapsCounted, TapsJudged};
-ghost use Rattle.row_tally.specs.Raised.{with_cells, row_end, judged_row_end};
+ghost use Rattle.row_tally.specs.Raised.{with_cells, step_counted, row_end, judged_row_end};
 
 use definitions::{ArrowStats, Cell, RowSum};
 use taps::TapTable;
@@ -106,6 +106,19 @@ fn held_after(holding: u32, heads: u32, tails: u32) -> u32
     (holding + heads).saturating_sub(tails)
 }
 
+// A step of so many arrows: a jump where it has 2 or more. It is told by a branch, since steps and jumps that are raised as one pair cost more.
+#[inline(always)]
+fn count_step(stats: &mut ArrowStats, arrows: u32)
+    requires steps_few { stats.old.total_steps < 4294967295 }
+    requires jumps_few { stats.old.jumps < 4294967295 }
+    ensures { stats.new ≡ step_counted stats.old arrows }
+{
+    stats.total_steps += 1;
+    if 2 <= arrows {
+        stats.jumps += 1;
+    }
+}
+
 /// A row's cells are counted, so many arrows, heads and tails among them: a step, jump and hand where it is one, and what is held after it. A hand is
 /// a step whose arrows plus the holds before the row make 3 or more.
 #[inline(always)]
@@ -117,8 +130,7 @@ pub fn end_row(stats: &mut ArrowStats, arrows: u32, heads: u32, tails: u32)
     ensures { stats.new ≡ row_end stats.old arrows heads tails }
 {
     if 0 < arrows {
-        stats.total_steps += 1;
-        stats.jumps += u32::from(2 <= arrows);
+        count_step(stats, arrows);
         stats.hands += u32::from(3 <= arrows + stats.holding);
     }
     stats.holding = held_after(stats.holding, heads, tails);

@@ -16,7 +16,7 @@ use Rattle.phantoms.proofs.Effects.{effect-none}
 use Rattle.row_tally.proofs.Raised.{cell-none}
 use Rattle.row_notes.proofs.Steps.{step-nothing}
 use Rattle.row_walk.specs.Columns.{Ten, Free}
-use Rattle.row_walk.specs.Cells.{notes_of, CellDone, ByteWalked, counted_in}
+use Rattle.row_walk.specs.Cells.{notes_of, CellDone, ByteWalked, with_cell, counted_in}
 use Rattle.row_walk.specs.declared.cell_walk.Run.{Run}
 
 pub walked-empty : (x : Cell) (c : ℕ) (r : Run) (l : List ℕ) → x ≡ Empty → Ten r.columns → Free r.columns → CellDone x c r l r l
@@ -44,3 +44,13 @@ walked-zero b c r l e ten free = walked-empty (cell_of b) c r l (zero-empty b e)
 
 pub counted-zero : (b c L : ℕ) (r : Run) → b ≡ 48 → r.stats ≡ counted_in r L c (cell_of b)
 counted-zero b c L r e = counted-empty (cell_of b) c L r (zero-empty b e)
+
+-- ---- a cell by what its letter does, and the tally with it
+module _ (x : Cell) (b c L : ℕ) (r m r' : Run) (e : cell_of b ≡ x) (s : r' ≡ with_cell m L c x) where
+  pub done-walked : (l l' : List ℕ) → CellDone x c r l m l' → CellDone (cell_of b) c r l r' l'
+  done-walked l l' w =
+      rw (s, e)
+      (record { phantoms = w.phantoms; object_depth = w.object_depth; ten = w.ten; free = w.free; last = w.last; noted = w.noted })
+
+  pub done-counted : m.stats ≡ r.stats → r'.stats ≡ counted_in r L c (cell_of b)
+  done-counted t = rw (s, e, t)

@@ -1,5 +1,5 @@
 -- A column in which nothing is open, and numbers of columns of which one is put.
-use mathlib.Core.Path.{◌≡◌, refl, ap, sym, ◌∙◌}
+use mathlib.Core.Path.{◌≡◌, ap, sym, ◌∙◌}
 use mathlib.Core.Bool.{or-false}
 use mathlib.Core.List.{List}
 use Prim.Native.Nat.{ℕ}

@@ -1,28 +1,28 @@
 -- A row's cells, one after the other: what is counted, scanned and noted of those before column i.
-use mathlib.Core.Path.{◌≡◌, refl, ap, sym, ◌∙◌}
+use mathlib.Core.Path.{◌≡◌, refl, ap, ◌∙◌}
 use mathlib.Core.Bool.{Bool, true, false, cond, ◌||◌}
 use mathlib.Core.List.{List}
-use Prim.Native.Nat.{ℕ, ◌+◌, ◌-◌, ◌<◌, ◌≤◌}
+use Prim.Native.Nat.{ℕ, zero, suc, ◌+◌, ◌-◌, ◌<◌, ◌≤◌}
 use native.Mathlib.Omega.{arith}
 use lib.ListN.{length, get_or, drop, drop_of_length-le}
 use Rattle.definitions.specs.Lines.{Row}
 use Rattle.definitions.specs.Sizes.{count_bound}
 use Rattle.definitions.specs.Cells.{cell_of, is_arrow}
-use Rattle.definitions.specs.Objects.{object_at, is_object, deeper}
+use Rattle.definitions.specs.Objects.{object_at, is_object}
 use Rattle.definitions.specs.Notes.{effect_at}
 use Rattle.definitions.specs.Tally.{row_sum, row_sum_by}
 use Rattle.phantoms.proofs.Loop.{low-more, Passed, passed_start, passed-next, passed-end, passed-heads, passed-tails}
 use Rattle.objects.proofs.Scan.{Scanned, scan-start, scan-depth, scan-next, scan-end}
 use Rattle.row_tally.specs.Bounds.{EndsBelow}
 use Rattle.row_tally.specs.Raised.{with_cells, row_end}
-use Rattle.row_tally.proofs.Bounds.{below_more}
+use Rattle.row_tally.proofs.Bounds.{below_more, under-row}
 use Rattle.row_tally.proofs.Heads.{sum-heads, sum-tails}
 use Rattle.row_tally.proofs.Raised.{cells-arrows, cells-ends, row-ended, Raised, raised-start, raised-next, raised-below, raised-end}
 use Rattle.row_tally.proofs.Loops.{drop-next}
 use Rattle.row_notes.proofs.Rows.{Midrow, mid_start, mid-ready, mid_step, row_written}
 use Rattle.row_walk.specs.Columns.{Ten, Free}
 use Rattle.row_walk.specs.Cells.{notes_of, object_depth_in, CellFits, ByteWalked, counted_in}
-use Rattle.row_walk.specs.Rows.{objects_of, CellsReady, RowWalked}
+use Rattle.row_walk.specs.Rows.{objects_of, CellsReady, ColumnWalked, ColumnsWalked, Reached, RowWalked}
 use Rattle.row_walk.specs.declared.columns.Columns.{Columns}
 use Rattle.row_walk.specs.declared.cell_walk.Run.{Run}
 
@@ -87,9 +87,52 @@ module _ (row : Row) (r₀ : Run) (l₀ : List ℕ) (r : Run) (l : List ℕ) (i 
         free = W.free;
       }
 
-  pub cells-next : (j : ℕ) → j ≡ i + 1 → (r' : Run) (l' : List ℕ) → length l' ≡ length l → ByteWalked (get_or row i 0) i r l r' l'
-      → r'.stats ≡ counted_in r (length row) i (cell_of (get_or row i 0)) → Cells row r₀ l₀ r' l' j
-  cells-next j e r' l' el W S = rw e (next r' l' el W S)
+  cells-next : (r' : Run) (l' : List ℕ) → ColumnWalked row i r l r' l' → Cells row r₀ l₀ r' l' (i + 1)
+  cells-next r' l' w = next r' l' w.size w.walked w.counted
+
+-- cells after cells
+cells-on : (row : Row) (r₀ : Run) (l₀ : List ℕ) (r : Run) (l : List ℕ) (r' : Run) (l' : List ℕ) (i n : ℕ) → i + n ≤ length row → CellsReady row r₀ l₀
+    → Cells row r₀ l₀ r l i → ColumnsWalked row i n r l r' l' → Cells row r₀ l₀ r' l' (i + n)
+cells-on row r₀ l₀ r l r' l' i zero h R C (e, f) = let here : i + 0 ≡ i = omega arith in rw (here, e, f) C
+cells-on row r₀ l₀ r l r' l' i (suc n) h R C (m, (k, (w, v))) =
+    let next : i + suc n ≡ i + 1 + n = omega arith in
+    rw next (cells-on row r₀ l₀ m k r' l' (i + 1) n (omega arith) R (cells-next row r₀ l₀ r l i C (omega arith) R m k w) v)
+
+pub cells-walked : (row : Row) (r₀ : Run) (l₀ : List ℕ) (r : Run) (l : List ℕ) (n : ℕ) → n ≤ length row → CellsReady row r₀ l₀ → ColumnsWalked row 0 n r₀ l₀ r l
+    → Cells row r₀ l₀ r l n
+cells-walked row r₀ l₀ r l n h R w =
+    let first : 0 + n ≡ n = omega arith in
+    rw first at (cells-on row r₀ l₀ r₀ l₀ r l 0 n (omega arith) R (cells-start row r₀ l₀ R) w)
+
+-- columns after columns
+pub columns-append : (row : Row) (c m n : ℕ) (r : Run) (l : List ℕ) (q : Run) (k : List ℕ) (r' : Run) (l' : List ℕ) → ColumnsWalked row c m r l q k
+    → ColumnsWalked row (c + m) n q k r' l' → ColumnsWalked row c (m + n) r l r' l'
+columns-append row c zero n r l q k r' l' (e, f) v =
+    let first : c + 0 ≡ c = omega arith in
+    let none : 0 + n ≡ n = omega arith in
+    rw (none, ← e, ← f) (rw first at v)
+columns-append row c (suc m) n r l q k r' l' (a, (b, (w, u))) v =
+    let next : c + suc m ≡ c + 1 + m = omega arith in
+    let more : suc m + n ≡ suc (m + n) = omega arith in
+    rw more (a, (b, (w, columns-append row (c + 1) m n a b q k r' l' u (rw next at v))))
+
+-- the next column asks for no more, and is then among those before
+module _ (row : Row) (c : ℕ) (r : Run) (l : List ℕ) (x : Reached row c r l) (h : c < length row) where
+  pub reached-fits : CellFits r c l
+  reached-fits = cells-fits row x.start x.slots r l c (cells-walked row x.start x.slots r l c (omega arith) x.ready x.walked) h x.ready
+
+  pub reached-next : (r' : Run) (l' : List ℕ) → ColumnWalked row c r l r' l' → Reached row (c + 1) r' l'
+  reached-next r' l' w =
+      let here : 0 + c ≡ c = omega arith in
+      record {
+        start = x.start;
+        slots = x.slots;
+        ready = x.ready;
+        walked = columns-append row 0 c 1 x.start x.slots r l r' l' x.walked (r', (l', (rw here w, (refl, refl))));
+      }
+
+pub reached-start : (row : Row) (r : Run) (l : List ℕ) → CellsReady row r l → Reached row 0 r l
+reached-start row r l R = record { start = r; slots = l; ready = R; walked = (refl, refl) }
 
 -- ---- all cells are done
 module _ (row : Row) (r₀ : Run) (l₀ : List ℕ) (r : Run) (l : List ℕ) (i : ℕ) (C : Cells row r₀ l₀ r l i) (h : length row ≤ i) (R : CellsReady row r₀ l₀) where
@@ -107,6 +150,19 @@ module _ (row : Row) (r₀ : Run) (l₀ : List ℕ) (r : Run) (l : List ℕ) (i 
       let e = cells-arrows _ _ _ C.raised.stats in
       let u = C.raised.summed.under.counts.0 in
       (omega (arith, e), omega (arith, e, u, few))
+
+  pub heads-few : (r₀.columns.phantoms.heads ≤ r.columns.phantoms.heads) × (r.columns.phantoms.heads ≤ r₀.columns.phantoms.heads + 10)
+  unfolding row_sum
+  heads-few =
+      let e = passed-heads _ _ _ _ C.passed h in
+      let under = under-row 10 row R.room.narrow in
+      (omega (arith, e), omega (arith, e, sum-heads is_arrow row, under))
+
+  pub tails-few : r₀.columns.phantoms.tails ≤ r.columns.phantoms.tails
+  tails-few = omega (arith, passed-tails _ _ _ _ C.passed h)
+
+  pub rows-few : r.row < 4294967295
+  rows-few = omega (arith, C.mid.index, R.room.written.row, R.room.few)
 
   -- the row's end
   pub cells-end : (r' : Run)

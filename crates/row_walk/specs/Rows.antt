@@ -1,7 +1,8 @@
 -- A row that is walked by its cells.
-use Rattle.std.specs.Prelude.{◌≡◌, Bool, if◌then◌else◌, List, [], ◌∷◌, ◌++◌, ℕ, ◌+◌, ◌<◌}
+use Rattle.std.specs.Prelude.{◌≡◌, Bool, if◌then◌else◌, List, [], ◌∷◌, ◌++◌, ℕ, zero, suc, ◌+◌, length, slice_index}
 use Rattle.definitions.specs.Sizes.{count_bound}
 use Rattle.definitions.specs.Lines.{Row}
+use Rattle.definitions.specs.Cells.{cell_of}
 use Rattle.definitions.specs.Tally.{row_sum, tally_with_row}
 use Rattle.phantoms.specs.Phantoms.{Low, RowCounted}
 use Rattle.objects.specs.declared.Depths.{Depths}
@@ -9,7 +10,7 @@ use Rattle.objects.specs.Rows.{DepthsLow, RowDone}
 use Rattle.row_tally.specs.Bounds.{Below}
 use Rattle.row_notes.specs.Written.{Written, RecordRoom}
 use Rattle.row_walk.specs.Columns.{Ten, Free}
-use Rattle.row_walk.specs.Cells.{notes_of}
+use Rattle.row_walk.specs.Cells.{notes_of, ByteWalked, counted_in}
 use Rattle.row_walk.specs.declared.cell_walk.Run.{Run}
 
 -- the object depths of a run as the struct of the layer beneath
@@ -36,3 +37,23 @@ pub record RowWalked (row : Row) (r : Run) (l : List ℕ) (r' : Run) (l' : List 
   pub number : r'.row ≡ r.row + 1
   pub ten : Ten r'.columns
   pub free : Free r'.columns
+
+-- ---- For the private functions
+
+-- the byte in column c of a row
+pub record ColumnWalked (row : Row) (c : ℕ) (r : Run) (l : List ℕ) (r' : Run) (l' : List ℕ) : Type 0 where
+  pub walked : ByteWalked (slice_index row c) c r l r' l'
+  pub counted : r'.stats ≡ counted_in r (length row) c (cell_of (slice_index row c))
+  pub size : length l' ≡ length l
+
+-- those in n columns from c on, one after the other
+abbrev pub ColumnsWalked : Row → ℕ → ℕ → Run → List ℕ → Run → List ℕ → Type 0
+ColumnsWalked row c zero r l r' l' = (r' ≡ r) × (l' ≡ l)
+ColumnsWalked row c (suc n) r l r' l' = (m : Run) × ((k : List ℕ) × (ColumnWalked row c r l m k × ColumnsWalked row (c + 1) n m k r' l'))
+
+-- the cells before column c of a row that was ready
+pub record Reached (row : Row) (c : ℕ) (r : Run) (l : List ℕ) : Type 0 where
+  pub start : Run
+  pub slots : List ℕ
+  pub ready : CellsReady row start slots
+  pub walked : ColumnsWalked row 0 c start slots r l

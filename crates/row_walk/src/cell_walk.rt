@@ -1,9 +1,10 @@
 // One cell of a row that is not ordinary: what it does to the tally, and to the phantom depth, the object depth and the notes of its column, told by
-// one match over the letters, all in place.
+// its byte, all in place.
 ghost use Rattle.std.specs.Prelude.{◌≡◌, ◌+◌, ◌-◌, ◌≤◌, ◌<◌};
 ghost use Rattle.definitions.specs.Sizes.{count_bound, row_numbers_bound};
 ghost use Rattle.definitions.specs.Cells.{cell_of};
 ghost use Rattle.definitions.specs.declared.Cell.TheVariants.{Mine, KeySound};
+ghost use Rattle.definitions.specs.declared.Kind.TheVariants.{Tap};
 ghost use Rattle.taps.specs.Taps.{bit};
 ghost use Rattle.row_tally.specs.Bounds.{Below, EndsBelow};
 ghost use Rattle.row_tally.specs.Raised.{row_end};
@@ -88,9 +89,33 @@ impl Run {
         self.columns.drop_head(column);
     }
 
-    // A 2 or 4.
+    // A 1. Taps, heads and tails stay calls of their own: written into each column of a row, they would be too much for one function.
+    #[inline(never)]
+    fn tap(&mut self, column: usize, slots: &mut [u8])
+        requires { CellFits self.old column slots.old }
+        ensures walked { Blocking Tap column self.old slots.old self.new slots.new }
+        ensures stats_stay { self.new.stats ≡ self.old.stats }
+    {
+        self.block(column, Kind::Tap, slots);
+    }
+
+    // A 2 or 4 in a column where nothing is open.
     #[inline(always)]
-    fn open(&mut self, column: usize, kind: Kind, slots: &mut [u8])
+    fn open_free(&mut self, column: usize, kind: Kind, slots: &mut [u8])
+        requires fits { CellFits self.old column slots.old }
+        requires free { bit column self.old.columns.busy ≡ 0 }
+        ensures walked { Opening kind column self.old slots.old self.new slots.new }
+        ensures stats_stay { self.new.stats ≡ self.old.stats }
+    {
+        let number = self.count;
+        row_notes::put_note(row_notes::NO_HEAD, number, self.row, column, kind, slots);
+        self.columns.open(column, number as u32);
+        self.count = number + 1;
+    }
+
+    // The same in any column.
+    #[inline(always)]
+    fn open_busy(&mut self, column: usize, kind: Kind, slots: &mut [u8])
         requires { CellFits self.old column slots.old }
         ensures walked { Opening kind column self.old slots.old self.new slots.new }
         ensures stats_stay { self.new.stats ≡ self.old.stats }
@@ -100,6 +125,20 @@ impl Run {
         self.invalid |= head != row_notes::NO_HEAD;
         self.columns.open(column, self.count as u32);
         self.count += 1;
+    }
+
+    // A 2 or 4.
+    #[inline(never)]
+    fn open(&mut self, column: usize, kind: Kind, slots: &mut [u8])
+        requires { CellFits self.old column slots.old }
+        ensures walked { Opening kind column self.old slots.old self.new slots.new }
+        ensures stats_stay { self.new.stats ≡ self.old.stats }
+    {
+        if self.columns.is_busy(column) {
+            self.open_busy(column, kind, slots);
+        } else {
+            self.open_free(column, kind, slots);
+        }
     }
 
     // Whether the tail makes its row an object row: it does where it ends an object depth.
@@ -115,7 +154,7 @@ impl Run {
     }
 
     // A 3.
-    #[inline(always)]
+    #[inline(never)]
     fn close(&mut self, column: usize, slots: &mut [u8])
         requires { CellFits self.old column slots.old }
         ensures walked { Closing column self.old slots.old self.new slots.new }
@@ -146,9 +185,9 @@ impl Run {
         row_tally::count_cell(&mut self.stats, direction(columns, column), cell, false);
     }
 
-    /// An M of a row of so many.
+    // An M of a row of so many.
     #[inline(always)]
-    pub fn walk_mine(&mut self, columns: usize, column: usize, slots: &mut [u8])
+    fn walk_mine(&mut self, columns: usize, column: usize, slots: &mut [u8])
         requires { CellFits self.old column slots.old }
         ensures walked { CellDone Mine column self.old slots.old self.new slots.new }
         ensures counted { self.new.stats ≡ counted_in self.old columns column Mine }
@@ -157,9 +196,9 @@ impl Run {
         self.count(columns, column, Cell::Mine);
     }
 
-    /// A K.
+    // A K.
     #[inline(always)]
-    pub fn walk_keysound(&mut self, columns: usize, column: usize, slots: &mut [u8])
+    fn walk_keysound(&mut self, columns: usize, column: usize, slots: &mut [u8])
         requires { CellFits self.old column slots.old }
         ensures walked { CellDone KeySound column self.old slots.old self.new slots.new }
         ensures counted { self.new.stats ≡ counted_in self.old columns column KeySound }
@@ -168,54 +207,100 @@ impl Run {
         self.count(columns, column, Cell::KeySound);
     }
 
-    /// Any cell, by its byte. It stays a call of its own: written into its loop, each count would go through a register for the whole row.
+    // A digit. Which one is told by comparisons alone: a match over four bytes or more becomes a table, which costs each cell more.
+    #[inline(always)]
+    fn walk_digit(&mut self, columns: usize, column: usize, b: u8, slots: &mut [u8])
+        requires fits { CellFits self.old column slots.old }
+        requires digit { b < 53 }
+        ensures walked { CellDone (cell_of b) column
+            self.old slots.old self.new slots.new }
+        ensures counted { self.new.stats ≡ counted_in self.old columns column (cell_of b) }
+    {
+        if b < b'3' {
+            match b {
+                b'1' => {
+                    self.tap(column, slots);
+                    self.count(columns, column, Cell::Tap);
+                }
+                b'2' => {
+                    self.open(column, Kind::Hold, slots);
+                    self.count(columns, column, Cell::Hold);
+                }
+                _ => {}
+            }
+        } else if b == b'3' {
+            self.close(column, slots);
+            self.count(columns, column, Cell::Tail);
+        } else {
+            self.open(column, Kind::Roll, slots);
+            self.count(columns, column, Cell::Roll);
+        }
+    }
+
+    // A letter that is no M and no K.
     #[inline(never)]
+    fn walk_rare(&mut self, columns: usize, column: usize, b: u8, slots: &mut [u8])
+        requires fits { CellFits self.old column slots.old }
+        requires letter { 52 < b }
+        requires no_mine { b ≡ 77 → ⊥ }
+        requires no_keysound { b ≡ 75 → ⊥ }
+        ensures walked { CellDone (cell_of b) column
+            self.old slots.old self.new slots.new }
+        ensures counted { self.new.stats ≡ counted_in self.old columns column (cell_of b) }
+    {
+        match b {
+            b'L' => {
+                self.block(column, Kind::Lift, slots);
+                self.count(columns, column, Cell::Lift);
+            }
+            b'F' => {
+                self.block(column, Kind::Fake, slots);
+                self.count(columns, column, Cell::Fake);
+            }
+            b'm' => {
+                self.lower(column, Kind::Mine, slots);
+                self.count(columns, column, Cell::LowerMine);
+            }
+            b'l' => {
+                self.lower(column, Kind::Lift, slots);
+                self.count(columns, column, Cell::LowerLift);
+            }
+            b'f' => {
+                self.lower(column, Kind::Fake, slots);
+                self.count(columns, column, Cell::LowerFake);
+            }
+            _ => {}
+        }
+    }
+
+    // A letter.
+    #[inline(always)]
+    fn walk_letter(&mut self, columns: usize, column: usize, b: u8, slots: &mut [u8])
+        requires fits { CellFits self.old column slots.old }
+        requires letter { 52 < b }
+        ensures walked { CellDone (cell_of b) column
+            self.old slots.old self.new slots.new }
+        ensures counted { self.new.stats ≡ counted_in self.old columns column (cell_of b) }
+    {
+        match b {
+            b'M' => self.walk_mine(columns, column, slots),
+            b'K' => self.walk_keysound(columns, column, slots),
+            _ => self.walk_rare(columns, column, b, slots),
+        }
+    }
+
+    /// Any cell, by its byte.
+    #[inline(always)]
     pub fn walk_cell(&mut self, columns: usize, column: usize, b: u8, slots: &mut [u8])
         requires { CellFits self.old column slots.old }
         ensures walked { CellDone (cell_of b) column
             self.old slots.old self.new slots.new }
         ensures counted { self.new.stats ≡ counted_in self.old columns column (cell_of b) }
     {
-        match cells::cell_of(b) {
-            Cell::Tap => {
-                self.block(column, Kind::Tap, slots);
-                self.count(columns, column, Cell::Tap);
-            }
-            Cell::Hold => {
-                self.open(column, Kind::Hold, slots);
-                self.count(columns, column, Cell::Hold);
-            }
-            Cell::Tail => {
-                self.close(column, slots);
-                self.count(columns, column, Cell::Tail);
-            }
-            Cell::Roll => {
-                self.open(column, Kind::Roll, slots);
-                self.count(columns, column, Cell::Roll);
-            }
-            Cell::Mine => self.walk_mine(columns, column, slots),
-            Cell::Lift => {
-                self.block(column, Kind::Lift, slots);
-                self.count(columns, column, Cell::Lift);
-            }
-            Cell::Fake => {
-                self.block(column, Kind::Fake, slots);
-                self.count(columns, column, Cell::Fake);
-            }
-            Cell::KeySound => self.walk_keysound(columns, column, slots),
-            Cell::LowerMine => {
-                self.lower(column, Kind::Mine, slots);
-                self.count(columns, column, Cell::LowerMine);
-            }
-            Cell::LowerLift => {
-                self.lower(column, Kind::Lift, slots);
-                self.count(columns, column, Cell::LowerLift);
-            }
-            Cell::LowerFake => {
-                self.lower(column, Kind::Fake, slots);
-                self.count(columns, column, Cell::LowerFake);
-            }
-            Cell::Empty => {}
+        if b < b'5' {
+            self.walk_digit(columns, column, b, slots);
+        } else {
+            self.walk_letter(columns, column, b, slots);
         }
     }
 

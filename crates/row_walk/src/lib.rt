@@ -4,53 +4,84 @@
 pub mod cell_walk;
 pub mod columns;
 
-ghost use Rattle.std.specs.Prelude.{◌≡◌, ◌<◌, length, slice_index};
-ghost use Rattle.definitions.specs.Cells.{cell_of};
-ghost use Rattle.row_walk.specs.Cells.{CellFits, ByteWalked, counted_in};
-ghost use Rattle.row_walk.specs.Rows.{CellsReady, RowWalked};
+ghost use Rattle.std.specs.Prelude.{◌-◌, ◌≤◌, ◌<◌, length};
+ghost use Rattle.row_walk.specs.Cells.{CellFits};
+ghost use Rattle.row_walk.specs.Rows.{CellsReady, ColumnWalked, ColumnsWalked, Reached, RowWalked};
 
 use crate::cell_walk::Run;
 
-// The cell in a column. Most bytes of a chart are `0`, which changes nothing. The three tests are as many as are made one after the other; a fourth
-// would make a table of them, which costs each cell more.
+// The cell in a column. Most bytes of a chart are `0`, which changes nothing.
 #[inline(always)]
 fn walk_column(run: &mut Run, row: &[u8], column: usize, slots: &mut [u8])
     requires inside { column < length row.now }
     requires fits { CellFits run.old column slots.old }
-    ensures walked { ByteWalked (slice_index row.now column) column
-        run.old slots.old run.new slots.new }
-    ensures counted { run.new.stats ≡ counted_in run.old (length row.now) column
-        (cell_of (slice_index row.now column)) }
+    ensures { ColumnWalked row.now column run.old slots.old run.new slots.new }
 {
     let b = row[column];
-    match b {
-        b'0' => {}
-        b'M' => run.walk_mine(row.len(), column, slots),
-        b'K' => run.walk_keysound(row.len(), column, slots),
-        _ => run.walk_cell(row.len(), column, b, slots),
+    if b == b'0' {
+        return;
     }
+    run.walk_cell(row.len(), column, b, slots);
 }
 
-/// One row by its cells, four in a turn of the loop, which costs less than one.
+// The cells of the first four columns. Cells are written one by one, which costs less than a loop.
+#[inline(always)]
+fn walk_four(run: &mut Run, row: &[u8], slots: &mut [u8])
+    requires ready { CellsReady row.now run.old slots.old }
+    requires wide { 4 ≤ length row.now }
+    ensures { ColumnsWalked row.now 0 4 run.old slots.old run.new slots.new }
+{
+    walk_column(run, row, 0, slots);
+    walk_column(run, row, 1, slots);
+    walk_column(run, row, 2, slots);
+    walk_column(run, row, 3, slots);
+}
+
+// The cells of a row from its fifth on.
+#[inline(always)]
+fn walk_rest(run: &mut Run, row: &[u8], slots: &mut [u8])
+    requires reached { Reached row.now 4 run.old slots.old }
+    requires wide { 4 ≤ length row.now }
+    ensures { ColumnsWalked row.now 4 (length row.now - 4)
+        run.old slots.old run.new slots.new }
+{
+    if row.len() == 4 {
+        return;
+    }
+    walk_column(run, row, 4, slots);
+    if row.len() == 5 {
+        return;
+    }
+    walk_column(run, row, 5, slots);
+    if row.len() == 6 {
+        return;
+    }
+    walk_column(run, row, 6, slots);
+    if row.len() == 7 {
+        return;
+    }
+    walk_column(run, row, 7, slots);
+    if row.len() == 8 {
+        return;
+    }
+    walk_column(run, row, 8, slots);
+    if row.len() == 9 {
+        return;
+    }
+    walk_column(run, row, 9, slots);
+}
+
+/// One row by its cells.
 #[inline(always)]
 pub fn walk_cells(run: &mut Run, row: &[u8], slots: &mut [u8])
-    requires { CellsReady row.now run.old slots.old }
+    requires ready { CellsReady row.now run.old slots.old }
+    requires wide { 4 ≤ length row.now }
     ensures { RowWalked row.now run.old slots.old run.new slots.new }
 {
     let arrows = run.stats.total_arrows;
     let heads = run.columns.phantoms.heads;
     let tails = run.columns.phantoms.tails;
-    let mut i = 0;
-    while i + 4 <= row.len() {
-        walk_column(run, row, i, slots);
-        walk_column(run, row, i + 1, slots);
-        walk_column(run, row, i + 2, slots);
-        walk_column(run, row, i + 3, slots);
-        i += 4;
-    }
-    while i < row.len() {
-        walk_column(run, row, i, slots);
-        i += 1;
-    }
+    walk_four(run, row, slots);
+    walk_rest(run, row, slots);
     run.end_row(arrows, heads, tails);
 }

@@ -3,6 +3,6 @@ use Rattle.definitions.specs.Cells.{cell_of}
 use Rattle.measure_tally.proofs.Cells.{cell-empty}
 use Rattle.measure_tally.proofs.Counting.count_column.Goals as goal
 
-pub returns-else-b-ne48 : goal.returns-else-b-ne48
+pub returns-then-b-eq48 : goal.returns-then-b-eq48
 unfolding cell_of
-returns-else-b-ne48 c = cell-empty _ _ _ _ (rw c.if-b-ne48.false)
+returns-then-b-eq48 c = cell-empty _ _ _ _ (rw c.if-b-eq48.true)

@@ -1,9 +1,9 @@
--- `cell_walk::Run::open` meets its contract.
+-- `cell_walk::Run::open_busy` meets its contract.
 use mathlib.Core.Path.{refl, ap, ◌∙◌}
 use native.Mathlib.Numerals.{add-one}
 use lib.ListN.{set}
 use Rattle.row_notes.proofs.Steps.{step-head}
-use Rattle.row_walk.proofs.cell_walk.Run.open.Goals as goal
+use Rattle.row_walk.proofs.cell_walk.Run.open_busy.Goals as goal
 
 pub returns-clause-walked : goal.returns-clause-walked
 returns-clause-walked c =
