@@ -39,9 +39,9 @@ impl Tracker {
         }
     }
 
-    // A head on its column's stack. A ninth is not pushed.
+    /// A head, by its row or another number, on its column's stack. A ninth is not pushed.
     #[inline(always)]
-    fn push(&mut self, row: u32, column: usize)
+    pub fn push(&mut self, row: u32, column: usize)
         requires { TrackReady column self.old }
         ensures { TrackStepped DepthEffect.Opens row column self.old self.new [] }
     {
@@ -54,9 +54,9 @@ impl Tracker {
         }
     }
 
-    // The stack of a column is emptied.
+    /// The stack of a column is emptied.
     #[inline(always)]
-    fn clear(&mut self, column: usize)
+    pub fn clear(&mut self, column: usize)
         requires { TrackReady column self.old }
         ensures { (row : ℕ) → TrackStepped DepthEffect.Blocks row column self.old self.new [] }
     {
@@ -64,9 +64,9 @@ impl Tracker {
         self.busy = taps::without_column(self.busy, column);
     }
 
-    // The newest head off its column's stack.
+    /// The newest head off its column's stack.
     #[inline(always)]
-    fn pop(&mut self, column: usize) -> Option<u32>
+    pub fn pop(&mut self, column: usize) -> Option<u32>
         requires { TrackReady column self.old }
         ensures { (row : ℕ)
             → TrackStepped DepthEffect.Closes row column self.old self.new (ended_at row result) }

@@ -1,0 +1,1 @@
+-- Laws of the paired tally, by topic.

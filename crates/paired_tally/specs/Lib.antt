@@ -1,0 +1,4 @@
+-- What the contracts of the paired tally cite, beside the definitions.
+pub mod Entry
+pub mod Paired
+pub mod Cells
