@@ -84,7 +84,7 @@ one-pair true h t i l =
     ]
 
 -- the pairs whose head is at row i, and of these the judged ones
-abbrev heads_in : ℕ → List Pair → ℕ
+abbrev pub heads_in : ℕ → List Pair → ℕ
 heads_in i ps = count_by (λ (p : Pair). eqb p.head i) ps
 
 abbrev judged_in : (ℕ → Bool) → ℕ → List Pair → ℕ
@@ -140,12 +140,12 @@ once-from c (r ∷ rs) i k st =
     let e = from-here i k in
     omega arith
 
-once : (rows : List Row) (c k : ℕ) → heads_in k (pairs rows c) ≤ 1
+pub once : (rows : List Row) (c k : ℕ) → heads_in k (pairs rows c) ≤ 1
 unfolding pairs
 once rows c k = let a = once-from c rows 0 k [] in let b = one-le (leb 0 k) in omega arith
 
 -- so row i is a head as often as it is one
-head-count : (i : ℕ) (ps : List Pair) → heads_in i ps ≤ 1 → heads_in i ps ≡ number_of_bool (is_head_of i ps)
+pub head-count : (i : ℕ) (ps : List Pair) → heads_in i ps ≤ 1 → heads_in i ps ≡ number_of_bool (is_head_of i ps)
 head-count i [] h = refl
 head-count i (p ∷ ps) h = go (equal-turned p.head i) (eqb i p.head) refl (head-count i ps (omega (arith, more)))
   where

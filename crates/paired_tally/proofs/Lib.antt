@@ -1,1 +1,7 @@
 -- Laws of the paired tally, by topic.
+pub mod Numbers
+pub mod Sums
+pub mod Keep
+pub mod Counts
+pub mod Columns
+pub mod Step
