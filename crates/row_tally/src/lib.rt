@@ -168,13 +168,16 @@ pub fn count_fakes(stats: &mut ArrowStats, fakes: u32)
     end_judged_row(stats, false, 0, fakes, 0);
 }
 
-/// One row of taps alone more. It is written into its loops, since a sum that is handed over costs them a tenth.
+/// One row of taps alone more; one without a tap changes nothing. It is written into its loops, since a sum that is handed over costs them a tenth.
 #[inline(always)]
 pub fn count_taps(stats: &mut ArrowStats, mask: u16, table: &TapTable)
     requires mask_known { mask < masks table.now.wide }
     requires few { Below count_bound stats.old }
     ensures { TapsCounted mask stats.old stats.new }
 {
+    if mask == 0 {
+        return;
+    }
     add_row_into(stats, table.sum(mask));
 }
 
@@ -185,6 +188,10 @@ pub fn judge_taps(stats: &mut ArrowStats, judged: bool, held: u32, mask: u16, ta
     requires held_few { held ≤ count_bound }
     ensures { TapsJudged judged held mask stats.old stats.new }
 {
+    if mask == 0 {
+        count_fakes(stats, 0);
+        return;
+    }
     let s = table.sum(mask);
     if judged {
         add_cells(stats, s);
