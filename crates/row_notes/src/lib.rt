@@ -122,12 +122,15 @@ fn low_bit(mask: u32) -> LowBit
     }
 }
 
-/// The records of a row of taps alone in columns without an open head, by its mask, and the number of records with them. One record is written
-/// whatever the mask is, and more only where it has more taps, so that most rows branch on none of theirs.
+/// The records of a row of taps alone in columns without an open head, by its mask, and the number of records with them. A row without a tap has
+/// none, and most others have one, which is written before the loop.
 pub fn push_mask(row: u32, number: usize, mask: u16, notes: &mut [u8]) -> usize
     requires { MaskReady row number mask notes.old }
     ensures { MaskWritten row number mask notes.old result notes.new }
 {
+    if mask == 0 {
+        return number;
+    }
     let one = low_bit(u32::from(mask));
     let mut count = push_tap(row, number, one.column, one.tap, notes);
     let mut left = one.rest;

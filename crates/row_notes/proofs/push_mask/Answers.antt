@@ -1,9 +1,11 @@
 -- Each record that is written takes the lowest bit off the mask: there is room for it, and the drafts are those of the cells up to that bit.
 -- When no bit is left the other cells are `0`s, which make no note.
 use Rattle.std.proofs.Common.{arith}
-use Rattle.definitions.proofs.Lists.{one-le}
 use Rattle.row_notes.proofs.Masks.{mask-small, mask_start, mask_next, mask-few, mask-early, mask-late, mask_end}
 use Rattle.row_notes.proofs.push_mask.Goals as goal
+
+pub returns-then-mask-eq0 : goal.returns-then-mask-eq0
+returns-then-mask-eq0 c s cells F = mask_end _ _ _ _ s cells F _ _ _ (mask_start _ _ _ _ s cells F) c.if-mask-eq0.true
 
 pub low_bit-one-requires : goal.low_bit-one-requires
 low_bit-one-requires c = rw c.from.ensures (mask-small _ _ _ _ _ _ c.requires.fits)
