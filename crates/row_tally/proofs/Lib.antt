@@ -6,6 +6,7 @@ pub mod Loops
 pub mod Masked
 pub mod Raised
 pub mod Before
+pub mod Ends
 pub mod Cells
 pub mod Heads
 pub mod Rows
