@@ -5,3 +5,5 @@ pub mod Keep
 pub mod Counts
 pub mod Columns
 pub mod Step
+pub mod RowEnds
+pub mod Reading

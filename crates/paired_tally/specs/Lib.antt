@@ -2,3 +2,4 @@
 pub mod Entry
 pub mod Paired
 pub mod Cells
+pub mod Ends

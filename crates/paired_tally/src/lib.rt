@@ -2,6 +2,7 @@
 // the row's entry of the lent work slice, over which a second loop goes.
 #![tactic(auto)]
 
+pub mod ends;
 pub mod entry;
 
 ghost use Rattle.std.specs.Prelude.{◌≡◌, Bool, true, false, [], ℕ, List, ◌<◌, length, slice_index};

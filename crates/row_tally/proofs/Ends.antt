@@ -10,9 +10,9 @@ use lib.Dec.{leb}
 use lib.ListN.{length}
 use Rattle.definitions.specs.Lines.{Row}
 use Rattle.definitions.specs.Tracker.{Pair}
-use Rattle.definitions.specs.Tally.{row_sum, tally_with_row, tally_from}
-use Rattle.definitions.specs.Correction.{keep_row, keep_from}
-use Rattle.definitions.specs.Judged.{judged_sum, judge_row, open_before, judge_from}
+use Rattle.definitions.specs.Tally.{row_sum, tally_with_row}
+use Rattle.definitions.specs.Correction.{keep_row}
+use Rattle.definitions.specs.Judged.{judged_sum, judge_row}
 use Rattle.definitions.specs.declared.RowSum.{RowSum}
 use Rattle.definitions.specs.declared.ArrowStats.{ArrowStats}
 use Rattle.definitions.proofs.Lists.{one-le}
@@ -77,20 +77,17 @@ module _ (ps : ℕ → List Pair) where
       plain-early plain_sum (with_cells t (plain_sum i r)) (suc i) rows arrows heads tails
       ∙ ap (λ u. cells_from plain_sum u (suc i) rows) (rw (a, h, l) (whole-row t (plain_sum i r)))
 
-  module _ (L : ℕ) (J : ℕ → Bool) where
-    -- ---- A judged tally, where J says which rows are judged
+  -- ---- A judged tally, where J says which rows are judged
+  module _ (J : ℕ → Bool) where
     abbrev pub judged_sum_at : ℕ → Row → RowSum
     judged_sum_at i r = judged_sum (J i) (keep_row ps i 0 r)
 
-    pub judged-next : (t : ArrowStats) (i : ℕ) (r : Row) (rows : List Row) (judged : Bool) (arrows others held : ℕ)
-        → judged ≡ J i → arrows ≡ (judged_sum_at i r).arrows → leb 1 others ≡ leb 1 ((judged_sum_at i r).mines + (judged_sum_at i r).fakes) → held ≡ open_before L J ps i
-        → judged_row_end (cells_from judged_sum_at t i (r ∷ rows)) judged arrows others held
-        ≡ cells_from judged_sum_at (judge_row t (J i) (open_before L J ps i) (judged_sum_at i r)) (suc i) rows
-    judged-next t i r rows judged arrows others held j a o h =
-        judged-early judged_sum_at (with_cells t (judged_sum_at i r)) (suc i) rows judged arrows others held
-        ∙ ap (λ u. cells_from judged_sum_at u (suc i) rows)
-        (others-told (with_cells t (judged_sum_at i r)) judged arrows others ((judged_sum_at i r).mines + (judged_sum_at i r).fakes) held o
-        ∙ rw (j, a, h) (whole-judged t (J i) (open_before L J ps i) (judged_sum_at i r)))
+    pub judged-next : (t : ArrowStats) (i : ℕ) (r : Row) (rows : List Row) (held : ℕ)
+        → judged_row_end (cells_from judged_sum_at t i (r ∷ rows)) (J i) (judged_sum_at i r).arrows ((judged_sum_at i r).mines + (judged_sum_at i r).fakes) held
+        ≡ cells_from judged_sum_at (judge_row t (J i) held (judged_sum_at i r)) (suc i) rows
+    judged-next t i r rows held =
+        judged-early judged_sum_at (with_cells t (judged_sum_at i r)) (suc i) rows (J i) _ _ held
+        ∙ ap (λ u. cells_from judged_sum_at u (suc i) rows) (whole-judged t (J i) held (judged_sum_at i r))
 
 -- ---- How large what the ends go by is: ten more at most with each row
 module _ (k : ℕ) (t : ArrowStats) (b : EndsBelow k t) where
