@@ -20,7 +20,7 @@ use Rattle.taps.proofs.Masks.{row_of, mask-row, line-taps, tap-line-sum}
 use Rattle.taps.proofs.Free.{tap-cell}
 use Rattle.row_tally.specs.Bounds.{Under}
 use Rattle.row_tally.proofs.Bounds.{under-row}
-use Rattle.row_tally.proofs.Masked.{unjudged}
+use Rattle.row_tally.proofs.Kept.{unjudged}
 
 -- the counts of a mask are those of a row of ten cells
 pub mask_under : (m : ℕ) → m < 1024 → Under 10 (unpack (mask_counts m))

@@ -1,7 +1,5 @@
-// Tallies that are raised cell by cell: the tally with one row more, and the same of rows with only paired heads and of judged rows.
+// Tallies that are raised cell by cell: the tally with one row more, and the same of judged rows.
 #![tactic(auto)]
-
-pub mod paired;
 
 ghost use Rattle.std.specs.Prelude.{◌≡◌, ℕ, true, false, ◌+◌, ◌-◌, ◌≤◌, ◌<◌};
 ghost use Rattle.definitions.specs.Sizes.{count_bound};
