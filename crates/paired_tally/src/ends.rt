@@ -21,13 +21,15 @@ pub fn end_rows(counted: &PairedTally, work: &[u16], rows: usize) -> ArrowStats
 {
     let mut stats = counted.stats;
     for i in 0..rows {
-        let entry = work[i];
-        row_tally::end_row(&mut stats, entry::arrows(entry), entry::heads(entry), entry::ends(entry));
+        let arrows = entry::arrows(work[i]);
+        let heads = entry::heads(work[i]);
+        let tails = entry::ends(work[i]);
+        row_tally::end_row(&mut stats, arrows, heads, tails);
     }
     stats
 }
 
-/// The judged tally of rows, once their ends are told too.
+/// The judged tally of rows, once their ends are told too. By its entry an unjudged row has no arrow, mine or fake, so that it ends as a judged one would.
 pub fn end_judged_rows(counted: &PairedTally, work: &[u16], rows: usize) -> ArrowStats
     requires entries_room { rows ≤ length work.now }
     requires rows_few { rows < row_numbers_bound }
@@ -38,10 +40,11 @@ pub fn end_judged_rows(counted: &PairedTally, work: &[u16], rows: usize) -> Arro
     let mut stats = counted.stats;
     let mut active = 0;
     for i in 0..rows {
-        let entry = work[i];
-        row_tally::end_judged_row(&mut stats, true, entry::arrows(entry), entry::others(entry), active);
-        active += entry::heads(entry);
-        active -= entry::ends(entry);
+        let arrows = entry::arrows(work[i]);
+        let others = entry::others(work[i]);
+        row_tally::end_judged_row(&mut stats, true, arrows, others, active);
+        active += entry::heads(work[i]);
+        active -= entry::ends(work[i]);
     }
     stats
 }

@@ -22,8 +22,8 @@ end_judged_row-requires c =
     let e = c.loop-i.invariant _ _ _ x.size c.requires.reached.narrow x.paired in
     record {
       few = omega (arith, e.low, c.requires.rows_few, c.loop-i-test.true);
-      arrows_few = omega (arith, few, c.arrows.ensures);
-      others_few = omega (arith, c.others.ensures);
+      arrows_few = omega (arith, few, c.arrows-arrows.ensures);
+      others_few = omega (arith, c.others-others.ensures);
       held_few = omega (arith, held-few _ _ _ _ _ x.paired _ here c.requires.reached.narrow _ _ e, c.requires.rows_few, c.loop-i-test.true);
     }
 
@@ -45,7 +45,7 @@ pub loop-i-preserved : goal.loop-i-preserved
 loop-i-preserved c = λ J L all n m x.
     let here : c.loop-i.i < length all = omega (arith, n, c.loop-i-test.true) in
     let e = c.loop-i.invariant _ _ _ n m x in
-    judged-ending _ _ _ _ _ x _ here m _ _ e _ _ (rw (c.arrows.ensures, c.others.ensures) at c.end_judged_row.ensures)
+    judged-ending _ _ _ _ _ x _ here m _ _ e _ _ (rw (c.arrows-arrows.ensures, c.others-others.ensures) at c.end_judged_row.ensures)
     (omega (arith, c.heads-active.ensures, c.ends-active.ensures, ends-open _ _ _ _ _ x _ here m _ _ e))
 
 pub returns : goal.returns

@@ -18,13 +18,13 @@ end_row-requires c =
     let low = (c.loop-i.invariant _ _ _ x.size c.requires.reached.narrow x.paired).low in
     record {
       few = omega (arith, low, c.requires.rows_few, c.loop-i-test.true);
-      arrows_few = omega (arith, few.0, c.arrows.ensures);
-      heads_few = omega (arith, few.1, c.heads.ensures);
+      arrows_few = omega (arith, few.0, c.arrows-arrows.ensures);
+      heads_few = omega (arith, few.1, c.heads-heads.ensures);
     }
 
 pub loop-i-preserved : goal.loop-i-preserved
 loop-i-preserved c = λ J L all n m x.
-    ending-next _ _ _ _ _ x _ (omega (arith, n, c.loop-i-test.true)) m _ _ (c.loop-i.invariant _ _ _ n m x) (rw (c.arrows.ensures, c.heads.ensures, c.ends.ensures) at c.end_row.ensures)
+    ending-next _ _ _ _ _ x _ (omega (arith, n, c.loop-i-test.true)) m _ _ (c.loop-i.invariant _ _ _ n m x) (rw (c.arrows-arrows.ensures, c.heads-heads.ensures, c.ends-tails.ensures) at c.end_row.ensures)
 
 pub returns : goal.returns
 returns c = λ J L all n m x. ending-end _ _ _ (omega (arith, n, c.loop-i-test.false)) (c.loop-i.invariant _ _ _ n m x)
