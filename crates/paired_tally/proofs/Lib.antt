@@ -7,3 +7,5 @@ pub mod Columns
 pub mod Step
 pub mod RowEnds
 pub mod Reading
+pub mod TapRows
+pub mod FreeRows

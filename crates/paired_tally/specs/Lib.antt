@@ -3,3 +3,4 @@ pub mod Entry
 pub mod Paired
 pub mod Cells
 pub mod Ends
+pub mod Free

@@ -4,6 +4,7 @@
 
 pub mod ends;
 pub mod entry;
+mod free;
 
 ghost use Rattle.std.specs.Prelude.{◌≡◌, Bool, true, false, [], ℕ, List, ◌<◌, length, slice_index};
 ghost use Rattle.definitions.specs.Sizes.{row_numbers_bound};
