@@ -5,3 +5,8 @@ pub mod Keep
 pub mod Counts
 pub mod Columns
 pub mod Step
+pub mod Bounds
+pub mod Entries
+pub mod Heads
+pub mod Within
+pub mod Rows
