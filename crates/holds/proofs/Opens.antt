@@ -119,7 +119,7 @@ next-times Opens k i st = omega (arith, push-times (ltb (length st) 8) k i st)
 next-times Closes k i [] = omega arith
 next-times Closes k i (h ∷ st) = omega (arith, count-cons (λ h. eqb h k) h st, count-cons (λ (p : Pair). eqb p.head k) (record { head = h; tail = i }) [])
 
-from-here : (i k : ℕ) → number_of_bool (eqb i k) + number_of_bool (leb (suc i) k) ≡ number_of_bool (leb i k)
+pub from-here : (i k : ℕ) → number_of_bool (eqb i k) + number_of_bool (leb (suc i) k) ≡ number_of_bool (leb i k)
 from-here i k =
     elim (dec_lt i k) [
       | yes a ↦ simp (ne_eqb i k (λ e. omega arith), le-leb (suc i) k (omega arith), le-leb i k (omega arith))

@@ -27,7 +27,7 @@ use Rattle.row_tally.specs.Raised.{with_cells}
 use Rattle.row_tally.proofs.Kept.{keep-whole}
 use Rattle.paired_tally.specs.Entry.{entry_of}
 use Rattle.paired_tally.specs.Free.{FreeCounted}
-use Rattle.paired_tally.specs.Paired.{kind_sum, sum_at, head_number, numbers_after, counts_from, PairedRows}
+use Rattle.paired_tally.specs.Paired.{kind_sum, sum_at, head_number, numbers_after, counts_from, PairedRows, RowCounted}
 use Rattle.paired_tally.specs.declared.PairedTally.{PairedTally}
 use Rattle.paired_tally.proofs.Counts.{counts-snoc, counts-same}
 use Rattle.paired_tally.proofs.Keep.{Same, keep-same}
@@ -114,3 +114,9 @@ module _ (plain : Bool) (J : ℕ → Bool) (rows : List Row) (cells : Row) (t t'
         entries = entry-at;
         later = λ i h. rw q.entry (get_or-set_other work n i (entry_of plain (J n) (kind_sum plain (J n) cells) 0) 0 (λ e. omega (arith, long)) ∙ s.later i (omega (arith, long)));
       }
+
+pub free-counted : (plain judged : Bool) (row : ℕ) (cells : Row) (t t' : PairedTally) (work work' : List ℕ) (m : ℕ) → FreeTaps t.tracker.busy m cells
+    → FreeCounted plain judged row cells t work t' work' → row < length work → RowCounted plain judged row cells t work t' work'
+free-counted plain judged row cells t t' work work' m f q room J rows e j s =
+    let q' : FreeCounted plain (J (length rows)) (length rows) cells t work t' work' = rw (e, j) q in
+    free_row plain J rows cells t t' work work' m s f q' (omega (arith, e))

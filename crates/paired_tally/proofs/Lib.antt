@@ -9,3 +9,8 @@ pub mod RowEnds
 pub mod Reading
 pub mod TapRows
 pub mod FreeRows
+pub mod Bounds
+pub mod Entries
+pub mod Heads
+pub mod Within
+pub mod Rows

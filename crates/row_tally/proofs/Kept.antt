@@ -1,6 +1,6 @@
 -- A row of which all heads count, and what a row adds up to where it is not judged.
-use mathlib.Core.Path.{◌≡◌, refl, ap, ap₂, sym}
-use mathlib.Core.Bool.{Bool, true, false}
+use mathlib.Core.Path.{◌≡◌, refl, ap, ap₂, sym, ◌∙◌}
+use mathlib.Core.Bool.{Bool, true, false, cond}
 use mathlib.Core.List.{List, [], ◌∷◌}
 use Prim.Native.Nat.{ℕ, suc, ◌+◌, ◌<◌}
 use native.Mathlib.Omega.{arith}
@@ -10,10 +10,10 @@ use Rattle.std.specs.List.{count_by}
 use Rattle.definitions.specs.Lists.{number_of_bool}
 use Rattle.definitions.proofs.Lists.{count-cons}
 use Rattle.definitions.specs.Lines.{Row}
-use Rattle.definitions.specs.Cells.{cell_of, byte_at, mine, fake}
+use Rattle.definitions.specs.Cells.{cell_of, byte_at, hold_effect, mine, fake}
 use Rattle.definitions.specs.Tracker.{Pair, is_head_of, hold_at}
 use Rattle.definitions.specs.Tally.{counted_as, place, count_from, counted, row_sum_by}
-use Rattle.definitions.specs.Correction.{head_if_paired, keep_row}
+use Rattle.definitions.specs.Correction.{head_if_paired, is_opening, keep_row}
 use Rattle.definitions.specs.Judged.{is_judged_arrow, is_unjudged_fake, sum_of_fakes, judged_sum}
 use Rattle.definitions.specs.declared.DepthEffect.{DepthEffect}
 use Rattle.definitions.specs.declared.DepthEffect.TheVariants.{Nothing, Blocks, Opens, Closes}
@@ -72,3 +72,19 @@ fake-from c (b ∷ r) =
 pub unjudged : (r : Row) → sum_of_fakes (sum_fakes (row_sum_by is_judged_arrow r)) ≡ judged_sum false r
 unfolding row_sum_by judged_sum
 unjudged r = ap sum_of_fakes (sym (fake-from 0 r))
+
+-- ---- The cell of a byte that is paired, if it is a head, or not
+zero-cell : cell_of 48 ≡ Empty
+unfolding cell_of
+zero-cell = refl
+
+kept-by : (p : Bool) (b : ℕ) (e : DepthEffect) → cell_of (head_if_paired e p b) ≡ cond (is_opening e) (cond p (cell_of b) Empty) (cell_of b)
+kept-by p b Nothing = refl
+kept-by p b Blocks = refl
+kept-by true b Opens = refl
+kept-by false b Opens = zero-cell
+kept-by p b Closes = refl
+
+pub kept_cell : (p : Bool) (b : ℕ) (x : Cell) → cell_of b ≡ x → cell_of (head_if_paired (hold_at b) p b) ≡ cond (is_opening (hold_effect x)) (cond p x Empty) x
+unfolding hold_at
+kept_cell p b x e = kept-by p b (hold_effect (cell_of b)) ∙ ap (λ y. cond (is_opening (hold_effect y)) (cond p y Empty) y) e
