@@ -10,3 +10,4 @@ pub mod Entries
 pub mod Heads
 pub mod Within
 pub mod Rows
+pub mod Begin

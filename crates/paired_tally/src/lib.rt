@@ -2,8 +2,8 @@
 // the row's entry of the lent work slice, over which a second loop goes.
 #![tactic(auto)]
 
-mod row_cells;
 pub mod entry;
+mod row_cells;
 
 ghost use Rattle.std.specs.Prelude.{◌≡◌, Bool, true, false, [], ℕ, List, ◌≤◌, ◌<◌, length, slice_index};
 ghost use Rattle.definitions.specs.Sizes.{count_bound, row_numbers_bound};
