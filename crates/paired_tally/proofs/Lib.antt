@@ -14,3 +14,4 @@ pub mod Entries
 pub mod Heads
 pub mod Within
 pub mod Rows
+pub mod Begin

@@ -169,13 +169,12 @@ unfolding stack_of
 no-depth t c z = rw z
 
 -- what a mask's row adds up to
-pub mask_sum : Bool → Bool → ℕ → RowSum
+abbrev pub mask_sum : Bool → Bool → ℕ → RowSum
 mask_sum true judged m = unpack (mask_counts m)
 mask_sum false true m = unpack (mask_counts m)
 mask_sum false false m = sum_of_fakes (unpack (mask_counts m)).arrows
 
 mask-kind : (plain judged : Bool) (busy m : ℕ) (r : Row) → FreeTaps busy m r → kind_sum plain judged r ≡ mask_sum plain judged m
-unfolding mask_sum
 mask-kind true judged busy m r f = tap-line-sum r m f.mask
 mask-kind false true busy m r f = sym (taps-judged r m f.mask)
 mask-kind false false busy m r f = sym (taps-unjudged r m f.mask)

@@ -286,7 +286,6 @@ module _ (plain judged : Bool) (row : ℕ) (cells : Row) (k : ℕ) (inside : k <
                 ∙ get_or-set_other (set work h (get_or work h 0 + 17)) row i (get_or work row 0 + 256) 0 (λ q. ne (q ∙ sym size))
                 ∙ get_or-set_other work h i (get_or work h 0 + 17) 0 nh
 
-
 module _ (judged : Bool) (row : ℕ) (cells : Row) (k : ℕ) (inside : k < length cells) (narrow : length cells ≤ 10) (t t' : PairedTally) (work work' : List ℕ) (room : row < length work)
     (v : ℕ)
     (tail : cell_of (get_or cells k 0) ≡ Tail)
