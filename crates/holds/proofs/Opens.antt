@@ -144,6 +144,37 @@ pub once : (rows : List Row) (c k : ℕ) → heads_in k (pairs rows c) ≤ 1
 unfolding pairs
 once rows c k = let a = once-from c rows 0 k [] in let b = one-le (leb 0 k) in omega arith
 
+-- ---- No row has two tails of a column
+ends-here : (J : ℕ → Bool) (k : ℕ) (e : DepthEffect) (i : ℕ) (st : List ℕ) → ends_in J k (paired e i st) ≤ number_of_bool (eqb i k)
+ends-here J k Nothing i st = omega arith
+ends-here J k Blocks i st = omega arith
+ends-here J k Opens i st = omega arith
+ends-here J k Closes i [] = omega arith
+ends-here J k Closes i (h ∷ st) = omega (arith, count-cons (λ (p : Pair). eqb p.tail k && J p.head) (record { head = h; tail = i }) [], both (eqb i k) (J h))
+  where
+    both : (a b : Bool) → number_of_bool (a && b) ≤ number_of_bool a
+    both true b = one-le b
+    both false b = omega arith
+
+ends-from : (J : ℕ → Bool) (c : ℕ) (rs : List Row) (i k : ℕ) (st : List ℕ) → ends_in J k (pairs_from c i st rs) ≤ number_of_bool (leb i k)
+ends-from J c [] i k st = omega arith
+ends-from J c (r ∷ rs) i k st =
+    let next = next_stack (hold_at (byte_at c r)) i st in
+    let a = count-append (λ (p : Pair). eqb p.tail k && J p.head) (paired (hold_at (byte_at c r)) i st) (pairs_from c (suc i) next rs) in
+    let b = ends-from J c rs (suc i) k next in
+    let d = ends-here J k (hold_at (byte_at c r)) i st in
+    let e = from-here i k in
+    omega arith
+
+ends-columns : (J : ℕ → Bool) (rows : List Row) (i n : ℕ) → sum_columns n (λ c. ends_in J i (pairs rows c)) ≤ n
+unfolding pairs
+ends-columns J rows i zero = omega arith
+ends-columns J rows i (suc n) = omega (arith, ends-columns J rows i n, ends-from J n rows 0 i [], one-le (leb 0 i))
+
+pub ends-few : (J : ℕ → Bool) (rows : List Row) (i : ℕ) → ends_at J rows i ≤ 10
+unfolding ends_at
+ends-few J rows i = ends-columns J rows i 10
+
 -- so row i is a head as often as it is one
 pub head-count : (i : ℕ) (ps : List Pair) → heads_in i ps ≤ 1 → heads_in i ps ≡ number_of_bool (is_head_of i ps)
 head-count i [] h = refl

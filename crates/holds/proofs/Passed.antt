@@ -35,11 +35,11 @@ module _ (busy c i : ℕ) (st : List ℕ) (z : bit c busy ≡ 0 → st ≡ []) w
   free-pairs (tap-there e f) = rw e
 
 -- The row leaves the tracker as it is: in no column does its cell, at whatever row, change the open heads or pair with one.
-record Leaves (t : Tracker) (cells : Row) : Type 0 where
-  stack : (c i : ℕ) → c < 10 → next_stack (hold_at (byte_at c cells)) i (stack_of t c) ≡ stack_of t c
-  pairs : (c i : ℕ) → c < 10 → paired (hold_at (byte_at c cells)) i (stack_of t c) ≡ []
+pub record Leaves (t : Tracker) (cells : Row) : Type 0 where
+  pub stack : (c i : ℕ) → c < 10 → next_stack (hold_at (byte_at c cells)) i (stack_of t c) ≡ stack_of t c
+  pub pairs : (c i : ℕ) → c < 10 → paired (hold_at (byte_at c cells)) i (stack_of t c) ≡ []
 
-free-leaves : (m : ℕ) (t : Tracker) (r : Row) → FreeTaps t.busy m r → FreeAre t.busy 0 t.depths → Leaves t r
+pub free-leaves : (m : ℕ) (t : Tracker) (r : Row) → FreeTaps t.busy m r → FreeAre t.busy 0 t.depths → Leaves t r
 free-leaves m t r f a =
     record {
       stack = λ c i h. free-stack t.busy c i _ (λ e. no-depth t c (a c h e)) (free-cell t.busy m r f c);

@@ -30,7 +30,8 @@ impl Tracker {
     /// The tracker before the first row.
     #[tactic(auto, unfolding(crate::specs::Stacks::stack_of))]
     pub fn new() -> Self
-        ensures { (c : ℕ) → c < 10 → stack_of result c ≡ [] }
+        ensures open_heads { (c : ℕ) → c < 10 → stack_of result c ≡ [] }
+        ensures sized { Sized result }
     {
         Tracker {
             heads: [0; 80],

@@ -5,6 +5,10 @@ pub mod Keep
 pub mod Counts
 pub mod Columns
 pub mod Step
+pub mod RowEnds
+pub mod Reading
+pub mod TapRows
+pub mod FreeRows
 pub mod Bounds
 pub mod Entries
 pub mod Heads

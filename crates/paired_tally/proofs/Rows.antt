@@ -31,7 +31,7 @@ use Rattle.holds.proofs.Pairs.{pairs-snoc}
 use Rattle.holds.proofs.Ends.{ends-late, ends-old, sum_same}
 use Rattle.holds.proofs.Passed.{free-keeps}
 use Rattle.row_tally.specs.Raised.{with_cells}
-use Rattle.row_tally.proofs.Masked.{keep-whole}
+use Rattle.row_tally.proofs.Kept.{keep-whole}
 use Rattle.row_tally.proofs.Raised.{cells-none}
 use Rattle.row_tally.proofs.Taps.{taps-judged, taps-unjudged}
 use Rattle.row_tally.proofs.Zeros.{zero-stays, zero-count, zero-sum}

@@ -33,7 +33,7 @@ use Rattle.holds.proofs.Stacks.{stack-length, step-nothing}
 use Rattle.row_tally.specs.Bounds.{Under, Below}
 use Rattle.row_tally.specs.Raised.{with_cells}
 use Rattle.row_tally.proofs.Bounds.{below_more}
-use Rattle.row_tally.proofs.Masked.{kept_cell}
+use Rattle.row_tally.proofs.Kept.{kept_cell}
 use Rattle.row_tally.proofs.Raised.{cells-none}
 use Rattle.paired_tally.specs.declared.PairedTally.{PairedTally}
 use Rattle.paired_tally.specs.Entry.{entry_of}

@@ -2,3 +2,5 @@
 pub mod Entry
 pub mod Paired
 pub mod Cells
+pub mod Ends
+pub mod Free

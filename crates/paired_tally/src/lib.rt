@@ -2,15 +2,13 @@
 // the row's entry of the lent work slice, over which a second loop goes.
 #![tactic(auto)]
 
+pub mod ends;
 pub mod entry;
+mod free;
 mod row_cells;
 
-ghost use Rattle.std.specs.Prelude.{◌≡◌, Bool, true, false, [], ℕ, List, ◌≤◌, ◌<◌, length, slice_index};
-ghost use Rattle.definitions.specs.Sizes.{count_bound, row_numbers_bound};
-ghost use Rattle.definitions.specs.Judged.{sum_of_fakes};
-ghost use Rattle.taps.specs.Taps.{masks, mask_counts, unpack};
-ghost use Rattle.row_tally.specs.Bounds.{Below};
-ghost use Rattle.row_tally.specs.Raised.{with_cells};
+ghost use Rattle.std.specs.Prelude.{◌≡◌, Bool, true, false, [], ℕ, List, ◌<◌, length, slice_index};
+ghost use Rattle.definitions.specs.Sizes.{row_numbers_bound};
 ghost use Rattle.paired_tally.specs.Paired.{PairedRows, LeftByRows, RowCounted};
 
 use definitions::ArrowStats;
@@ -45,9 +43,7 @@ impl PairedTally {
         ensures { RowCounted true false row cells.now self.old work.old self.new work.new }
     {
         match taps::free_taps(cells, self.tracker.busy) {
-            Taps::Mask(mask) => {
-                work[row as usize] = count_mask(&mut self.stats, mask, table);
-            }
+            Taps::Mask(mask) => self.add_free(row, mask, true, false, table, work),
             Taps::Other => self.count_plain(row, cells, work),
         }
     }
@@ -85,9 +81,7 @@ impl PairedTally {
         ensures { RowCounted false true row cells.now self.old work.old self.new work.new }
     {
         match taps::free_taps(cells, self.tracker.busy) {
-            Taps::Mask(mask) => {
-                work[row as usize] = 8192 + count_mask(&mut self.stats, mask, table);
-            }
+            Taps::Mask(mask) => self.add_free(row, mask, false, true, table, work),
             Taps::Other => self.count_judged(row, cells, work),
         }
     }
@@ -102,39 +96,8 @@ impl PairedTally {
         ensures { RowCounted false false row cells.now self.old work.old self.new work.new }
     {
         match taps::free_taps(cells, self.tracker.busy) {
-            Taps::Mask(mask) => count_mask_fakes(&mut self.stats, mask, table),
+            Taps::Mask(mask) => self.add_free(row, mask, false, false, table, work),
             Taps::Other => self.count_unjudged(row, cells, work),
         }
     }
-}
-
-// A row of taps alone counts by the table: its arrows.
-#[inline(always)]
-#[tactic(auto, unfolding(row_tally::specs::Raised::with_cells, taps::specs::Taps::unpack))]
-fn count_mask(stats: &mut ArrowStats, mask: u16, table: &TapTable) -> u16
-    requires mask_known { mask < masks table.now.wide }
-    requires few { Below count_bound stats.old }
-    ensures counted { stats.new ≡ with_cells stats.old (unpack (mask_counts mask)) }
-    ensures arrows { result ≡ (unpack (mask_counts mask)).arrows }
-    ensures arrows_few { result ≤ 10 }
-{
-    let s = table.sum(mask);
-    stats.total_arrows += s.arrows;
-    stats.left += s.left;
-    stats.down += s.down;
-    stats.up += s.up;
-    stats.right += s.right;
-    s.arrows as u16
-}
-
-// Each tap of an unjudged row is a fake.
-#[inline(always)]
-#[tactic(auto, unfolding(row_tally::specs::Raised::with_cells, taps::specs::Taps::unpack))]
-fn count_mask_fakes(stats: &mut ArrowStats, mask: u16, table: &TapTable)
-    requires mask_known { mask < masks table.now.wide }
-    requires few { Below count_bound stats.old }
-    ensures { stats.new ≡ with_cells stats.old
-        (sum_of_fakes (unpack (mask_counts mask)).arrows) }
-{
-    stats.fakes += table.sum(mask).arrows;
 }

@@ -122,17 +122,18 @@ fn low_bit(mask: u32) -> LowBit
     }
 }
 
-/// The records of a row of taps alone in columns without an open head, by its mask, and the number of records with them. Two records are
-/// written whatever the mask is, and more only where it has more taps, so that few rows branch on theirs.
+/// The records of a row of taps alone in columns without an open head, by its mask, and the number of records with them. A row without a tap has
+/// none, and most others have one, which is written before the loop.
 pub fn push_mask(row: u32, number: usize, mask: u16, notes: &mut [u8]) -> usize
     requires { MaskReady row number mask notes.old }
     ensures { MaskWritten row number mask notes.old result notes.new }
 {
+    if mask == 0 {
+        return number;
+    }
     let one = low_bit(u32::from(mask));
-    let first = push_tap(row, number, one.column, one.tap, notes);
-    let two = low_bit(one.rest);
-    let mut count = push_tap(row, first, two.column, two.tap, notes);
-    let mut left = two.rest;
+    let mut count = push_tap(row, number, one.column, one.tap, notes);
+    let mut left = one.rest;
     while left != 0 {
         let next = low_bit(left);
         count = push_tap(row, count, next.column, next.tap, notes);

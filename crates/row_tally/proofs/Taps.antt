@@ -3,15 +3,16 @@ use mathlib.Core.Path.{◌≡◌, refl, ap, ap₂, sym, ◌∙◌}
 use mathlib.Core.Bool.{Bool, true, false, ◌&&◌}
 use mathlib.Core.List.{[], ◌∷◌}
 use Prim.Native.Nat.{ℕ, zero, suc, ◌+◌, ◌/◌, ◌^◌, ◌<◌}
-use native.Mathlib.Nat.{mod-lt, add-zero}
+use native.Mathlib.Nat.{mod-lt, add-zero, sub-zero}
 use native.Mathlib.Omega.{arith}
 use lib.Dec.{eqb}
 use lib.ListN.{length}
 use Rattle.definitions.specs.Lists.{number_of_bool}
 use Rattle.definitions.specs.Lines.{Row}
 use Rattle.definitions.specs.Cells.{cell_of, byte_at, is_arrow}
-use Rattle.definitions.specs.Tally.{count_from, direction, row_sum_by, row_sum}
-use Rattle.definitions.specs.Judged.{is_judged_arrow, sum_of_fakes, judged_sum}
+use Rattle.definitions.specs.Tally.{count_from, direction, row_sum_by, row_sum, tally_with_row}
+use Rattle.definitions.specs.Judged.{is_judged_arrow, sum_of_fakes, judged_sum, judge_row}
+use Rattle.definitions.specs.declared.ArrowStats.{ArrowStats}
 use Rattle.definitions.specs.declared.Cell.{Cell}
 use Rattle.taps.specs.Taps.{mask_of_line, bit, mask_counts, unpack}
 use Rattle.taps.specs.declared.Taps.TheVariants.{Mask}
@@ -19,7 +20,7 @@ use Rattle.taps.proofs.Masks.{row_of, mask-row, line-taps, tap-line-sum}
 use Rattle.taps.proofs.Free.{tap-cell}
 use Rattle.row_tally.specs.Bounds.{Under}
 use Rattle.row_tally.proofs.Bounds.{under-row}
-use Rattle.row_tally.proofs.Masked.{unjudged}
+use Rattle.row_tally.proofs.Kept.{unjudged}
 
 -- the counts of a mask are those of a row of ten cells
 pub mask_under : (m : ℕ) → m < 1024 → Under 10 (unpack (mask_counts m))
@@ -59,6 +60,28 @@ module _ (r : Row) (m : ℕ) (e : mask_of_line r ≡ Mask m) where
   pub taps-unjudged : sum_of_fakes (unpack (mask_counts m)).arrows ≡ judged_sum false r
   unfolding judged_sum unpack
   taps-unjudged = ap sum_of_fakes (simp add-zero) ∙ ap (λ s. sum_of_fakes (s.arrows + s.mines + s.fakes)) taps-judged ∙ unjudged r
+
+  -- without a tap it changes nothing
+  module _ (z : m ≡ 0) where
+    no-taps : unpack (mask_counts m) ≡ sum_of_fakes 0
+    unfolding mask_counts unpack
+    no-taps = rw z
+
+    pub no-taps-row : row_sum r ≡ sum_of_fakes 0
+    no-taps-row = tap-line-sum r m e ∙ no-taps
+
+    pub no-taps-sum : (judged : Bool) → judged_sum judged r ≡ sum_of_fakes 0
+    no-taps-sum true = rw (← taps-judged, no-taps)
+    no-taps-sum false = rw (← taps-unjudged, no-taps)
+
+    pub no-taps-counted : (t : ArrowStats) → t ≡ tally_with_row t (row_sum r)
+    unfolding tally_with_row
+    no-taps-counted t = rw no-taps-row (simp (add-zero, sub-zero) refl)
+
+    pub no-taps-judged : (t : ArrowStats) (judged : Bool) (held : ℕ) → judge_row t false held (sum_of_fakes 0) ≡ judge_row t judged held (judged_sum judged r)
+    unfolding judge_row
+    no-taps-judged t true held = rw (no-taps-sum true)
+    no-taps-judged t false held = rw (no-taps-sum false)
 
   -- and it has no head
   pub taps-heads : (judged : Bool) → (judged_sum judged r).holds + (judged_sum judged r).rolls ≡ 0

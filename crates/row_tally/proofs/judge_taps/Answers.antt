@@ -5,7 +5,7 @@ use native.Mathlib.Omega.{arith}
 use Rattle.definitions.specs.Judged.{judge_row, sum_of_fakes}
 use Rattle.taps.proofs.Masks.{masks-few}
 use Rattle.row_tally.specs.Bounds.{Under}
-use Rattle.row_tally.proofs.Taps.{mask_under, taps-judged, taps-unjudged}
+use Rattle.row_tally.proofs.Taps.{mask_under, taps-judged, taps-unjudged, no-taps-judged}
 use Rattle.row_tally.proofs.Raised.{cells-ends, judged-row-ended}
 use Rattle.row_tally.proofs.judge_taps.Goals.{After-sum-s}
 use Rattle.row_tally.proofs.judge_taps.Goals as goal
@@ -29,8 +29,11 @@ end_judged_row-requires c =
       held_few = c.requires.held_few;
     }
 
-pub count_fakes-requires : goal.count_fakes-requires
-count_fakes-requires c = record { few = c.requires.few; fakes_few = omega (arith, under (goal.at.count_fakes-requires c).After-sum-s) }
+pub count_fakes-requires-else-judged : goal.count_fakes-requires-else-judged
+count_fakes-requires-else-judged c = record { few = c.requires.few; fakes_few = omega (arith, under (goal.at.count_fakes-requires-else-judged c).After-sum-s) }
+
+pub returns-then-mask-eq0 : goal.returns-then-mask-eq0
+returns-then-mask-eq0 c row e = c.count_fakes.ensures c.args.held ∙ no-taps-judged row _ e c.if-mask-eq0.true _ c.args.judged c.args.held
 
 pub returns-then-judged : goal.returns-then-judged
 returns-then-judged c row e =
@@ -41,5 +44,5 @@ returns-then-judged c row e =
 pub returns-else-judged : goal.returns-else-judged
 returns-else-judged c row e =
     rw c.if-judged.false
-    (c.count_fakes.ensures c.args.held
+    (c.count_fakes-else-judged.ensures c.args.held
     ∙ ap (judge_row c.args.stats.now false c.args.held) (ap (λ s. sum_of_fakes s.arrows) c.sum-s.ensures ∙ taps-unjudged row _ e))

@@ -1,23 +1,26 @@
--- `PairedTally::judge_judged` meets its contract: a row of taps by the table, and any other by its cells.
-use mathlib.Core.Path.{◌≡◌, refl, sym, ap, ◌∙◌}
-use mathlib.Core.Bool.{true, false}
-use native.Mathlib.Nat.{zero-add, add-zero}
+-- `PairedTally::judge_judged` meets its contract: a row of free taps has no head and no tail.
+use mathlib.Core.Path.{sym, ap, ◌∙◌}
 use native.Mathlib.Omega.{arith}
-use Prim.Native.Nat.{ℕ, ◌+◌}
-use lib.Seq.{get_or-set_same, get_or-set_other}
-use Rattle.taps.specs.Taps.{unpack}
-use Rattle.paired_tally.proofs.Begin.{mask-known, taps-counted, left-few}
+use Prim.Native.Nat.{◌*◌, ◌≤◌}
+use lib.ListN.{length}
+use Rattle.definitions.specs.Sizes.{count_bound}
+use Rattle.taps.proofs.Free.{free-told}
+use Rattle.taps.proofs.Masks.{below-at, fits-table}
+use Rattle.row_tally.proofs.Bounds.{below_more}
+use Rattle.paired_tally.proofs.Bounds.{paired-below}
+use Rattle.paired_tally.proofs.FreeRows.{free-counted}
 use Rattle.paired_tally.proofs.PairedTally.judge_judged.Goals as goal
 
-pub count_mask-requires-clause-mask_known : goal.count_mask-requires-clause-mask_known
-count_mask-requires-clause-mask_known c = mask-known c.args.row c.args.cells.now c.args.table.now _ _ c.requires.wide (sym c.in-Mask.is ∙ c.free_taps.ensures)
-
-pub count_mask-requires-clause-few : goal.count_mask-requires-clause-few
-count_mask-requires-clause-few c = left-few _ _ _ _ _ c.requires.reached (omega (arith, c.requires.wide, c.args.table.now.lanes.within)) c.requires.rows_few
+pub add_free-requires : goal.add_free-requires
+add_free-requires c =
+    let f = free-told c.free_taps.ensures c.in-Mask.is in
+    let x = c.requires.reached in
+    record {
+      mask_known = fits-table c.args.table.now _ (below-at _ _ _ (sym c.requires.wide) f.mask);
+      few = below_more _ _ _ (omega (arith, x.size, c.requires.rows_few)) (paired-below _ _ _ _ _ _ x.paired (omega (arith, c.requires.wide, c.args.table.now.lanes.within.1)));
+      entry_room = c.requires.entry_room;
+      entry_clear = x.paired.later _ (omega (arith, x.size));
+    }
 
 pub returns-in-Mask : goal.returns-in-Mask
-unfolding unpack
-returns-in-Mask c =
-    taps-counted c.args.row c.args.cells.now c.args.table.now _ _ c.requires.wide (sym c.in-Mask.is ∙ c.free_taps.ensures) false true _ refl _ _ _ c.count_mask.ensures.counted
-    (λ e. get_or-set_same _ _ _ 0 c.requires.entry_room ∙ ap (λ (n : ℕ). 8192 + n) c.count_mask.ensures.arrows ∙ (omega arith))
-    (λ i ne. get_or-set_other _ _ i _ 0 ne)
+returns-in-Mask c = let f = free-told c.free_taps.ensures c.in-Mask.is in free-counted _ _ _ _ _ _ _ _ _ f (c.add_free.ensures _ f.mask) c.requires.entry_room
