@@ -38,7 +38,7 @@ use Rattle.paired_tally.specs.Paired.{kind_sum, counts_from, numbers_after, Pair
 use Rattle.paired_tally.specs.Cells.{begun, Within, GoneOn}
 use Rattle.paired_tally.proofs.Bounds.{paired-below}
 use Rattle.paired_tally.proofs.Within.{begun-end}
-use Rattle.paired_tally.proofs.Rows.{row-begins, mask_sum, row-taps}
+use Rattle.paired_tally.proofs.Rows.{row-begins}
 
 -- before the first row
 pub rows-begin : (plain : Bool) (J : ℕ → Bool) (L : ℕ) (t : Tracker) (work : List ℕ) → ((c : ℕ) → c < 10 → stack_of t c ≡ []) → Sized t → ((i : ℕ) → get_or work i 0 ≡ 0)
@@ -144,18 +144,3 @@ module _ (plain judged : Bool) (row : ℕ) (cells : Row) (t : PairedTally) (work
 pub left-few : (plain : Bool) (L row : ℕ) (t : PairedTally) (work : List ℕ) → LeftByRows plain L row t work → L ≤ 10 → row < row_numbers_bound → Below count_bound t.stats
 left-few plain L row t work x narrow few =
     below_more (10 * length x.rows) count_bound t.stats (omega (arith, x.size, few)) (paired-below plain x.judging L x.rows t work x.paired narrow)
-
--- ---- A row of taps
-module _ (row : ℕ) (cells : Row) (table : TapTable) (busy m : ℕ) (wide : table.lanes.count ≡ length cells) (told : Mask m ≡ taps_if_free busy cells) where
-  free : FreeTaps busy m cells
-  free = free-told told refl
-
-  pub mask-known : m < masks table.wide
-  mask-known = fits-table table m (below-at cells m table.lanes.count (sym wide) free.mask)
-
-  module _ (plain judged : Bool) (t : PairedTally) (same : t.tracker.busy ≡ busy) (work work' : List ℕ) (stats' : ArrowStats) (counted : stats' ≡ with_cells t.stats (mask_sum plain judged m))
-      (entry : get_or work row 0 ≡ 0 → get_or work' row 0 ≡ entry_of plain judged (mask_sum plain judged m) 0) (others : (i : ℕ) → (i ≡ row → ⊥) → get_or work' i 0 ≡ get_or work i 0) where
-    pub taps-counted : RowCounted plain judged row cells t work (record { tracker = t.tracker; stats = stats' }) work'
-    taps-counted J rows size here s =
-        row-taps plain J (length cells) rows cells t work m refl (rw same free) s stats' (rw (size, here) counted) work'
-        (rw (size, here) (entry (s.later row (omega arith)))) (rw size others)
