@@ -1,4 +1,4 @@
--- Where a row begins and ends.
+-- Where rows and a row begin: no rows, a row's first cell, and its end.
 use mathlib.Core.Path.{◌≡◌, refl, sym, ap, ap₂, ◌∙◌}
 use mathlib.Core.Bool.{Bool, true, false, cond, ◌&&◌}
 use mathlib.Core.List.{List, [], ◌∷◌, ◌++◌}
@@ -39,6 +39,21 @@ use Rattle.paired_tally.specs.Cells.{begun, Within, GoneOn}
 use Rattle.paired_tally.proofs.Bounds.{paired-below}
 use Rattle.paired_tally.proofs.Within.{begun-end}
 use Rattle.paired_tally.proofs.Rows.{row-begins}
+
+-- before the first row
+pub rows-begin : (plain : Bool) (J : ℕ → Bool) (L : ℕ) (t : Tracker) (work : List ℕ) → ((c : ℕ) → c < 10 → stack_of t c ≡ []) → Sized t → ((i : ℕ) → get_or work i 0 ≡ 0)
+    → PairedRows plain J L [] (record { tracker = t; stats = empty_stats }) work
+unfolding numbers_after
+rows-begin plain J L t work h sized z =
+    record {
+      wide = λ i l. absurd (omega arith);
+      stacks = h;
+      sized = sized;
+      busy = λ c l e. sym (stack-length t c) ∙ ap length (h c l);
+      stats = refl;
+      entries = λ i l. absurd (omega arith);
+      later = λ i l. z i;
+    }
 
 -- ---- Which rows are judged counts for the rows that have come alone
 module _ (J J' : ℕ → Bool) where
@@ -124,3 +139,8 @@ module _ (plain judged : Bool) (row : ℕ) (cells : Row) (t : PairedTally) (work
 
   pub row-counted : (t' : PairedTally) (work'' : List ℕ) → GoneOn plain judged row cells 0 t work' (length cells) t' work'' → RowCounted plain judged row cells t work t' work''
   row-counted t' work'' g J rows size here s = ended J rows t' work'' (g J rows size here (begins J rows size here s))
+
+-- the counts of rows that are left are low
+pub left-few : (plain : Bool) (L row : ℕ) (t : PairedTally) (work : List ℕ) → LeftByRows plain L row t work → L ≤ 10 → row < row_numbers_bound → Below count_bound t.stats
+left-few plain L row t work x narrow few =
+    below_more (10 * length x.rows) count_bound t.stats (omega (arith, x.size, few)) (paired-below plain x.judging L x.rows t work x.paired narrow)

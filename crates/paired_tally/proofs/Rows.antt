@@ -1,4 +1,4 @@
--- A row more that changes no pairs: a row of zeros, with which each row begins, and a row of taps in columns without an open head.
+-- A row more that changes no pairs, and that of a row of zeros, with which each row begins.
 use mathlib.Core.Path.{◌≡◌, refl, sym, ap, ap₂, ◌∙◌}
 use mathlib.Core.Bool.{Bool, true, false, true≢false}
 use mathlib.Core.List.{List, [], ◌∷◌, ◌++◌, append-nil}
@@ -152,45 +152,3 @@ row-begins plain J rows cells t work work' s entry others =
     empty_sum
     (ap (kind_sum plain (J (length rows))) (zero-stays (pairs rows) (length rows) 0 (begun cells 0) z) ∙ zero-kind plain (J (length rows)) (begun cells 0) z)
     t.stats (sym (cells-none t.stats)) work' entry others
-
--- ---- A row of taps in columns without an open head
-free-effect : (busy c n : ℕ) (st : List ℕ) {b : ℕ} → Free busy c b → paired (hold_at b) n st ≡ []
-unfolding hold_at cell_of
-free-effect busy c n st (zero-cell e) = rw e
-free-effect busy c n st (tap-there e f) = rw e
-
-free-stays : (busy c v : ℕ) (st : List ℕ) {b : ℕ} → (bit c busy ≡ 0 → st ≡ []) → Free busy c b → next_stack (hold_at b) v st ≡ st
-unfolding hold_at cell_of
-free-stays busy c v st z (zero-cell e) = rw e
-free-stays busy c v st z (tap-there e f) = rw (e, z f)
-
-no-depth : (t : Tracker) (c : ℕ) → get_or t.depths c 0 ≡ 0 → stack_of t c ≡ []
-unfolding stack_of
-no-depth t c z = rw z
-
--- what a mask's row adds up to
-abbrev pub mask_sum : Bool → Bool → ℕ → RowSum
-mask_sum true judged m = unpack (mask_counts m)
-mask_sum false true m = unpack (mask_counts m)
-mask_sum false false m = sum_of_fakes (unpack (mask_counts m)).arrows
-
-mask-kind : (plain judged : Bool) (busy m : ℕ) (r : Row) → FreeTaps busy m r → kind_sum plain judged r ≡ mask_sum plain judged m
-mask-kind true judged busy m r f = tap-line-sum r m f.mask
-mask-kind false true busy m r f = sym (taps-judged r m f.mask)
-mask-kind false false busy m r f = sym (taps-unjudged r m f.mask)
-
-pub row-taps : (plain : Bool) (J : ℕ → Bool) (L : ℕ) (rows : List Row) (cells : Row) (t : PairedTally) (work : List ℕ) (m : ℕ) → length cells ≡ L → FreeTaps t.tracker.busy m cells
-    → PairedRows plain J L rows t work
-    → (stats' : ArrowStats) → stats' ≡ with_cells t.stats (mask_sum plain (J (length rows)) m)
-    → (work' : List ℕ) → get_or work' (length rows) 0 ≡ entry_of plain (J (length rows)) (mask_sum plain (J (length rows)) m) 0
-    → ((i : ℕ) → (i ≡ length rows → ⊥) → get_or work' i 0 ≡ get_or work i 0)
-    → PairedRows plain J L (rows ++ (cells ∷ [])) (record { tracker = t.tracker; stats = stats' }) work'
-row-taps plain J L rows cells t work m wide f s stats' counted work' entry others =
-    let keeps = free-keeps t.tracker.busy m cells f in
-    let whole = keep-whole (pairs rows) (length rows) 0 cells (λ k l o. absurd (true≢false (rw o at (keeps k)))) in
-    row-more plain J L rows cells t work s wide
-    (λ c. free-effect t.tracker.busy c (length rows) (stack_after rows c) (free-cell t.tracker.busy m cells f c))
-    (λ c h. free-stays t.tracker.busy c _ (numbers_after rows c) (λ z. sym (s.stacks c h) ∙ no-depth t.tracker c (s.busy c h z)) (free-cell t.tracker.busy m cells f c))
-    (mask_sum plain (J (length rows)) m)
-    (ap (kind_sum plain (J (length rows))) whole ∙ mask-kind plain (J (length rows)) t.tracker.busy m cells f)
-    stats' counted work' entry others
