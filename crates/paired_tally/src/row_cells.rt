@@ -234,108 +234,106 @@ impl PairedTally {
 
     // The cell of a row in a column.
     #[inline(always)]
-    fn count_at(
+    fn count_at<const PLAIN: bool, const JUDGED: bool>(
         &mut self,
         row: u32,
         cells: &[u8],
         column: usize,
-        plain: bool,
-        judged: bool,
         work: &mut [u16],
     )
         requires inside { column < length cells.now }
-        requires reached { Within plain judged row cells.now column self.old work.old }
-        ensures { GoneOn plain judged row cells.now column self.old work.old
+        requires reached { Within PLAIN JUDGED row cells.now column self.old work.old }
+        ensures { GoneOn PLAIN JUDGED row cells.now column self.old work.old
             (column + 1) self.new work.new }
     {
-        match cells::cell_of(cells[column]) {
-            Cell::Empty => self.pass_cell(row, cells, column, Cell::Empty, plain, judged, work),
-            Cell::Tap => self.block_cell(row, cells, column, Cell::Tap, plain, judged, work),
-            Cell::Hold => self.open_cell(row, cells, column, 0, plain, judged, work),
-            Cell::Tail => self.close_cell(row, cells, column, plain, judged, work),
-            Cell::Roll => self.open_cell(row, cells, column, 1, plain, judged, work),
-            Cell::Mine => self.block_cell(row, cells, column, Cell::Mine, plain, judged, work),
-            Cell::Lift => self.block_cell(row, cells, column, Cell::Lift, plain, judged, work),
-            Cell::Fake => self.block_cell(row, cells, column, Cell::Fake, plain, judged, work),
+        let b = cells[column];
+        if b == b'0' {
+            return;
+        }
+        match cells::cell_of(b) {
+            Cell::Empty => self.pass_cell(row, cells, column, Cell::Empty, PLAIN, JUDGED, work),
+            Cell::Tap => self.block_cell(row, cells, column, Cell::Tap, PLAIN, JUDGED, work),
+            Cell::Hold => self.open_cell(row, cells, column, 0, PLAIN, JUDGED, work),
+            Cell::Tail => self.close_cell(row, cells, column, PLAIN, JUDGED, work),
+            Cell::Roll => self.open_cell(row, cells, column, 1, PLAIN, JUDGED, work),
+            Cell::Mine => self.block_cell(row, cells, column, Cell::Mine, PLAIN, JUDGED, work),
+            Cell::Lift => self.block_cell(row, cells, column, Cell::Lift, PLAIN, JUDGED, work),
+            Cell::Fake => self.block_cell(row, cells, column, Cell::Fake, PLAIN, JUDGED, work),
             Cell::KeySound => {
-                self.pass_cell(row, cells, column, Cell::KeySound, plain, judged, work)
+                self.pass_cell(row, cells, column, Cell::KeySound, PLAIN, JUDGED, work)
             }
             Cell::LowerMine => {
-                self.pass_cell(row, cells, column, Cell::LowerMine, plain, judged, work)
+                self.pass_cell(row, cells, column, Cell::LowerMine, PLAIN, JUDGED, work)
             }
             Cell::LowerLift => {
-                self.pass_cell(row, cells, column, Cell::LowerLift, plain, judged, work)
+                self.pass_cell(row, cells, column, Cell::LowerLift, PLAIN, JUDGED, work)
             }
             Cell::LowerFake => {
-                self.pass_cell(row, cells, column, Cell::LowerFake, plain, judged, work)
+                self.pass_cell(row, cells, column, Cell::LowerFake, PLAIN, JUDGED, work)
             }
         }
     }
 
     // Four cells of a row from a column on, written one after the other: a loop would take each count of the tally into a register.
     #[inline(always)]
-    fn count_four(
+    fn count_four<const PLAIN: bool, const JUDGED: bool>(
         &mut self,
         row: u32,
         cells: &[u8],
         from: usize,
-        plain: bool,
-        judged: bool,
         work: &mut [u16],
     )
         requires inside { from + 4 ≤ length cells.now }
-        requires reached { Within plain judged row cells.now from self.old work.old }
-        ensures { GoneOn plain judged row cells.now from self.old work.old
+        requires reached { Within PLAIN JUDGED row cells.now from self.old work.old }
+        ensures { GoneOn PLAIN JUDGED row cells.now from self.old work.old
             (from + 4) self.new work.new }
     {
-        self.count_at(row, cells, from, plain, judged, &mut *work);
-        self.count_at(row, cells, from + 1, plain, judged, &mut *work);
-        self.count_at(row, cells, from + 2, plain, judged, &mut *work);
-        self.count_at(row, cells, from + 3, plain, judged, work);
+        self.count_at::<PLAIN, JUDGED>(row, cells, from, &mut *work);
+        self.count_at::<PLAIN, JUDGED>(row, cells, from + 1, &mut *work);
+        self.count_at::<PLAIN, JUDGED>(row, cells, from + 2, &mut *work);
+        self.count_at::<PLAIN, JUDGED>(row, cells, from + 3, work);
     }
 
     // The cells of a row from a column on, one by one.
     #[inline(always)]
-    fn count_from(
+    fn count_from<const PLAIN: bool, const JUDGED: bool>(
         &mut self,
         row: u32,
         cells: &[u8],
         from: usize,
-        plain: bool,
-        judged: bool,
         work: &mut [u16],
     )
         requires inside { from ≤ length cells.now }
-        requires reached { Within plain judged row cells.now from self.old work.old }
-        ensures { GoneOn plain judged row cells.now from self.old work.old
+        requires reached { Within PLAIN JUDGED row cells.now from self.old work.old }
+        ensures { GoneOn PLAIN JUDGED row cells.now from self.old work.old
             (length cells.now) self.new work.new }
     {
         let mut column = from;
         while column < cells.len() {
-            self.count_at(row, cells, column, plain, judged, &mut *work);
+            self.count_at::<PLAIN, JUDGED>(row, cells, column, &mut *work);
             column += 1;
         }
     }
 
     // All cells of a row.
     #[inline(always)]
-    fn count_all(&mut self, row: u32, cells: &[u8], plain: bool, judged: bool, work: &mut [u16])
+    fn count_all<const PLAIN: bool, const JUDGED: bool>(&mut self, row: u32, cells: &[u8], work: &mut [u16])
         requires wide { 4 ≤ length cells.now }
-        requires reached { Within plain judged row cells.now 0 self.old work.old }
-        ensures { GoneOn plain judged row cells.now 0 self.old work.old
+        requires reached { Within PLAIN JUDGED row cells.now 0 self.old work.old }
+        ensures { GoneOn PLAIN JUDGED row cells.now 0 self.old work.old
             (length cells.now) self.new work.new }
     {
-        self.count_four(row, cells, 0, plain, judged, &mut *work);
+        self.count_four::<PLAIN, JUDGED>(row, cells, 0, &mut *work);
         if cells.len() == 4 {
             return;
         }
         if cells.len() < 8 {
-            self.count_at(row, cells, 4, plain, judged, &mut *work);
-            self.count_from(row, cells, 5, plain, judged, work);
+            self.count_at::<PLAIN, JUDGED>(row, cells, 4, &mut *work);
+            self.count_from::<PLAIN, JUDGED>(row, cells, 5, work);
             return;
         }
-        self.count_four(row, cells, 4, plain, judged, &mut *work);
-        self.count_from(row, cells, 8, plain, judged, work);
+        self.count_four::<PLAIN, JUDGED>(row, cells, 4, &mut *work);
+        self.count_from::<PLAIN, JUDGED>(row, cells, 8, work);
     }
 
     /// The cells of a row of a plain tally.
@@ -348,7 +346,7 @@ impl PairedTally {
         requires reached { LeftByRows true (length cells.now) row self.old work.old }
         ensures { RowCounted true false row cells.now self.old work.old self.new work.new }
     {
-        self.count_all(row, cells, true, false, work);
+        self.count_all::<true, false>(row, cells, work);
     }
 
     /// The cells of a judged row.
@@ -362,7 +360,7 @@ impl PairedTally {
         ensures { RowCounted false true row cells.now self.old work.old self.new work.new }
     {
         work[row as usize] = 8192;
-        self.count_all(row, cells, false, true, work);
+        self.count_all::<false, true>(row, cells, work);
     }
 
     /// The cells of an unjudged row.
@@ -374,6 +372,6 @@ impl PairedTally {
         requires reached { LeftByRows false (length cells.now) row self.old work.old }
         ensures { RowCounted false false row cells.now self.old work.old self.new work.new }
     {
-        self.count_from(row, cells, 0, false, false, work);
+        self.count_from::<false, false>(row, cells, 0, work);
     }
 }
