@@ -54,29 +54,22 @@ fn count_kind(stats: &mut ArrowStats, direction: usize, cell: Cell, plain: bool,
     count_fake(stats, cell);
 }
 
-// A head that is paired counts: in a tally where its row counts heads, or else as a fake.
+// A head that is paired counts, by its number: in a tally where its row counts heads, or else as a fake.
 #[inline(always)]
-fn count_head(stats: &mut ArrowStats, direction: usize, cell: Cell, counts: bool)
-    requires few { Below (count_bound + 9) stats.old }
-    ensures { stats.new ≡ with_cells stats.old (add_kind counts false empty_sum direction cell) }
-{
-    if counts {
-        row_tally::count_cell(stats, direction, cell, false);
-        return;
-    }
-    count_fake(stats, cell);
-}
-
-// The same by a head's number.
-#[inline(always)]
+#[tactic(auto, unfolding(row_tally::specs::Raised::with_cells, row_tally::specs::Sums::sum_with_cell))]
 fn count_number(stats: &mut ArrowStats, direction: usize, number: u32, counts: bool)
     requires few { Below (count_bound + 9) stats.old }
     ensures { stats.new ≡ pair_stats counts number direction stats.old }
 {
+    if !counts {
+        stats.fakes += 1;
+        return;
+    }
+    row_tally::count_cell(stats, direction, Cell::Tap, false);
     if number % 2 == 1 {
-        count_head(stats, direction, Cell::Roll, counts);
+        stats.rolls += 1;
     } else {
-        count_head(stats, direction, Cell::Hold, counts);
+        stats.holds += 1;
     }
 }
 
@@ -232,9 +225,9 @@ impl PairedTally {
         }
     }
 
-    // The cell of a row in a column.
-    #[inline(always)]
-    fn count_at<const PLAIN: bool, const JUDGED: bool>(
+    // The cell of a row in a column, whatever it is.
+    #[inline(never)]
+    fn count_any<const PLAIN: bool, const JUDGED: bool>(
         &mut self,
         row: u32,
         cells: &[u8],
@@ -267,6 +260,61 @@ impl PairedTally {
             Cell::LowerFake => {
                 self.pass_cell(row, cells, column, Cell::LowerFake, PLAIN, JUDGED, work)
             }
+        }
+    }
+
+    // A cell that is no `0`: lifts are few, and are counted by a function of their own, so that the other cells are written into the row.
+    #[inline(always)]
+    fn count_met<const PLAIN: bool, const JUDGED: bool>(
+        &mut self,
+        row: u32,
+        cells: &[u8],
+        column: usize,
+        work: &mut [u16],
+    )
+        requires inside { column < length cells.now }
+        requires reached { Within PLAIN JUDGED row cells.now column self.old work.old }
+        ensures { GoneOn PLAIN JUDGED row cells.now column self.old work.old
+            (column + 1) self.new work.new }
+    {
+        match cells::cell_of(cells[column]) {
+            Cell::Empty => self.pass_cell(row, cells, column, Cell::Empty, PLAIN, JUDGED, work),
+            Cell::Tap => self.block_cell(row, cells, column, Cell::Tap, PLAIN, JUDGED, work),
+            Cell::Hold => self.open_cell(row, cells, column, 0, PLAIN, JUDGED, work),
+            Cell::Tail => self.close_cell(row, cells, column, PLAIN, JUDGED, work),
+            Cell::Roll => self.open_cell(row, cells, column, 1, PLAIN, JUDGED, work),
+            Cell::Mine => self.block_cell(row, cells, column, Cell::Mine, PLAIN, JUDGED, work),
+            Cell::Lift => self.count_any::<PLAIN, JUDGED>(row, cells, column, work),
+            Cell::Fake => self.block_cell(row, cells, column, Cell::Fake, PLAIN, JUDGED, work),
+            Cell::KeySound => {
+                self.pass_cell(row, cells, column, Cell::KeySound, PLAIN, JUDGED, work)
+            }
+            Cell::LowerMine => {
+                self.pass_cell(row, cells, column, Cell::LowerMine, PLAIN, JUDGED, work)
+            }
+            Cell::LowerLift => { self.count_any::<PLAIN, JUDGED>(row, cells, column, work) }
+            Cell::LowerFake => {
+                self.pass_cell(row, cells, column, Cell::LowerFake, PLAIN, JUDGED, work)
+            }
+        }
+    }
+
+    // The cell of a row in a column.
+    #[inline(always)]
+    fn count_at<const PLAIN: bool, const JUDGED: bool>(
+        &mut self,
+        row: u32,
+        cells: &[u8],
+        column: usize,
+        work: &mut [u16],
+    )
+        requires inside { column < length cells.now }
+        requires reached { Within PLAIN JUDGED row cells.now column self.old work.old }
+        ensures { GoneOn PLAIN JUDGED row cells.now column self.old work.old
+            (column + 1) self.new work.new }
+    {
+        if cells[column] != b'0' {
+            self.count_met::<PLAIN, JUDGED>(row, cells, column, work);
         }
     }
 
@@ -313,7 +361,12 @@ impl PairedTally {
 
     // All cells of a row.
     #[inline(always)]
-    fn count_all<const PLAIN: bool, const JUDGED: bool>(&mut self, row: u32, cells: &[u8], work: &mut [u16])
+    fn count_all<const PLAIN: bool, const JUDGED: bool>(
+        &mut self,
+        row: u32,
+        cells: &[u8],
+        work: &mut [u16],
+    )
         requires wide { 4 ≤ length cells.now }
         requires reached { Within PLAIN JUDGED row cells.now 0 self.old work.old }
         ensures { GoneOn PLAIN JUDGED row cells.now 0 self.old work.old

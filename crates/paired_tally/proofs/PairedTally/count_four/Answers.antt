@@ -5,6 +5,7 @@ use Prim.Native.Nat.{◌+◌}
 use native.Mathlib.Omega.{arith}
 use Rattle.paired_tally.specs.Cells.{GoneOn}
 use Rattle.paired_tally.proofs.Within.{within-on, gone-both, gone-to}
+use Rattle.paired_tally.proofs.PairedTally.count_four.Given.{Over}
 use Rattle.paired_tally.proofs.PairedTally.count_four.Goals.{After-count_at-3}
 use Rattle.paired_tally.proofs.PairedTally.count_four.Given.{Over}
 use Rattle.paired_tally.proofs.PairedTally.count_four.Goals as goal

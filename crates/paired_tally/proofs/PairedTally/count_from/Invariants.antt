@@ -1,4 +1,6 @@
 -- `PairedTally::count_from` meets its contract. The loop's invariant: the cells before `column` are counted.
+use mathlib.Core.Bool.{not}
+use lib.Dec.{eqb}
 use Prim.Native.Nat.{◌-◌, ◌≤◌}
 use mathlib.Core.Bool.{not}
 use lib.Dec.{eqb}
