@@ -7,7 +7,6 @@ use Rattle.paired_tally.specs.Cells.{GoneOn}
 use Rattle.paired_tally.proofs.Within.{within-on, gone-both, gone-to}
 use Rattle.paired_tally.proofs.PairedTally.count_four.Given.{Over}
 use Rattle.paired_tally.proofs.PairedTally.count_four.Goals.{After-count_at-3}
-use Rattle.paired_tally.proofs.PairedTally.count_four.Given.{Over}
 use Rattle.paired_tally.proofs.PairedTally.count_four.Goals as goal
 
 -- what three cells leave

@@ -2,8 +2,6 @@
 use mathlib.Core.Bool.{not}
 use lib.Dec.{eqb}
 use Prim.Native.Nat.{◌-◌, ◌≤◌}
-use mathlib.Core.Bool.{not}
-use lib.Dec.{eqb}
 use lib.ListN.{length}
 use Rattle.paired_tally.specs.Cells.{Within, GoneOn}
 use Rattle.paired_tally.proofs.PairedTally.count_from.Given as goal
