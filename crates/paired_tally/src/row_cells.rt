@@ -225,9 +225,9 @@ impl PairedTally {
         }
     }
 
-    // The cell of a row in a column, whatever it is.
+    // A cell that is no `0`, or any: by a function of its own, since it would not stay in line.
     #[inline(never)]
-    fn count_any<const PLAIN: bool, const JUDGED: bool>(
+    fn count_met<const PLAIN: bool, const JUDGED: bool>(
         &mut self,
         row: u32,
         cells: &[u8],
@@ -257,42 +257,6 @@ impl PairedTally {
             Cell::LowerLift => {
                 self.pass_cell(row, cells, column, Cell::LowerLift, PLAIN, JUDGED, work)
             }
-            Cell::LowerFake => {
-                self.pass_cell(row, cells, column, Cell::LowerFake, PLAIN, JUDGED, work)
-            }
-        }
-    }
-
-    // A cell that is no `0`: lifts are few, and are counted by a function of their own, so that the other cells are written into the row.
-    #[inline(always)]
-    fn count_met<const PLAIN: bool, const JUDGED: bool>(
-        &mut self,
-        row: u32,
-        cells: &[u8],
-        column: usize,
-        work: &mut [u16],
-    )
-        requires inside { column < length cells.now }
-        requires reached { Within PLAIN JUDGED row cells.now column self.old work.old }
-        ensures { GoneOn PLAIN JUDGED row cells.now column self.old work.old
-            (column + 1) self.new work.new }
-    {
-        match cells::cell_of(cells[column]) {
-            Cell::Empty => self.pass_cell(row, cells, column, Cell::Empty, PLAIN, JUDGED, work),
-            Cell::Tap => self.block_cell(row, cells, column, Cell::Tap, PLAIN, JUDGED, work),
-            Cell::Hold => self.open_cell(row, cells, column, 0, PLAIN, JUDGED, work),
-            Cell::Tail => self.close_cell(row, cells, column, PLAIN, JUDGED, work),
-            Cell::Roll => self.open_cell(row, cells, column, 1, PLAIN, JUDGED, work),
-            Cell::Mine => self.block_cell(row, cells, column, Cell::Mine, PLAIN, JUDGED, work),
-            Cell::Lift => self.count_any::<PLAIN, JUDGED>(row, cells, column, work),
-            Cell::Fake => self.block_cell(row, cells, column, Cell::Fake, PLAIN, JUDGED, work),
-            Cell::KeySound => {
-                self.pass_cell(row, cells, column, Cell::KeySound, PLAIN, JUDGED, work)
-            }
-            Cell::LowerMine => {
-                self.pass_cell(row, cells, column, Cell::LowerMine, PLAIN, JUDGED, work)
-            }
-            Cell::LowerLift => { self.count_any::<PLAIN, JUDGED>(row, cells, column, work) }
             Cell::LowerFake => {
                 self.pass_cell(row, cells, column, Cell::LowerFake, PLAIN, JUDGED, work)
             }
