@@ -10,7 +10,7 @@ use Rattle.definitions.specs.Figures.{minimised_text}
 use Rattle.definitions.specs.ReadBack.{OwnRows}
 use Rattle.definitions.proofs.ChartRows.{minimised-rows-few, minimised-short}
 use Rattle.definitions.proofs.OwnRows.{own-rows}
-use Rattle.corrected_tally.specs.Heads.{Room}
+use Rattle.corrected_tally.specs.Room.{Room}
 
 -- A work slice that a call was accepted with has room for the rows of its minimised text.
 pub minimised-room : (L : ℕ) (text work : List ℕ) → 1 ≤ L → length text ≤ most_bytes → most_rows_in L (length text) ≤ length work → Room L (minimised_text L text) work

@@ -1,2 +1,2 @@
 -- What the contracts of the recount cite, beside the definitions.
-pub mod Heads
+pub mod Room

@@ -84,7 +84,7 @@ one-pair true h t i l =
     ]
 
 -- the pairs whose head is at row i, and of these the judged ones
-abbrev heads_in : ℕ → List Pair → ℕ
+abbrev pub heads_in : ℕ → List Pair → ℕ
 heads_in i ps = count_by (λ (p : Pair). eqb p.head i) ps
 
 abbrev judged_in : (ℕ → Bool) → ℕ → List Pair → ℕ
@@ -119,7 +119,7 @@ next-times Opens k i st = omega (arith, push-times (ltb (length st) 8) k i st)
 next-times Closes k i [] = omega arith
 next-times Closes k i (h ∷ st) = omega (arith, count-cons (λ h. eqb h k) h st, count-cons (λ (p : Pair). eqb p.head k) (record { head = h; tail = i }) [])
 
-from-here : (i k : ℕ) → number_of_bool (eqb i k) + number_of_bool (leb (suc i) k) ≡ number_of_bool (leb i k)
+pub from-here : (i k : ℕ) → number_of_bool (eqb i k) + number_of_bool (leb (suc i) k) ≡ number_of_bool (leb i k)
 from-here i k =
     elim (dec_lt i k) [
       | yes a ↦ simp (ne_eqb i k (λ e. omega arith), le-leb (suc i) k (omega arith), le-leb i k (omega arith))
@@ -140,12 +140,43 @@ once-from c (r ∷ rs) i k st =
     let e = from-here i k in
     omega arith
 
-once : (rows : List Row) (c k : ℕ) → heads_in k (pairs rows c) ≤ 1
+pub once : (rows : List Row) (c k : ℕ) → heads_in k (pairs rows c) ≤ 1
 unfolding pairs
 once rows c k = let a = once-from c rows 0 k [] in let b = one-le (leb 0 k) in omega arith
 
+-- ---- No row has two tails of a column
+ends-here : (J : ℕ → Bool) (k : ℕ) (e : DepthEffect) (i : ℕ) (st : List ℕ) → ends_in J k (paired e i st) ≤ number_of_bool (eqb i k)
+ends-here J k Nothing i st = omega arith
+ends-here J k Blocks i st = omega arith
+ends-here J k Opens i st = omega arith
+ends-here J k Closes i [] = omega arith
+ends-here J k Closes i (h ∷ st) = omega (arith, count-cons (λ (p : Pair). eqb p.tail k && J p.head) (record { head = h; tail = i }) [], both (eqb i k) (J h))
+  where
+    both : (a b : Bool) → number_of_bool (a && b) ≤ number_of_bool a
+    both true b = one-le b
+    both false b = omega arith
+
+ends-from : (J : ℕ → Bool) (c : ℕ) (rs : List Row) (i k : ℕ) (st : List ℕ) → ends_in J k (pairs_from c i st rs) ≤ number_of_bool (leb i k)
+ends-from J c [] i k st = omega arith
+ends-from J c (r ∷ rs) i k st =
+    let next = next_stack (hold_at (byte_at c r)) i st in
+    let a = count-append (λ (p : Pair). eqb p.tail k && J p.head) (paired (hold_at (byte_at c r)) i st) (pairs_from c (suc i) next rs) in
+    let b = ends-from J c rs (suc i) k next in
+    let d = ends-here J k (hold_at (byte_at c r)) i st in
+    let e = from-here i k in
+    omega arith
+
+ends-columns : (J : ℕ → Bool) (rows : List Row) (i n : ℕ) → sum_columns n (λ c. ends_in J i (pairs rows c)) ≤ n
+unfolding pairs
+ends-columns J rows i zero = omega arith
+ends-columns J rows i (suc n) = omega (arith, ends-columns J rows i n, ends-from J n rows 0 i [], one-le (leb 0 i))
+
+pub ends-few : (J : ℕ → Bool) (rows : List Row) (i : ℕ) → ends_at J rows i ≤ 10
+unfolding ends_at
+ends-few J rows i = ends-columns J rows i 10
+
 -- so row i is a head as often as it is one
-head-count : (i : ℕ) (ps : List Pair) → heads_in i ps ≤ 1 → heads_in i ps ≡ number_of_bool (is_head_of i ps)
+pub head-count : (i : ℕ) (ps : List Pair) → heads_in i ps ≤ 1 → heads_in i ps ≡ number_of_bool (is_head_of i ps)
 head-count i [] h = refl
 head-count i (p ∷ ps) h = go (equal-turned p.head i) (eqb i p.head) refl (head-count i ps (omega (arith, more)))
   where

@@ -1,6 +1,4 @@
--- Laws of the judged tallies: the two loops over the rows, and the one pass over clean rows.
-pub mod Tracking
-pub mod Tallying
+-- Laws of the one pass over clean rows.
 pub mod Paired
 pub mod Cells
 pub mod Rows

@@ -21,7 +21,7 @@ use Rattle.definitions.proofs.Lists.{All, none, one, all_map, count-cons, count-
 use Rattle.holds.specs.Tracks.{stack_from, stack_after}
 use Rattle.holds.proofs.Pairs.{heads-append, stacked, pairs-narrow}
 use Rattle.holds.proofs.Ends.{sum_same, sum-beyond}
-use Rattle.row_tally.proofs.Masked.{keep-whole}
+use Rattle.row_tally.proofs.Kept.{keep-whole}
 use Rattle.judged.specs.Clean.{unpairs, unpairs_from, every}
 
 -- Column c of these rows is clean from the depth d on: no cell leaves a head unpaired, and no head is left open.

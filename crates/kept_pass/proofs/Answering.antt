@@ -12,7 +12,7 @@ use Rattle.definitions.specs.Figures.{density, minimised_text, densities as dens
 use Rattle.definitions.specs.Correction.{corrected}
 use Rattle.definitions.specs.ReadBack.{rows_read_back, main_tally}
 use Rattle.definitions.specs.declared.ArrowStats.{ArrowStats}
-use Rattle.corrected_tally.specs.Heads.{Room}
+use Rattle.corrected_tally.specs.Room.{Room}
 use Rattle.corrected_tally.proofs.Few.{minimised-room}
 use Rattle.slices.specs.Zeroed.{zeroed}
 use Rattle.slices.proofs.Zeroed.{zeroed-answer}

@@ -1,9 +1,8 @@
 -- The heads and tails of a row by its sum: they are the cells that open and close.
-use mathlib.Core.Path.{◌≡◌, refl, sym, ◌∙◌}
+use mathlib.Core.Path.{◌≡◌, refl}
 use mathlib.Core.Bool.{Bool}
 use mathlib.Core.List.{[], ◌∷◌}
-use Prim.Native.Nat.{ℕ, ◌+◌}
-use native.Mathlib.Nat.{zero-add}
+use Prim.Native.Nat.{◌+◌}
 use native.Mathlib.Omega.{arith}
 use lib.Dec.{eqb}
 use Rattle.std.specs.List.{count_by}
@@ -12,10 +11,9 @@ use Rattle.definitions.specs.Lists.{number_of_bool}
 use Rattle.definitions.specs.Lines.{Row}
 use Rattle.definitions.specs.Cells.{cell_of, hold_effect, hold, roll, tail}
 use Rattle.definitions.specs.Tracker.{hold_at}
-use Rattle.definitions.specs.Tally.{counted_as, place, counted, row_sum_by, empty_sum}
+use Rattle.definitions.specs.Tally.{counted_as, place, counted, row_sum_by}
 use Rattle.definitions.specs.Correction.{is_opening, is_closing}
 use Rattle.definitions.specs.declared.Cell.{Cell}
-use Rattle.row_tally.specs.Sums.{sum_with_cell, add_by}
 use Rattle.definitions.specs.declared.Cell.TheVariants.{Empty, Tap, Hold, Tail, Roll, Mine, Lift, Fake, KeySound, LowerMine, LowerLift, LowerFake}
 
 head-cell : (x : Cell)
@@ -81,8 +79,3 @@ module _ (arrow : Cell → Bool) (r : Row) where
   pub sum-tails : count_by (λ b. is_closing (hold_at b)) r ≡ (row_sum_by arrow r).tails
   unfolding row_sum_by
   sum-tails = tails-counted r
-
--- a tail is one of its row's
-pub tails_of_cell : (judged : Bool) (d : ℕ) (x : Cell) → number_of_bool (is_closing (hold_effect x)) ≡ (add_by judged empty_sum d x).tails
-unfolding sum_with_cell
-tails_of_cell judged d x = tail-cell x ∙ sym (zero-add _)

@@ -3,10 +3,10 @@ pub mod Sums
 pub mod Bounds
 pub mod Tallies
 pub mod Loops
-pub mod Masked
+pub mod Kept
 pub mod Raised
 pub mod Before
-pub mod Cells
+pub mod Ends
 pub mod Heads
 pub mod Rows
 pub mod Zeros

@@ -20,7 +20,7 @@ use Rattle.taps.proofs.Masks.{row_of, mask-row, line-taps, tap-line-sum}
 use Rattle.taps.proofs.Free.{tap-cell}
 use Rattle.row_tally.specs.Bounds.{Under}
 use Rattle.row_tally.proofs.Bounds.{under-row}
-use Rattle.row_tally.proofs.Masked.{unjudged}
+use Rattle.row_tally.proofs.Kept.{unjudged}
 
 -- the counts of a mask are those of a row of ten cells
 pub mask_under : (m : ℕ) → m < 1024 → Under 10 (unpack (mask_counts m))
@@ -67,14 +67,21 @@ module _ (r : Row) (m : ℕ) (e : mask_of_line r ≡ Mask m) where
     unfolding mask_counts unpack
     no-taps = rw z
 
+    pub no-taps-row : row_sum r ≡ sum_of_fakes 0
+    no-taps-row = tap-line-sum r m e ∙ no-taps
+
+    pub no-taps-sum : (judged : Bool) → judged_sum judged r ≡ sum_of_fakes 0
+    no-taps-sum true = rw (← taps-judged, no-taps)
+    no-taps-sum false = rw (← taps-unjudged, no-taps)
+
     pub no-taps-counted : (t : ArrowStats) → t ≡ tally_with_row t (row_sum r)
     unfolding tally_with_row
-    no-taps-counted t = rw (tap-line-sum r m e, no-taps) (simp (add-zero, sub-zero) refl)
+    no-taps-counted t = rw no-taps-row (simp (add-zero, sub-zero) refl)
 
     pub no-taps-judged : (t : ArrowStats) (judged : Bool) (held : ℕ) → judge_row t false held (sum_of_fakes 0) ≡ judge_row t judged held (judged_sum judged r)
     unfolding judge_row
-    no-taps-judged t true held = rw (← taps-judged, no-taps)
-    no-taps-judged t false held = rw (← taps-unjudged, no-taps)
+    no-taps-judged t true held = rw (no-taps-sum true)
+    no-taps-judged t false held = rw (no-taps-sum false)
 
   -- and it has no head
   pub taps-heads : (judged : Bool) → (judged_sum judged r).holds + (judged_sum judged r).rolls ≡ 0

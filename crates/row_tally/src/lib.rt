@@ -1,18 +1,18 @@
-// Tallies that are raised cell by cell: the tally with one row more, and the same of rows with only paired heads and of judged rows.
+// Tallies that are raised cell by cell: the tally with one row more, and the same of judged rows.
 #![tactic(auto)]
-
-pub mod paired;
 
 ghost use Rattle.std.specs.Prelude.{◌≡◌, ℕ, true, false, ◌+◌, ◌-◌, ◌≤◌, ◌<◌};
 ghost use Rattle.definitions.specs.Sizes.{count_bound};
 ghost use Rattle.definitions.specs.Tally.{empty_stats, tally_with_row, empty_sum};
 ghost use Rattle.definitions.specs.Correction.{tally_with_steps};
-ghost use Rattle.definitions.specs.Judged.{sum_of_fakes, judge_row};
-ghost use Rattle.taps.specs.Taps.{masks};
+ghost use Rattle.definitions.specs.Lines.{Row};
+ghost use Rattle.definitions.specs.Judged.{sum_of_fakes, judged_sum, judge_row};
+ghost use Rattle.taps.specs.Taps.{mask_of_line, masks};
+ghost use Rattle.taps.specs.declared.Taps.TheVariants.{Mask};
 ghost use Rattle.definitions.specs.declared.Cell.TheVariants.{Tap};
 ghost use Rattle.row_tally.specs.Bounds.{Under, Below, EndsBelow};
 ghost use Rattle.row_tally.specs.Sums.{sum_with_cell, add_by};
-ghost use Rattle.row_tally.specs.Taps.{TapsCounted, TapsJudged};
+ghost use Rattle.row_tally.specs.Taps.{TapsCounted, TapsJudged, TapsAdded};
 ghost use Rattle.row_tally.specs.Raised.{with_cells, step_counted, row_end, judged_row_end};
 
 use definitions::{ArrowStats, Cell, RowSum};
@@ -213,6 +213,32 @@ pub fn judge_taps(stats: &mut ArrowStats, judged: bool, held: u32, mask: u16, ta
     } else {
         count_fakes(stats, s.arrows);
     }
+}
+
+/// The cells of one row of taps alone, whose end is yet to be told: its arrows.
+#[inline(always)]
+pub fn add_taps(stats: &mut ArrowStats, mask: u16, table: &TapTable) -> u32
+    requires mask_known { mask < masks table.now.wide }
+    requires few { Below count_bound stats.old }
+    ensures value { (row : Row) → mask_of_line row ≡ Mask mask
+        → TapsAdded stats.old stats.new result row }
+    ensures arrows_few { result ≤ 10 }
+{
+    let s = table.sum(mask);
+    add_cells(stats, s);
+    s.arrows
+}
+
+/// The same of a row that is not judged: a fake for each tap.
+#[inline(always)]
+#[tactic(auto, unfolding(crate::specs::Raised::with_cells))]
+pub fn add_fakes(stats: &mut ArrowStats, mask: u16, table: &TapTable)
+    requires mask_known { mask < masks table.now.wide }
+    requires few { Below count_bound stats.old }
+    ensures { (row : Row) → mask_of_line row ≡ Mask mask
+        → stats.new ≡ with_cells stats.old (judged_sum false row) }
+{
+    stats.fakes += table.sum(mask).arrows;
 }
 
 /// A tally that keeps the steps of another.

@@ -1,0 +1,10 @@
+-- `PairedTally::count_plain` meets its contract: the row's entry begins as 0.
+use Rattle.paired_tally.proofs.Begin.{begin-within, row-counted}
+use Rattle.paired_tally.proofs.PairedTally.count_plain.Goals as goal
+use mathlib.Core.Path.{refl}
+
+pub count_all-requires-clause-reached : goal.count_all-requires-clause-reached
+count_all-requires-clause-reached c = begin-within _ _ _ _ _ _ _ (λ e. e) (λ i ne. refl) c.requires.reached c.requires.narrow c.requires.entry_room c.requires.rows_few
+
+pub returns : goal.returns
+returns c = row-counted _ _ _ _ _ _ _ (λ e. e) (λ i ne. refl) _ _ c.count_all.ensures

@@ -1,0 +1,26 @@
+-- `PairedTally::judge_unjudged` meets its contract: a row of free taps has no head and no tail.
+use mathlib.Core.Path.{sym, ap, ◌∙◌}
+use native.Mathlib.Omega.{arith}
+use Prim.Native.Nat.{◌*◌, ◌≤◌}
+use lib.ListN.{length}
+use Rattle.definitions.specs.Sizes.{count_bound}
+use Rattle.taps.proofs.Free.{free-told}
+use Rattle.taps.proofs.Masks.{below-at, fits-table}
+use Rattle.row_tally.proofs.Bounds.{below_more}
+use Rattle.paired_tally.proofs.Bounds.{paired-below}
+use Rattle.paired_tally.proofs.FreeRows.{free-counted}
+use Rattle.paired_tally.proofs.PairedTally.judge_unjudged.Goals as goal
+
+pub add_free-requires : goal.add_free-requires
+add_free-requires c =
+    let f = free-told c.free_taps.ensures c.in-Mask.is in
+    let x = c.requires.reached in
+    record {
+      mask_known = fits-table c.args.table.now _ (below-at _ _ _ (sym c.requires.wide) f.mask);
+      few = below_more _ _ _ (omega (arith, x.size, c.requires.rows_few)) (paired-below _ _ _ _ _ _ x.paired (omega (arith, c.requires.wide, c.args.table.now.lanes.within.1)));
+      entry_room = c.requires.entry_room;
+      entry_clear = x.paired.later _ (omega (arith, x.size));
+    }
+
+pub returns-in-Mask : goal.returns-in-Mask
+returns-in-Mask c = let f = free-told c.free_taps.ensures c.in-Mask.is in free-counted _ _ _ _ _ _ _ _ _ f (c.add_free.ensures _ f.mask) c.requires.entry_room
