@@ -148,10 +148,7 @@ pub fn end_judged_row(stats: &mut ArrowStats, judged: bool, arrows: u32, others:
     ensures { stats.new ≡ judged_row_end stats.old judged arrows others held }
 {
     if 0 < arrows {
-        stats.total_steps += 1;
-        if 2 <= arrows {
-            stats.jumps += 1;
-        }
+        count_step(stats, arrows);
     }
     if judged & (3 <= arrows + held) {
         stats.hands += u32::from(1 <= arrows + others);
