@@ -129,6 +129,18 @@ stepped b x e f s = rw (← e, f) s
 pub ended-is : {e : DepthEffect} {row c : ℕ} {t t' : Tracker} (r r' : Option ℕ) → r ≡ r' → TrackStepped e row c t t' (ended_at row r) → TrackStepped e row c t t' (ended_at row r')
 ended-is r r' q s = rw (← q) s
 
+-- a column without an open head is cleared as it is
+pub blocked : (c : ℕ) (t : Tracker) (row : ℕ) → TrackReady c t → get_or t.depths c 0 ≡ 0 → TrackStepped Blocks row c t t []
+unfolding stack_of
+blocked c t row r z =
+    record {
+      stack = rw z;
+      pairs = refl;
+      sized = r.sized;
+      others = λ d k ne. refl;
+      busy = λ f. f;
+    }
+
 pub passed : (b : ℕ) (x : Cell) {row c : ℕ} {t : Tracker} → x ≡ cell_of b → hold_effect x ≡ Nothing → TrackReady c t → TrackStepped (hold_at b) row c t t []
 passed b x {row} {c} {t} e f r = stepped b x e f (step-nothing t c r row)
 
