@@ -1,15 +1,13 @@
 -- Where rows and a row begin: no rows, a row's first cell, and its end.
 use mathlib.Core.Path.{◌≡◌, refl, sym, ap, ap₂, ◌∙◌}
-use mathlib.Core.Bool.{Bool, true, false, cond, ◌&&◌}
+use mathlib.Core.Bool.{Bool, cond, ◌&&◌}
 use mathlib.Core.List.{List, [], ◌∷◌, ◌++◌}
 use Prim.Native.Nat.{ℕ, suc, ◌+◌, ◌*◌, ◌≤◌, ◌<◌}
 use native.Mathlib.Nat.{zero-add}
 use native.Mathlib.Omega.{arith}
 use borrow.Author.Tests.{eq-eqb, ne_eqb}
 use lib.Dec.{eqb}
-use lib.ListN.{length, get_or, set}
-use lib.Seq.{get_or-set_same, get_or-set_other}
-use Rattle.std.specs.List.{count_by}
+use lib.ListN.{length, get_or}
 use Rattle.definitions.specs.Sizes.{row_numbers_bound, count_bound}
 use Rattle.definitions.specs.Lists.{number_of_bool}
 use Rattle.definitions.specs.Lines.{Row}
@@ -18,11 +16,6 @@ use Rattle.definitions.specs.Tally.{empty_stats, empty_sum}
 use Rattle.definitions.specs.Correction.{keep_row}
 use Rattle.definitions.specs.declared.ArrowStats.{ArrowStats}
 use Rattle.definitions.proofs.Lists.{All, none, one, count-cons}
-use Rattle.taps.specs.Taps.{FreeTaps, taps_if_free, masks}
-use Rattle.taps.specs.declared.table.TapTable.{TapTable}
-use Rattle.taps.specs.declared.Taps.TheVariants.{Mask}
-use Rattle.taps.proofs.Free.{free-told}
-use Rattle.taps.proofs.Masks.{fits-table, below-at}
 use Rattle.holds.specs.Stacks.{stack_of, Sized}
 use Rattle.holds.specs.Tracks.{ends_in, ends_at}
 use Rattle.holds.specs.declared.Tracker.{Tracker}

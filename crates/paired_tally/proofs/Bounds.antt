@@ -1,27 +1,21 @@
 -- How large the counts and the entries are.
-use mathlib.Core.Path.{◌≡◌, refl, sym, ap, ◌∙◌}
-use mathlib.Core.Bool.{Bool, true, false, ◌&&◌}
-use mathlib.Core.List.{List, [], ◌∷◌, ◌++◌}
-use Prim.Native.Nat.{ℕ, zero, suc, ◌+◌, ◌*◌, ◌≤◌, ◌<◌}
+use mathlib.Core.Bool.{Bool, true, false}
+use mathlib.Core.List.{List, [], ◌∷◌}
+use Prim.Native.Nat.{ℕ, suc, ◌+◌, ◌*◌, ◌≤◌, ◌<◌}
 use native.Mathlib.Decide.{dec_lt}
 use native.Mathlib.Omega.{arith}
-use lib.Dec.{eqb, leb}
+use lib.Dec.{leb}
 use lib.ListN.{length, get_or}
-use Rattle.std.specs.List.{count_by}
-use Rattle.definitions.specs.Lists.{number_of_bool, sum_columns}
 use Rattle.definitions.specs.Lines.{Row}
-use Rattle.definitions.specs.Cells.{byte_at}
-use Rattle.definitions.specs.Tracker.{Pair, next_stack, paired, hold_at, pairs_from, pairs}
-use Rattle.definitions.specs.Tally.{row_sum, empty_stats}
+use Rattle.definitions.specs.Tracker.{Pair, pairs}
+use Rattle.definitions.specs.Tally.{empty_stats}
 use Rattle.definitions.specs.Correction.{keep_row}
-use Rattle.definitions.specs.declared.DepthEffect.{DepthEffect}
-use Rattle.definitions.specs.declared.DepthEffect.TheVariants.{Nothing, Blocks, Opens, Closes}
 use Rattle.definitions.specs.declared.RowSum.{RowSum}
 use Rattle.definitions.specs.declared.ArrowStats.{ArrowStats}
-use Rattle.definitions.proofs.Lists.{one-le, count-cons, count-append}
+use Rattle.definitions.proofs.Lists.{one-le}
 use Rattle.definitions.proofs.RowBounds.{keep-wide}
-use Rattle.holds.specs.Tracks.{ends_in, ends_at}
-use Rattle.holds.proofs.Opens.{from-here}
+use Rattle.holds.specs.Tracks.{ends_at}
+use Rattle.holds.proofs.Opens.{ends-few}
 use Rattle.row_tally.specs.Bounds.{Under, Below}
 use Rattle.row_tally.specs.Raised.{with_cells}
 use Rattle.row_tally.proofs.Bounds.{under-row, under-judged, below_more, below_none}
@@ -47,42 +41,6 @@ counts-below plain J ps k t i (r ∷ rs) w b =
     (counts-below plain J ps (k + 10) (with_cells t (kind_sum plain (J i) (keep_row ps i 0 r))) (suc i) rs (λ j h. w (suc j) (omega arith))
     (below-cells k 10 t _ b (kind-under plain (J i) (keep_row ps i 0 r) (rw keep-wide (w 0 (omega arith))))))
 
--- ---- The pairs that end at a row: one at most in each column
-module _ (J : ℕ → Bool) (i : ℕ) where
-  and-le : (a b : Bool) → number_of_bool (a && b) ≤ number_of_bool a
-  and-le true b = one-le b
-  and-le false b = omega arith
-
-  paired-once : (e : DepthEffect) (j : ℕ) (st : List ℕ) → ends_in J i (paired e j st) ≤ number_of_bool (eqb j i)
-  paired-once Nothing j st = omega arith
-  paired-once Blocks j st = omega arith
-  paired-once Opens j st = omega arith
-  paired-once Closes j [] = omega arith
-  paired-once Closes j (h ∷ st) =
-      omega (arith, count-cons (λ (p : Pair). eqb p.tail i && J p.head) (record { head = h; tail = j }) [], and-le (eqb j i) (J h))
-
-  once-from : (c j : ℕ) (st : List ℕ) (rs : List Row) → ends_in J i (pairs_from c j st rs) ≤ number_of_bool (leb j i)
-  once-from c j st [] = omega arith
-  once-from c j st (r ∷ rs) =
-      let next = next_stack (hold_at (byte_at c r)) j st in
-      let a = count-append (λ (p : Pair). eqb p.tail i && J p.head) (paired (hold_at (byte_at c r)) j st) (pairs_from c (suc j) next rs) in
-      let b = once-from c (suc j) next rs in
-      let d = paired-once (hold_at (byte_at c r)) j st in
-      let e = from-here j i in
-      omega arith
-
-  tail-once : (rows : List Row) (c : ℕ) → ends_in J i (pairs rows c) ≤ 1
-  unfolding pairs
-  tail-once rows c = let a = once-from c 0 [] rows in let b = one-le (leb 0 i) in omega arith
-
-  columns-most : (m : ℕ) (rows : List Row) → sum_columns m (λ c. ends_in J i (pairs rows c)) ≤ m
-  columns-most zero rows = omega arith
-  columns-most (suc m) rows = omega (arith, columns-most m rows, tail-once rows m)
-
-  pub ends_few : (rows : List Row) → ends_at J rows i ≤ 10
-  unfolding ends_at
-  ends_few rows = columns-most 10 rows
-
 -- ---- The entries
 pub entry_low : (plain judged : Bool) (s : RowSum) (ends : ℕ) → Under 10 s → ends ≤ 10 → entry_of plain judged s ends ≤ 15018
 entry_low true judged s ends u h = omega (arith, u)
@@ -96,7 +54,7 @@ module _ (plain : Bool) (J : ℕ → Bool) (L : ℕ) (rows : List Row) (t : Pair
   pub entries_low : (i : ℕ) → get_or work i 0 ≤ 15018
   entries_low i =
       elim (dec_lt i (length rows)) [
-        | yes h ↦ rw (s.entries i h) (entry_low plain (J i) _ (ends_at J rows i) (row-under i h) (ends_few J i rows))
+        | yes h ↦ rw (s.entries i h) (entry_low plain (J i) _ (ends_at J rows i) (row-under i h) (ends-few J rows i))
         | no h ↦ omega (arith, s.later i (omega arith))
       ]
 

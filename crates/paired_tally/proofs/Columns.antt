@@ -3,7 +3,7 @@ use mathlib.Core.Path.{◌≡◌, refl, sym, ap, ◌∙◌}
 use mathlib.Core.Bool.{Bool, true, false, ◌||◌, ◌&&◌, or-false}
 use mathlib.Core.List.{List, [], ◌∷◌, ◌++◌, append-nil}
 use Prim.Native.Nat.{ℕ, zero, suc, ◌+◌, ◌≤◌, ◌<◌}
-use native.Mathlib.Decide.{ℕ_discrete, dec_lt}
+use native.Mathlib.Decide.{ℕ_discrete}
 use native.Mathlib.Omega.{arith}
 use borrow.Author.Tests.{eq-eqb, ne_eqb}
 use lib.Dec.{eqb}
@@ -13,11 +13,10 @@ use Rattle.definitions.specs.Lists.{number_of_bool, sum_columns}
 use Rattle.definitions.specs.Lines.{Row}
 use Rattle.definitions.specs.Cells.{cell_of, byte_at}
 use Rattle.definitions.specs.Tracker.{Pair, next_stack, paired, hold_at, pairs, is_head_of}
-use Rattle.definitions.specs.declared.DepthEffect.{DepthEffect}
-use Rattle.definitions.specs.declared.DepthEffect.TheVariants.{Nothing, Blocks, Opens, Closes}
+use Rattle.definitions.specs.declared.DepthEffect.TheVariants.{Nothing, Closes}
 use Rattle.definitions.proofs.Lists.{All, none, one, any-default, count-append, count-cons}
 use Rattle.holds.specs.Tracks.{stack_after, ends_in, ends_at}
-use Rattle.holds.proofs.Pairs.{pairs-snoc, heads-append, Placed, placed, Stacked, stacked}
+use Rattle.holds.proofs.Pairs.{pairs-snoc, heads-append, Placed, placed, stacked}
 use Rattle.holds.proofs.Ends.{ends-old, sum_same}
 use Rattle.holds.proofs.Opens.{heads_in, once, head-count}
 use Rattle.paired_tally.specs.Paired.{head_number, numbers_after}

@@ -1,17 +1,17 @@
 -- One row more of taps alone in columns without an open head: no head is in it and no tail, so that the pairs stay.
-use mathlib.Core.Path.{◌≡◌, refl, ap, sym, subst, ◌∙◌}
-use mathlib.Core.Bool.{Bool, true, false, true≢false, ◌||◌}
+use mathlib.Core.Path.{◌≡◌, refl, ap, sym, ◌∙◌}
+use mathlib.Core.Bool.{Bool, false, true≢false, ◌||◌}
 use mathlib.Core.List.{List, [], ◌∷◌, ◌++◌, append-nil}
-use Prim.Native.Nat.{ℕ, ◌+◌, ◌<◌, ◌≤◌}
+use Prim.Native.Nat.{ℕ, ◌+◌, ◌<◌}
 use native.Mathlib.Nat.{zero-add}
 use native.Mathlib.Decide.{ℕ_discrete}
 use native.Mathlib.Omega.{arith}
-use lib.ListN.{length, get_or, set, length-append, get_or-append}
+use lib.ListN.{length, get_or, length-append, get_or-append}
 use lib.Seq.{get_or-append_seam}
 use Rattle.std.proofs.lemmas.List.{get_or-set_same, get_or-set_other}
 use Rattle.definitions.specs.Lines.{Row}
 use Rattle.definitions.specs.Cells.{byte_at}
-use Rattle.definitions.specs.Tracker.{Pair, next_stack, paired, hold_at, pairs, is_head_of}
+use Rattle.definitions.specs.Tracker.{paired, hold_at, pairs, is_head_of}
 use Rattle.definitions.specs.Tally.{empty_stats}
 use Rattle.definitions.specs.Correction.{is_opening, is_closing, keep_row}
 use Rattle.definitions.specs.declared.DepthEffect.{DepthEffect}

@@ -1,10 +1,10 @@
 -- The one reading of a text: the rows that have come, as many as the loop says, are counted.
-use mathlib.Core.Path.{◌≡◌, refl, sym, subst}
+use mathlib.Core.Path.{◌≡◌, subst}
 use mathlib.Core.Bool.{Bool}
 use mathlib.Core.List.{List, [], ◌∷◌, ◌++◌}
 use Prim.Native.Nat.{ℕ, ◌+◌, ◌≤◌}
 use native.Mathlib.Omega.{arith}
-use lib.ListN.{length, get_or, length-append}
+use lib.ListN.{length, length-append}
 use Rattle.definitions.specs.Lines.{Row}
 use Rattle.paired_tally.specs.Ends.{Counted}
 use Rattle.paired_tally.specs.Paired.{PairedRows, LeftByRows, RowCounted}

@@ -1,8 +1,8 @@
 -- The loops over the entries of rows: the first rows are counted with their ends, and of the others the cells alone.
 use mathlib.Core.Path.{◌≡◌, refl, ap, sym, subst, ◌∙◌}
-use mathlib.Core.Bool.{Bool, true, false, cond, true≢false}
+use mathlib.Core.Bool.{Bool, true, false, cond}
 use mathlib.Core.List.{List, [], ◌∷◌}
-use Prim.Native.Nat.{ℕ, zero, suc, ◌+◌, ◌*◌, ◌-◌, ◌/◌, ◌%◌, ◌≤◌, ◌<◌}
+use Prim.Native.Nat.{ℕ, suc, ◌+◌, ◌*◌, ◌≤◌, ◌<◌}
 use native.Mathlib.Nat.{le_trans, mul-le-mul_right}
 use native.Mathlib.Numerals.{add-one}
 use native.Mathlib.Omega.{arith}
@@ -12,7 +12,7 @@ use lib.Seq.{drop-cons}
 use Rattle.definitions.specs.Lists.{number_of_bool}
 use Rattle.definitions.specs.Lines.{Row}
 use Rattle.definitions.specs.Tracker.{Pair, pairs}
-use Rattle.definitions.specs.Tally.{empty_stats, row_sum, row_sum_by, tally_with_row, tally_from, tally}
+use Rattle.definitions.specs.Tally.{empty_stats, row_sum_by, tally_with_row, tally_from, tally}
 use Rattle.definitions.specs.Correction.{keep_row, keep_from, paired_only}
 use Rattle.definitions.specs.Judged.{judged_sum, judge_row, open_before, judge_from, judged_rows}
 use Rattle.definitions.specs.declared.RowSum.{RowSum}

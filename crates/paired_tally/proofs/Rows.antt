@@ -1,43 +1,33 @@
 -- A row more that changes no pairs, and that of a row of zeros, with which each row begins.
 use mathlib.Core.Path.{◌≡◌, refl, sym, ap, ap₂, ◌∙◌}
-use mathlib.Core.Bool.{Bool, true, false, true≢false}
+use mathlib.Core.Bool.{Bool, true, false}
 use mathlib.Core.List.{List, [], ◌∷◌, ◌++◌, append-nil}
-use Prim.Native.Nat.{ℕ, zero, suc, ◌+◌, ◌*◌, ◌≤◌, ◌<◌}
+use Prim.Native.Nat.{ℕ, ◌+◌, ◌<◌}
 use native.Mathlib.Nat.{zero-add}
 use native.Mathlib.Decide.{ℕ_discrete}
 use native.Mathlib.Omega.{arith}
-use lib.ListN.{length, get_or, set, length-append, get_or-append}
+use lib.ListN.{length, get_or, length-append, get_or-append}
 use lib.Seq.{get_or-append_seam}
-use Rattle.definitions.specs.Lists.{number_of_bool}
 use Rattle.definitions.specs.Lines.{Row}
 use Rattle.definitions.specs.Cells.{cell_of, byte_at, is_arrow}
 use Rattle.definitions.specs.Reduction.{all_zero}
-use Rattle.definitions.specs.Tracker.{Pair, next_stack, paired, hold_at, pairs, is_head_of}
+use Rattle.definitions.specs.Tracker.{next_stack, paired, hold_at, pairs, is_head_of}
 use Rattle.definitions.specs.Tally.{row_sum, empty_stats, empty_sum}
 use Rattle.definitions.specs.Correction.{keep_row}
 use Rattle.definitions.specs.Judged.{is_judged_arrow, is_unjudged_fake, sum_of_fakes, judged_sum}
-use Rattle.definitions.specs.declared.DepthEffect.TheVariants.{Nothing, Blocks, Opens, Closes}
+use Rattle.definitions.specs.declared.DepthEffect.TheVariants.{Nothing}
 use Rattle.definitions.specs.declared.RowSum.{RowSum}
 use Rattle.definitions.specs.declared.ArrowStats.{ArrowStats}
-use Rattle.definitions.proofs.Columns.{zero-byte, past_end}
-use Rattle.taps.specs.Taps.{bit, FreeTaps, FreeAre, mask_counts, unpack}
-use Rattle.taps.proofs.Free.{Free, zero-cell, tap-there, free-cell}
-use Rattle.taps.proofs.Masks.{tap-line-sum}
-use Rattle.holds.specs.Stacks.{stack_of, Sized}
+use Rattle.definitions.proofs.Columns.{zero-byte}
 use Rattle.holds.specs.Tracks.{stack_after, ends_in, ends_at}
-use Rattle.holds.specs.declared.Tracker.{Tracker}
-use Rattle.holds.proofs.Stacks.{stack-length}
 use Rattle.holds.proofs.Pairs.{pairs-snoc}
 use Rattle.holds.proofs.Ends.{ends-late, ends-old, sum_same}
-use Rattle.holds.proofs.Passed.{free-keeps}
 use Rattle.row_tally.specs.Raised.{with_cells}
-use Rattle.row_tally.proofs.Kept.{keep-whole}
 use Rattle.row_tally.proofs.Raised.{cells-none}
-use Rattle.row_tally.proofs.Taps.{taps-judged, taps-unjudged}
 use Rattle.row_tally.proofs.Zeros.{zero-stays, zero-count, zero-sum}
 use Rattle.paired_tally.specs.declared.PairedTally.{PairedTally}
 use Rattle.paired_tally.specs.Entry.{entry_of}
-use Rattle.paired_tally.specs.Paired.{kind_sum, counts_from, sum_at, head_number, numbers_after, PairedRows}
+use Rattle.paired_tally.specs.Paired.{kind_sum, head_number, numbers_after, PairedRows}
 use Rattle.paired_tally.specs.Cells.{begun}
 use Rattle.paired_tally.proofs.Numbers.{numbers_snoc}
 use Rattle.paired_tally.proofs.Keep.{Same, keep-same}

@@ -1,8 +1,8 @@
 -- The last row gets another cell where a `0` stood: the tally and the work slice after it.
 use mathlib.Core.Path.{◌≡◌, refl, sym, ap, ap₂, ◌∙◌}
-use mathlib.Core.Bool.{Bool, true, false}
+use mathlib.Core.Bool.{Bool, false}
 use mathlib.Core.List.{List, [], ◌∷◌, ◌++◌}
-use Prim.Native.Nat.{ℕ, zero, suc, ◌+◌, ◌≤◌, ◌<◌}
+use Prim.Native.Nat.{ℕ, ◌+◌, ◌<◌}
 use native.Mathlib.Nat.{zero-add}
 use native.Mathlib.Decide.{ℕ_discrete}
 use native.Mathlib.Omega.{arith}
@@ -11,13 +11,13 @@ use lib.Seq.{get_or-append_seam}
 use Rattle.std.proofs.lemmas.List.{set-get_or}
 use Rattle.definitions.specs.Lists.{number_of_bool}
 use Rattle.definitions.specs.Lines.{Row}
-use Rattle.definitions.specs.Cells.{cell_of, byte_at}
+use Rattle.definitions.specs.Cells.{cell_of}
 use Rattle.definitions.specs.Tracker.{Pair, next_stack, paired, hold_at, pairs, is_head_of}
 use Rattle.definitions.specs.Tally.{direction, empty_stats, empty_sum}
 use Rattle.definitions.specs.Correction.{head_if_paired, keep_row}
 use Rattle.definitions.specs.declared.Cell.{Cell}
 use Rattle.definitions.specs.declared.Cell.TheVariants.{Empty, Tail}
-use Rattle.definitions.specs.declared.DepthEffect.TheVariants.{Nothing, Blocks, Opens, Closes}
+use Rattle.definitions.specs.declared.DepthEffect.TheVariants.{Opens}
 use Rattle.definitions.specs.declared.RowSum.{RowSum}
 use Rattle.definitions.specs.declared.ArrowStats.{ArrowStats}
 use Rattle.definitions.proofs.RowBounds.{keep-wide}
@@ -31,7 +31,7 @@ use Rattle.paired_tally.specs.Cells.{add_kind}
 use Rattle.paired_tally.proofs.Sums.{kind-set, kind-next, kind-tail, cells-swap}
 use Rattle.paired_tally.proofs.Keep.{SameBut, Same, keep-same, keep-set, kept-byte}
 use Rattle.paired_tally.proofs.Counts.{counts-snoc, counts-same, counts-gain}
-use Rattle.paired_tally.proofs.Columns.{numbers-after, numbers-other, ends-earlier, same-pairs, same-heads, same-ends, no-head, but-here, other-heads, head-now, head-not_before, ends-more}
+use Rattle.paired_tally.proofs.Columns.{numbers-after, numbers-other, ends-earlier, same-heads, same-ends, no-head, but-here, other-heads, head-now, head-not_before, ends-more}
 
 zero-cell : cell_of 48 ≡ Empty
 unfolding cell_of

@@ -1,9 +1,8 @@
 -- A row of taps alone by its mask: what it adds up to, and its entry.
-use mathlib.Core.Path.{◌≡◌, refl, ap, sym, subst, ◌∙◌}
+use mathlib.Core.Path.{◌≡◌, refl, ap, sym, ◌∙◌}
 use mathlib.Core.Bool.{Bool, true, false}
 use mathlib.Core.List.{List}
 use Prim.Native.Nat.{ℕ, ◌+◌, ◌*◌}
-use native.Mathlib.Nat.{add-zero}
 use native.Mathlib.Omega.{arith}
 use lib.ListN.{get_or, set}
 use Rattle.std.proofs.lemmas.List.{set-get_or}
@@ -12,16 +11,14 @@ use Rattle.definitions.specs.Lines.{Row}
 use Rattle.definitions.specs.Tally.{row_sum}
 use Rattle.definitions.specs.Judged.{judged_sum, sum_of_fakes}
 use Rattle.definitions.specs.declared.ArrowStats.{ArrowStats}
-use Rattle.taps.specs.Taps.{mask_of_line, mask_counts, unpack}
+use Rattle.taps.specs.Taps.{mask_of_line, unpack}
 use Rattle.taps.specs.declared.Taps.TheVariants.{Mask}
 use Rattle.taps.proofs.Masks.{tap-line-sum}
 use Rattle.row_tally.specs.Raised.{with_cells}
 use Rattle.row_tally.proofs.Raised.{cells-none}
 use Rattle.row_tally.proofs.Taps.{taps-judged, no-taps-row, no-taps-sum}
 use Rattle.paired_tally.specs.Entry.{entry_of}
-use Rattle.paired_tally.specs.Free.{FreeCounted}
 use Rattle.paired_tally.specs.Paired.{kind_sum}
-use Rattle.paired_tally.specs.declared.PairedTally.{PairedTally}
 
 -- the entry of a row that a list has not yet
 pub entry-stays : (work : List ℕ) (row : ℕ) → get_or work row 0 ≡ 0 → work ≡ set work row 0

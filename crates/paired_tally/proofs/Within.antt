@@ -2,7 +2,7 @@
 use mathlib.Core.Path.{◌≡◌, refl, sym, ap, ap₂, ◌∙◌}
 use mathlib.Core.Bool.{Bool, true, false, cond}
 use mathlib.Core.List.{List, [], ◌∷◌, ◌++◌}
-use Prim.Native.Nat.{ℕ, zero, suc, ◌+◌, ◌*◌, ◌/◌, ◌%◌, ◌≤◌, ◌<◌}
+use Prim.Native.Nat.{ℕ, zero, suc, ◌+◌, ◌*◌, ◌%◌, ◌≤◌, ◌<◌}
 use native.Mathlib.Nat.{add-zero}
 use native.Mathlib.Numerals.{add-one}
 use native.Mathlib.Omega.{arith}
@@ -10,7 +10,7 @@ use borrow.Author.Tests.{le-leb, lt-leb}
 use lib.Dec.{eqb, leb}
 use lib.ListN.{length, get_or, set, length-set, length-append}
 use lib.Seq.{get_or-set_same, get_or-set_other}
-use Rattle.std.specs.Prelude.{Option, Some, None}
+use Rattle.std.specs.Prelude.{Option, Some}
 use Rattle.std.proofs.lemmas.List.{set-get_or, get_or_append_left}
 use Rattle.definitions.specs.Sizes.{count_bound}
 use Rattle.definitions.specs.Lists.{number_of_bool}
@@ -24,8 +24,7 @@ use Rattle.definitions.specs.declared.Cell.TheVariants.{Empty, Tail, Hold, Roll}
 use Rattle.definitions.specs.declared.DepthEffect.{DepthEffect}
 use Rattle.definitions.specs.declared.DepthEffect.TheVariants.{Nothing, Blocks, Opens, Closes}
 use Rattle.definitions.specs.declared.RowSum.{RowSum}
-use Rattle.definitions.specs.declared.ArrowStats.{ArrowStats}
-use Rattle.definitions.proofs.Lists.{All, none, one, any-default}
+use Rattle.definitions.proofs.Lists.{All, one, any-default}
 use Rattle.holds.specs.Stacks.{stack_of, TrackReady, TrackStepped, ended_at}
 use Rattle.holds.specs.Tracks.{stack_after, ends_at}
 use Rattle.holds.specs.declared.Tracker.{Tracker}
@@ -35,14 +34,15 @@ use Rattle.row_tally.specs.Raised.{with_cells}
 use Rattle.row_tally.proofs.Bounds.{below_more}
 use Rattle.row_tally.proofs.Kept.{kept_cell}
 use Rattle.row_tally.proofs.Raised.{cells-none}
+use Rattle.holds.proofs.Opens.{ends-few}
 use Rattle.paired_tally.specs.declared.PairedTally.{PairedTally}
 use Rattle.paired_tally.specs.Entry.{entry_of}
 use Rattle.paired_tally.specs.Paired.{sum_at, head_number, numbers_after, PairedRows}
 use Rattle.paired_tally.specs.Cells.{begun, Within, GoneOn, add_kind, own_entry, head_cell, head_counts, pair_stats, pair_work}
-use Rattle.paired_tally.proofs.Numbers.{half, halves, numbers-halves, numbers-few, numbers-told, Told}
+use Rattle.paired_tally.proofs.Numbers.{half, numbers-halves, numbers-few, numbers-told, Told}
 use Rattle.paired_tally.proofs.Sums.{kind-empty}
 use Rattle.paired_tally.proofs.Columns.{numbers-before, pair-is, head-earlier}
-use Rattle.paired_tally.proofs.Bounds.{sum_under, ends_few, entries_low, paired-below}
+use Rattle.paired_tally.proofs.Bounds.{sum_under, entries_low, paired-below}
 use Rattle.paired_tally.proofs.Entries.{own-gains, head-plain, head-at, fake-at, large-at, small-at, tail-plain, tail-judged, tail-none}
 use Rattle.paired_tally.proofs.Heads.{number-told, pairs-none, Popped, popped}
 use Rattle.paired_tally.proofs.Step.{own, closed}
@@ -129,6 +129,18 @@ stepped b x e f s = rw (← e, f) s
 pub ended-is : {e : DepthEffect} {row c : ℕ} {t t' : Tracker} (r r' : Option ℕ) → r ≡ r' → TrackStepped e row c t t' (ended_at row r) → TrackStepped e row c t t' (ended_at row r')
 ended-is r r' q s = rw (← q) s
 
+-- a column without an open head is cleared as it is
+pub blocked : (c : ℕ) (t : Tracker) (row : ℕ) → TrackReady c t → get_or t.depths c 0 ≡ 0 → TrackStepped Blocks row c t t []
+unfolding stack_of
+blocked c t row r z =
+    record {
+      stack = rw z;
+      pairs = refl;
+      sized = r.sized;
+      others = λ d k ne. refl;
+      busy = λ f. f;
+    }
+
 pub passed : (b : ℕ) (x : Cell) {row c : ℕ} {t : Tracker} → x ≡ cell_of b → hold_effect x ≡ Nothing → TrackReady c t → TrackStepped (hold_at b) row c t t []
 passed b x {row} {c} {t} e f r = stepped b x e f (step-nothing t c r row)
 
@@ -167,7 +179,7 @@ module _ (plain judged : Bool) (row : ℕ) (cells : Row) (k : ℕ) (inside : k <
             (own plain J (length cells) rows r k b r-inside (begun-zero cells k inside) t t' work work' s [] (rw size m) no-pair x cell (rw (← is-judged) counted)
             (ap₂ (λ l i. get_or l i 0) entry size ∙ get_or-set_same work row (own_entry plain judged x (get_or work row 0)) 0 room
             ∙ ap (own_entry plain judged x) (ap (λ i. get_or work i 0) (sym size) ∙ s.entries (length rows) last)
-            ∙ rw is-judged (own-gains plain (J (length rows)) x sum ends d no-head under (ends_few J (length rows) (rows ++ (r ∷ [])))))
+            ∙ rw is-judged (own-gains plain (J (length rows)) x sum ends d no-head under (ends-few J (rows ++ (r ∷ [])) (length rows))))
             (λ i ne. ap (λ l. get_or l i 0) entry ∙ get_or-set_other work row i (own_entry plain judged x (get_or work row 0)) 0 (λ e. ne (e ∙ sym size))))
 
     -- a head, which is only pushed
@@ -321,7 +333,7 @@ module _ (judged : Bool) (row : ℕ) (cells : Row) (k : ℕ) (inside : k < lengt
         ∙ ap (λ x. x + 256) row-entry ∙ rw e (tail-judged (J n) (sum_at false J (pairs Sofar) Sofar n) (ends_at J Sofar n) D))
         (raised-others false judged row cells k inside narrow t t' work work' room v tail m J rows size here s raised)
     by-head false e =
-        let small : leb 8192 (get_or work (half v) 0) ≡ false = lt-leb 8192 _ (rw head-entry (small-at (J (half v)) e (sum_at false J (pairs Sofar) Sofar (half v)) (ends_at J Sofar (half v)) (ends_few J (half v) Sofar))) in
+        let small : leb 8192 (get_or work (half v) 0) ≡ false = lt-leb 8192 _ (rw head-entry (small-at (J (half v)) e (sum_at false J (pairs Sofar) Sofar (half v)) (ends_at J Sofar (half v)) (ends-few J Sofar (half v)))) in
         let same : work' ≡ work = rw small at entry in
         finish false judged row cells k inside narrow t t' work work' room v tail m J rows size here s
         (rw small at counted ∙ rw e)

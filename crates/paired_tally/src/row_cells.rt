@@ -1,5 +1,5 @@
 // The cells of a row, one after the other: each counts at once, but for a head, which counts when a tail pairs with it.
-ghost use Rattle.std.specs.Prelude.{◌≡◌, true, false, ◌==◌, ◌+◌, ◌/◌, ◌≤◌, ◌<◌, length, slice_index, slice_set};
+ghost use Rattle.std.specs.Prelude.{◌≡◌, ℕ, [], true, false, ◌==◌, ◌+◌, ◌/◌, ◌≤◌, ◌<◌, length, slice_index, slice_set};
 ghost use Rattle.definitions.specs.Lists.{number_of_bool};
 ghost use Rattle.definitions.specs.Tracker.{hold_at};
 ghost use Rattle.definitions.specs.declared.Cell.TheVariants.{Tail};
@@ -8,6 +8,7 @@ ghost use Rattle.definitions.specs.Cells.{cell_of, hold_effect};
 ghost use Rattle.definitions.specs.Correction.{is_opening};
 ghost use Rattle.definitions.specs.Tally.{empty_sum};
 ghost use Rattle.definitions.specs.declared.DepthEffect.TheVariants.{Nothing, Blocks, Opens};
+ghost use Rattle.holds.specs.Stacks.{TrackReady, TrackStepped};
 ghost use Rattle.row_tally.specs.Bounds.{Below};
 ghost use Rattle.row_tally.specs.Raised.{with_cells};
 ghost use Rattle.paired_tally.specs.Paired.{LeftByRows, RowCounted};
@@ -15,6 +16,7 @@ ghost use Rattle.paired_tally.specs.Cells.{Within, GoneOn, add_kind, own_entry, 
 
 use crate::{PairedTally, entry};
 use definitions::{ArrowStats, Cell, direction};
+use holds::Tracker;
 
 // One cell more of an unjudged row, which is a fake or nothing.
 #[inline(always)]
@@ -105,6 +107,17 @@ fn end_pair(
     count_number(stats, direction, number, false);
 }
 
+// The stack of a column is emptied, where it has a head.
+#[inline(always)]
+fn clear_open(tracker: &mut Tracker, column: usize)
+    requires { TrackReady column tracker.old }
+    ensures { (row : ℕ) → TrackStepped Blocks row column tracker.old tracker.new [] }
+{
+    if tracker.depths[column] != 0 {
+        tracker.clear(column);
+    }
+}
+
 impl PairedTally {
     // A cell of the row that is no head counts.
     #[inline(always)]
@@ -174,7 +187,7 @@ impl PairedTally {
         ensures { GoneOn plain judged row cells.now column self.old work.old
             (column + 1) self.new work.new }
     {
-        self.tracker.clear(column);
+        clear_open(&mut self.tracker, column);
         let towards = direction(cells.len(), column);
         self.count_own(row, towards, cell, plain, judged, work);
     }

@@ -4,8 +4,6 @@ use mathlib.Core.Bool.{true, false}
 use Prim.Native.Nat.{◌+◌, ◌*◌}
 use lib.ListN.{set}
 use Rattle.row_tally.specs.Raised.{with_cells}
-use Rattle.paired_tally.specs.Entry.{entry_of}
-use Rattle.paired_tally.specs.Paired.{kind_sum}
 use Rattle.paired_tally.proofs.TapRows.{entry-stays, judged-row, plain-entry, judged-entry, no-taps-stats, no-taps-entry, no-taps-plain}
 use Rattle.paired_tally.proofs.PairedTally.add_free.Goals as goal
 

@@ -1,9 +1,6 @@
 -- `PairedTally::judge_judged` meets its contract: a row of free taps has no head and no tail.
-use mathlib.Core.Path.{sym, ap, ◌∙◌}
+use mathlib.Core.Path.{sym}
 use native.Mathlib.Omega.{arith}
-use Prim.Native.Nat.{◌*◌, ◌≤◌}
-use lib.ListN.{length}
-use Rattle.definitions.specs.Sizes.{count_bound}
 use Rattle.taps.proofs.Free.{free-told}
 use Rattle.taps.proofs.Masks.{below-at, fits-table}
 use Rattle.row_tally.proofs.Bounds.{below_more}

@@ -1,12 +1,8 @@
 -- `ends::end_judged_rows` meets its contract. The loop's invariant: the first i rows are counted whole, of the others the cells alone, and so many
 -- holds are open.
-use Prim.Native.Nat.{ℕ, ◌+◌, ◌*◌, ◌≤◌, ◌<◌}
-use mathlib.Core.Path.{sym, ◌∙◌}
-use mathlib.Core.Bool.{false}
+use Prim.Native.Nat.{◌<◌}
 use native.Mathlib.Omega.{arith}
-use lib.ListN.{length, get_or}
-use Rattle.definitions.specs.Sizes.{count_bound}
-use Rattle.paired_tally.specs.Entry.{heads_of, ends_of}
+use lib.ListN.{length}
 use Rattle.paired_tally.proofs.RowEnds.{judged-start, arrows-few, ends-open, held-few, judged-ending, judged-end}
 use Rattle.paired_tally.proofs.ends.end_judged_rows.Goals.{In-loop-i}
 use Rattle.paired_tally.proofs.ends.end_judged_rows.Goals as goal

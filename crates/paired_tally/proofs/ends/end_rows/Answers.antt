@@ -1,9 +1,7 @@
 -- `ends::end_rows` meets its contract. The loop's invariant: the first i rows are counted whole, and of the others the cells alone.
-use Prim.Native.Nat.{◌*◌, ◌≤◌, ◌<◌}
-use mathlib.Core.Path.{sym, ◌∙◌}
+use Prim.Native.Nat.{◌<◌}
 use native.Mathlib.Omega.{arith}
 use lib.ListN.{length}
-use Rattle.definitions.specs.Sizes.{count_bound}
 use Rattle.paired_tally.proofs.RowEnds.{ending-start, entry-few, ending-next, ending-end}
 use Rattle.paired_tally.proofs.ends.end_rows.Goals as goal
 
