@@ -42,9 +42,11 @@ pub fn end_judged_rows(counted: &PairedTally, work: &[u16], rows: usize) -> Arro
     for i in 0..rows {
         let arrows = entry::arrows(work[i]);
         let others = entry::others(work[i]);
+        let opened = entry::heads(work[i]);
+        let ends = entry::ends(work[i]);
         row_tally::end_judged_row(&mut stats, true, arrows, others, active);
-        active += entry::heads(work[i]);
-        active -= entry::ends(work[i]);
+        active += opened;
+        active -= ends;
     }
     stats
 }

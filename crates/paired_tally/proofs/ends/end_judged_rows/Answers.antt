@@ -28,21 +28,21 @@ overflow_add-active c =
     let x = c.requires.reached.left in
     let here : c.loop-i.i < length x.rows = omega (arith, x.size, c.loop-i-test.true) in
     let e = c.loop-i.invariant _ _ _ x.size c.requires.reached.narrow x.paired in
-    omega (arith, held-few _ _ _ _ _ x.paired _ here c.requires.reached.narrow _ _ e, c.heads-active.ensures, c.requires.rows_few, c.loop-i-test.true)
+    omega (arith, held-few _ _ _ _ _ x.paired _ here c.requires.reached.narrow _ _ e, c.heads-opened.ensures, c.requires.rows_few, c.loop-i-test.true)
 
 pub overflow_sub-active : goal.overflow_sub-active
 overflow_sub-active c =
     let x = c.requires.reached.left in
     let here : c.loop-i.i < length x.rows = omega (arith, x.size, c.loop-i-test.true) in
     let e = c.loop-i.invariant _ _ _ x.size c.requires.reached.narrow x.paired in
-    omega (arith, ends-open _ _ _ _ _ x.paired _ here c.requires.reached.narrow _ _ e, c.heads-active.ensures, c.ends-active.ensures)
+    omega (arith, ends-open _ _ _ _ _ x.paired _ here c.requires.reached.narrow _ _ e, c.heads-opened.ensures, c.ends-ends.ensures)
 
 pub loop-i-preserved : goal.loop-i-preserved
 loop-i-preserved c = λ J L all n m x.
     let here : c.loop-i.i < length all = omega (arith, n, c.loop-i-test.true) in
     let e = c.loop-i.invariant _ _ _ n m x in
     judged-ending _ _ _ _ _ x _ here m _ _ e _ _ (rw (c.arrows-arrows.ensures, c.others-others.ensures) at c.end_judged_row.ensures)
-    (omega (arith, c.heads-active.ensures, c.ends-active.ensures, ends-open _ _ _ _ _ x _ here m _ _ e))
+    (omega (arith, c.heads-opened.ensures, c.ends-ends.ensures, ends-open _ _ _ _ _ x _ here m _ _ e))
 
 pub returns : goal.returns
 returns c = λ J L all n m x. judged-end _ _ _ _ _ _ (omega (arith, n, c.loop-i-test.false)) (c.loop-i.invariant _ _ _ n m x)
