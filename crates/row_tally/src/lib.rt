@@ -149,9 +149,9 @@ pub fn end_judged_row(stats: &mut ArrowStats, judged: bool, arrows: u32, others:
 {
     if 0 < arrows {
         count_step(stats, arrows);
-    }
-    if judged & (3 <= arrows + held) {
-        stats.hands += u32::from(1 <= arrows + others);
+        stats.hands += u32::from(judged & (3 <= arrows + held));
+    } else if judged & (0 < others) & (3 <= held) {
+        stats.hands += 1;
     }
     stats.holding = 0;
 }
