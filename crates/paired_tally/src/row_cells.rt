@@ -238,7 +238,7 @@ impl PairedTally {
         }
     }
 
-    // A cell that is no `0`, or any: by a function of its own, since it would not stay in line.
+    // Any cell: by a function of its own, since it would not stay in line.
     #[inline(never)]
     fn count_met<const PLAIN: bool, const JUDGED: bool>(
         &mut self,
@@ -276,8 +276,9 @@ impl PairedTally {
         }
     }
 
-    // The cell of a row in a column.
+    // The cell of a row in a column. A byte that is no more than `0` is an empty cell.
     #[inline(always)]
+    #[tactic(auto, unfolding(definitions::specs::Cells::cell_of))]
     fn count_at<const PLAIN: bool, const JUDGED: bool>(
         &mut self,
         row: u32,
@@ -290,9 +291,11 @@ impl PairedTally {
         ensures { GoneOn PLAIN JUDGED row cells.now column self.old work.old
             (column + 1) self.new work.new }
     {
-        if cells[column] != b'0' {
-            self.count_met::<PLAIN, JUDGED>(row, cells, column, work);
+        if cells[column] <= b'0' {
+            self.pass_cell(row, cells, column, Cell::Empty, PLAIN, JUDGED, work);
+            return;
         }
+        self.count_met::<PLAIN, JUDGED>(row, cells, column, work);
     }
 
     // Four cells of a row from a column on, written one after the other: a loop would take each count of the tally into a register.
