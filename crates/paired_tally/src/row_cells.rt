@@ -366,7 +366,7 @@ impl PairedTally {
     }
 
     /// The cells of a row of a plain tally.
-    #[inline(never)]
+    #[inline(always)]
     pub fn count_plain(&mut self, row: u32, cells: &[u8], work: &mut [u16])
         requires wide { 4 ≤ length cells.now }
         requires narrow { length cells.now ≤ 10 }
@@ -379,7 +379,7 @@ impl PairedTally {
     }
 
     /// The cells of a judged row.
-    #[inline(never)]
+    #[inline(always)]
     pub fn count_judged(&mut self, row: u32, cells: &[u8], work: &mut [u16])
         requires wide { 4 ≤ length cells.now }
         requires narrow { length cells.now ≤ 10 }
@@ -393,7 +393,7 @@ impl PairedTally {
     }
 
     /// The cells of an unjudged row.
-    #[inline(never)]
+    #[inline(always)]
     pub fn count_unjudged(&mut self, row: u32, cells: &[u8], work: &mut [u16])
         requires narrow { length cells.now ≤ 10 }
         requires entry_room { row < length work.old }
