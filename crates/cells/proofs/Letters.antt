@@ -1,6 +1,6 @@
 -- Bytes that stand for nothing, told by their order and by a few that they are not.
 use mathlib.Core.Path.{◌≡◌}
-use Prim.Native.Nat.{ℕ, ◌<◌, ◌≤◌}
+use Prim.Native.Nat.{ℕ, ◌<◌}
 use native.Mathlib.Omega.{arith}
 use borrow.Author.Tests.{ne_eqb}
 use Rattle.definitions.specs.Cells.{cell_of}

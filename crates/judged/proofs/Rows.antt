@@ -16,7 +16,7 @@ use Rattle.definitions.specs.Cells.{cell_of, byte_at}
 use Rattle.definitions.specs.Tracker.{hold_at}
 use Rattle.definitions.specs.Correction.{phantom_step}
 use Rattle.phantoms.proofs.Columns.{column-same, column-none, column-each}
-use Rattle.taps.specs.Taps.{bit, FreeTaps, FreeAre}
+use Rattle.taps.specs.Taps.{bit, FreeTaps}
 use Rattle.taps.proofs.Free.{Free, zero-cell, tap-there, free-cell}
 use Rattle.judged.specs.Clean.{unpairs}
 use Rattle.judged.specs.JudgedPass.{row_unpairs, DepthsPassed, Ready}

@@ -1,7 +1,7 @@
 -- What a walk holds while it goes over a measure, and what one more row asks.
-use mathlib.Core.Path.{◌≡◌, refl, ap, sym, ◌∙◌, subst}
-use mathlib.Core.List.{List, [], ◌∷◌, ◌++◌}
-use Prim.Native.Nat.{ℕ, ◌+◌, ◌-◌, ◌*◌, ◌≤◌, ◌<◌}
+use mathlib.Core.Path.{◌≡◌, refl, sym, ◌∙◌, subst}
+use mathlib.Core.List.{List, []}
+use Prim.Native.Nat.{ℕ, ◌+◌, ◌*◌, ◌≤◌, ◌<◌}
 use native.Mathlib.Omega.{arith}
 use lib.ListN.{length, take}
 use lib.Seq.{take_all}
@@ -17,7 +17,7 @@ use Rattle.row_walk.specs.Rows.{CellsReady}
 use Rattle.measure_tally.specs.Counted.{Counted}
 use Rattle.measure_tally.proofs.Places.{part, row-wide, row_more}
 use Rattle.tap_walk.specs.Noted.{NotedRows}
-use Rattle.tap_walk.specs.Held.{counting_of, noting_of}
+use Rattle.tap_walk.specs.Held.{noting_of}
 use Rattle.tap_walk.specs.Walked.{Walking, RowAdded}
 use Rattle.measure_walk.proofs.Walks.{walked_on, count-few, note-ready}
 use Rattle.measure_walk.specs.Views.{rest, counting, noting}

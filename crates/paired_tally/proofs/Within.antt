@@ -385,10 +385,3 @@ module _ (plain judged : Bool) (row : ℕ) (cells : Row) where
 
   pub gone-none : (k : ℕ) (t : PairedTally) (work : List ℕ) → GoneOn plain judged row cells k t work k t work
   gone-none k t work J rows size here s = s
-
-  -- a `0` changes nothing
-  pub zero-on : (k : ℕ) → k < length cells → get_or cells k 0 ≡ 48 → (t : PairedTally) (work : List ℕ) → GoneOn plain judged row cells k t work (k + 1) t work
-  zero-on k inside e t work J rows size here s =
-      let same : begun cells k ≡ begun cells (k + 1) =
-      sym (set-get_or (begun cells k) k 0) ∙ ap (set (begun cells k) k) (begun-zero cells k inside ∙ sym e) ∙ begun-next cells k inside in
-      rw same at s

@@ -132,19 +132,6 @@ impl<'a> Iterator for BackRows<'a> {
     }
 }
 
-impl<'a> BackRows<'a> {
-    /// The same rows again.
-    pub fn again(&self) -> BackRows<'a>
-        ensures { result ≡ self.now }
-    {
-        BackRows {
-            rest: self.rest,
-            lanes: self.lanes,
-            step: self.step,
-        }
-    }
-}
-
 /// The rows of minimised text.
 pub fn back_rows(text: &[u8], lanes: Lanes) -> BackRows<'_>
     ensures { result ≡ rows_read_back lanes.count text.now }

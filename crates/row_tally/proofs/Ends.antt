@@ -1,13 +1,12 @@
 -- The cells of all rows and then their ends are the tally of the rows: an end raises other counts than the cells.
 use mathlib.Core.Path.{◌≡◌, refl, ap, sym, ◌∙◌}
 use mathlib.Core.Bool.{Bool, ◌&&◌}
-use mathlib.Core.List.{List, [], ◌∷◌, ◌++◌}
+use mathlib.Core.List.{List, [], ◌∷◌}
 use Prim.Native.Nat.{ℕ, zero, suc, ◌+◌, ◌≤◌}
-use native.Mathlib.Nat.{zero-add, add-zero, add-suc, suc-add, add_assoc}
+use native.Mathlib.Nat.{zero-add, add_assoc}
 use native.Mathlib.Omega.{arith}
 use borrow.Author.Tests.{le-leb}
 use lib.Dec.{leb}
-use lib.ListN.{length}
 use Rattle.definitions.specs.Lines.{Row}
 use Rattle.definitions.specs.Tracker.{Pair}
 use Rattle.definitions.specs.Tally.{row_sum, tally_with_row}
@@ -21,12 +20,6 @@ use Rattle.row_tally.specs.Ends.{cells_from}
 use Rattle.row_tally.specs.Raised.{with_cells, with_end, row_end, judged_row_end}
 
 module _ (S : ℕ → Row → RowSum) where
-  -- one row more
-  pub cells_snoc : (t : ArrowStats) (i : ℕ) (rows : List Row) (r : Row)
-      → cells_from S t i (rows ++ (r ∷ [])) ≡ with_cells (cells_from S t i rows) (S (i + length rows) r)
-  cells_snoc t i [] r = rw add-zero
-  cells_snoc t i (q ∷ rows) r = rw (add-suc, ← suc-add) (cells_snoc (with_cells t (S i q)) (suc i) rows r)
-
   -- what the ends go by is not raised
   pub cells-from-ends : (k : ℕ) (t : ArrowStats) (i : ℕ) (rows : List Row) → EndsBelow k t → EndsBelow k (cells_from S t i rows)
   unfolding with_cells

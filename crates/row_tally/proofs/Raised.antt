@@ -68,14 +68,6 @@ module _ (t r : ArrowStats) (s : RowSum) (e : r ≡ with_cells t s) where
   unfolding with_cells
   cells-arrows = rw e
 
-  pub cells-holds : r.holds ≡ t.holds + s.holds
-  unfolding with_cells
-  cells-holds = rw e
-
-  pub cells-rolls : r.rolls ≡ t.rolls + s.rolls
-  unfolding with_cells
-  cells-rolls = rw e
-
   pub cells-mines : r.mines ≡ t.mines + s.mines
   unfolding with_cells
   cells-mines = rw e
@@ -83,10 +75,6 @@ module _ (t r : ArrowStats) (s : RowSum) (e : r ≡ with_cells t s) where
   pub cells-fakes : r.fakes ≡ t.fakes + s.fakes
   unfolding with_cells
   cells-fakes = rw e
-
-  pub cells-holding : r.holding ≡ t.holding
-  unfolding with_cells
-  cells-holding = rw e
 
 -- The loops over the cells of a row of L columns: l is what is left of it at column i, w the sum of the whole, and r the tally t with the cells so far.
 pub record Raised (L : ℕ) (judged : Bool) (l : Row) (w : RowSum) (t r : ArrowStats) (i : ℕ) : Type 0 where

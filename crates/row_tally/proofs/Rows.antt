@@ -1,5 +1,5 @@
 -- Tallies of rows with one row more at their end.
-use mathlib.Core.Path.{◌≡◌, refl, ap}
+use mathlib.Core.Path.{◌≡◌, refl}
 use mathlib.Core.Bool.{Bool}
 use mathlib.Core.List.{List, [], ◌∷◌, ◌++◌}
 use Prim.Native.Nat.{ℕ, suc, ◌+◌}
@@ -8,7 +8,7 @@ use lib.ListN.{length}
 use Rattle.definitions.specs.Lines.{Row}
 use Rattle.definitions.specs.Tracker.{Pair}
 use Rattle.definitions.specs.Tally.{row_sum, empty_stats, tally_with_row, tally_from, tally}
-use Rattle.definitions.specs.Correction.{keep_row, keep_from}
+use Rattle.definitions.specs.Correction.{keep_row}
 use Rattle.definitions.specs.Judged.{judged_sum, judge_row, open_before, judge_from}
 use Rattle.definitions.specs.declared.ArrowStats.{ArrowStats}
 
@@ -25,11 +25,6 @@ unfolding tally
 tally-none = refl
 
 module _ (ps : ℕ → List Pair) where
-  pub keep_snoc : (i : ℕ) (rows : List Row) (r : Row)
-      → keep_from ps i (rows ++ (r ∷ [])) ≡ keep_from ps i rows ++ (keep_row ps (i + length rows) 0 r ∷ [])
-  keep_snoc i [] r = rw add-zero
-  keep_snoc i (q ∷ rows) r = rw (add-suc, ← suc-add) (ap (λ (l : List Row). keep_row ps i 0 q ∷ l) (keep_snoc (suc i) rows r))
-
   module _ (L : ℕ) (J : ℕ → Bool) where
     -- the judged tally t with row i
     abbrev pub judged_after : ArrowStats → ℕ → Row → ArrowStats

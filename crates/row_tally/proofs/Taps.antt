@@ -82,9 +82,3 @@ module _ (r : Row) (m : ℕ) (e : mask_of_line r ≡ Mask m) where
     unfolding judge_row
     no-taps-judged t true held = rw (no-taps-sum true)
     no-taps-judged t false held = rw (no-taps-sum false)
-
-  -- and it has no head
-  pub taps-heads : (judged : Bool) → (judged_sum judged r).holds + (judged_sum judged r).rolls ≡ 0
-  unfolding unpack
-  taps-heads true = rw (← taps-judged)
-  taps-heads false = rw (← taps-unjudged)

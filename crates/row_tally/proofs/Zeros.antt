@@ -3,7 +3,7 @@ use mathlib.Core.Path.{◌≡◌, refl, ap, ap₂}
 use mathlib.Core.Bool.{Bool, true, false, ◌&&◌, ◌||◌}
 use mathlib.Core.List.{List, [], ◌∷◌}
 use Prim.Native.Nat.{ℕ, suc, ◌+◌}
-use native.Mathlib.Nat.{add-zero, zero-add, sub-zero}
+use native.Mathlib.Nat.{zero-add}
 use native.Mathlib.Omega.{arith}
 use borrow.Author.Tests.{eqb-true, le-leb}
 use lib.Dec.{eqb, leb}
@@ -15,10 +15,9 @@ use Rattle.definitions.specs.Cells.{cell_of, is_arrow}
 use Rattle.definitions.specs.Figures.{is_step}
 use Rattle.definitions.specs.Reduction.{all_zero}
 use Rattle.definitions.specs.Tracker.{Pair, hold_at}
-use Rattle.definitions.specs.Tally.{place, counted_as, count_from, direction, row_sum_by, row_sum, tally_with_row}
+use Rattle.definitions.specs.Tally.{place, counted_as, count_from, direction, row_sum_by, row_sum}
 use Rattle.definitions.specs.Correction.{keep_row}
 use Rattle.definitions.specs.Judged.{sum_of_fakes}
-use Rattle.definitions.specs.declared.ArrowStats.{ArrowStats}
 use Rattle.definitions.specs.declared.Cell.{Cell}
 use Rattle.definitions.specs.declared.Cell.TheVariants.{Empty}
 use Rattle.definitions.proofs.Bools.{and_left, and_right}
@@ -50,10 +49,6 @@ module _ (r : Row) (z : all_zero r ≡ true) where
 
       others : (k : ℕ) → eqb 0 k ≡ false → count_by (λ b. eqb (place (counted_as (cell_of b))) k) r ≡ 0
       others k n = zero-count (λ b. eqb (place (counted_as (cell_of b))) k) n r z
-
-pub zero-adds : (t : ArrowStats) (r : Row) → all_zero r ≡ true → tally_with_row t (row_sum r) ≡ t
-unfolding tally_with_row row_sum
-zero-adds t r z = rw (zero-sum r z is_arrow refl) (simp (add-zero, sub-zero) refl)
 
 -- a row is a step where its sum has an arrow
 step_from : (c : ℕ) (r : Row) → leb 1 (count_from (λ c x. is_arrow x) c r) ≡ is_step r

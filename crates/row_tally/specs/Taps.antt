@@ -1,5 +1,5 @@
 -- A row of taps alone, told by its mask: whatever row has that mask.
-use Rattle.std.specs.Prelude.{◌≡◌, Bool, false, ℕ}
+use Rattle.std.specs.Prelude.{◌≡◌, Bool, ℕ}
 use Rattle.definitions.specs.Lines.{Row}
 use Rattle.definitions.specs.Tally.{row_sum, tally_with_row}
 use Rattle.definitions.specs.Judged.{judged_sum, judge_row}

@@ -6,9 +6,7 @@ use Prim.Native.Nat.{ℕ, ◌+◌, ◌-◌, ◌≤◌}
 use native.Mathlib.Omega.{arith}
 use borrow.Author.Tests.{lt-ltb}
 use lib.Dec.{eqb}
-use lib.ListN.{length}
 use Rattle.std.specs.Prelude.{Some}
-use Rattle.definitions.specs.Lists.{joined}
 use Rattle.definitions.specs.Lines.{Row}
 use Rattle.taps.specs.Taps.{FreeTaps, FreeAre}
 use Rattle.phantoms.proofs.Free.{free-row}
@@ -16,7 +14,6 @@ use Rattle.objects.specs.Rows.{RowDone}
 use Rattle.objects.specs.LastHeld.{LastHeld}
 use Rattle.objects.proofs.Free.{free-done}
 use Rattle.objects.proofs.LastHeld.{held-object, held-other}
-use Rattle.row_notes.specs.Written.{RecordRoom}
 use Rattle.row_walk.specs.Cells.{notes_of}
 use Rattle.row_walk.specs.Rows.{objects_of, CellsReady, RowWalked}
 use Rattle.row_walk.specs.declared.cell_walk.Run.{Run}

@@ -1,5 +1,4 @@
 -- `corrected_tally::count_paired` meets its contract. The loop's invariant: the rows that have come are counted.
-use Prim.Native.Nat.{◌*◌, ◌≤◌}
 use mathlib.Core.Path.{refl, sym, ap, ◌∙◌}
 use native.Mathlib.Omega.{arith}
 use Rattle.reader.proofs.BackLoops.{back-start, back-more, next-inside, next-wide, all-came}

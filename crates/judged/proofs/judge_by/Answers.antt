@@ -1,5 +1,4 @@
 -- `judged::judge_by` meets its contract. The loop's invariant: the rows that have come are counted.
-use Prim.Native.Nat.{◌*◌, ◌≤◌}
 use mathlib.Core.Path.{refl, sym, ap, ◌∙◌}
 use native.Mathlib.Omega.{arith}
 use lib.ListN.{length}
