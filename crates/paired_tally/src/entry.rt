@@ -1,5 +1,5 @@
-// A row's entry in the work slice: its arrows in bits 0 to 3, its paired heads in bits 4 to 7, in bits 8 to 11 its tails or, in a judged tally, the pairs of judged
-// heads that end there, and of a judged row in bit 12 whether it has a mine or fake, and bit 13.
+// A row's entry in the work slice: its arrows in bits 0 to 3, its paired heads in bits 4 to 7, in bits 8 to 11 its tails or, in a judged tally, the pairs
+// of judged heads that end there, and of a judged row in bit 12 whether it has a mine or fake, and bit 13.
 ghost use Rattle.std.specs.Prelude.{◌≡◌, Bool, true, false, ◌≤◌};
 ghost use Rattle.definitions.specs.Cells.{hold_effect};
 ghost use Rattle.definitions.specs.Correction.{is_opening};

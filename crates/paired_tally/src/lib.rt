@@ -1,5 +1,5 @@
-// A tally of rows with their paired heads alone, counted as the rows are read: a head is counted when a tail pairs with it, and what a row's end asks is kept in
-// the row's entry of the lent work slice, over which a second loop goes.
+// A tally of rows with their paired heads alone, counted as the rows are read: a head is counted when a tail pairs with it, and what a row's end asks is
+// kept in the row's entry of the lent work slice, over which a second loop goes.
 #![tactic(auto)]
 
 pub mod ends;
@@ -25,7 +25,8 @@ pub struct PairedTally {
 impl PairedTally {
     /// Before the first row, over a work slice that is all 0.
     pub fn new() -> Self
-        ensures { (plain : Bool) (J : ℕ → Bool) (L : ℕ) (work : List ℕ) → ((i : ℕ) → slice_index work i ≡ 0) → PairedRows plain J L [] result work }
+        ensures { (plain : Bool) (J : ℕ → Bool) (L : ℕ) (work : List ℕ)
+            → ((i : ℕ) → slice_index work i ≡ 0) → PairedRows plain J L [] result work }
     {
         PairedTally {
             tracker: Tracker::new(),
