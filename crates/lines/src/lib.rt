@@ -170,7 +170,9 @@ fn find_long(slice: &[u8], needle: u8, from: usize) -> Option<usize>
     find_rest(slice, needle, i)
 }
 
-/// The same, by two words where there are so many bytes, before the search of a long line.
+/// The same, by two words where there are so many bytes, before the search of a long line. Out of line too, so that loops over lines keep their
+/// registers.
+#[inline(never)]
 fn find_far(slice: &[u8], needle: u8, from: usize) -> Option<usize>
     requires { from ≤ length slice.now }
     ensures { result ≡ position_from (λ x. x == needle) from (drop from slice.now) }
@@ -213,7 +215,9 @@ pub fn starts_high(data: &[u8], n: usize) -> bool
     words::starts_high(words::halves_at(data, n - few), few) & (16 <= data[1])
 }
 
-/// The line that starts at `start`, without its newline, and what follows that newline: nothing where there is none, nor past the text's end.
+/// The line that starts at `start`, without its newline, and what follows that newline: nothing where there is none, nor past the text's end. It is
+/// written into its callers, which are loops over lines.
+#[inline(always)]
 pub fn next_line(data: &[u8], start: usize) -> (&[u8], &[u8])
     ensures line { result.0.now ≡ first_line (drop start «data».now) }
     ensures below { result.1.now ≡ after 10 (drop start «data».now) }

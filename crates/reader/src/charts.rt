@@ -77,7 +77,7 @@ fn is_row(text: &[u8], lanes: usize) -> bool
 fn below_line(text: &[u8]) -> &[u8]
     ensures { result.now ≡ after 10 text.now }
 {
-    lines::next_line(text, 0).1
+    crate::seldom_line(text).1
 }
 
 // What follows a `,` line: mostly its newline stands right after the comma, or one byte further.

@@ -61,6 +61,15 @@ pub fn below_cells(text: &[u8], lanes: Lanes) -> &[u8]
     lines::text_below(&text[lanes.count + 2..])
 }
 
+/// The first line of a text and what follows it, where they are asked for seldom: it is written into no loop over rows.
+#[inline(never)]
+pub fn seldom_line(text: &[u8]) -> (&[u8], &[u8])
+    ensures line { result.0.now ≡ first_line text.now }
+    ensures below { result.1.now ≡ after 10 text.now }
+{
+    lines::next_line(text, 0)
+}
+
 /// How many bytes the lines of rows are taken to have from now on, as the line tells it which a text begins with and `below` follows.
 pub fn step_told(text: &[u8], below: &[u8], lanes: Lanes) -> usize
     requires { length below.now < length text.now }
@@ -82,7 +91,7 @@ pub fn line_step(text: &[u8], lanes: Lanes) -> usize
     ensures { LineStep lanes.count result }
 {
     let front = &text[..usize::min(text.len(), 256)];
-    match lines::next_line(front, 0).0 {
+    match seldom_line(front).0 {
         [.., 13] => lanes.count + 2,
         _ => lanes.count + 1,
     }
