@@ -4,7 +4,7 @@
 const ROWS: [usize; 8] = [16, 16, 16, 16, 16, 8, 24, 32];
 
 /// How a chart is drawn.
-#[derive(Clone, Copy, PartialEq, Eq)]
+#[derive(Clone, Copy, PartialEq, Eq, PartialOrd, Ord)]
 pub enum Kind {
     /// The last row closes every head.
     Closed,
@@ -29,6 +29,24 @@ pub enum Kind {
     Mixed,
     /// One line without an end, of zeros.
     Line,
+}
+
+impl Kind {
+    pub fn name(self) -> &'static str {
+        match self {
+            Self::Closed => "closed",
+            Self::Unclosed => "unclosed",
+            Self::Sparse => "sparse",
+            Self::Heads => "heads",
+            Self::Deep => "deep",
+            Self::Mines => "mines",
+            Self::Keysounds => "keysounds",
+            Self::Comments => "comments",
+            Self::Indented => "indented",
+            Self::Mixed => "mixed",
+            Self::Line => "line",
+        }
+    }
 }
 
 struct Draw(u64);

@@ -12,21 +12,15 @@ pub const EVERY_LANES: [usize; 5] = [4, 5, 6, 8, 10];
 /// How many charts a pack has, and their bytes.
 const PACK: (u64, usize) = (2000, 20_000);
 
-/// A text, or charts one after the other.
+/// A text, or charts one after the other. The order is that of the tables.
 #[derive(Clone, Copy, PartialEq, Eq, PartialOrd, Ord)]
 pub enum Text {
     Long,
     Sparse,
     Pack,
     Unclosed,
-    Heads,
-    Deep,
-    Mines,
-    Keysounds,
-    Comments,
-    Indented,
-    Mixed,
-    Line,
+    /// One of another kind, as long.
+    Other(Kind),
 }
 
 impl Text {
@@ -35,46 +29,26 @@ impl Text {
 
     /// Those of other kinds, whose instructions are counted beside the Rust's.
     pub const KINDS: [Self; 8] = [
-        Self::Heads,
-        Self::Deep,
-        Self::Mines,
-        Self::Keysounds,
-        Self::Comments,
-        Self::Indented,
-        Self::Mixed,
-        Self::Line,
+        Self::Other(Kind::Heads),
+        Self::Other(Kind::Deep),
+        Self::Other(Kind::Mines),
+        Self::Other(Kind::Keysounds),
+        Self::Other(Kind::Comments),
+        Self::Other(Kind::Indented),
+        Self::Other(Kind::Mixed),
+        Self::Other(Kind::Line),
     ];
 
     /// Those that can be asked for.
-    pub const EVERY: [Self; 12] = [
-        Self::Long,
-        Self::Sparse,
-        Self::Pack,
-        Self::Unclosed,
-        Self::Heads,
-        Self::Deep,
-        Self::Mines,
-        Self::Keysounds,
-        Self::Comments,
-        Self::Indented,
-        Self::Mixed,
-        Self::Line,
-    ];
+    pub fn every() -> Vec<Self> {
+        [&Self::ALL[..], &Self::KINDS[..]].concat()
+    }
 
     pub fn name(self) -> &'static str {
         match self {
             Self::Long => "long",
-            Self::Sparse => "sparse",
             Self::Pack => "pack",
-            Self::Unclosed => "unclosed",
-            Self::Heads => "heads",
-            Self::Deep => "deep",
-            Self::Mines => "mines",
-            Self::Keysounds => "keysounds",
-            Self::Comments => "comments",
-            Self::Indented => "indented",
-            Self::Mixed => "mixed",
-            Self::Line => "line",
+            Self::Sparse | Self::Unclosed | Self::Other(_) => self.kind().name(),
         }
     }
 
@@ -83,14 +57,7 @@ impl Text {
             Self::Long | Self::Pack => Kind::Closed,
             Self::Sparse => Kind::Sparse,
             Self::Unclosed => Kind::Unclosed,
-            Self::Heads => Kind::Heads,
-            Self::Deep => Kind::Deep,
-            Self::Mines => Kind::Mines,
-            Self::Keysounds => Kind::Keysounds,
-            Self::Comments => Kind::Comments,
-            Self::Indented => Kind::Indented,
-            Self::Mixed => Kind::Mixed,
-            Self::Line => Kind::Line,
+            Self::Other(kind) => kind,
         }
     }
 }

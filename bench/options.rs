@@ -89,7 +89,7 @@ pub fn parse(mut args: impl Iterator<Item = String>) -> Result<Option<Options>, 
             "--runs" => options.runs = number(args.next())?,
             "--ways" => options.ways = listed(&list()?, &Way::ALL, |way| way.name().into())?,
             "--lanes" => options.lanes = listed(&list()?, &EVERY_LANES, usize::to_string)?,
-            "--texts" => options.texts = listed(&list()?, &Text::EVERY, |text| text.name().into())?,
+            "--texts" => options.texts = listed(&list()?, &Text::every(), |text| text.name().into())?,
             "--lines" => {
                 options.lines = listed(&list()?, &Lines::ALL, |lines| lines.name().to_lowercase())?;
             }
