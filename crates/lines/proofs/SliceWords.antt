@@ -1,7 +1,8 @@
 -- The bytes of a slice that a word is read from, and what a search and a count over the slice learn from them.
-use Rattle.std.proofs.Common.{◌≡◌, ℕ, zero, suc, ◌+◌, ◌*◌, ◌/◌, ◌^◌, ◌<◌, ◌≤◌, Bool, true, false, cond, not, ◌||◌, eqb, List, [], ◌∷◌, ◌++◌, length, get_or, take, drop, sym, refl, ap, ◌∙◌, add-zero, add-suc, arith, take-append-drop, get_or-drop, drop-cons, drop-drop, eq-eqb, ne_eqb, eqb-true}
+use Rattle.std.proofs.Common.{◌≡◌, ℕ, zero, suc, ◌+◌, ◌-◌, ◌*◌, ◌/◌, ◌^◌, ◌<◌, ◌≤◌, Bool, true, false, cond, not, ◌||◌, eqb, List, [], ◌∷◌, ◌++◌, length, get_or, take, drop, sym, refl, ap, ◌∙◌, add-zero, add-suc, arith, take-append-drop, get_or-drop, drop-cons, drop-drop, length-drop, eq-eqb, ne_eqb, eqb-true}
 use native.Mathlib.Decide.{dec_lt}
 use lib.Count.{count_trailing_zeros, trailing_of_zero}
+use lib.ListN.{length-take}
 use borrow.Author.Tests.{eqb-false}
 use Rattle.definitions.specs.Lists.{among}
 use Rattle.std.specs.Prelude.{Some, ◌==◌}
@@ -113,28 +114,23 @@ hits-among b r xs eight h e = go (eqb r 0) refl
         let near : count_trailing_zeros 64 r < 64 = trailing_lt 64 r h (eqb-false r 0 q) in
         rw q (sym (in_place b xs (omega arith)))
 
--- of two tests neither holds
-pub neither : (x y : Bool) → (x || y) ≡ false → (x ≡ false) × (y ≡ false)
-neither true y e = let z : ◌≡◌ {A = ℕ} 0 1 = cc in absurd (omega arith)
-neither false y e = (refl, e)
+-- a list that does not have it is passed
+pub find-past : (b k : ℕ) (xs rest : List ℕ) → among b xs ≡ false → find_from b k (xs ++ rest) ≡ find_from b (k + length xs) rest
+find-past b k xs rest e = elim (dec_lt (first_in b xs) (length xs)) [
+  | yes lt ↦ let z : ◌≡◌ {A = ℕ} 0 1 = (let t : among b xs ≡ true = in_place b xs lt in cc) in absurd (omega arith)
+  | no ge ↦ find-out b k xs rest (omega arith)
+]
 
--- four words that do not have it are passed
+-- and so are 32 bytes
 module _ (b : ℕ) (s : List ℕ) (i : ℕ) (h : i + 32 ≤ length s) where
-  word_passed : (j : ℕ) → j + 8 ≤ length s → among b (take 8 (drop j s)) ≡ false → find_from b j (drop j s) ≡ find_from b (j + 8) (drop (j + 8) s)
-  word_passed j w e = elim (dec_lt (first_in b (take 8 (drop j s))) 8) [
-    | yes lt ↦ let z : ◌≡◌ {A = ℕ} 0 1 = (let t : among b (take 8 (drop j s)) ≡ true = in_place b (take 8 (drop j s)) (rw (eight-long b s j w) lt) in cc) in absurd (omega arith)
-    | no ge ↦ word_out b s j w (omega arith)
-  ]
-
-  pub block_passed : among b (take 8 (drop i s)) ≡ false → among b (take 8 (drop (i + 8) s)) ≡ false → among b (take 8 (drop (i + 16) s)) ≡ false → among b (take 8 (drop (i + 24) s)) ≡ false
+  pub block_passed : among b (take (i + 32 - i) (drop i s)) ≡ false
       → position_from (λ x. x == b) i (drop i s) ≡ position_from (λ x. x == b) (i + 32) (drop (i + 32) s)
-  block_passed e f g k =
-      let p : i + 8 + 8 ≡ i + 16 = omega arith in
-      let q : i + 16 + 8 ≡ i + 24 = omega arith in
-      let r : i + 24 + 8 ≡ i + 32 = omega arith in
+  block_passed e =
+      let few : i + 32 - i ≡ 32 = omega arith in
+      let parts : drop i s ≡ take 32 (drop i s) ++ drop (i + 32) s = sym (take-append-drop 32 (drop i s)) ∙ rw drop-drop in
+      let long : length (take 32 (drop i s)) ≡ 32 = rw (length-take, length-drop) (omega arith) in
       found_from b i _
-      ∙ word_passed i (omega arith) e
-      ∙ rw p at (word_passed (i + 8) (omega arith) f)
-      ∙ rw q at (word_passed (i + 16) (omega arith) g)
-      ∙ rw r at (word_passed (i + 24) (omega arith) k)
+      ∙ ap (find_from b i) parts
+      ∙ find-past b i (take 32 (drop i s)) _ (rw few at e)
+      ∙ ap (λ (n : ℕ). find_from b (i + n) (drop (i + 32) s)) long
       ∙ sym (found_from b (i + 32) _)

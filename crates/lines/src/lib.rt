@@ -119,15 +119,18 @@ fn find_in_word(slice: &[u8], needle: u8, i: usize) -> Option<usize>
     Some(i + at)
 }
 
-/// Whether one of the eight bytes from `i` on is `needle`.
-fn word_has(slice: &[u8], needle: u8, i: usize) -> bool
-    requires { i + 8 ≤ length slice.now }
-    ensures { result ≡ among needle (take 8 (drop i slice.now)) }
+/// Whether one of some bytes is `needle`. It looks at every byte, so that no turn of the loop branches on one.
+fn has_byte(bytes: &[u8], needle: u8) -> bool
+    ensures { result ≡ among needle bytes.now }
 {
-    words::has_byte(words::word_at(slice, i), needle)
+    let mut has = false;
+    for &b in bytes {
+        has |= needle == b;
+    }
+    has
 }
 
-/// From where on `slice` is left to be searched for `needle`, by four words a turn: from `from` or further on, and nothing before it is `needle`.
+/// From where on `slice` is left to be searched for `needle`, by 32 bytes a turn: from `from` or further on, and nothing before it is `needle`.
 fn past_blocks(slice: &[u8], needle: u8, from: usize) -> usize
     requires { from ≤ length slice.now }
     ensures within { result ≤ length slice.now }
@@ -136,16 +139,7 @@ fn past_blocks(slice: &[u8], needle: u8, from: usize) -> usize
 {
     let mut i = from;
     while i + 32 <= slice.len() {
-        if word_has(slice, needle, i) {
-            break;
-        }
-        if word_has(slice, needle, i + 8) {
-            break;
-        }
-        if word_has(slice, needle, i + 16) {
-            break;
-        }
-        if word_has(slice, needle, i + 24) {
+        if has_byte(&slice[i..i + 32], needle) {
             break;
         }
         i += 32;
@@ -153,7 +147,7 @@ fn past_blocks(slice: &[u8], needle: u8, from: usize) -> usize
     i
 }
 
-/// The first place from `from` on where `slice` has `needle`, by four words a turn, then by words of eight, then by the bytes that are left. Few lines
+/// The first place from `from` on where `slice` has `needle`, by 32 bytes a turn, then by words of eight, then by the bytes that are left. Few lines
 /// are so long, and it is not written into its callers.
 #[inline(never)]
 fn find_long(slice: &[u8], needle: u8, from: usize) -> Option<usize>
