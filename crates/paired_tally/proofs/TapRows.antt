@@ -13,7 +13,7 @@ use Rattle.definitions.specs.Judged.{judged_sum, sum_of_fakes}
 use Rattle.definitions.specs.declared.ArrowStats.{ArrowStats}
 use Rattle.taps.specs.Taps.{mask_of_line, unpack}
 use Rattle.taps.specs.declared.Taps.TheVariants.{Mask}
-use Rattle.taps.proofs.Masks.{tap-line-sum}
+use Rattle.taps.proofs.Sums.{tap-line-sum}
 use Rattle.row_tally.specs.Raised.{with_cells}
 use Rattle.row_tally.proofs.Raised.{cells-none}
 use Rattle.row_tally.proofs.Taps.{taps-judged, no-taps-row, no-taps-sum}

@@ -1,12 +1,27 @@
 // A row's entry in the work slice: its arrows in bits 0 to 3, its paired heads in bits 4 to 7, in bits 8 to 11 its tails or, in a judged tally, the pairs
 // of judged heads that end there, and of a judged row in bit 12 whether it has a mine or fake, and bit 13.
-ghost use Rattle.std.specs.Prelude.{◌≡◌, Bool, true, false, ◌≤◌};
+ghost use Rattle.std.specs.Prelude.{◌≡◌, ℕ, Bool, true, false, ◌≤◌, ◌<◌, length, slice_index};
 ghost use Rattle.definitions.specs.Cells.{hold_effect};
 ghost use Rattle.definitions.specs.Correction.{is_opening};
 ghost use Rattle.paired_tally.specs.Cells.{own_entry};
-ghost use Rattle.paired_tally.specs.Entry.{arrows_of, heads_of, ends_of, others_of, is_judged as judged_of};
+ghost use Rattle.definitions.specs.Tally.{empty_sum};
+ghost use Rattle.paired_tally.specs.Entry.{entry_of, arrows_of, heads_of, ends_of, others_of, is_judged as judged_of};
 
 use definitions::Cell;
+
+/// A row's entry before its cells: that of a judged row in a judged tally, else 0 as it was.
+#[inline(always)]
+pub fn begin(row: u32, plain: bool, judged: bool, work: &mut [u16])
+    requires { row < length work.old }
+    ensures here { slice_index work.old row ≡ 0
+        → slice_index work.new row ≡ entry_of plain judged empty_sum 0 }
+    ensures others { (i : ℕ) → (i ≡ row → ⊥) → slice_index work.new i ≡ slice_index work.old i }
+    ensures same_size { length work.new ≡ length work.old }
+{
+    if !plain & judged {
+        work[row as usize] = 8192;
+    }
+}
 
 // With a cell more of a plain tally's row.
 #[inline(always)]

@@ -5,6 +5,7 @@
 pub mod ends;
 pub mod entry;
 mod free;
+mod kinds;
 mod row_cells;
 
 ghost use Rattle.std.specs.Prelude.{◌≡◌, Bool, true, false, [], ℕ, List, ◌<◌, length, slice_index};
@@ -43,10 +44,7 @@ impl PairedTally {
         requires reached { LeftByRows true (length cells.now) row self.old work.old }
         ensures { RowCounted true false row cells.now self.old work.old self.new work.new }
     {
-        match taps::free_taps(cells, self.tracker.busy) {
-            Taps::Mask(mask) => self.add_free(row, mask, true, false, table, work),
-            Taps::Other => self.count_plain(row, cells, work),
-        }
+        self.add_row::<true, false>(row, cells, table, work);
     }
 
     /// One row more of a judged tally, judged or not.
@@ -66,39 +64,30 @@ impl PairedTally {
         ensures { RowCounted false judged row cells.now self.old work.old self.new work.new }
     {
         if judged {
-            self.judge_judged(row, cells, table, work);
+            self.add_row::<false, true>(row, cells, table, work);
         } else {
-            self.judge_unjudged(row, cells, table, work);
+            self.add_row::<false, false>(row, cells, table, work);
         }
     }
 
-    // One judged row more.
+    // One row more, by its mask where it is of taps alone in columns without an open head, or else by its cells.
     #[inline(always)]
-    fn judge_judged(&mut self, row: u32, cells: &[u8], table: &TapTable, work: &mut [u16])
+    fn add_row<const PLAIN: bool, const JUDGED: bool>(
+        &mut self,
+        row: u32,
+        cells: &[u8],
+        table: &TapTable,
+        work: &mut [u16],
+    )
         requires wide { table.now.lanes.count ≡ length cells.now }
         requires entry_room { row < length work.old }
         requires rows_few { row < row_numbers_bound }
-        requires reached { LeftByRows false (length cells.now) row self.old work.old }
-        ensures { RowCounted false true row cells.now self.old work.old self.new work.new }
+        requires reached { LeftByRows PLAIN (length cells.now) row self.old work.old }
+        ensures { RowCounted PLAIN JUDGED row cells.now self.old work.old self.new work.new }
     {
         match taps::free_taps(cells, self.tracker.busy) {
-            Taps::Mask(mask) => self.add_free(row, mask, false, true, table, work),
-            Taps::Other => self.count_judged(row, cells, work),
-        }
-    }
-
-    // One unjudged row more.
-    #[inline(always)]
-    fn judge_unjudged(&mut self, row: u32, cells: &[u8], table: &TapTable, work: &mut [u16])
-        requires wide { table.now.lanes.count ≡ length cells.now }
-        requires entry_room { row < length work.old }
-        requires rows_few { row < row_numbers_bound }
-        requires reached { LeftByRows false (length cells.now) row self.old work.old }
-        ensures { RowCounted false false row cells.now self.old work.old self.new work.new }
-    {
-        match taps::free_taps(cells, self.tracker.busy) {
-            Taps::Mask(mask) => self.add_free(row, mask, false, false, table, work),
-            Taps::Other => self.count_unjudged(row, cells, work),
+            Taps::Mask(mask) => self.add_free(row, mask, PLAIN, JUDGED, table, work),
+            Taps::Other => self.add_cells::<PLAIN, JUDGED>(row, cells, work),
         }
     }
 }

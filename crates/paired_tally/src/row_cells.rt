@@ -14,109 +14,8 @@ ghost use Rattle.row_tally.specs.Raised.{with_cells};
 ghost use Rattle.paired_tally.specs.Paired.{LeftByRows, RowCounted};
 ghost use Rattle.paired_tally.specs.Cells.{Within, GoneOn, add_kind, own_entry, head_counts, pair_stats, pair_work};
 
-use crate::{PairedTally, entry};
-use definitions::{ArrowStats, Cell, direction};
-use holds::Tracker;
-
-// One cell more of an unjudged row, which is a fake or nothing.
-#[inline(always)]
-#[tactic(auto, unfolding(row_tally::specs::Raised::with_cells))]
-fn count_fake(stats: &mut ArrowStats, cell: Cell)
-    requires few { Below (count_bound + 9) stats.old }
-    ensures { stats.new ≡ with_cells stats.old (add_kind false false empty_sum 0 cell) }
-{
-    match cell {
-        Cell::Empty | Cell::Tail | Cell::KeySound => {}
-        Cell::Tap
-        | Cell::Hold
-        | Cell::Roll
-        | Cell::Mine
-        | Cell::Lift
-        | Cell::Fake
-        | Cell::LowerMine
-        | Cell::LowerLift
-        | Cell::LowerFake => stats.fakes += 1,
-    }
-}
-
-// One cell more in a column of a direction, of a plain tally's row, of a judged or of an unjudged one.
-#[inline(always)]
-fn count_kind(stats: &mut ArrowStats, direction: usize, cell: Cell, plain: bool, judged: bool)
-    requires few { Below (count_bound + 9) stats.old }
-    ensures { stats.new ≡ with_cells stats.old (add_kind plain judged empty_sum direction cell) }
-{
-    if plain {
-        row_tally::count_cell(stats, direction, cell, false);
-        return;
-    }
-    if judged {
-        row_tally::count_cell(stats, direction, cell, true);
-        return;
-    }
-    count_fake(stats, cell);
-}
-
-// A head that is paired counts, by its number: in a tally where its row counts heads, or else as a fake.
-#[inline(always)]
-#[tactic(auto, unfolding(row_tally::specs::Raised::with_cells, row_tally::specs::Sums::sum_with_cell))]
-fn count_number(stats: &mut ArrowStats, direction: usize, number: u32, counts: bool)
-    requires few { Below (count_bound + 9) stats.old }
-    ensures { stats.new ≡ pair_stats counts number direction stats.old }
-{
-    if !counts {
-        stats.fakes += 1;
-        return;
-    }
-    row_tally::count_cell(stats, direction, Cell::Tap, false);
-    if number % 2 == 1 {
-        stats.rolls += 1;
-    } else {
-        stats.holds += 1;
-    }
-}
-
-// A tail of this row pairs with the head of a number.
-#[inline(always)]
-fn end_pair(
-    stats: &mut ArrowStats,
-    row: u32,
-    direction: usize,
-    number: u32,
-    plain: bool,
-    work: &mut [u16],
-)
-    requires few { Below (count_bound + 9) stats.old }
-    requires earlier { number / 2 < row }
-    requires entry_room { row < length work.old }
-    requires row_entry_low { slice_index work.old row ≤ 15018 }
-    requires head_entry_low { slice_index work.old (number / 2) ≤ 15018 }
-    ensures value { stats.new ≡ pair_stats
-        (head_counts plain (slice_index work.old (number / 2))) number direction stats.old }
-    ensures work_after { work.new ≡ pair_work
-        (head_counts plain (slice_index work.old (number / 2))) (number / 2) row work.old }
-{
-    let head = (number / 2) as usize;
-    let at = row as usize;
-    let head_entry = work[head];
-    if plain | (8192 <= head_entry) {
-        count_number(stats, direction, number, true);
-        work[head] = head_entry + 17;
-        work[at] += 256;
-        return;
-    }
-    count_number(stats, direction, number, false);
-}
-
-// The stack of a column is emptied, where it has a head.
-#[inline(always)]
-fn clear_open(tracker: &mut Tracker, column: usize)
-    requires { TrackReady column tracker.old }
-    ensures { (row : ℕ) → TrackStepped Blocks row column tracker.old tracker.new [] }
-{
-    if tracker.depths[column] != 0 {
-        tracker.clear(column);
-    }
-}
+use crate::{PairedTally, entry, kinds};
+use definitions::{Cell, direction};
 
 impl PairedTally {
     // A cell of the row that is no head counts.
@@ -141,7 +40,7 @@ impl PairedTally {
             (own_entry plain judged cell (slice_index work.old row)) }
     {
         let at = row as usize;
-        count_kind(&mut self.stats, direction, cell, plain, judged);
+        kinds::count_kind(&mut self.stats, direction, cell, plain, judged);
         work[at] = entry::with_cell(work[at], cell, plain, judged);
     }
 
@@ -187,7 +86,7 @@ impl PairedTally {
         ensures { GoneOn plain judged row cells.now column self.old work.old
             (column + 1) self.new work.new }
     {
-        clear_open(&mut self.tracker, column);
+        kinds::clear_open(&mut self.tracker, column);
         let towards = direction(cells.len(), column);
         self.count_own(row, towards, cell, plain, judged, work);
     }
@@ -234,7 +133,7 @@ impl PairedTally {
         let towards = direction(cells.len(), column);
         match self.tracker.pop(column) {
             None => self.count_own(row, towards, Cell::Tail, plain, judged, work),
-            Some(number) => end_pair(&mut self.stats, row, towards, number, plain, work),
+            Some(number) => kinds::end_pair(&mut self.stats, row, towards, number, plain, work),
         }
     }
 
@@ -365,42 +264,22 @@ impl PairedTally {
         self.count_from::<PLAIN, JUDGED>(row, cells, 8, work);
     }
 
-    /// The cells of a row of a plain tally.
+    /// The cells of a row, after its entry before them.
     #[inline(always)]
-    pub fn count_plain(&mut self, row: u32, cells: &[u8], work: &mut [u16])
+    pub(crate) fn add_cells<const PLAIN: bool, const JUDGED: bool>(
+        &mut self,
+        row: u32,
+        cells: &[u8],
+        work: &mut [u16],
+    )
         requires wide { 4 ≤ length cells.now }
         requires narrow { length cells.now ≤ 10 }
         requires entry_room { row < length work.old }
         requires rows_few { row < row_numbers_bound }
-        requires reached { LeftByRows true (length cells.now) row self.old work.old }
-        ensures { RowCounted true false row cells.now self.old work.old self.new work.new }
+        requires reached { LeftByRows PLAIN (length cells.now) row self.old work.old }
+        ensures { RowCounted PLAIN JUDGED row cells.now self.old work.old self.new work.new }
     {
-        self.count_all::<true, false>(row, cells, work);
-    }
-
-    /// The cells of a judged row.
-    #[inline(always)]
-    pub fn count_judged(&mut self, row: u32, cells: &[u8], work: &mut [u16])
-        requires wide { 4 ≤ length cells.now }
-        requires narrow { length cells.now ≤ 10 }
-        requires entry_room { row < length work.old }
-        requires rows_few { row < row_numbers_bound }
-        requires reached { LeftByRows false (length cells.now) row self.old work.old }
-        ensures { RowCounted false true row cells.now self.old work.old self.new work.new }
-    {
-        work[row as usize] = 8192;
-        self.count_all::<false, true>(row, cells, work);
-    }
-
-    /// The cells of an unjudged row.
-    #[inline(always)]
-    pub fn count_unjudged(&mut self, row: u32, cells: &[u8], work: &mut [u16])
-        requires narrow { length cells.now ≤ 10 }
-        requires entry_room { row < length work.old }
-        requires rows_few { row < row_numbers_bound }
-        requires reached { LeftByRows false (length cells.now) row self.old work.old }
-        ensures { RowCounted false false row cells.now self.old work.old self.new work.new }
-    {
-        self.count_from::<false, false>(row, cells, 0, work);
+        entry::begin(row, PLAIN, JUDGED, &mut *work);
+        self.count_all::<PLAIN, JUDGED>(row, cells, work);
     }
 }

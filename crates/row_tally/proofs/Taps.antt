@@ -16,7 +16,8 @@ use Rattle.definitions.specs.declared.ArrowStats.{ArrowStats}
 use Rattle.definitions.specs.declared.Cell.{Cell}
 use Rattle.taps.specs.Taps.{mask_of_line, bit, mask_counts, unpack}
 use Rattle.taps.specs.declared.Taps.TheVariants.{Mask}
-use Rattle.taps.proofs.Masks.{row_of, mask-row, line-taps, tap-line-sum}
+use Rattle.taps.proofs.Masks.{line-taps}
+use Rattle.taps.proofs.Sums.{row_of, mask-row, tap-line-sum}
 use Rattle.taps.proofs.Free.{tap-cell}
 use Rattle.row_tally.specs.Bounds.{Under}
 use Rattle.row_tally.proofs.Bounds.{under-row}

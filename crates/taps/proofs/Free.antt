@@ -1,25 +1,23 @@
 -- A row whose taps stand in no column of `busy`: in each column is a `0`, or a `1` where `busy` has no bit.
 use mathlib.Core.Path.{◌≡◌, refl, ap, sym, ◌∙◌, subst}
-use mathlib.Core.Bool.{Bool, true, false, cond, ◌&&◌}
+use mathlib.Core.Bool.{Bool, true, false, cond}
 use mathlib.Core.List.{[], ◌∷◌}
 use Prim.Native.Nat.{ℕ, zero, suc, ◌+◌, ◌*◌, ◌/◌, ◌%◌, ◌^◌, ◌<◌, ◌≤◌, min, max}
 use native.Mathlib.Nat.{zero-div, mod-lt}
 use native.Mathlib.Omega.{arith}
 use lib.Bits.{bit_and, bit_or, and_shr, and_step, or_shr, or_step}
-use lib.Dec.{eqb, ltb}
+use lib.Dec.{eqb}
 use lib.ListN.{length, get_or}
-use borrow.Author.Tests.{eqb-true, ltb-true, lt-ltb}
+use borrow.Author.Tests.{eqb-true}
 use lib.Pow.{shr-shr}
-use Rattle.definitions.proofs.Bools.{and_left, and_right}
 use Rattle.definitions.proofs.Lists.{any-default}
 use Rattle.std.specs.List.{count_by}
 use Rattle.definitions.specs.Lines.{Row}
 use Rattle.definitions.specs.Cells.{byte_at}
-use Rattle.taps.specs.Taps.{Tells, tap_mask, mask_of_line, bit, FreeTaps, free_of, taps_if_free}
+use Rattle.taps.specs.Taps.{tap_mask, mask_of_line, bit, FreeTaps, free_of, taps_if_free}
 use Rattle.taps.specs.declared.Taps.{Taps}
 use Rattle.taps.specs.declared.Taps.TheVariants.{Mask, Other}
-use Rattle.taps.proofs.Masks.{not-other, parts, line-taps, line_small}
-use Rattle.taps.proofs.Numbers.{tells-below}
+use Rattle.taps.proofs.Masks.{not-other, parts, line-taps}
 
 -- ---- bits
 
@@ -50,27 +48,7 @@ apart m busy e c one =
     let both : min (bit c m) (bit c busy) ≡ 0 = sym (bit-and m busy c) ∙ ap (bit c) e ∙ bit-none c in
     omega arith
 
--- ---- a row is free of `busy`, or it is not
-
--- by the number of the row's mask
-pub free-number : (busy n : ℕ) (r : Row) → Tells n (mask_of_line r) → (ltb n 65536 && eqb (bit_and n busy) 0) ≡ true → (n < 65536) × (Mask n ≡ taps_if_free busy r)
-unfolding taps_if_free
-free-number busy n r e h =
-    let below : n < 65536 = ltb-true n 65536 (and_left _ _ h) in
-    let told : mask_of_line r ≡ Mask n = tells-below (mask_of_line r) n e below in
-    (below, sym (ap (free_of busy) told ∙ ap (λ (t : Bool). cond t (Mask n) Other) (and_right (ltb n 65536) (eqb (bit_and n busy) 0) h)))
-
-pub unfree-number : (busy n : ℕ) (r : Row) → Tells n (mask_of_line r) → (ltb n 65536 && eqb (bit_and n busy) 0) ≡ false → Other ≡ taps_if_free busy r
-unfolding taps_if_free
-unfree-number busy n r e h = go (mask_of_line r) refl
-  where
-    go : (t : Taps) → mask_of_line r ≡ t → Other ≡ free_of busy (mask_of_line r)
-    go Other w = sym (ap (free_of busy) w)
-    go (Mask m) w =
-        let same : n ≡ m = subst (Tells n) w e in
-        let small : ltb m 65536 ≡ true = lt-ltb m 65536 (line_small r m w) in
-        let busy-bit : eqb (bit_and m busy) 0 ≡ false = sym (ap (λ (t : Bool). t && eqb (bit_and m busy) 0) small) ∙ rw same at h in
-        sym (ap (free_of busy) w ∙ ap (λ (t : Bool). cond t (Mask m) Other) busy-bit)
+-- ---- a row is free of `busy`
 
 -- what a mask that was answered says
 pub free-told : {t : Taps} {busy m : ℕ} {r : Row} → t ≡ taps_if_free busy r → t ≡ Mask m → FreeTaps busy m r

@@ -1,6 +1,7 @@
 -- Laws of the masks.
 pub mod Tables
 pub mod Masks
+pub mod Sums
 pub mod Numbers
 pub mod Words
 pub mod Free

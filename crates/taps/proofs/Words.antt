@@ -11,7 +11,7 @@ use lib.ListN.{length, get_or, take, drop, length-drop, take-append-drop, replic
 use lib.Seq.{get_or-drop, length-take-le}
 use Rattle.definitions.specs.Lines.{Row}
 use Rattle.lines.specs.Words.{half_word_at, word_of, Bytes}
-use Rattle.taps.specs.Taps.{number_of, Tells, with_bit, tap_mask, mask_counts}
+use Rattle.taps.specs.Taps.{with_bit, tap_mask, mask_counts}
 use Rattle.taps.specs.declared.Taps.{Taps}
 use Rattle.taps.specs.declared.Taps.TheVariants.{Mask, Other}
 use Rattle.taps.proofs.Tables.{same_at}
@@ -156,11 +156,11 @@ module _ (k : ℕ) (l : Row) (long : length l ≡ k) (w : ℕ) (word : word_of l
       }
 
   -- where it does not, there is none
-  cells-other : (bit_and w (evens k) ≡ word_of (zero_cells k) → ⊥) → 65536 ≡ number_of (tap_mask l)
+  cells-other : (bit_and w (evens k) ≡ word_of (zero_cells k) → ⊥) → Other ≡ tap_mask l
   cells-other fails = go (tap_mask l) refl
     where
-      go : (t : Taps) → tap_mask l ≡ t → 65536 ≡ number_of t
-      go Other e = refl
+      go : (t : Taps) → tap_mask l ≡ t → Other ≡ tap_mask l
+      go Other e = sym e
       go (Mask m) e = absurd (fails (ap (λ v. bit_and v (evens k)) (sym word) ∙ word-passes k l m (omega (arith, long)) e ∙ zeros))
 
 -- ---- one or two cells after others
@@ -169,28 +169,24 @@ module _ (k : ℕ) (l : Row) (long : length l ≡ k) (w : ℕ) (word : word_of l
 abbrev pub BitsPlaced : ℕ → ℕ → ℕ → ℕ → ℕ → Type 0
 BitsPlaced zeros factor places n k = (m : ℕ) → m < 2 ^ k → bit_and ((zeros + spread_bits 2 m) * factor) places ≡ 2 ^ n * m
 
-module _ (a b : Row) (few : length b ≤ 2) (n zeros factor places : ℕ) (told : n ≡ number_of (tap_mask a)) (z : zeros ≡ word_of (zero_cells (length b))) where
+module _ (a b : Row) (few : length b ≤ 2) (zeros : ℕ) (z : zeros ≡ word_of (zero_cells (length b))) where
   -- where their word passes, their bits stand after those of the others
-  pub rest-mask : Bytes b → bit_and (word_of b) 65278 ≡ zeros → BitsPlaced zeros factor places (length a) (length b)
-      → Tells (n + bit_and (word_of b * factor) places) (tap_mask (a ++ b))
-  rest-mask x e placed =
+  pub rest-mask : (lo factor places : ℕ) → Mask lo ≡ tap_mask a → Bytes b → bit_and (word_of b) 65278 ≡ zeros → BitsPlaced zeros factor places (length a) (length b)
+      → Mask (lo + bit_and (word_of b * factor) places) ≡ tap_mask (a ++ b)
+  rest-mask lo factor places told x e placed =
       let k = word-passed 2 b x few (e ∙ z) in
       let w : word_of b ≡ zeros + spread_bits 2 k.mask = word-bits 2 b k.mask few k.told ∙ ap (λ v. v + spread_bits 2 k.mask) (sym z) in
       let bits : bit_and (word_of b * factor) places ≡ 2 ^ length a * k.mask = ap (λ v. bit_and (v * factor) places) w ∙ placed k.mask (mask_lt b k.mask k.told) in
-      subst (Tells (n + bit_and (word_of b * factor) places)) (sym (mask_append a b ∙ ap (beside (length a) (tap_mask a)) k.told)) (go (tap_mask a) k.mask _ told bits)
-    where
-      go : (t : Taps) (m v : ℕ) → n ≡ number_of t → v ≡ 2 ^ length a * m → Tells (n + v) (beside (length a) t (Mask m))
-      go (Mask lo) m v e f = ap₂ ◌+◌ e f
-      go Other m v e f = omega arith
+      ap (λ v. Mask (lo + v)) bits ∙ ap₂ (beside (length a)) told (sym k.told) ∙ sym (mask_append a b)
 
   -- where it does not, there is no mask
-  pub rest-other : (bit_and (word_of b) 65278 ≡ zeros → ⊥) → Tells 65536 (tap_mask (a ++ b))
-  rest-other fails = subst (Tells 65536) (sym (mask_append a b)) (go (tap_mask a) (tap_mask b) refl)
+  pub rest-other : (bit_and (word_of b) 65278 ≡ zeros → ⊥) → Other ≡ tap_mask (a ++ b)
+  rest-other fails = go (tap_mask a) (tap_mask b) refl ∙ sym (mask_append a b)
     where
-      go : (t u : Taps) → tap_mask b ≡ u → Tells 65536 (beside (length a) t u)
+      go : (t u : Taps) → tap_mask b ≡ u → Other ≡ beside (length a) t u
       go t (Mask m) e = absurd (fails (word-passes 2 b m few e ∙ sym z))
-      go (Mask lo) Other e = omega arith
-      go Other Other e = omega arith
+      go (Mask lo) Other e = refl
+      go Other Other e = refl
 
 -- ---- words of a row
 
@@ -226,13 +222,13 @@ eight-word (a ∷ b ∷ c ∷ d ∷ p ∷ q ∷ r ∷ s ∷ l) h = omega arith
 
 -- a row's first four cells by their word
 module _ (r : Row) (h : 4 ≤ length r) (w : ℕ) (e : w ≡ half_word_at r 0) where
-  pub four-mask : Bytes r → bit_and w 4278124286 ≡ 808464432 → (w - 808464432) * 16909320 / 16777216 % 256 ≡ number_of (tap_mask (take 4 r))
+  pub four-mask : Bytes r → bit_and w 4278124286 ≡ 808464432 → Mask ((w - 808464432) * 16909320 / 16777216 % 256) ≡ tap_mask (take 4 r)
   four-mask small p =
       let B = cells-bits 4 (take 4 r) (length-take-le 4 r h) w (first-four r h ∙ sym e) (bytes_take 4 r small) (p ∙ sym zeros-four) in
       let bits : w - 808464432 ≡ spread_bits 4 B.mask = omega (arith, B.bits, zeros-four) in
-      ap (λ v. v * 16909320 / 16777216 % 256) bits ∙ gathered-four B.mask B.few ∙ ap number_of (sym B.told)
+      ap Mask (ap (λ v. v * 16909320 / 16777216 % 256) bits ∙ gathered-four B.mask B.few) ∙ sym B.told
 
-  pub four-other : (bit_and w 4278124286 ≡ 808464432 → ⊥) → 65536 ≡ number_of (tap_mask (take 4 r))
+  pub four-other : (bit_and w 4278124286 ≡ 808464432 → ⊥) → Other ≡ tap_mask (take 4 r)
   four-other fails = cells-other 4 (take 4 r) (length-take-le 4 r h) w (first-four r h ∙ sym e) (λ p. fails (p ∙ zeros-four))
 
 -- and its first eight, by two words of four
@@ -249,13 +245,13 @@ module _ (r : Row) (h : 8 ≤ length r) (small : Bytes r) (a b : ℕ) (ea : a �
       (omega (arith, B.bits, zeros-eight), omega (arith, B.bits, zeros-eight))
 
   pub eight-mask : bit_and (a + b * 4294967296) 18374403900871474942 ≡ 3472328296227680304
-      → (a - 808464432 + 16 * (b - 808464432)) * 16909320 / 16777216 % 256 ≡ number_of (tap_mask (take 8 r))
+      → Mask ((a - 808464432 + 16 * (b - 808464432)) * 16909320 / 16777216 % 256) ≡ tap_mask (take 8 r)
   eight-mask p =
       let B = cells-bits 8 (take 8 r) all-eight (a + b * 4294967296) two-halves (bytes_take 8 r small) (p ∙ sym zeros-eight) in
       let bits : a - 808464432 + 16 * (b - 808464432) ≡ spread_bits 4 B.mask + 16 * spread_bits 4 (B.mask / 2 / 2 / 2 / 2) = omega (arith, B.bits, zeros-eight) in
-      ap (λ v. v * 16909320 / 16777216 % 256) bits ∙ gathered-eight B.mask B.few ∙ ap number_of (sym B.told)
+      ap Mask (ap (λ v. v * 16909320 / 16777216 % 256) bits ∙ gathered-eight B.mask B.few) ∙ sym B.told
 
-  pub eight-other : (bit_and (a + b * 4294967296) 18374403900871474942 ≡ 3472328296227680304 → ⊥) → 65536 ≡ number_of (tap_mask (take 8 r))
+  pub eight-other : (bit_and (a + b * 4294967296) 18374403900871474942 ≡ 3472328296227680304 → ⊥) → Other ≡ tap_mask (take 8 r)
   eight-other fails = cells-other 8 (take 8 r) all-eight (a + b * 4294967296) two-halves (λ p. fails (p ∙ zeros-eight))
 
 -- a row's last byte, and its last two, from i on
@@ -283,30 +279,36 @@ two-word r i h =
     go (x ∷ y ∷ []) e = omega arith
     go (x ∷ y ∷ z ∷ l) e = absurd (omega arith)
 
--- a row as its first n cells, of which v tells the mask, and the k after them, whose word is w
-module _ (r : Row) (n k : ℕ) (h : length r ≡ n + k) (few : k ≤ 2) (v w : ℕ) (told : v ≡ number_of (tap_mask (take n r))) (word : w ≡ word_of (drop n r)) where
+-- a row as its first n cells and the k after them, whose word is w
+module _ (r : Row) (n k : ℕ) (h : length r ≡ n + k) (few : k ≤ 2) where
   long : length (take n r) ≡ n
   long = length-take-le n r (omega arith)
 
   short : length (drop n r) ≡ k
   short = omega (arith, length-drop n r)
 
-  zeros-there : word_of (zero_cells k) ≡ word_of (zero_cells (length (drop n r)))
-  zeros-there = ap (λ l. word_of (zero_cells l)) (sym short)
+  all : tap_mask (take n r ++ drop n r) ≡ tap_mask r
+  all = ap tap_mask (take-append-drop n r)
 
-  pub rest-told : Bytes r → (zeros factor places : ℕ) → zeros ≡ word_of (zero_cells k) → BitsPlaced zeros factor places n k → bit_and w 65278 ≡ zeros
-      → Tells (v + bit_and (w * factor) places) (tap_mask r)
-  rest-told small zeros factor places z placed e =
-      let after : BitsPlaced zeros factor places n (length (drop n r)) = subst (BitsPlaced zeros factor places n) (sym short) placed in
-      let there : BitsPlaced zeros factor places (length (take n r)) (length (drop n r)) = subst (λ i. BitsPlaced zeros factor places i (length (drop n r))) (sym long) after in
-      subst (λ l. Tells (v + bit_and (w * factor) places) (tap_mask l)) (take-append-drop n r)
-      (subst (λ x. Tells (v + bit_and (x * factor) places) (tap_mask (take n r ++ drop n r))) (sym word)
-      (rest-mask (take n r) (drop n r) (omega (arith, short)) v zeros factor places told (z ∙ zeros-there) (bytes_drop n r small) (ap (λ x. bit_and x 65278) (sym word) ∙ e) there))
+  -- the first have no mask
+  pub first-none : Other ≡ tap_mask (take n r) → Other ≡ tap_mask r
+  first-none e = ap (λ t. beside (length (take n r)) t (tap_mask (drop n r))) e ∙ sym (mask_append (take n r) (drop n r)) ∙ all
 
-  pub rest-none : (zeros : ℕ) → zeros ≡ word_of (zero_cells k) → (bit_and w 65278 ≡ zeros → ⊥) → Tells 65536 (tap_mask r)
-  rest-none zeros z fails =
-      subst (λ l. Tells 65536 (tap_mask l)) (take-append-drop n r)
-      (rest-other (take n r) (drop n r) (omega (arith, short)) v zeros 0 0 told (z ∙ zeros-there) (λ e. fails (ap (λ x. bit_and x 65278) word ∙ e)))
+  module _ (w zeros : ℕ) (word : w ≡ word_of (drop n r)) (z : zeros ≡ word_of (zero_cells k)) where
+    zeros-there : zeros ≡ word_of (zero_cells (length (drop n r)))
+    zeros-there = z ∙ ap (λ l. word_of (zero_cells l)) (sym short)
+
+    pub rest-told : (lo factor places : ℕ) → Mask lo ≡ tap_mask (take n r) → Bytes r → BitsPlaced zeros factor places n k → bit_and w 65278 ≡ zeros
+        → Mask (lo + bit_and (w * factor) places) ≡ tap_mask r
+    rest-told lo factor places told small placed e =
+        let after : BitsPlaced zeros factor places n (length (drop n r)) = subst (BitsPlaced zeros factor places n) (sym short) placed in
+        let there : BitsPlaced zeros factor places (length (take n r)) (length (drop n r)) = subst (λ i. BitsPlaced zeros factor places i (length (drop n r))) (sym long) after in
+        ap (λ x. Mask (lo + bit_and (x * factor) places)) word
+        ∙ rest-mask (take n r) (drop n r) (omega (arith, short)) zeros zeros-there lo factor places told (bytes_drop n r small) (ap (λ x. bit_and x 65278) (sym word) ∙ e) there
+        ∙ all
+
+    pub rest-none : (bit_and w 65278 ≡ zeros → ⊥) → Other ≡ tap_mask r
+    rest-none fails = rest-other (take n r) (drop n r) (omega (arith, short)) zeros zeros-there (λ e. fails (ap (λ x. bit_and x 65278) word ∙ e)) ∙ all
 
 -- where the bits of one cell after four, and of two after eight, are put
 pub one-zero : 48 ≡ word_of (zero_cells 1)

@@ -1,5 +1,5 @@
 -- Specification, Tap masks: the mask of a row of `0` and `1` alone, and the counts that the table has for it.
-use Rattle.std.specs.Prelude.{Bool, ◌||◌, not, ◌≡◌, List, [], ◌∷◌, ℕ, ◌+◌, ◌*◌, ◌/◌, ◌%◌, ◌^◌, ◌<◌, ◌≤◌, ◌==◌, length, slice_index, if◌then◌else◌}
+use Rattle.std.specs.Prelude.{Bool, ◌||◌, not, ◌≡◌, List, [], ◌∷◌, ℕ, ◌+◌, ◌*◌, ◌/◌, ◌%◌, ◌^◌, ◌<◌, ◌==◌, length, slice_index, if◌then◌else◌}
 use Rattle.std.specs.Int.Bits.{bit_and}
 use Rattle.definitions.specs.Lists.{sum_columns, number_of_bool}
 use Rattle.definitions.specs.Lines.{Row}
@@ -17,20 +17,6 @@ with_bit b Other = Other
 unfoldable pub tap_mask : Row → Taps
 tap_mask [] = Mask 0
 tap_mask (b ∷ r) = with_bit b (tap_mask r)
-
--- a mask as a number, and the number of cells that have none
-abbrev pub number_of : Taps → ℕ
-number_of (Mask m) = m
-number_of Other = 65536
-
--- a mask's number is below that
-abbrev pub Small : Taps → Type 0
-Small t = (m : ℕ) → t ≡ Mask m → m < 65536
-
--- a number that tells a mask, or that there is none: any number past all masks does
-abbrev pub Tells : ℕ → Taps → Type 0
-Tells n (Mask m) = n ≡ m
-Tells n Other = 65536 ≤ n
 
 -- the widths of rows that have masks
 abbrev pub has_mask : ℕ → Bool

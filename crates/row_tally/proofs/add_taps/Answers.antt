@@ -2,7 +2,8 @@
 use mathlib.Core.Path.{ap, sym, ◌∙◌}
 use native.Mathlib.Omega.{arith}
 use Rattle.definitions.specs.declared.RowSum.{RowSum}
-use Rattle.taps.proofs.Masks.{masks-few, tap-line-sum}
+use Rattle.taps.proofs.Masks.{masks-few}
+use Rattle.taps.proofs.Sums.{tap-line-sum}
 use Rattle.row_tally.specs.Bounds.{Under}
 use Rattle.row_tally.specs.Raised.{with_cells}
 use Rattle.row_tally.proofs.Taps.{mask_under}

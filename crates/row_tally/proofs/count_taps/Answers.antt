@@ -1,7 +1,8 @@
 -- `row_tally::count_taps` meets its contract: the mask's counts are the sum of every row that has this mask.
 use mathlib.Core.Path.{sym, ap, ◌∙◌}
 use Rattle.definitions.specs.Tally.{tally_with_row}
-use Rattle.taps.proofs.Masks.{masks-few, tap-line-sum}
+use Rattle.taps.proofs.Masks.{masks-few}
+use Rattle.taps.proofs.Sums.{tap-line-sum}
 use Rattle.row_tally.proofs.Taps.{mask_under, no-taps-counted}
 use Rattle.row_tally.proofs.count_taps.Goals as goal
 

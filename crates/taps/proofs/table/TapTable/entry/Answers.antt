@@ -1,7 +1,8 @@
 -- `taps::TapTable::entry` meets its contract: the table's rule at this mask.
 use Rattle.std.proofs.Common.{◌≡◌, ◌<◌, subst, arith}
 use Rattle.taps.specs.Taps.{counts_in, masks, mask_counts}
-use Rattle.taps.proofs.Masks.{counts-few, masks-few}
+use Rattle.taps.proofs.Masks.{masks-few}
+use Rattle.taps.proofs.Sums.{counts-few}
 use Rattle.taps.proofs.table.TapTable.entry.Goals as goal
 
 pub bounds-self-m-then-self : goal.bounds-self-m-then-self

@@ -1,4 +1,4 @@
--- `PairedTally::count_row` meets its contract: a row of free taps has no head and no tail.
+-- `PairedTally::add_row` meets its contract: a row of free taps has no head and no tail.
 use mathlib.Core.Path.{sym}
 use native.Mathlib.Omega.{arith}
 use Rattle.taps.proofs.Free.{free-told}
@@ -6,10 +6,10 @@ use Rattle.taps.proofs.Masks.{below-at, fits-table}
 use Rattle.row_tally.proofs.Bounds.{below_more}
 use Rattle.paired_tally.proofs.Bounds.{paired-below}
 use Rattle.paired_tally.proofs.FreeRows.{free-counted}
-use Rattle.paired_tally.proofs.PairedTally.count_row.Goals as goal
+use Rattle.paired_tally.proofs.PairedTally.add_row.Goals as goal
 
 pub add_free-requires : goal.add_free-requires
-add_free-requires c =
+add_free-requires g c =
     let f = free-told c.free_taps.ensures c.in-Mask.is in
     let x = c.requires.reached in
     record {
@@ -20,4 +20,4 @@ add_free-requires c =
     }
 
 pub returns-in-Mask : goal.returns-in-Mask
-returns-in-Mask c = let f = free-told c.free_taps.ensures c.in-Mask.is in free-counted _ _ _ _ _ _ _ _ _ f (c.add_free.ensures _ f.mask) c.requires.entry_room
+returns-in-Mask g c = let f = free-told c.free_taps.ensures c.in-Mask.is in free-counted _ _ _ _ _ _ _ _ _ f (c.add_free.ensures _ f.mask) c.requires.entry_room
