@@ -18,11 +18,12 @@ pub fn direction(columns: usize, column: usize) -> usize
     }
 }
 
-/// A lane count: how many columns a row has.
+/// A lane count: how many columns a row has, from 4 to 10 but neither 7 nor 9.
 #[derive(Clone, Copy)]
 pub struct Lanes {
     pub count: usize,
     pub ghost within: { (4 ≤ count) × (count ≤ 10) },
+    pub ghost gaps: { (count ≡ 7 → ⊥) × (count ≡ 9 → ⊥) },
 }
 
 impl Lanes {
@@ -49,9 +50,7 @@ impl Lanes {
         let count = match self.count {
             5 => 5,
             6 => 6,
-            7 => 7,
             8 => 8,
-            9 => 9,
             10 => 10,
             _ => 4,
         };

@@ -1,22 +1,26 @@
 -- A row's cells, one after the other: what is counted of those before column i, from k₀ on.
-use mathlib.Core.Path.{◌≡◌, refl, ap, ◌∙◌}
+use mathlib.Core.Path.{◌≡◌, refl, ap, subst, ◌∙◌}
 use mathlib.Core.Bool.{false}
 use Prim.Native.Nat.{ℕ, zero, suc, ◌+◌, ◌<◌, ◌≤◌}
+use native.Mathlib.Nat.{add-zero}
+use native.Mathlib.Numerals.{add-one}
 use native.Mathlib.Omega.{arith}
 use lib.ListN.{length, get_or, drop, drop_of_length-le}
+use Rattle.definitions.specs.Sizes.{count_bound}
 use Rattle.definitions.specs.Lines.{Row}
 use Rattle.definitions.specs.Cells.{cell_of, is_arrow}
 use Rattle.definitions.specs.Tally.{direction, row_sum}
 use Rattle.phantoms.specs.Phantoms.{Low}
-use Rattle.phantoms.proofs.Loop.{Passed, passed_start, passed-next, passed-heads, passed-tails}
+use Rattle.phantoms.proofs.Loop.{low-more, Passed, passed_start, passed-next, passed-heads, passed-tails}
 use Rattle.row_tally.specs.Bounds.{Below}
 use Rattle.row_tally.specs.Raised.{with_cells}
+use Rattle.row_tally.proofs.Bounds.{below_more}
 use Rattle.row_tally.proofs.Heads.{sum-heads, sum-tails}
 use Rattle.row_tally.proofs.Loops.{drop-next}
 use Rattle.row_tally.proofs.Raised.{Raised, raised-start, raised-next, raised-end, cells-arrows}
 use Rattle.measure_tally.specs.declared.Counting.{Counting}
 use Rattle.measure_tally.proofs.Cells.{cell-few, cell-low}
-use Rattle.measure_tally.specs.Cells.{StaysFree, CellCounted, ColumnsCounted}
+use Rattle.measure_tally.specs.Cells.{StaysFree, CellCounted, ColumnCounted, ColumnsCounted, CountedOn, Reached}
 
 pub record Lined (row : Row) (k₀ k : Counting) (i : ℕ) : Type 0 where
   pub passed : Passed row k₀.phantoms k.phantoms i
@@ -42,40 +46,40 @@ lined-next row k₀ k r i h narrow x w = record {
   free = λ f. w.free (x.free f);
 }
 
-lined-columns : (row : Row) (k₀ k r : Counting) (i n : ℕ) → i + n ≤ length row → length row ≤ 10 → Lined row k₀ k i → ColumnsCounted row i n k r → Lined row k₀ r (i + n)
-lined-columns row k₀ k r i zero h narrow x w = let here : i + 0 ≡ i = omega arith in rw (here, w) x
-lined-columns row k₀ k r i (suc n) h narrow x (m, (w, v)) =
-    let next : i + suc n ≡ i + 1 + n = omega arith in
-    rw next (lined-columns row k₀ m r (i + 1) n (omega arith) narrow (lined-next row k₀ k m i (omega arith) narrow x w) v)
-
-pub lined-all : (row : Row) (k r : Counting) → length k.phantoms.depths ≡ 10 → length row ≤ 10 → ColumnsCounted row 0 (length row) k r → Lined row k r (length row)
-lined-all row k r size narrow w =
-    let first : 0 + length row ≡ length row = omega arith in
-    rw first at (lined-columns row k k r 0 (length row) (omega arith) narrow (lined-start row k size) w)
-
--- columns after columns
-pub columns-append : (row : Row) (c m n : ℕ) (k q r : Counting) → ColumnsCounted row c m k q → ColumnsCounted row (c + m) n q r → ColumnsCounted row c (m + n) k r
-columns-append row c zero n k q r w v =
-    let first : c + 0 ≡ c = omega arith in
-    let none : 0 + n ≡ n = omega arith in
-    rw (none, ← w) (rw first at v)
-columns-append row c (suc m) n k q r (a, (w, u)) v =
-    let next : c + suc m ≡ c + 1 + m = omega arith in
-    let more : suc m + n ≡ suc (m + n) = omega arith in
-    rw more (a, (w, columns-append row (c + 1) m n a q r u (rw next at v)))
+-- all of the first n
+pub lined-columns : (row : Row) (k r : Counting) (n : ℕ) → length k.phantoms.depths ≡ 10 → length row ≤ 10 → n ≤ length row → ColumnsCounted row n k r → Lined row k r n
+lined-columns row k r zero size narrow h w = rw w (lined-start row k size)
+lined-columns row k r (suc n) size narrow h (m, (v, w)) =
+    let next : n + 1 ≡ suc n = omega arith in
+    subst (Lined row k r) next (lined-next row k m r n (omega arith) narrow (lined-columns row k m n size narrow (omega arith) v) w)
 
 -- n cells add at most n to each count
-pub columns-few : (row : Row) (c n j : ℕ) (k r : Counting) → ColumnsCounted row c n k r → Below j k.stats → Below (j + n) r.stats
-columns-few row c zero j k r w b = let here : j + 0 ≡ j = omega arith in rw (here, w) b
-columns-few row c (suc n) j k r (m, (w, v)) b =
-    let next : j + suc n ≡ j + 1 + n = omega arith in
-    rw next (columns-few row (c + 1) n (j + 1) m r v (cell-few _ _ _ _ _ _ w b))
+pub columns-few : (row : Row) (n j : ℕ) (k r : Counting) → ColumnsCounted row n k r → Below j k.stats → Below (j + n) r.stats
+columns-few row zero j k r w b = rw (add-zero j, w) b
+columns-few row (suc n) j k r (m, (v, w)) b =
+    let next : j + suc n ≡ j + n + 1 = omega arith in
+    rw next (cell-few _ _ _ _ _ _ w (columns-few row n j k m v b))
 
-pub columns-low : (row : Row) (c n j : ℕ) (k r : Counting) → ColumnsCounted row c n k r → Low j k.phantoms → Low (j + n) r.phantoms
-columns-low row c zero j k r w b = let here : j + 0 ≡ j = omega arith in rw (here, w) b
-columns-low row c (suc n) j k r (m, (w, v)) b =
-    let next : j + suc n ≡ j + 1 + n = omega arith in
-    rw next (columns-low row (c + 1) n (j + 1) m r v (cell-low _ _ _ _ _ _ w b))
+pub columns-low : (row : Row) (n j : ℕ) (k r : Counting) → ColumnsCounted row n k r → Low j k.phantoms → Low (j + n) r.phantoms
+columns-low row zero j k r w b = rw (add-zero j, w) b
+columns-low row (suc n) j k r (m, (v, w)) b =
+    let next : j + suc n ≡ j + n + 1 = omega arith in
+    rw next (cell-low _ _ _ _ _ _ w (columns-low row n j k m v b))
+
+-- the next column asks for no more, and is then among those before
+module _ (row : Row) (c : ℕ) (k : Counting) (x : Reached row c k) (h : c < 10) where
+  pub reached-few : Below (count_bound + 9) k.stats
+  reached-few = below_more (count_bound + c) (count_bound + 9) k.stats (omega arith) (columns-few row c count_bound x.start k x.counted x.few)
+
+  pub reached-low : Low (count_bound + 9) k.phantoms
+  reached-low = low-more (count_bound + c) (count_bound + 9) k.phantoms (omega arith) (columns-low row c count_bound x.start k x.counted x.low)
+
+module _ (row : Row) (c : ℕ) (k r : Counting) (w : ColumnCounted row c k r) where
+  pub counted-on : CountedOn row c (c + 1) k r
+  counted-on s v = rw add-one (k, (v, w))
+
+  pub reached-next : Reached row c k → Reached row (c + 1) r
+  reached-next x = record { start = x.start; few = x.few; low = x.low; counted = counted-on x.start x.counted }
 
 -- all cells of a row are done
 module _ (row : Row) (k₀ k : Counting) (i : ℕ) (x : Lined row k₀ k i) (left : length row ≤ i) where

@@ -1,12 +1,14 @@
 -- What the cells of a row do to what is counted, before the row's end: cited by private functions alone.
-use Rattle.std.specs.Prelude.{◌≡◌, ℕ, zero, suc, ◌+◌, false, length, slice_index}
+use Rattle.std.specs.Prelude.{◌≡◌, ℕ, zero, suc, false, length, slice_index}
+use Rattle.definitions.specs.Sizes.{count_bound}
 use Rattle.definitions.specs.Lines.{Row}
 use Rattle.definitions.specs.Cells.{cell_of}
 use Rattle.definitions.specs.Tracker.{hold_at}
 use Rattle.definitions.specs.Tally.{direction, empty_sum}
 use Rattle.definitions.specs.declared.Cell.{Cell}
 use Rattle.definitions.specs.declared.DepthEffect.{DepthEffect}
-use Rattle.phantoms.specs.Phantoms.{with_effect}
+use Rattle.phantoms.specs.Phantoms.{Low, with_effect}
+use Rattle.row_tally.specs.Bounds.{Below}
 use Rattle.row_tally.specs.Sums.{add_by}
 use Rattle.row_tally.specs.Raised.{with_cells}
 use Rattle.taps.specs.Taps.{FreeAre}
@@ -40,7 +42,18 @@ pub record CellCounted (columns c b : ℕ) (k r : Counting) : Type 0 where
 abbrev pub ColumnCounted : Row → ℕ → Counting → Counting → Type 0
 ColumnCounted row c = CellCounted (length row) c (slice_index row c)
 
--- those in n columns from c on, one after the other
-abbrev pub ColumnsCounted : Row → ℕ → ℕ → Counting → Counting → Type 0
-ColumnsCounted row c zero k r = r ≡ k
-ColumnsCounted row c (suc n) k r = (m : Counting) × (ColumnCounted row c k m × ColumnsCounted row (c + 1) n m r)
+-- those in the first n columns, one after the other
+abbrev pub ColumnsCounted : Row → ℕ → Counting → Counting → Type 0
+ColumnsCounted row zero k r = r ≡ k
+ColumnsCounted row (suc n) k r = (m : Counting) × (ColumnsCounted row n k m × ColumnCounted row n m r)
+
+-- whatever the first c columns were counted on top of, the first n are counted on top of it
+abbrev pub CountedOn : Row → ℕ → ℕ → Counting → Counting → Type 0
+CountedOn row c n k r = (s : Counting) → ColumnsCounted row c s k → ColumnsCounted row n s r
+
+-- the first c columns of a row are counted, on top of counts that have room for a row
+pub record Reached (row : Row) (c : ℕ) (k : Counting) : Type 0 where
+  pub start : Counting
+  pub few : Below count_bound start.stats
+  pub low : Low count_bound start.phantoms
+  pub counted : ColumnsCounted row c start k

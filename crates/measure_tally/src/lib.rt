@@ -11,7 +11,7 @@ ghost use Rattle.reduction.specs.States.{HoldingOpen, EndsMeasure};
 ghost use Rattle.row_tally.specs.Bounds.{Below};
 ghost use Rattle.phantoms.specs.Phantoms.{Low};
 ghost use Rattle.definitions.specs.declared.DepthEffect.TheVariants.{Blocks, Opens, Closes};
-ghost use Rattle.measure_tally.specs.Cells.{EffectDone, CellCounted, ColumnsCounted, with_cell};
+ghost use Rattle.measure_tally.specs.Cells.{EffectDone, CellCounted, ColumnsCounted, CountedOn, Reached, with_cell};
 ghost use Rattle.measure_tally.specs.Counted.{Few, Counted, CountsRow, CountsAll};
 
 use definitions::{ArrowStats, Cell, direction};
@@ -179,15 +179,14 @@ impl Counting {
         }
     }
 
-    // The cell in a column. Most are a `0`, which changes nothing.
+    // The cell in a column, those before it counted. Most are a `0`, which changes nothing.
     #[inline(always)]
     fn count_column(&mut self, row: &[u8], column: usize)
         requires inside { column < length row.now }
         requires narrow { length row.now ≤ 10 }
-        requires few { Below (count_bound + 9) self.old.stats }
-        requires low { Low (count_bound + 9) self.old.phantoms }
-        ensures { CellCounted (length row.now) column (slice_index row.now column)
-            self.old self.new }
+        requires reached { Reached row.now column self.old }
+        ensures next { Reached row.now (column + 1) self.new }
+        ensures counted { CountedOn row.now column (column + 1) self.old self.new }
     {
         let b = row[column];
         if b == b'0' {
@@ -205,9 +204,9 @@ impl Counting {
     fn count_four(&mut self, row: &[u8])
         requires wide { 4 ≤ length row.now }
         requires narrow { length row.now ≤ 10 }
-        requires few { Below count_bound self.old.stats }
-        requires low { Low count_bound self.old.phantoms }
-        ensures { ColumnsCounted row.now 0 4 self.old self.new }
+        requires reached { Reached row.now 0 self.old }
+        ensures next { Reached row.now 4 self.new }
+        ensures counted { CountedOn row.now 0 4 self.old self.new }
     {
         self.count_column(row, 0);
         self.count_column(row, 1);
@@ -220,9 +219,9 @@ impl Counting {
     fn count_rest(&mut self, row: &[u8])
         requires wide { 4 ≤ length row.now }
         requires narrow { length row.now ≤ 10 }
-        requires few { Below (count_bound + 4) self.old.stats }
-        requires low { Low (count_bound + 4) self.old.phantoms }
-        ensures { ColumnsCounted row.now 4 (length row.now - 4) self.old self.new }
+        requires gaps { (length row.now ≡ 7 → ⊥) × (length row.now ≡ 9 → ⊥) }
+        requires reached { Reached row.now 4 self.old }
+        ensures { CountedOn row.now 4 (length row.now) self.old self.new }
     {
         if row.len() == 4 {
             return;
@@ -236,17 +235,11 @@ impl Counting {
             return;
         }
         self.count_column(row, 6);
-        if row.len() == 7 {
-            return;
-        }
         self.count_column(row, 7);
         if row.len() == 8 {
             return;
         }
         self.count_column(row, 8);
-        if row.len() == 9 {
-            return;
-        }
         self.count_column(row, 9);
     }
 
@@ -255,9 +248,10 @@ impl Counting {
     fn count_columns(&mut self, row: &[u8])
         requires wide { 4 ≤ length row.now }
         requires narrow { length row.now ≤ 10 }
+        requires gaps { (length row.now ≡ 7 → ⊥) × (length row.now ≡ 9 → ⊥) }
         requires few { Below count_bound self.old.stats }
         requires low { Low count_bound self.old.phantoms }
-        ensures { ColumnsCounted row.now 0 (length row.now) self.old self.new }
+        ensures { ColumnsCounted row.now (length row.now) self.old self.new }
     {
         self.count_four(row);
         self.count_rest(row);
@@ -268,6 +262,7 @@ impl Counting {
     fn count_cells(&mut self, row: &[u8])
         requires wide { 4 ≤ length row.now }
         requires narrow { length row.now ≤ 10 }
+        requires gaps { (length row.now ≡ 7 → ⊥) × (length row.now ≡ 9 → ⊥) }
         requires rows_few { self.old.rows < row_count_bound }
         requires few { Few self.old }
         ensures { CountsRow row.now self.old self.new }

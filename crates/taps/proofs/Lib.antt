@@ -2,7 +2,6 @@
 pub mod Tables
 pub mod Masks
 pub mod Sums
-pub mod Numbers
 pub mod Words
 pub mod Free
 pub mod Marks

@@ -10,7 +10,7 @@ use lib.Bits.{bit_and, and_mask}
 use lib.Dec.{eqb}
 use lib.ListN.{length}
 use lib.Pow.{pow-lt}
-use borrow.Author.Tests.{eqb-true}
+use borrow.Author.Tests.{eqb-true, ne_eqb}
 use Rattle.definitions.specs.Lines.{Row}
 use Rattle.taps.specs.Taps.{with_bit, tap_mask, has_mask, mask_of_line, masks}
 use Rattle.taps.specs.declared.table.TapTable.{TapTable}
@@ -78,6 +78,10 @@ width-fours n e = go (eqb n 6) (eqb-true n 6)
     go : (t : Bool) → (t ≡ true → n ≡ 6) → t ≡ false
     go true f = absurd (false≢true (subst (λ k. has_mask k ≡ true) (f refl) e))
     go false f = refl
+
+-- the widths that have none
+pub no-width : (n : ℕ) → (n ≡ 4 → ⊥) → (n ≡ 5 → ⊥) → (n ≡ 8 → ⊥) → (n ≡ 10 → ⊥) → has_mask n ≡ false
+no-width n four five eight ten = rw (ne_eqb n 4 four, ne_eqb n 5 five, ne_eqb n 8 eight, ne_eqb n 10 ten) refl
 
 module _ (r : Row) where
   -- a row of such a width has the mask of its cells

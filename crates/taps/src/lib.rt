@@ -19,7 +19,7 @@ pub enum Taps {
 }
 
 /// The mask of the first four cells, by one test of all: a byte but for its lowest bit is 48 where it is a `0` or a `1`. A product puts these bits
-/// beside each other.
+/// beside each other; cells without a mask leave before it.
 pub fn tap_mask4(row: &[u8]) -> Taps
     requires { 4 ≤ length row.now }
     ensures { result ≡ tap_mask (take 4 row.now) }
@@ -82,7 +82,8 @@ fn tap_mask10(row: &[u8]) -> Taps
     }
 }
 
-/// The mask of a row of four, five, eight or ten cells; no other width has masks.
+/// The mask of a row of four, five, eight or ten cells; no other width has masks. The width is told by halves, since the compiler makes a table of four
+/// tests in a line, which costs each row more.
 #[inline(always)]
 pub fn tap_line_mask(row: &[u8]) -> Taps
     requires { 4 ≤ length row.now }

@@ -1,4 +1,4 @@
--- `taps::tap_line_mask` meets its contract: a row of four or eight cells is its first four or eight.
+-- `taps::tap_line_mask` meets its contract: the width of a row of four or eight cells is that of what was looked at.
 use mathlib.Core.Path.{◌≡◌, ap, ◌∙◌}
 use mathlib.Core.Bool.{true}
 use Prim.Native.Nat.{ℕ}
@@ -8,8 +8,7 @@ use lib.Seq.{take_all}
 use Rattle.definitions.specs.Lines.{Row}
 use Rattle.taps.specs.Taps.{tap_mask, has_mask, mask_of_line}
 use Rattle.taps.specs.declared.Taps.{Taps}
-use Rattle.taps.proofs.Masks.{line-mask, line_other}
-use Rattle.taps.proofs.Numbers.{no-width}
+use Rattle.taps.proofs.Masks.{no-width, line-mask, line_other}
 use Rattle.taps.proofs.tap_line_mask.Goals as goal
 
 -- a row of just the cells that were looked at

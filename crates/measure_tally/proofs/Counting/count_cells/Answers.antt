@@ -6,17 +6,18 @@ use Rattle.row_tally.proofs.Bounds.{below_more, under-row}
 use Rattle.row_tally.proofs.Raised.{row-ended, cells-ends}
 use Rattle.phantoms.proofs.Loop.{low-more, passed-end}
 use Rattle.measure_tally.proofs.Rows.{counted-row}
-use Rattle.measure_tally.proofs.Line.{Lined, lined-all, lined-cells, lined-arrows, lined-heads, lined-tails}
+use Rattle.measure_tally.proofs.Line.{Lined, lined-columns, lined-cells, lined-arrows, lined-heads, lined-tails}
 use Rattle.measure_tally.proofs.Counting.count_cells.Goals.{After-count_columns}
 use Rattle.measure_tally.proofs.Counting.count_cells.Goals as goal
 
 line : (c : After-count_columns) → Lined c.args.row.now c.args.self.now c.count_columns.new.self (length c.args.row.now)
-line c = lined-all c.args.row.now c.args.self.now _ c.requires.few.ten c.requires.narrow c.count_columns.ensures
+line c = lined-columns c.args.row.now c.args.self.now _ (length c.args.row.now) c.requires.few.ten c.requires.narrow (omega arith) c.count_columns.ensures
 
 pub count_columns-requires : goal.count_columns-requires
 count_columns-requires c = record {
   wide = c.requires.wide;
   narrow = c.requires.narrow;
+  gaps = c.requires.gaps;
   few = below_more _ _ _ (omega (arith, c.requires.rows_few)) c.requires.few.stats;
   low = low-more _ _ _ (omega (arith, c.requires.rows_few)) c.requires.few.phantoms;
 }
