@@ -1,7 +1,7 @@
 -- The cells of a row: what the pass has when those before a column have passed, a cell more, and the whole row.
 use mathlib.Core.Path.{◌≡◌, refl, ap, sym, ◌∙◌}
-use mathlib.Core.Bool.{Bool, true, false, not, true≢false, or-true}
-use Prim.Native.Nat.{ℕ, zero, suc, ◌+◌, ◌-◌, ◌≤◌, ◌<◌}
+use mathlib.Core.Bool.{Bool, true, false, not, true≢false}
+use Prim.Native.Nat.{ℕ, ◌+◌, ◌-◌, ◌≤◌, ◌<◌}
 use native.Mathlib.Decide.{dec_lt}
 use native.Mathlib.Nat.{not-suc-le-zero}
 use native.Mathlib.Numerals.{add-one}
@@ -20,9 +20,9 @@ use Rattle.definitions.specs.Judged.{judged_sum, judge_row}
 use Rattle.definitions.specs.declared.DepthEffect.TheVariants.{Nothing}
 use Rattle.definitions.specs.declared.RowSum.{RowSum}
 use Rattle.definitions.proofs.Columns.{past_end}
-use Rattle.phantoms.proofs.Columns.{column-past}
+use Rattle.phantoms.proofs.Columns.{column-past, column-each}
 use Rattle.row_tally.specs.Before.{sum_before}
-use Rattle.row_tally.specs.Bounds.{Under, Below, EndsBelow}
+use Rattle.row_tally.specs.Bounds.{Below, EndsBelow}
 use Rattle.row_tally.specs.Raised.{judged_row_end}
 use Rattle.row_tally.proofs.Before.{before-under, before-whole, before-next, before-below}
 use Rattle.row_tally.proofs.Raised.{cells-none, judged-row-ended, cells-ends, cells-arrows, cells-mines, cells-fakes}
@@ -41,14 +41,15 @@ passing-start row t r =
       ready = r;
     }
 
-pub reached-start : (row : Row) (t : CleanRows) → Ready t → Below count_bound t.stats → Reached row 0 t
-reached-start row t r b = record { start = t; few = b; passing = passing-start row t r }
-
 pub reached-on : (row : Row) (i j : ℕ) (t' t'' : CleanRows) → PassingOn row i j t' t'' → Reached row i t' → Reached row j t''
 reached-on row i j t' t'' p x = record { start = x.start; few = x.few; passing = p x.start x.passing }
 
 pub reached-below : (row : Row) (i : ℕ) (t' : CleanRows) → i ≤ length row → Reached row i t' → Below (count_bound + i) t'.stats
 reached-below row i t' h x = before-below true row x.start.stats t'.stats i x.passing.stats count_bound h x.few
+
+-- whether the row's cell in column c leaves a head of t unpaired
+abbrev unpaired : Row → CleanRows → ℕ → Bool
+unpaired row t c = unpairs (hold_at (byte_at c row)) (get_or t.depths c 0)
 
 -- ---- A cell more
 module _ (row : Row) (i : ℕ) (h : i < length row) (w : length row ≤ 10) (t t' : CleanRows) (x : Passing row i t t') where
@@ -61,16 +62,11 @@ module _ (row : Row) (i : ℕ) (h : i < length row) (w : length row ≤ 10) (t t
   -- it leaves a head unpaired
   pub passing-none : unpairs (hold_at (get_or row i 0)) (get_or t'.depths i 0) ≡ true → row_unpairs row t.depths ≡ true
   unfolding row_unpairs
-  passing-none u = column-there 10 i (omega arith) (rw (depth-there, byte-there) at u)
+  passing-none u = go (some_column 10 (unpaired row t)) refl
     where
-      column-there : (n c : ℕ) → c < n → unpairs (hold_at (byte_at c row)) (get_or t.depths c 0) ≡ true
-          → some_column n (λ c. unpairs (hold_at (byte_at c row)) (get_or t.depths c 0)) ≡ true
-      column-there zero c k e = absurd (not-suc-le-zero k)
-      column-there (suc n) c k e =
-          elim (dec_lt c n) [
-            | yes b ↦ rw (column-there n c b e)
-            | no b ↦ let q : c ≡ n = omega arith in rw (← q, e) (or-true _)
-          ]
+      go : (b : Bool) → some_column 10 (unpaired row t) ≡ b → b ≡ true
+      go true e = refl
+      go false e = absurd (true≢false (sym u ∙ rw (depth-there, byte-there) (column-each 10 (unpaired row t) e i (omega arith))))
 
   module _ (t'' : CleanRows) (u : unpairs (hold_at (get_or row i 0)) (get_or t'.depths i 0) ≡ false) (p : CellPassed (length row) i (hold_at (get_or row i 0)) (cell_of (get_or row i 0)) t' t'') where
     next-done : (c : ℕ) → c < i + 1 → get_or t''.depths c 0 ≡ phantom_step (hold_at (byte_at c row)) (get_or t.depths c 0)
@@ -105,6 +101,13 @@ some-then (Some x) true e f p = absurd (true≢false e)
 some-then (Some x) false e f p = f refl p
 
 -- ---- The whole row
+-- Since there were so many arrows, and so many mines and fakes, the tally has those of the row more, and few they are.
+pub record Grew (row : Row) (arrows others : ℕ) (t' : CleanRows) : Type 0 where
+  pub arrows_then : t'.stats.total_arrows ≡ arrows + (sum_before true row (length row)).arrows
+  pub others_then : t'.stats.mines + t'.stats.fakes ≡ others + ((sum_before true row (length row)).mines + (sum_before true row (length row)).fakes)
+  pub arrows_few : (sum_before true row (length row)).arrows ≤ 10
+  pub others_few : (sum_before true row (length row)).mines + (sum_before true row (length row)).fakes ≤ 20
+
 module _ (row : Row) (t t' : CleanRows) (x : Passing row (length row) t t') (w : length row ≤ 10) where
   past : (c : ℕ) → length row ≤ c → hold_at (byte_at c row) ≡ Nothing
   past c m = past_end row c m
@@ -113,8 +116,8 @@ module _ (row : Row) (t t' : CleanRows) (x : Passing row (length row) t t') (w :
   unfolding row_unpairs
   passing-clean =
       let e : length row + (10 - length row) ≡ 10 = omega arith in
-      let none = column-past (length row) (10 - length row) (λ c. unpairs (hold_at (byte_at c row)) (get_or t.depths c 0)) (λ c m. ap (λ e. unpairs e (get_or t.depths c 0)) (past c m)) in
-      sym (ap (λ n. some_column n (λ c. unpairs (hold_at (byte_at c row)) (get_or t.depths c 0))) e) ∙ none ∙ x.whole
+      let none = column-past (length row) (10 - length row) (unpaired row t) (λ c m. ap (λ e. unpairs e (get_or t.depths c 0)) (past c m)) in
+      sym (ap (λ n. some_column n (unpaired row t)) e) ∙ none ∙ x.whole
 
   passing-depths : DepthsPassed row t.depths t'.depths
   passing-depths c m =
@@ -123,24 +126,22 @@ module _ (row : Row) (t t' : CleanRows) (x : Passing row (length row) t t') (w :
         | no b ↦ x.left c (omega arith) ∙ ap (λ e. phantom_step e (get_or t.depths c 0)) (sym (past c (omega arith)))
       ]
 
-  abbrev pub sum : RowSum
+  abbrev sum : RowSum
   sum = sum_before true row (length row)
 
   whole-sum : sum ≡ judged_sum true row
   unfolding judged_sum
   whole-sum = before-whole true row (length row) refl
 
-  pub sum-under : Under (length row) sum
-  sum-under = before-under true row (length row) (omega arith)
-
-  pub row-arrows : t'.stats.total_arrows ≡ t.stats.total_arrows + sum.arrows
-  row-arrows = cells-arrows t.stats t'.stats sum x.stats
-
-  pub row-mines : t'.stats.mines ≡ t.stats.mines + sum.mines
-  row-mines = cells-mines t.stats t'.stats sum x.stats
-
-  pub row-fakes : t'.stats.fakes ≡ t.stats.fakes + sum.fakes
-  row-fakes = cells-fakes t.stats t'.stats sum x.stats
+  pub grew : (arrows others held : ℕ) → Before arrows others held t → Grew row arrows others t'
+  grew arrows others held b =
+      let u = before-under true row (length row) (omega arith) in
+      record {
+        arrows_then = omega (arith, b.arrows_then, cells-arrows t.stats t'.stats sum x.stats);
+        others_then = omega (arith, b.others_then, cells-mines t.stats t'.stats sum x.stats, cells-fakes t.stats t'.stats sum x.stats);
+        arrows_few = omega (arith, u);
+        others_few = omega (arith, u);
+      }
 
   pub ends-few : Below count_bound t.stats → EndsBelow count_bound t'.stats
   ends-few b = rw x.stats (cells-ends count_bound t.stats sum b)
@@ -161,14 +162,6 @@ module _ (row : Row) (t t' : CleanRows) (x : Passing row (length row) t t') (w :
             };
       }
 
--- ---- Some cells, and then others
-pub then-on : (row : Row) (i j k : ℕ) (t t' t'' : CleanRows) (r : Option Unit) → PassingOn row i j t t' → OnSome r (PassingOn row j k t' t'') → OnSome r (PassingOn row i k t t'')
-then-on row i j k t t' t'' None p q = q
-then-on row i j k t t' t'' (Some x) p q = λ s y. q s (p s y)
-
-pub moved : (row : Row) (i j : ℕ) (t t' : CleanRows) → i ≡ j → Passing row i t t' → Passing row j t t'
-moved row i j t t' e x = rw (← e) x
-
 -- ---- The row's end
 module _ (row : Row) (i arrows others held : ℕ) (t' : CleanRows) where
   pub begun-on : (j : ℕ) (t'' : CleanRows) → PassingOn row i j t' t'' → Begun row i arrows others held t' → Begun row j arrows others held t''
@@ -186,6 +179,9 @@ module _ (row : Row) (i arrows others held : ℕ) (t' : CleanRows) where
       → OnSome r (EndsOn row i arrows others held t' t3)
   then-ends j t'' t3 None p e = e
   then-ends j t'' t3 (Some y) p e = λ t r b x. e t r b (p t x)
+
+pub ended-grew : {arrows others held : ℕ} {t' : CleanRows} (e : Ended arrows others held t') → Grew e.row arrows others t'
+ended-grew {arrows} {others} {held} {t'} e = grew e.row e.begun.reached.start t' e.begun.reached.passing e.narrow arrows others held e.begun.before
 
 -- what is answered of a whole row
 pub row-told : (r : Option Unit) (u : Bool) → (r ≡ None → u ≡ true) → OnSome r (u ≡ false) → is_some r ≡ not u

@@ -1,15 +1,16 @@
 -- The one pass over a text: what it has of the rows read so far. Once they turn out clean to the end, its tally is the judged one.
 use mathlib.Core.Path.{◌≡◌, refl, ap, ap₂, sym, subst, ◌∙◌}
-use mathlib.Core.Bool.{Bool, true, false, not, ◌||◌, or_assoc, or-false, or-true}
+use mathlib.Core.Bool.{Bool, true, false, ◌||◌, or_assoc, or-false, or-true}
 use mathlib.Core.List.{List, [], ◌∷◌, ◌++◌}
 use Prim.Native.Nat.{ℕ, zero, suc, ◌+◌, ◌*◌, ◌≤◌, ◌<◌}
 use native.Mathlib.Decide.{dec_lt}
 use native.Mathlib.Nat.{zero-add, not-suc-le-zero, le_of_eq}
 use native.Mathlib.Omega.{arith}
-use borrow.Author.Tests.{lt-ltb}
+use borrow.Author.Tests.{ltb-false}
 use lib.Dec.{ltb}
 use lib.ListN.{length, get_or, length-append}
 use Rattle.std.specs.Prelude.{Option, Some, None}
+use Rattle.std.proofs.lemmas.Bool.{or_parts}
 use Rattle.definitions.specs.Sizes.{count_bound, row_numbers_bound}
 use Rattle.definitions.specs.Lists.{some_column, sum_columns}
 use Rattle.definitions.specs.Lines.{Row}
@@ -20,7 +21,7 @@ use Rattle.definitions.specs.Correction.{phantom_step, phantom_after}
 use Rattle.definitions.specs.Judged.{judged_sum, judge_row, open_before, judge_from, judged_rows}
 use Rattle.definitions.specs.declared.ArrowStats.{ArrowStats}
 use Rattle.definitions.proofs.Lists.{All, all_map}
-use Rattle.phantoms.proofs.Columns.{column-same, column-none, column-more}
+use Rattle.phantoms.proofs.Columns.{column-same, column-none, column-each, column-more}
 use Rattle.phantoms.proofs.Rows.{after-snoc}
 use Rattle.holds.proofs.Ends.{sum_same}
 use Rattle.row_tally.specs.Bounds.{Below}
@@ -44,23 +45,17 @@ pub passes-start : (L : ℕ) (all : List Row) (t : CleanRows) → Ready t → t.
 passes-start L all t r s z = record { ready = r; depths = z; whole = λ c h. refl; stats = λ k. s; below = rw s below_none }
 
 -- ---- The answer
+-- rows have a head unpaired in column c
+abbrev unclean : List Row → ℕ → Bool
+unclean rows c = unpairs_from c 0 rows || ltb 0 (phantom_after c 0 rows)
+
 -- clean rows, and others
-clean-rows : (rows : List Row) → AllClean rows → is_clean rows ≡ true
-unfolding is_clean
-clean-rows rows k =
-    ap not
-    (column-same 10 (λ c. unpairs_from c 0 rows || ltb 0 (phantom_after c 0 rows)) (λ c. false) (λ c h. rw ((k c h).whole, (k c h).closed)) ∙ column-none 10)
+answer-clean : (L : ℕ) (rows : List Row) → AllClean rows → Some (judged_rows L every rows) ≡ clean_answer L rows
+unfolding clean_answer is_clean
+answer-clean L rows k = rw (column-same 10 (unclean rows) (λ c. false) (λ c h. rw ((k c h).whole, (k c h).closed)) ∙ column-none 10)
 
-unclean-rows : (rows : List Row) → some_column 10 (λ c. unpairs_from c 0 rows || ltb 0 (phantom_after c 0 rows)) ≡ true → is_clean rows ≡ false
-unfolding is_clean
-unclean-rows rows e = ap not e
-
-answer-clean : (L : ℕ) (rows : List Row) → is_clean rows ≡ true → Some (judged_rows L every rows) ≡ clean_answer L rows
-unfolding clean_answer
-answer-clean L rows e = rw e
-
-answer-none : (L : ℕ) (rows : List Row) → is_clean rows ≡ false → None ≡ clean_answer L rows
-unfolding clean_answer
+answer-none : (L : ℕ) (rows : List Row) → some_column 10 (unclean rows) ≡ true → None ≡ clean_answer L rows
+unfolding clean_answer is_clean
 answer-none L rows e = rw e
 
 -- an answer that is a tally
@@ -79,15 +74,6 @@ sum-none (suc n) f e c h =
     elim (dec_lt c n) [
       | yes b ↦ sum-none n f (omega arith) c b
       | no b ↦ let z : c ≡ n = omega arith in rw z (omega arith)
-    ]
-
--- a sum that is not 0 has a number that is not
-sum-some : (n : ℕ) (f : ℕ → ℕ) → (sum_columns n f ≡ 0 → ⊥) → some_column n (λ c. ltb 0 (f c)) ≡ true
-sum-some zero f h = absurd (h refl)
-sum-some (suc n) f h =
-    elim (dec_lt 0 (f n)) [
-      | yes b ↦ rw (lt-ltb 0 (f n) b) (or-true (some_column n (λ c. ltb 0 (f c))))
-      | no b ↦ rw (sum-some n f (λ e. h (omega arith)))
     ]
 
 -- ---- One row more
@@ -132,23 +118,24 @@ module _ (L : ℕ) (all rows : List Row) (t : CleanRows) (x : Passes L all rows 
     unfolding judged_rows
     passes-end z =
         let k = all-clean z in
-        ap Some (x.stats k ∙ ap (judge_from L every (pairs all) empty_stats 0) (sym e))
-        ∙ answer-clean L all (clean-rows all k)
+        ap Some (x.stats k ∙ ap (judge_from L every (pairs all) empty_stats 0) (sym e)) ∙ answer-clean L all k
 
     -- with one
     pub passes-open : (t.active ≡ 0 → ⊥) → None ≡ clean_answer L all
-    passes-open z =
-        answer-none L all
-        (unclean-rows all
-        (rw e
-        (column-more 10 (λ c. ltb 0 (phantom_after c 0 rows)) (λ c. unpairs_from c 0 rows || ltb 0 (phantom_after c 0 rows))
-        (λ c k e. rw e (or-true (unpairs_from c 0 rows)))
-        (sum-some 10 (λ c. phantom_after c 0 rows) (λ e. z (held ∙ e))))))
+    passes-open z = answer-none L all (rw e (go (some_column 10 (unclean rows)) refl))
+      where
+        closed : some_column 10 (unclean rows) ≡ false → (c : ℕ) → c < 10 → phantom_after c 0 rows ≡ 0
+        closed q c n =
+            let b = ltb-false 0 (phantom_after c 0 rows) (or_parts (unpairs_from c 0 rows) (ltb 0 (phantom_after c 0 rows)) (column-each 10 (unclean rows) q c n)).1 in
+            omega arith
+
+        go : (b : Bool) → some_column 10 (unclean rows) ≡ b → b ≡ true
+        go true q = refl
+        go false q = absurd (z (held ∙ sum_same 10 (λ c. phantom_after c 0 rows) (λ c. 0) (closed q)))
 
   module _ (row : Row) (rest : List Row) (e : all ≡ rows ++ (row ∷ rest)) where
     -- the row leaves a head unpaired in this column
-    here : (c : ℕ) → c < 10 → unpairs (hold_at (byte_at c row)) (get_or t.depths c 0) ≡ true
-        → (unpairs_from c 0 (rows ++ (row ∷ rest)) || ltb 0 (phantom_after c 0 (rows ++ (row ∷ rest)))) ≡ true
+    here : (c : ℕ) → c < 10 → unpairs (hold_at (byte_at c row)) (get_or t.depths c 0) ≡ true → unclean (rows ++ (row ∷ rest)) c ≡ true
     here c n u =
         let met : unpairs (hold_at (byte_at c row)) (phantom_after c 0 rows) ≡ true = ap (unpairs (hold_at (byte_at c row))) (sym (x.depths c n)) ∙ u in
         rw (unpairs-append c 0 rows (row ∷ rest), met, or-true (unpairs_from c 0 rows))
@@ -156,10 +143,7 @@ module _ (L : ℕ) (all rows : List Row) (t : CleanRows) (x : Passes L all rows 
     pub passes-unclean : row_unpairs row t.depths ≡ true → None ≡ clean_answer L all
     unfolding row_unpairs
     passes-unclean k =
-        answer-none L all
-        (unclean-rows all
-        (rw e
-        (column-more 10 (λ c. unpairs (hold_at (byte_at c row)) (get_or t.depths c 0)) _ here k)))
+        answer-none L all (rw e (column-more 10 (λ c. unpairs (hold_at (byte_at c row)) (get_or t.depths c 0)) (unclean (rows ++ (row ∷ rest))) here k))
 
     pub passes-row : L ≤ 10 → length row ≡ L → All (λ (r : Row). length r ≡ L) all → row_unpairs row t.depths ≡ false → (t' : CleanRows) → RowPassed row t t'
         → Passes L all (rows ++ (row ∷ [])) t'

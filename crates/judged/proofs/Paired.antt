@@ -1,7 +1,7 @@
 -- In a clean column every head is paired, and the holds open before a row are as many as the heads that are open there.
 use mathlib.Core.Path.{◌≡◌, refl, ap, sym, ◌∙◌}
-use mathlib.Core.Bool.{Bool, true, false, true≢false, ◌&&◌, ◌||◌, and-true, and-false, or-true}
-use mathlib.Core.List.{List, [], ◌∷◌, ◌++◌}
+use mathlib.Core.Bool.{true, false, ◌&&◌, ◌||◌, and-true, and-false, or-true}
+use mathlib.Core.List.{List, [], ◌∷◌, ◌++◌, append_assoc}
 use Prim.Native.Nat.{ℕ, suc, ◌+◌, ◌≤◌, ◌<◌}
 use native.Mathlib.Nat.{zero-add}
 use native.Mathlib.Omega.{arith}
@@ -9,6 +9,8 @@ use borrow.Author.Tests.{ltb-false, leb-false, lt-ltb, le-ltb, le-leb, lt-leb, e
 use lib.Dec.{ltb, leb}
 use lib.ListN.{length}
 use Rattle.std.specs.List.{count_by}
+use Rattle.std.proofs.lemmas.Bool.{or_parts}
+use Rattle.std.proofs.lemmas.List.{nil_from_length}
 use Rattle.definitions.specs.Lists.{sum_columns}
 use Rattle.definitions.specs.Lines.{Row}
 use Rattle.definitions.specs.Cells.{byte_at}
@@ -19,7 +21,7 @@ use Rattle.definitions.specs.declared.DepthEffect.{DepthEffect}
 use Rattle.definitions.specs.declared.DepthEffect.TheVariants.{Nothing, Blocks, Opens, Closes}
 use Rattle.definitions.proofs.Lists.{All, none, one, all_map, count-cons, count-append}
 use Rattle.holds.specs.Tracks.{stack_from, stack_after}
-use Rattle.holds.proofs.Pairs.{heads-append, stacked, pairs-narrow}
+use Rattle.holds.proofs.Pairs.{heads-append, count_none, Placed, placed, stacked, pairs-narrow}
 use Rattle.holds.proofs.Ends.{sum_same, sum-beyond}
 use Rattle.row_tally.proofs.Kept.{keep-whole}
 use Rattle.judged.specs.Clean.{unpairs, unpairs_from, every}
@@ -33,31 +35,21 @@ pub record Clean (c d : ℕ) (rows : List Row) : Type 0 where
 abbrev pub AllClean : List Row → Type 0
 AllClean rows = (c : ℕ) → c < 10 → Clean c 0 rows
 
--- a column without an open head
-none_open : (st : List ℕ) → length st ≡ 0 → st ≡ []
-none_open [] h = refl
-none_open (x ∷ st) h = absurd (omega arith)
-
--- neither part of a disjunction that fails holds
-or-none : (p q : Bool) → (p || q) ≡ false → (p ≡ false) × (q ≡ false)
-or-none true q e = absurd (true≢false e)
-or-none false q e = (refl, e)
-
 -- a cell of a clean column, and the rows after it
 module _ (c d : ℕ) (r : Row) (rs : List Row) (k : Clean c d (r ∷ rs)) where
   clean-cell : unpairs (hold_at (byte_at c r)) d ≡ false
-  clean-cell = (or-none (unpairs (hold_at (byte_at c r)) d) (unpairs_from c (phantom_step (hold_at (byte_at c r)) d) rs) k.whole).0
+  clean-cell = (or_parts (unpairs (hold_at (byte_at c r)) d) (unpairs_from c (phantom_step (hold_at (byte_at c r)) d) rs) k.whole).0
 
   clean-rest : Clean c (phantom_step (hold_at (byte_at c r)) d) rs
   clean-rest =
       record {
-        whole = (or-none (unpairs (hold_at (byte_at c r)) d) (unpairs_from c (phantom_step (hold_at (byte_at c r)) d) rs) k.whole).1;
+        whole = (or_parts (unpairs (hold_at (byte_at c r)) d) (unpairs_from c (phantom_step (hold_at (byte_at c r)) d) rs) k.whole).1;
         closed = k.closed;
       }
 
 -- what such a cell does to the stack
 blocks-none : (st : List ℕ) → ltb 0 (length st) ≡ false → st ≡ []
-blocks-none st h = none_open st (let l = ltb-false 0 (length st) h in omega arith)
+blocks-none st h = nil_from_length st (let l = ltb-false 0 (length st) h in omega arith)
 
 opens-pushed : (i : ℕ) (st : List ℕ) → leb 8 (length st) ≡ false → next_stack Opens i st ≡ i ∷ st
 opens-pushed i st h = rw (lt-ltb (length st) 8 (leb-false 8 (length st) h))
@@ -96,7 +88,7 @@ headed-before Closes i (x ∷ st) ps h a =
 
 -- every open head before some rows
 all-headed : (c i : ℕ) (st : List ℕ) (rs : List Row) → Clean c (length st) rs → All (Headed (pairs_from c i st rs)) st
-all-headed c i st [] k = rw (none_open st k.closed) none
+all-headed c i st [] k = rw (nil_from_length st k.closed) none
 all-headed c i st (r ∷ rs) k =
     let e = hold_at (byte_at c r) in
     headed-before e i st (pairs_from c (suc i) (next_stack e i st) rs) (clean-cell c (length st) r rs k)
@@ -109,27 +101,45 @@ newest {P} {x} {st} e a = go (rw e at a)
     go : All P (x ∷ st) → P x
     go (one h b) = h
 
--- and every head among them
-later-headed : (c i : ℕ) (st : List ℕ) (rs : List Row) (r : Row) (rest : List Row) → Clean c (length st) (rs ++ (r ∷ rest)) → hold_at (byte_at c r) ≡ Opens
-    → Headed (pairs_from c i st (rs ++ (r ∷ rest))) (i + length rs)
-later-headed c i st [] r rest k o =
-    let e = hold_at (byte_at c r) in
-    let pushed = ap (λ x. next_stack x i st) o ∙ opens-pushed i st (rw o at (clean-cell c (length st) r rest k)) in
-    let z : i + 0 ≡ i = omega arith in
-    rw z
-    (headed-more i (paired e i st) (pairs_from c (suc i) (next_stack e i st) rest)
-    (newest pushed (all-headed c (suc i) (next_stack e i st) rest (clean-next c i st r rest k))))
-later-headed c i st (q ∷ rs) r rest k o =
-    let e = hold_at (byte_at c q) in
+-- ---- Some rows, and then others
+pairs-parts : (c i : ℕ) (st : List ℕ) (rs rest : List Row)
+    → pairs_from c i st (rs ++ rest) ≡ pairs_from c i st rs ++ pairs_from c (i + length rs) (stack_from c i st rs) rest
+pairs-parts c i st [] rest = let z : i + 0 ≡ i = omega arith in rw z
+pairs-parts c i st (q ∷ rs) rest =
+    let next = next_stack (hold_at (byte_at c q)) i st in
     let z : i + suc (length rs) ≡ suc i + length rs = omega arith in
-    rw z
-    (headed-more (suc i + length rs) (paired e i st) (pairs_from c (suc i) (next_stack e i st) (rs ++ (r ∷ rest)))
-    (later-headed c (suc i) (next_stack e i st) rs r rest (clean-next c i st q (rs ++ (r ∷ rest)) k) o))
+    rw (z, append_assoc) (ap (λ l. paired (hold_at (byte_at c q)) i st ++ l) (pairs-parts c (suc i) next rs rest))
 
-pub clean-headed : (c : ℕ) (rows : List Row) (r : Row) (rest : List Row) → Clean c 0 (rows ++ (r ∷ rest)) → hold_at (byte_at c r) ≡ Opens
-    → is_head_of (length rows) (pairs (rows ++ (r ∷ rest)) c) ≡ true
-unfolding pairs
-clean-headed c rows r rest k o = rw zero-add at (later-headed c 0 [] rows r rest k o)
+-- in a clean column the others are clean from the stack on, whose heads are as many as the phantom depth
+parts-clean : (c i : ℕ) (st : List ℕ) (rs rest : List Row) → Clean c (length st) (rs ++ rest)
+    → Clean c (length (stack_from c i st rs)) rest × (length (stack_from c i st rs) ≡ phantom_after c (length st) rs)
+parts-clean c i st [] rest k = (k, refl)
+parts-clean c i st (r ∷ rs) rest k =
+    let a = parts-clean c (suc i) (next_stack (hold_at (byte_at c r)) i st) rs rest (clean-next c i st r (rs ++ rest) k) in
+    (a.0, a.1 ∙ ap (λ d. phantom_after c d rs) (depth-next (hold_at (byte_at c r)) i st (clean-cell c (length st) r (rs ++ rest) k)))
+
+pairs-then : (c : ℕ) (rows rest : List Row) → pairs (rows ++ rest) c ≡ pairs rows c ++ pairs_from c (length rows) (stack_after rows c) rest
+unfolding pairs stack_after
+pairs-then c rows rest = rw zero-add at (pairs-parts c 0 [] rows rest)
+
+then-clean : (c : ℕ) (rows rest : List Row) → Clean c 0 (rows ++ rest)
+    → Clean c (length (stack_after rows c)) rest × (length (stack_after rows c) ≡ phantom_after c 0 rows)
+unfolding stack_after
+then-clean c rows rest k = parts-clean c 0 [] rows rest k
+
+-- every head is the head of a pair
+clean-headed : (c : ℕ) (rows : List Row) (r : Row) (rest : List Row) → Clean c 0 (rows ++ (r ∷ rest)) → hold_at (byte_at c r) ≡ Opens
+    → Headed (pairs (rows ++ (r ∷ rest)) c) (length rows)
+clean-headed c rows r rest k o =
+    let i = length rows in
+    let st = stack_after rows c in
+    let e = hold_at (byte_at c r) in
+    let there = (then-clean c rows (r ∷ rest) k).0 in
+    let pushed = ap (λ x. next_stack x i st) o ∙ opens-pushed i st (rw o at (clean-cell c (length st) r rest there)) in
+    let later = pairs_from c (suc i) (next_stack e i st) rest in
+    rw (pairs-then c rows (r ∷ rest))
+    (headed-more i (pairs rows c) (paired e i st ++ later)
+    (headed-more i (paired e i st) later (newest pushed (all-headed c (suc i) (next_stack e i st) rest (clean-next c i st r rest there)))))
 
 -- so its row is counted as it is
 pub clean-whole : (rows : List Row) (r : Row) (rest : List Row) → length r ≤ 10 → AllClean (rows ++ (r ∷ rest))
@@ -159,7 +169,7 @@ open-cell Closes i k (x ∷ st) h s = rw (
 
 -- of the open heads before row i, those before row k stay open to the tail
 open-here : (c i k : ℕ) (st : List ℕ) (rs : List Row) → k ≤ i → Clean c (length st) rs → open_of every k (pairs_from c i st rs) ≡ before k st
-open-here c i k st [] h q = rw (none_open st q.closed)
+open-here c i k st [] h q = rw (nil_from_length st q.closed)
 open-here c i k st (r ∷ rs) h q =
     let e = hold_at (byte_at c r) in
     let next = next_stack e i st in
@@ -168,47 +178,25 @@ open-here c i k st (r ∷ rs) h q =
     let d = open-cell e i k st h (clean-cell c (length st) r rs q) in
     omega arith
 
--- what is paired at row i is not open after it
-open-past : (e : DepthEffect) (i k : ℕ) (st : List ℕ) → i < k → open_of every k (paired e i st) ≡ 0
-open-past Nothing i k st h = refl
-open-past Blocks i k st h = refl
-open-past Opens i k st h = refl
-open-past Closes i k [] h = refl
-open-past Closes i k (x ∷ st) h = rw (lt-leb k i h, and-false (ltb x k))
-
-open-from : (c i : ℕ) (st : List ℕ) (rs rest : List Row) → Clean c (length st) (rs ++ rest)
-    → open_of every (i + length rs) (pairs_from c i st (rs ++ rest)) ≡ before (i + length rs) (stack_from c i st rs)
-open-from c i st [] rest k = open-here c i (i + 0) st rest (omega arith) k
-open-from c i st (r ∷ rs) rest k =
-    let e = hold_at (byte_at c r) in
-    let next = next_stack e i st in
-    let z : i + suc (length rs) ≡ suc i + length rs = omega arith in
-    rw z
-    (let a =
-    count-append (λ (p : Pair). every p.head && (ltb p.head (suc i + length rs) && leb (suc i + length rs) p.tail)) (paired e i st)
-    (pairs_from c (suc i) next (rs ++ rest)) in
-    let b = open-past e i (suc i + length rs) st (omega arith) in
-    let d = open-from c (suc i) next rs rest (clean-next c i st r (rs ++ rest) k) in
-    omega arith)
-
-depth-from : (c i : ℕ) (st : List ℕ) (rs rest : List Row) → Clean c (length st) (rs ++ rest)
-    → length (stack_from c i st rs) ≡ phantom_after c (length st) rs
-depth-from c i st [] rest k = refl
-depth-from c i st (r ∷ rs) rest k =
-    depth-from c (suc i) (next_stack (hold_at (byte_at c r)) i st) rs rest (clean-next c i st r (rs ++ rest) k)
-    ∙ ap (λ d. phantom_after c d rs) (depth-next (hold_at (byte_at c r)) i st (clean-cell c (length st) r (rs ++ rest) k))
+-- what is paired before a row is not open there
+open-past : (c : ℕ) (rows : List Row) → open_of every (length rows) (pairs rows c) ≡ 0
+open-past c rows =
+    count_none _ (all_map (λ p (q : Placed (length rows) p). rw (lt-leb (length rows) p.tail q.inside, and-false (ltb p.head (length rows)))) (placed rows c))
 
 all-before : {k : ℕ} {st : List ℕ} → All (λ h. h < k) st → before k st ≡ length st
 all-before none = refl
 all-before {k} (one {a = h} {l = st} l a) = rw (count-cons (λ x. ltb x k) h st, lt-ltb h k l, all-before a) (omega arith)
 
 -- The holds of a clean column that are open before a row are its open heads there.
-pub clean-open : (c : ℕ) (rows rest : List Row) → Clean c 0 (rows ++ rest) → open_of every (length rows) (pairs (rows ++ rest) c) ≡ phantom_after c 0 rows
-unfolding pairs stack_after
+clean-open : (c : ℕ) (rows rest : List Row) → Clean c 0 (rows ++ rest) → open_of every (length rows) (pairs (rows ++ rest) c) ≡ phantom_after c 0 rows
 clean-open c rows rest k =
-    rw zero-add at (open-from c 0 [] rows rest k)
-    ∙ all-before (stacked rows c).before
-    ∙ depth-from c 0 [] rows rest k
+    let i = length rows in
+    let st = stack_after rows c in
+    let there = then-clean c rows rest k in
+    let a = count-append (λ (p : Pair). every p.head && (ltb p.head i && leb i p.tail)) (pairs rows c) (pairs_from c i st rest) in
+    let b = open-here c i i st rest (omega arith) there.0 in
+    let d = all-before (stacked rows c).before in
+    rw (pairs-then c rows rest) (omega (arith, a, open-past c rows, b, d, there.1))
 
 -- and so of all columns
 pub clean-active : (L : ℕ) (rows rest : List Row) → L ≤ 10 → All (λ r. length r ≤ L) (rows ++ rest) → AllClean (rows ++ rest)

@@ -2,14 +2,14 @@
 use mathlib.Core.Path.{◌≡◌, refl, ap, sym, ◌∙◌}
 use mathlib.Core.Bool.{true, false, not}
 use mathlib.Core.List.{List}
-use Prim.Native.Nat.{ℕ, zero, suc, ◌+◌, ◌*◌, ◌≤◌, ◌<◌}
-use native.Mathlib.Nat.{suc-mul}
+use Prim.Native.Nat.{ℕ, zero, suc, ◌+◌, ◌≤◌, ◌<◌}
 use native.Mathlib.Numerals.{add-one}
 use native.Mathlib.Omega.{arith}
 use lib.ListN.{length, get_or, take}
 use lib.Seq.{take_all}
 use Rattle.std.specs.Prelude.{sum}
-use Rattle.std.proofs.lemmas.List.Sums.{sum_by_more}
+use Rattle.std.proofs.lemmas.List.Sums.{sum_by_more, sum_by-le}
+use Rattle.definitions.proofs.Lists.{any-default}
 use Rattle.definitions.specs.Lists.{sum_columns}
 use Rattle.definitions.specs.Lines.{Row}
 use Rattle.definitions.specs.Cells.{cell_of, byte_at}
@@ -22,14 +22,6 @@ use Rattle.judged.specs.Clean.{unpairs}
 use Rattle.judged.specs.JudgedPass.{row_unpairs, DepthsPassed, Ready}
 use Rattle.judged.specs.declared.judged_pass.CleanRows.{CleanRows}
 
--- a sum of n numbers of at most k
-sum-most : (k n : ℕ) (f : ℕ → ℕ) → ((c : ℕ) → c < n → f c ≤ k) → sum_columns n f ≤ n * k
-sum-most k zero f h = omega arith
-sum-most k (suc n) f h =
-    let a = sum-most k n f (λ c l. h c (omega arith)) in
-    let b = h n (omega arith) in
-    omega (arith, suc-mul n k)
-
 -- a list of n numbers summed by its columns
 pub sum-columns : (n : ℕ) (l : List ℕ) → length l ≡ n → sum l ≡ sum_columns n (λ c. get_or l c 0)
 sum-columns n l e = let all : length l ≤ n = omega (arith, e) in rw (take_all n l all) at (go n (omega (arith, e)))
@@ -38,12 +30,10 @@ sum-columns n l e = let all : length l ≤ n = omega (arith, e) in rw (take_all 
     go zero h = refl
     go (suc k) h = rw add-one at (sum_by_more (λ x. x) l k 0 (omega arith)) ∙ ap (λ a. a + get_or l k 0) (go k (omega arith))
 
--- n numbers of at most k
-pub few-open : (n k : ℕ) (l : List ℕ) → length l ≡ n → ((c : ℕ) → c < n → get_or l c 0 ≤ k) → sum l ≤ n * k
-few-open n k l e h = rw (sum-columns n l e) (sum-most k n (λ c. get_or l c 0) h)
-
 pub active_few : (t : CleanRows) → Ready t → t.active ≤ 80
-active_few t r = rw r.active (few-open 10 8 t.depths r.ten r.low)
+active_few t r =
+    let each : (c d : ℕ) → c < length t.depths → get_or t.depths c d ≤ 8 = λ c d h. rw (any-default t.depths c d 0 h) (r.low c (omega (arith, r.ten))) in
+    omega (arith, r.active, r.ten, sum_by-le (λ x. x) 8 t.depths each)
 
 -- where no cell leaves a head unpaired, each column's does not
 pub none-unpairs : (row : Row) (depths : List ℕ) → row_unpairs row depths ≡ false → (c : ℕ) → c < 10 → unpairs (hold_at (byte_at c row)) (get_or depths c 0) ≡ false

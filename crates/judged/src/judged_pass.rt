@@ -192,24 +192,6 @@ impl CleanRows {
         row_tally::end_judged_row(&mut self.stats, true, row_arrows, row_others, held);
     }
 
-    // The cells of a row of six or seven past its fifth one by one, and its end. No lane count brings one here.
-    #[inline(never)]
-    fn add_seven(&mut self, row: &[u8], arrows: u32, others: u64, held: u32) -> Option<()>
-        requires narrow { length row.now ≤ 10 }
-        requires more { 5 < length row.now }
-        requires begun { Begun row.now 5 arrows others held self.old }
-        ensures clean { Unclean row.now 5 self.old result }
-        ensures ended { OnSome result (EndsOn row.now 5 arrows others held self.old self.new) }
-    {
-        let mut column = 5;
-        while column < row.len() {
-            self.add_cell_at(row, column)?;
-            column += 1;
-        }
-        self.end_row(arrows, others, held);
-        Some(())
-    }
-
     // A row of six, whose columns lie otherwise than those of all others.
     #[inline(never)]
     fn add_six(&mut self, row: &[u8], arrows: u32, others: u64, held: u32) -> Option<()>
@@ -228,18 +210,16 @@ impl CleanRows {
         Some(())
     }
 
-    // The cells of a row past its fifth, and its end.
+    // The cells of a row of eight or ten past its fifth, and its end.
     #[inline(never)]
     fn add_rest(&mut self, row: &[u8], arrows: u32, others: u64, held: u32) -> Option<()>
+        requires eight { 8 ≤ length row.now }
         requires narrow { length row.now ≤ 10 }
-        requires more { 5 < length row.now }
+        requires no_nine { length row.now ≡ 9 → ⊥ }
         requires begun { Begun row.now 5 arrows others held self.old }
         ensures clean { Unclean row.now 5 self.old result }
         ensures ended { OnSome result (EndsOn row.now 5 arrows others held self.old self.new) }
     {
-        if row.len() < 8 {
-            return self.add_seven(row, arrows, others, held);
-        }
         self.add_cell_at(row, 5)?;
         self.add_cell_at(row, 6)?;
         self.add_cell_at(row, 7)?;
@@ -248,10 +228,6 @@ impl CleanRows {
             return Some(());
         }
         self.add_cell_at(row, 8)?;
-        if row.len() == 9 {
-            self.end_row(arrows, others, held);
-            return Some(());
-        }
         self.add_cell_at(row, 9)?;
         self.end_row(arrows, others, held);
         Some(())
@@ -263,6 +239,7 @@ impl CleanRows {
     fn add_begun(&mut self, row: &[u8], arrows: u32, others: u64, held: u32) -> Option<()>
         requires wide { 4 ≤ length row.now }
         requires narrow { length row.now ≤ 10 }
+        requires gaps { (length row.now ≡ 7 → ⊥) × (length row.now ≡ 9 → ⊥) }
         requires begun { Begun row.now 0 arrows others held self.old }
         ensures clean { Unclean row.now 0 self.old result }
         ensures ended { OnSome result (EndsOn row.now 0 arrows others held self.old self.new) }
@@ -291,6 +268,7 @@ impl CleanRows {
     fn add_cells(&mut self, row: &[u8]) -> Option<()>
         requires wide { 4 ≤ length row.now }
         requires narrow { length row.now ≤ 10 }
+        requires gaps { (length row.now ≡ 7 → ⊥) × (length row.now ≡ 9 → ⊥) }
         requires ready { Ready self.old }
         requires few { Below count_bound self.old.stats }
         ensures clean { is_some result ≡ not (row_unpairs row.now self.old.depths) }

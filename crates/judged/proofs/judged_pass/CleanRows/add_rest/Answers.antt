@@ -18,7 +18,7 @@ ten : (c : In_ok-add_cell_at-5) → PassingOn c.args.row.now 5 10 c.args.self.no
 ten c = λ t x. c.in_ok-add_cell_at-5.ensures.passed t (c.in_ok-add_cell_at-4.ensures.passed t (c.in_ok-add_cell_at-3.ensures.passed t (c.in_ok-add_cell_at-2.ensures.passed t (c.in_ok-add_cell_at.ensures.passed t x))))
 
 long : (c : In_ok-add_cell_at-5) → length c.args.row.now ≡ 10
-long c = omega (arith, c.requires.narrow, c.if-row-lt8.false, c.if-row-eq8.false, c.if-row-eq9.false)
+long c = omega (arith, c.requires.eight, c.requires.narrow, c.requires.no_nine, c.if-row-eq8.false)
 
 pub end_row-requires : goal.end_row-requires
 end_row-requires c =
@@ -30,14 +30,6 @@ returns-then-row-eq8-clause-ended c =
 
 pub add_cell_at-requires-4-clause-reached : goal.add_cell_at-requires-4-clause-reached
 add_cell_at-requires-4-clause-reached c = reached-on _ 5 8 _ _ (eight (goal.at.add_cell_at-requires-4-clause-reached c).In_ok-add_cell_at-3) c.requires.begun.reached
-
-pub end_row-requires-then-row-eq9 : goal.end_row-requires-then-row-eq9
-end_row-requires-then-row-eq9 c =
-    ended-at _ 5 _ _ _ _ 9 _ c.if-row-eq9.true c.requires.narrow (nine (goal.at.end_row-requires-then-row-eq9 c).In_ok-add_cell_at-4) c.requires.begun
-
-pub returns-then-row-eq9-clause-ended : goal.returns-then-row-eq9-clause-ended
-returns-then-row-eq9-clause-ended c =
-    ends-at _ 5 _ _ _ _ 9 _ _ c.if-row-eq9.true (nine (goal.at.returns-then-row-eq9-clause-ended c).In_ok-add_cell_at-4) (c.end_row-then-row-eq9.ensures _ c.requires.narrow)
 
 pub add_cell_at-requires-5-clause-reached : goal.add_cell_at-requires-5-clause-reached
 add_cell_at-requires-5-clause-reached c = reached-on _ 5 9 _ _ (nine (goal.at.add_cell_at-requires-5-clause-reached c).In_ok-add_cell_at-4) c.requires.begun.reached

@@ -14,3 +14,6 @@ returns-in-Mask-clause-clean c = free-whole c.args.self.now _ _ c.requires.ready
 
 pub returns-in-Mask-clause-passed : goal.returns-in-Mask-clause-passed
 returns-in-Mask-clause-passed c = c.add_taps.ensures _ (free-told c.free_taps.ensures c.in-Mask.is)
+
+pub add_cells-requires-clause-gaps : goal.add_cells-requires-clause-gaps
+add_cells-requires-clause-gaps c = rw (← c.requires.wide) c.args.table.now.lanes.gaps
