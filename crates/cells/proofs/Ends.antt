@@ -8,22 +8,19 @@ use native.Mathlib.Omega.{arith}
 use borrow.Author.Tests.{eqb-true, ltb-false}
 use lib.Dec.{eqb, ltb}
 use lib.ListN.{length, get_or}
+use Rattle.std.proofs.lemmas.Bool.{or_parts}
 use Rattle.definitions.specs.Lists.{among}
 use Rattle.definitions.specs.Lines.{Row}
 use Rattle.definitions.specs.Cells.{cell_of, is_arrow}
 use Rattle.definitions.specs.Figures.{is_step}
 use Rattle.lines.proofs.RowWords.{places, picks, AllBelow, place_here, place-later}
 
-neither : (x y : Bool) → (x || y) ≡ false → (x ≡ false) × (y ≡ false)
-neither true y e = let z : ◌≡◌ {A = ℕ} 0 1 = cc in absurd (omega arith)
-neither false y e = (refl, e)
-
 -- a row without an arrow has none in a column, and the other way round
 no_step : (r : Row) → is_step r ≡ false → (k : ℕ) → k < length r → is_arrow (cell_of (get_or r k 0)) ≡ false
 unfolding is_step
 no_step [] e k h = absurd (omega arith)
-no_step (b ∷ r) e zero h = (neither (is_arrow (cell_of b)) (is_step r) e).0
-no_step (b ∷ r) e (suc k) h = no_step r (neither (is_arrow (cell_of b)) (is_step r) e).1 k (omega arith)
+no_step (b ∷ r) e zero h = (or_parts (is_arrow (cell_of b)) (is_step r) e).0
+no_step (b ∷ r) e (suc k) h = no_step r (or_parts (is_arrow (cell_of b)) (is_step r) e).1 k (omega arith)
 
 all_none : (r : Row) → ((k : ℕ) → k < length r → is_arrow (cell_of (get_or r k 0)) ≡ false) → is_step r ≡ false
 unfolding is_step
@@ -42,7 +39,7 @@ module _ (r : Row) where
   picked k (p ∷ ps) e m = go (eqb k p) refl m (λ n. picked k ps both.1 n)
     where
       both : (is_arrow (cell_of (get_or r p 0)) ≡ false) × (is_step (picks r ps) ≡ false)
-      both = neither (is_arrow (cell_of (get_or r p 0))) (is_step (picks r ps)) e
+      both = or_parts (is_arrow (cell_of (get_or r p 0))) (is_step (picks r ps)) e
 
       go : (t : Bool) → eqb k p ≡ t → (t || among k ps) ≡ true → (among k ps ≡ true → is_arrow (cell_of (get_or r k 0)) ≡ false) → is_arrow (cell_of (get_or r k 0)) ≡ false
       go true q m ih = rw (eqb-true k p q) both.0
@@ -91,4 +88,4 @@ step-append (b ∷ r) s = or_assoc (is_arrow (cell_of b)) (is_step r) (is_step s
 
 -- between the two tests
 pub between : (n : ℕ) → (ltb n 4 || ltb 12 n) ≡ false → (4 ≤ n) × (n ≤ 12)
-between n e = let b = neither (ltb n 4) (ltb 12 n) e in (ltb-false n 4 b.0, ltb-false 12 n b.1)
+between n e = let b = or_parts (ltb n 4) (ltb 12 n) e in (ltb-false n 4 b.0, ltb-false 12 n b.1)

@@ -1,6 +1,6 @@
 -- Minimised text is read back to the chart's own rows, since no row has a 13: so the main and the kept-row tally agree.
 use mathlib.Core.Path.{◌≡◌, refl, ap, sym, ◌∙◌}
-use mathlib.Core.Bool.{Bool, true, false, ◌&&◌, ◌||◌}
+use mathlib.Core.Bool.{Bool, true, false, ◌&&◌}
 use mathlib.Core.List.{List, [], ◌∷◌, ◌++◌, append_assoc, append-nil}
 use Prim.Native.Nat.{ℕ, zero, suc, ◌≤◌}
 use native.Mathlib.Omega.{arith}
@@ -8,6 +8,7 @@ use borrow.Author.Tests.{le-leb, lt-leb}
 use lib.Dec.{eqb}
 use lib.ListN.{length, take}
 use lib.Seq.{take_all}
+use Rattle.std.proofs.lemmas.Bool.{or_parts}
 use Rattle.definitions.specs.Lists.{among, joined, only_if}
 use Rattle.definitions.specs.Lines.{Row, cut, is_row_line}
 use Rattle.definitions.specs.Reduction.{minimised}
@@ -41,15 +42,12 @@ cut-text L (m ∷ m' ∷ ms) (one p a) =
     cut-rows L m (44 ∷ 10 ∷ text_of (m' ∷ ms)) p ∙ ap {B = List (List ℕ)} (λ ls. m ++ ((44 ∷ []) ∷ ls)) (cut-text L (m' ∷ ms) a)
 
 -- ---- Each row is read back as itself, and no other line is a row.
-or-false : (x y : Bool) → (x || y) ≡ false → (x ≡ false) × (y ≡ false)
-or-false true y e = (e, cc)
-or-false false y e = (refl, e)
 
 -- a line without a 13 loses nothing at its end
 without-none : (l : List ℕ) → among 13 l ≡ false → without_cr l ≡ l
 without-none [] e = refl
-without-none (b ∷ []) e = let n : eqb b 13 ≡ false = equal-turned b 13 ∙ (or-false (eqb 13 b) false e).0 in rw n
-without-none (b ∷ b' ∷ s) e = ap (λ l. b ∷ l) (without-none (b' ∷ s) (or-false (eqb 13 b) (among 13 (b' ∷ s)) e).1)
+without-none (b ∷ []) e = let n : eqb b 13 ≡ false = equal-turned b 13 ∙ (or_parts (eqb 13 b) false e).0 in rw n
+without-none (b ∷ b' ∷ s) e = ap (λ l. b ∷ l) (without-none (b' ∷ s) (or_parts (eqb 13 b) (among 13 (b' ∷ s)) e).1)
 
 own_row : (L : ℕ) (r : Row) → ChartRow L r → back_row L (without_cr r) ≡ r ∷ []
 unfolding is_row_line
