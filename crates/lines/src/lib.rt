@@ -119,7 +119,7 @@ fn find_in_word(slice: &[u8], needle: u8, i: usize) -> Option<usize>
     Some(i + at)
 }
 
-/// Whether one of some bytes is `needle`. It looks at every byte, so that no turn of the loop branches on one.
+/// Whether one of some bytes is `needle`. It looks at every byte: a loop without a way out is done sixteen bytes at a time.
 fn has_byte(bytes: &[u8], needle: u8) -> bool
     ensures { result ≡ among needle bytes.now }
 {
@@ -183,8 +183,8 @@ fn find_far(slice: &[u8], needle: u8, from: usize) -> Option<usize>
     find_long(slice, needle, from + 16)
 }
 
-/// The place of the first byte of `slice` that is `needle`: the first sixteen bytes one by one, since most lines end there, then by words of eight, then
-/// the rest one by one.
+/// The place of the first byte of `slice` that is `needle`: the first sixteen bytes one by one, since most lines end there, then by words of eight, past
+/// the second of them by 32 bytes a turn, then the rest one by one.
 pub fn find_byte(slice: &[u8], needle: u8) -> Option<usize>
     ensures { result ≡ position (λ x. x == needle) slice.now }
 {
