@@ -2,12 +2,12 @@
 use mathlib.Core.Path.{◌≡◌, refl, ap, ◌∙◌}
 use mathlib.Core.Bool.{Bool, true, false, cond, ◌||◌}
 use mathlib.Core.List.{List}
-use Prim.Native.Nat.{ℕ, zero, suc, ◌+◌, ◌-◌, ◌<◌, ◌≤◌}
+use Prim.Native.Nat.{ℕ, ◌+◌, ◌-◌, ◌<◌, ◌≤◌}
 use native.Mathlib.Omega.{arith}
 use lib.ListN.{length, get_or, drop, drop_of_length-le}
 use Rattle.definitions.specs.Lines.{Row}
 use Rattle.definitions.specs.Sizes.{count_bound}
-use Rattle.definitions.specs.Cells.{cell_of, is_arrow}
+use Rattle.definitions.specs.Cells.{is_arrow}
 use Rattle.definitions.specs.Objects.{object_at, is_object}
 use Rattle.definitions.specs.Notes.{effect_at}
 use Rattle.definitions.specs.Tally.{row_sum, row_sum_by}
@@ -21,8 +21,8 @@ use Rattle.row_tally.proofs.Raised.{cells-arrows, cells-ends, row-ended, Raised,
 use Rattle.row_tally.proofs.Loops.{drop-next}
 use Rattle.row_notes.proofs.Rows.{Midrow, mid_start, mid-ready, mid_step, row_written}
 use Rattle.row_walk.specs.Columns.{Ten, Free}
-use Rattle.row_walk.specs.Cells.{notes_of, object_depth_in, CellFits, ByteWalked, counted_in}
-use Rattle.row_walk.specs.Rows.{objects_of, CellsReady, ColumnWalked, ColumnsWalked, Reached, RowWalked}
+use Rattle.row_walk.specs.Cells.{notes_of, object_depth_in, CellFits}
+use Rattle.row_walk.specs.Rows.{objects_of, CellsReady, RowWalked, ColumnWalked, CellsWalked, none, more, Reached, WalkedOn}
 use Rattle.row_walk.specs.declared.columns.Columns.{Columns}
 use Rattle.row_walk.specs.declared.cell_walk.Run.{Run}
 
@@ -37,7 +37,7 @@ pub record Cells (row : Row) (r₀ : Run) (l₀ : List ℕ) (r : Run) (l : List 
   pub ten : Ten r.columns
   pub free : Free r.columns
 
-pub cells-start : (row : Row) (r : Run) (l : List ℕ) → CellsReady row r l → Cells row r l r l 0
+cells-start : (row : Row) (r : Run) (l : List ℕ) → CellsReady row r l → Cells row r l r l 0
 cells-start row r l R = record {
   raised = raised-start false row r.stats;
   passed = passed_start row r.columns.phantoms R.ten.depths;
@@ -61,7 +61,7 @@ module _ (row : Row) (r₀ : Run) (l₀ : List ℕ) (r : Run) (l : List ℕ) (i 
   u = omega (arith, R.room.narrow)
 
   -- what the cell asks
-  pub cells-fits : CellFits r i l
+  cells-fits : CellFits r i l
   cells-fits = record {
     few = below_more (count_bound + i) (count_bound + 9) r.stats (omega (arith, u)) (raised-below _ _ _ _ _ _ _ C.raised count_bound R.few);
     low = low-more (count_bound + i) 4294967294 _ (omega (arith, u)) (C.passed.low count_bound R.phantoms);
@@ -71,76 +71,45 @@ module _ (row : Row) (r₀ : Run) (l₀ : List ℕ) (r : Run) (l : List ℕ) (i 
   }
 
   -- one cell more
-  next : (r' : Run) (l' : List ℕ) → length l' ≡ length l → ByteWalked (get_or row i 0) i r l r' l'
-      → r'.stats ≡ counted_in r (length row) i (cell_of (get_or row i 0)) → Cells row r₀ l₀ r' l' (i + 1)
-  next r' l' el W S =
+  cells-next : (r' : Run) (l' : List ℕ) → ColumnWalked row i r l r' l' → Cells row r₀ l₀ r' l' (i + 1)
+  cells-next r' l' w =
+      let W = w.walked in
       let b = get_or row i 0 in
       let o = is_object (object_at b) (object_depth_in r i) in
       record {
-        raised = raised-next (length row) false (drop i row) (drop (i + 1) row) (row_sum_by is_arrow row) r₀.stats r.stats i b (drop-next row i h) C.raised _ _ _ refl refl S;
+        raised = raised-next (length row) false (drop i row) (drop (i + 1) row) (row_sum_by is_arrow row) r₀.stats r.stats i b (drop-next row i h) C.raised _ _ _ refl refl w.counted;
         passed = rw W.phantoms (passed-next row r₀.columns.phantoms r.columns.phantoms i C.passed h u);
         object = C.object || o;
         scanned = rw W.object_depth (scan-next row r₀.columns.object_depths r.columns.object_depths C.object i C.scanned o _ h u refl refl);
         last = W.last ∙ ap (λ (n : ℕ). cond o (n + 1) r.last) C.mid.index ∙ last-next C.object o (r₀.row + 1) r₀.last r.last C.last;
-        mid = mid_step l₀ _ l (notes_of r) i row C.mid l' (notes_of r') (effect_at b) refl h el W.noted;
+        mid = mid_step l₀ _ l (notes_of r) i row C.mid l' (notes_of r') (effect_at b) refl h w.size W.noted;
         ten = W.ten;
         free = W.free;
       }
 
-  cells-next : (r' : Run) (l' : List ℕ) → ColumnWalked row i r l r' l' → Cells row r₀ l₀ r' l' (i + 1)
-  cells-next r' l' w = next r' l' w.size w.walked w.counted
+-- what is so once the cells before a column are walked
+cells-walked : (row : Row) (r₀ : Run) (l₀ : List ℕ) (i : ℕ) (r : Run) (l : List ℕ) → i ≤ length row → CellsReady row r₀ l₀ → CellsWalked row r₀ l₀ i r l → Cells row r₀ l₀ r l i
+cells-walked row r₀ l₀ i r l h R none = cells-start row r₀ l₀ R
+cells-walked row r₀ l₀ i r l h R (more w x) = cells-next row _ _ _ _ _ (cells-walked row r₀ l₀ _ _ _ (omega arith) R w) (omega arith) R _ _ x
 
--- cells after cells
-cells-on : (row : Row) (r₀ : Run) (l₀ : List ℕ) (r : Run) (l : List ℕ) (r' : Run) (l' : List ℕ) (i n : ℕ) → i + n ≤ length row → CellsReady row r₀ l₀
-    → Cells row r₀ l₀ r l i → ColumnsWalked row i n r l r' l' → Cells row r₀ l₀ r' l' (i + n)
-cells-on row r₀ l₀ r l r' l' i zero h R C (e, f) = let here : i + 0 ≡ i = omega arith in rw (here, e, f) C
-cells-on row r₀ l₀ r l r' l' i (suc n) h R C (m, (k, (w, v))) =
-    let next : i + suc n ≡ i + 1 + n = omega arith in
-    rw next (cells-on row r₀ l₀ m k r' l' (i + 1) n (omega arith) R (cells-next row r₀ l₀ r l i C (omega arith) R m k w) v)
+-- a column that is reached has what its cell asks, and one that is walked on to from there is reached too
+module _ (row : Row) (c : ℕ) (r : Run) (l : List ℕ) (x : Reached row c r l) where
+  pub reached-fits : c < length row → CellFits r c l
+  reached-fits h = cells-fits row _ _ _ _ _ (cells-walked row _ _ _ _ _ (omega arith) x.ready x.walked) h x.ready
 
-pub cells-walked : (row : Row) (r₀ : Run) (l₀ : List ℕ) (r : Run) (l : List ℕ) (n : ℕ) → n ≤ length row → CellsReady row r₀ l₀ → ColumnsWalked row 0 n r₀ l₀ r l
-    → Cells row r₀ l₀ r l n
-cells-walked row r₀ l₀ r l n h R w =
-    let first : 0 + n ≡ n = omega arith in
-    rw first at (cells-on row r₀ l₀ r₀ l₀ r l 0 n (omega arith) R (cells-start row r₀ l₀ R) w)
-
--- columns after columns
-pub columns-append : (row : Row) (c m n : ℕ) (r : Run) (l : List ℕ) (q : Run) (k : List ℕ) (r' : Run) (l' : List ℕ) → ColumnsWalked row c m r l q k
-    → ColumnsWalked row (c + m) n q k r' l' → ColumnsWalked row c (m + n) r l r' l'
-columns-append row c zero n r l q k r' l' (e, f) v =
-    let first : c + 0 ≡ c = omega arith in
-    let none : 0 + n ≡ n = omega arith in
-    rw (none, ← e, ← f) (rw first at v)
-columns-append row c (suc m) n r l q k r' l' (a, (b, (w, u))) v =
-    let next : c + suc m ≡ c + 1 + m = omega arith in
-    let more : suc m + n ≡ suc (m + n) = omega arith in
-    rw more (a, (b, (w, columns-append row (c + 1) m n a b q k r' l' u (rw next at v))))
-
--- the next column asks for no more, and is then among those before
-module _ (row : Row) (c : ℕ) (r : Run) (l : List ℕ) (x : Reached row c r l) (h : c < length row) where
-  pub reached-fits : CellFits r c l
-  reached-fits = cells-fits row x.start x.slots r l c (cells-walked row x.start x.slots r l c (omega arith) x.ready x.walked) h x.ready
-
-  pub reached-next : (r' : Run) (l' : List ℕ) → ColumnWalked row c r l r' l' → Reached row (c + 1) r' l'
-  reached-next r' l' w =
-      let here : 0 + c ≡ c = omega arith in
-      record {
-        start = x.start;
-        slots = x.slots;
-        ready = x.ready;
-        walked = columns-append row 0 c 1 x.start x.slots r l r' l' x.walked (r', (l', (rw here w, (refl, refl))));
-      }
-
-pub reached-start : (row : Row) (r : Run) (l : List ℕ) → CellsReady row r l → Reached row 0 r l
-reached-start row r l R = record { start = r; slots = l; ready = R; walked = (refl, refl) }
+  pub reached_on : (c' : ℕ) (r' : Run) (l' : List ℕ) → WalkedOn row c r l c' r' l' → Reached row c' r' l'
+  reached_on c' r' l' w = record { start = x.start; slots = x.slots; ready = x.ready; walked = w _ _ x.walked }
 
 -- ---- all cells are done
-module _ (row : Row) (r₀ : Run) (l₀ : List ℕ) (r : Run) (l : List ℕ) (i : ℕ) (C : Cells row r₀ l₀ r l i) (h : length row ≤ i) (R : CellsReady row r₀ l₀) where
+module _ (row : Row) (r₀ : Run) (l₀ : List ℕ) (r : Run) (l : List ℕ) (R : CellsReady row r₀ l₀) (w : CellsWalked row r₀ l₀ (length row) r l) where
+  h : length row ≤ length row
+  h = omega arith
+
+  C : Cells row r₀ l₀ r l (length row)
+  C = cells-walked row _ _ _ _ _ h R w
+
   whole : r.stats ≡ with_cells r₀.stats (row_sum_by is_arrow row)
   whole = raised-end _ _ _ _ _ _ _ C.raised (drop_of_length-le row h)
-
-  few : i ≤ 10
-  few = omega (arith, C.passed.within, R.room.narrow)
 
   pub ends-few : EndsBelow count_bound r.stats
   ends-few = rw whole (cells-ends count_bound r₀.stats _ R.few)
@@ -149,7 +118,7 @@ module _ (row : Row) (r₀ : Run) (l₀ : List ℕ) (r : Run) (l : List ℕ) (i 
   arrows-few =
       let e = cells-arrows _ _ _ C.raised.stats in
       let u = C.raised.summed.under.counts.0 in
-      (omega (arith, e), omega (arith, e, u, few))
+      (omega (arith, e), omega (arith, e, u, R.room.narrow))
 
   pub heads-few : (r₀.columns.phantoms.heads ≤ r.columns.phantoms.heads) × (r.columns.phantoms.heads ≤ r₀.columns.phantoms.heads + 10)
   unfolding row_sum

@@ -1,5 +1,5 @@
 -- A row that is walked by its cells.
-use Rattle.std.specs.Prelude.{◌≡◌, Bool, if◌then◌else◌, List, [], ◌∷◌, ◌++◌, ℕ, zero, suc, ◌+◌, length, slice_index}
+use Rattle.std.specs.Prelude.{◌≡◌, Bool, if◌then◌else◌, List, [], ◌∷◌, ◌++◌, ℕ, ◌+◌, length, slice_index}
 use Rattle.definitions.specs.Sizes.{count_bound}
 use Rattle.definitions.specs.Lines.{Row}
 use Rattle.definitions.specs.Cells.{cell_of}
@@ -46,14 +46,18 @@ pub record ColumnWalked (row : Row) (c : ℕ) (r : Run) (l : List ℕ) (r' : Run
   pub counted : r'.stats ≡ counted_in r (length row) c (cell_of (slice_index row c))
   pub size : length l' ≡ length l
 
--- those in n columns from c on, one after the other
-abbrev pub ColumnsWalked : Row → ℕ → ℕ → Run → List ℕ → Run → List ℕ → Type 0
-ColumnsWalked row c zero r l r' l' = (r' ≡ r) × (l' ≡ l)
-ColumnsWalked row c (suc n) r l r' l' = (m : Run) × ((k : List ℕ) × (ColumnWalked row c r l m k × ColumnsWalked row (c + 1) n m k r' l'))
+-- The cells before a column are walked, one after the other, from the run r₀ with the slots l₀ on.
+pub data CellsWalked (row : Row) (r₀ : Run) (l₀ : List ℕ) : ℕ → Run → List ℕ → Type 0 where
+  none : CellsWalked row r₀ l₀ 0 r₀ l₀
+  more : {c : ℕ} {r : Run} {l : List ℕ} {r' : Run} {l' : List ℕ} → CellsWalked row r₀ l₀ c r l → ColumnWalked row c r l r' l' → CellsWalked row r₀ l₀ (c + 1) r' l'
 
--- the cells before column c of a row that was ready
+-- those before column c of a row that was ready
 pub record Reached (row : Row) (c : ℕ) (r : Run) (l : List ℕ) : Type 0 where
   pub start : Run
   pub slots : List ℕ
   pub ready : CellsReady row start slots
-  pub walked : ColumnsWalked row 0 c start slots r l
+  pub walked : CellsWalked row start slots c r l
+
+-- whatever start r and l are the state after the cells before column c of, r' and l' are that after those before column c'
+abbrev pub WalkedOn : Row → ℕ → Run → List ℕ → ℕ → Run → List ℕ → Type 0
+WalkedOn row c r l c' r' l' = (r₀ : Run) (l₀ : List ℕ) → CellsWalked row r₀ l₀ c r l → CellsWalked row r₀ l₀ c' r' l'

@@ -4,9 +4,8 @@
 pub mod cell_walk;
 pub mod columns;
 
-ghost use Rattle.std.specs.Prelude.{◌-◌, ◌≤◌, ◌<◌, length};
-ghost use Rattle.row_walk.specs.Cells.{CellFits};
-ghost use Rattle.row_walk.specs.Rows.{CellsReady, ColumnWalked, ColumnsWalked, Reached, RowWalked};
+ghost use Rattle.std.specs.Prelude.{◌≡◌, ◌+◌, ◌≤◌, ◌<◌, length};
+ghost use Rattle.row_walk.specs.Rows.{CellsReady, RowWalked, Reached, WalkedOn};
 
 use crate::cell_walk::Run;
 
@@ -14,8 +13,8 @@ use crate::cell_walk::Run;
 #[inline(always)]
 fn walk_column(run: &mut Run, row: &[u8], column: usize, slots: &mut [u8])
     requires inside { column < length row.now }
-    requires fits { CellFits run.old column slots.old }
-    ensures { ColumnWalked row.now column run.old slots.old run.new slots.new }
+    requires reached { Reached row.now column run.old slots.old }
+    ensures { WalkedOn row.now column run.old slots.old (column + 1) run.new slots.new }
 {
     let b = row[column];
     if b == b'0' {
@@ -26,10 +25,11 @@ fn walk_column(run: &mut Run, row: &[u8], column: usize, slots: &mut [u8])
 
 // The cells of the first four columns. Cells are written one by one, which costs less than a loop.
 #[inline(always)]
+#[tactic(auto, using(crate::proofs::Rows::reached_on))]
 fn walk_four(run: &mut Run, row: &[u8], slots: &mut [u8])
-    requires ready { CellsReady row.now run.old slots.old }
     requires wide { 4 ≤ length row.now }
-    ensures { ColumnsWalked row.now 0 4 run.old slots.old run.new slots.new }
+    requires reached { Reached row.now 0 run.old slots.old }
+    ensures { WalkedOn row.now 0 run.old slots.old 4 run.new slots.new }
 {
     walk_column(run, row, 0, slots);
     walk_column(run, row, 1, slots);
@@ -37,13 +37,15 @@ fn walk_four(run: &mut Run, row: &[u8], slots: &mut [u8])
     walk_column(run, row, 3, slots);
 }
 
-// The cells of a row from its fifth on.
+// The cells of a row from its fifth on. No row has seven or nine.
 #[inline(always)]
+#[tactic(auto, using(crate::proofs::Rows::reached_on))]
 fn walk_rest(run: &mut Run, row: &[u8], slots: &mut [u8])
-    requires reached { Reached row.now 4 run.old slots.old }
     requires wide { 4 ≤ length row.now }
-    ensures { ColumnsWalked row.now 4 (length row.now - 4)
-        run.old slots.old run.new slots.new }
+    requires narrow { length row.now ≤ 10 }
+    requires gaps { (length row.now ≡ 7 → ⊥) × (length row.now ≡ 9 → ⊥) }
+    requires reached { Reached row.now 4 run.old slots.old }
+    ensures { WalkedOn row.now 4 run.old slots.old (length row.now) run.new slots.new }
 {
     if row.len() == 4 {
         return;
@@ -57,17 +59,11 @@ fn walk_rest(run: &mut Run, row: &[u8], slots: &mut [u8])
         return;
     }
     walk_column(run, row, 6, slots);
-    if row.len() == 7 {
-        return;
-    }
     walk_column(run, row, 7, slots);
     if row.len() == 8 {
         return;
     }
     walk_column(run, row, 8, slots);
-    if row.len() == 9 {
-        return;
-    }
     walk_column(run, row, 9, slots);
 }
 
@@ -76,6 +72,7 @@ fn walk_rest(run: &mut Run, row: &[u8], slots: &mut [u8])
 pub fn walk_cells(run: &mut Run, row: &[u8], slots: &mut [u8])
     requires ready { CellsReady row.now run.old slots.old }
     requires wide { 4 ≤ length row.now }
+    requires gaps { (length row.now ≡ 7 → ⊥) × (length row.now ≡ 9 → ⊥) }
     ensures { RowWalked row.now run.old slots.old run.new slots.new }
 {
     let arrows = run.stats.total_arrows;
