@@ -1,12 +1,11 @@
 -- A row's cells, one after the other: what is counted of those before column i, from k₀ on.
-use mathlib.Core.Path.{◌≡◌, refl, ap, subst, ◌∙◌}
+use mathlib.Core.Path.{◌≡◌, refl, ap, ◌∙◌}
 use mathlib.Core.Bool.{false}
-use Prim.Native.Nat.{ℕ, zero, suc, ◌+◌, ◌<◌, ◌≤◌}
+use Prim.Native.Nat.{ℕ, ◌+◌, ◌*◌, ◌<◌, ◌≤◌}
 use native.Mathlib.Nat.{add-zero}
-use native.Mathlib.Numerals.{add-one}
 use native.Mathlib.Omega.{arith}
 use lib.ListN.{length, get_or, drop, drop_of_length-le}
-use Rattle.definitions.specs.Sizes.{count_bound}
+use Rattle.definitions.specs.Sizes.{count_bound, row_count_bound}
 use Rattle.definitions.specs.Lines.{Row}
 use Rattle.definitions.specs.Cells.{cell_of, is_arrow}
 use Rattle.definitions.specs.Tally.{direction, row_sum}
@@ -20,7 +19,8 @@ use Rattle.row_tally.proofs.Loops.{drop-next}
 use Rattle.row_tally.proofs.Raised.{Raised, raised-start, raised-next, raised-end, cells-arrows}
 use Rattle.measure_tally.specs.declared.Counting.{Counting}
 use Rattle.measure_tally.proofs.Cells.{cell-few, cell-low}
-use Rattle.measure_tally.specs.Cells.{StaysFree, CellCounted, ColumnCounted, ColumnsCounted, CountedOn, Reached}
+use Rattle.measure_tally.specs.Counted.{Few}
+use Rattle.measure_tally.specs.Cells.{StaysFree, CellCounted, CellsCounted, none, more, CountedOn, Reached}
 
 pub record Lined (row : Row) (k₀ k : Counting) (i : ℕ) : Type 0 where
   pub passed : Passed row k₀.phantoms k.phantoms i
@@ -46,48 +46,51 @@ lined-next row k₀ k r i h narrow x w = record {
   free = λ f. w.free (x.free f);
 }
 
--- all of the first n
-pub lined-columns : (row : Row) (k r : Counting) (n : ℕ) → length k.phantoms.depths ≡ 10 → length row ≤ 10 → n ≤ length row → ColumnsCounted row n k r → Lined row k r n
-lined-columns row k r zero size narrow h w = rw w (lined-start row k size)
-lined-columns row k r (suc n) size narrow h (m, (v, w)) =
-    let next : n + 1 ≡ suc n = omega arith in
-    subst (Lined row k r) next (lined-next row k m r n (omega arith) narrow (lined-columns row k m n size narrow (omega arith) v) w)
+-- those before a column
+pub lined-cells : (row : Row) (k r : Counting) (c : ℕ) → length k.phantoms.depths ≡ 10 → length row ≤ 10 → c ≤ length row → CellsCounted row k c r → Lined row k r c
+lined-cells row k r c size narrow h none = lined-start row k size
+lined-cells row k r c size narrow h (more v w) = lined-next row k _ r _ (omega arith) narrow (lined-cells row k _ _ size narrow (omega arith) v) w
 
--- n cells add at most n to each count
-pub columns-few : (row : Row) (n j : ℕ) (k r : Counting) → ColumnsCounted row n k r → Below j k.stats → Below (j + n) r.stats
-columns-few row zero j k r w b = rw (add-zero j, w) b
-columns-few row (suc n) j k r (m, (v, w)) b =
-    let next : j + suc n ≡ j + n + 1 = omega arith in
-    rw next (cell-few _ _ _ _ _ _ w (columns-few row n j k m v b))
+-- each cell adds at most 1 to each count
+cells-few : (row : Row) (n : ℕ) (k : Counting) (c : ℕ) (r : Counting) → CellsCounted row k c r → Below n k.stats → Below (n + c) r.stats
+cells-few row n k c r none b = rw (add-zero n) b
+cells-few row n k c r (more {c = m} v w) b =
+    let next : n + (m + 1) ≡ n + m + 1 = omega arith in
+    rw next (cell-few _ _ _ _ _ _ w (cells-few row n k m _ v b))
 
-pub columns-low : (row : Row) (n j : ℕ) (k r : Counting) → ColumnsCounted row n k r → Low j k.phantoms → Low (j + n) r.phantoms
-columns-low row zero j k r w b = rw (add-zero j, w) b
-columns-low row (suc n) j k r (m, (v, w)) b =
-    let next : j + suc n ≡ j + n + 1 = omega arith in
-    rw next (cell-low _ _ _ _ _ _ w (columns-low row n j k m v b))
+cells-low : (row : Row) (n : ℕ) (k : Counting) (c : ℕ) (r : Counting) → CellsCounted row k c r → Low n k.phantoms → Low (n + c) r.phantoms
+cells-low row n k c r none b = rw (add-zero n) b
+cells-low row n k c r (more {c = m} v w) b =
+    let next : n + (m + 1) ≡ n + m + 1 = omega arith in
+    rw next (cell-low _ _ _ _ _ _ w (cells-low row n k m _ v b))
 
--- the next column asks for no more, and is then among those before
-module _ (row : Row) (c : ℕ) (k : Counting) (x : Reached row c k) (h : c < 10) where
-  pub reached-few : Below (count_bound + 9) k.stats
-  reached-few = below_more (count_bound + c) (count_bound + 9) k.stats (omega arith) (columns-few row c count_bound x.start k x.counted x.few)
+-- before the first column
+pub reached-start : (row : Row) (k : Counting) → Few k → k.rows < row_count_bound → Reached row 0 k
+reached-start row k f h = record {
+  start = k;
+  few = below_more (10 * k.rows) count_bound k.stats (omega arith) f.stats;
+  low = low-more (10 * k.rows) count_bound k.phantoms (omega arith) f.phantoms;
+  counted = none;
+}
 
-  pub reached-low : Low (count_bound + 9) k.phantoms
-  reached-low = low-more (count_bound + c) (count_bound + 9) k.phantoms (omega arith) (columns-low row c count_bound x.start k x.counted x.low)
+-- the next column has room, and is then among those before
+module _ (row : Row) (c : ℕ) (k : Counting) (x : Reached row c k) where
+  pub reached-few : c < 10 → Below (count_bound + 9) k.stats
+  reached-few h = below_more (count_bound + c) (count_bound + 9) k.stats (omega arith) (cells-few row count_bound x.start c k x.counted x.few)
 
-module _ (row : Row) (c : ℕ) (k r : Counting) (w : ColumnCounted row c k r) where
-  pub counted-on : CountedOn row c (c + 1) k r
-  counted-on s v = rw add-one (k, (v, w))
+  pub reached-low : c < 10 → Low (count_bound + 9) k.phantoms
+  reached-low h = low-more (count_bound + c) (count_bound + 9) k.phantoms (omega arith) (cells-low row count_bound x.start c k x.counted x.low)
 
-  pub reached-next : Reached row c k → Reached row (c + 1) r
-  reached-next x = record { start = x.start; few = x.few; low = x.low; counted = counted-on x.start x.counted }
+  pub reached_on : (c' : ℕ) (r : Counting) → CountedOn row c k c' r → Reached row c' r
+  reached_on c' r w = record { start = x.start; few = x.few; low = x.low; counted = w _ x.counted }
 
 -- all cells of a row are done
 module _ (row : Row) (k₀ k : Counting) (i : ℕ) (x : Lined row k₀ k i) (left : length row ≤ i) where
-  pub lined-cells : k.stats ≡ with_cells k₀.stats (row_sum row)
-  lined-cells = raised-end (length row) false (drop i row) (row_sum row) k₀.stats k.stats i x.raised (drop_of_length-le row left)
+  pub lined-stats : k.stats ≡ with_cells k₀.stats (row_sum row)
+  lined-stats = raised-end (length row) false (drop i row) (row_sum row) k₀.stats k.stats i x.raised (drop_of_length-le row left)
 
   pub lined-arrows : k.stats.total_arrows ≡ k₀.stats.total_arrows + (row_sum row).arrows
-  lined-arrows = cells-arrows k₀.stats k.stats (row_sum row) lined-cells
+  lined-arrows = cells-arrows k₀.stats k.stats (row_sum row) lined-stats
 
   pub lined-heads : k.phantoms.heads ≡ k₀.phantoms.heads + ((row_sum row).holds + (row_sum row).rolls)
   unfolding row_sum

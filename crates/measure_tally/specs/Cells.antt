@@ -1,5 +1,5 @@
 -- What the cells of a row do to what is counted, before the row's end: cited by private functions alone.
-use Rattle.std.specs.Prelude.{◌≡◌, ℕ, zero, suc, false, length, slice_index}
+use Rattle.std.specs.Prelude.{◌≡◌, ℕ, ◌+◌, false, length, slice_index}
 use Rattle.definitions.specs.Sizes.{count_bound}
 use Rattle.definitions.specs.Lines.{Row}
 use Rattle.definitions.specs.Cells.{cell_of}
@@ -42,18 +42,18 @@ pub record CellCounted (columns c b : ℕ) (k r : Counting) : Type 0 where
 abbrev pub ColumnCounted : Row → ℕ → Counting → Counting → Type 0
 ColumnCounted row c = CellCounted (length row) c (slice_index row c)
 
--- those in the first n columns, one after the other
-abbrev pub ColumnsCounted : Row → ℕ → Counting → Counting → Type 0
-ColumnsCounted row zero k r = r ≡ k
-ColumnsCounted row (suc n) k r = (m : Counting) × (ColumnsCounted row n k m × ColumnCounted row n m r)
+-- The cells before a column are counted, one after the other, on top of s.
+pub data CellsCounted (row : Row) (s : Counting) : ℕ → Counting → Type 0 where
+  none : CellsCounted row s 0 s
+  more : {c : ℕ} {k r : Counting} → CellsCounted row s c k → ColumnCounted row c k r → CellsCounted row s (c + 1) r
 
--- whatever the first c columns were counted on top of, the first n are counted on top of it
-abbrev pub CountedOn : Row → ℕ → ℕ → Counting → Counting → Type 0
-CountedOn row c n k r = (s : Counting) → ColumnsCounted row c s k → ColumnsCounted row n s r
-
--- the first c columns of a row are counted, on top of counts that have room for a row
+-- those before column c, on top of counts that have room for a row
 pub record Reached (row : Row) (c : ℕ) (k : Counting) : Type 0 where
   pub start : Counting
   pub few : Below count_bound start.stats
   pub low : Low count_bound start.phantoms
-  pub counted : ColumnsCounted row c start k
+  pub counted : CellsCounted row start c k
+
+-- whatever the cells before column c were counted on top of, those before column c' are counted on top of it
+abbrev pub CountedOn : Row → ℕ → Counting → ℕ → Counting → Type 0
+CountedOn row c k c' r = (s : Counting) → CellsCounted row s c k → CellsCounted row s c' r

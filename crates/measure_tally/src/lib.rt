@@ -11,7 +11,7 @@ ghost use Rattle.reduction.specs.States.{HoldingOpen, EndsMeasure};
 ghost use Rattle.row_tally.specs.Bounds.{Below};
 ghost use Rattle.phantoms.specs.Phantoms.{Low};
 ghost use Rattle.definitions.specs.declared.DepthEffect.TheVariants.{Blocks, Opens, Closes};
-ghost use Rattle.measure_tally.specs.Cells.{EffectDone, CellCounted, ColumnsCounted, CountedOn, Reached, with_cell};
+ghost use Rattle.measure_tally.specs.Cells.{EffectDone, CellCounted, CountedOn, Reached, with_cell};
 ghost use Rattle.measure_tally.specs.Counted.{Few, Counted, CountsRow, CountsAll};
 
 use definitions::{ArrowStats, Cell, direction};
@@ -185,8 +185,7 @@ impl Counting {
         requires inside { column < length row.now }
         requires narrow { length row.now ≤ 10 }
         requires reached { Reached row.now column self.old }
-        ensures next { Reached row.now (column + 1) self.new }
-        ensures counted { CountedOn row.now column (column + 1) self.old self.new }
+        ensures { CountedOn row.now column self.old (column + 1) self.new }
     {
         let b = row[column];
         if b == b'0' {
@@ -201,12 +200,12 @@ impl Counting {
 
     // The cells of the first four columns. Cells are written one by one: in a loop each count would go through a register for the whole row.
     #[inline(always)]
+    #[tactic(auto, using(crate::proofs::Line::reached_on))]
     fn count_four(&mut self, row: &[u8])
         requires wide { 4 ≤ length row.now }
         requires narrow { length row.now ≤ 10 }
         requires reached { Reached row.now 0 self.old }
-        ensures next { Reached row.now 4 self.new }
-        ensures counted { CountedOn row.now 0 4 self.old self.new }
+        ensures { CountedOn row.now 0 self.old 4 self.new }
     {
         self.count_column(row, 0);
         self.count_column(row, 1);
@@ -214,14 +213,15 @@ impl Counting {
         self.count_column(row, 3);
     }
 
-    // The cells of a row from its fifth on.
+    // The cells of a row from its fifth on. No row has seven or nine.
     #[inline(always)]
+    #[tactic(auto, using(crate::proofs::Line::reached_on))]
     fn count_rest(&mut self, row: &[u8])
         requires wide { 4 ≤ length row.now }
         requires narrow { length row.now ≤ 10 }
         requires gaps { (length row.now ≡ 7 → ⊥) × (length row.now ≡ 9 → ⊥) }
         requires reached { Reached row.now 4 self.old }
-        ensures { CountedOn row.now 4 (length row.now) self.old self.new }
+        ensures { CountedOn row.now 4 self.old (length row.now) self.new }
     {
         if row.len() == 4 {
             return;
@@ -243,20 +243,6 @@ impl Counting {
         self.count_column(row, 9);
     }
 
-    // All cells of a row.
-    #[inline(always)]
-    fn count_columns(&mut self, row: &[u8])
-        requires wide { 4 ≤ length row.now }
-        requires narrow { length row.now ≤ 10 }
-        requires gaps { (length row.now ≡ 7 → ⊥) × (length row.now ≡ 9 → ⊥) }
-        requires few { Below count_bound self.old.stats }
-        requires low { Low count_bound self.old.phantoms }
-        ensures { ColumnsCounted row.now (length row.now) self.old self.new }
-    {
-        self.count_four(row);
-        self.count_rest(row);
-    }
-
     // One row more, cell by cell. Its arrows, heads and tails are what these have grown by.
     #[inline(never)]
     fn count_cells(&mut self, row: &[u8])
@@ -270,7 +256,8 @@ impl Counting {
         let arrows = self.stats.total_arrows;
         let heads = self.phantoms.heads;
         let tails = self.phantoms.tails;
-        self.count_columns(row);
+        self.count_four(row);
+        self.count_rest(row);
         let arrows = self.stats.total_arrows - arrows;
         let heads = self.phantoms.heads - heads;
         let tails = self.phantoms.tails - tails;

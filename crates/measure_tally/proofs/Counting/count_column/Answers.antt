@@ -2,16 +2,13 @@
 use native.Mathlib.Omega.{arith}
 use Rattle.definitions.specs.Cells.{cell_of}
 use Rattle.measure_tally.proofs.Cells.{cell-empty}
-use Rattle.measure_tally.proofs.Line.{reached-few, reached-low, reached-next, counted-on}
+use Rattle.measure_tally.specs.Cells.{more}
+use Rattle.measure_tally.proofs.Line.{reached-few, reached-low}
 use Rattle.measure_tally.proofs.Counting.count_column.Goals as goal
 
-pub returns-then-b-eq48-clause-next : goal.returns-then-b-eq48-clause-next
+pub returns-then-b-eq48 : goal.returns-then-b-eq48
 unfolding cell_of
-returns-then-b-eq48-clause-next c = reached-next _ _ _ _ (cell-empty _ _ _ _ (rw c.if-b-eq48.true)) c.requires.reached
-
-pub returns-then-b-eq48-clause-counted : goal.returns-then-b-eq48-clause-counted
-unfolding cell_of
-returns-then-b-eq48-clause-counted c = counted-on _ _ _ _ (cell-empty _ _ _ _ (rw c.if-b-eq48.true))
+returns-then-b-eq48 c s before = more before (cell-empty _ _ _ _ (rw c.if-b-eq48.true))
 
 pub count_digit-requires-clause-few : goal.count_digit-requires-clause-few
 count_digit-requires-clause-few c = reached-few _ _ _ c.requires.reached (omega (arith, c.requires.inside, c.requires.narrow))
@@ -24,3 +21,9 @@ count_letter-requires-clause-few c = reached-few _ _ _ c.requires.reached (omega
 
 pub count_letter-requires-clause-low : goal.count_letter-requires-clause-low
 count_letter-requires-clause-low c = reached-low _ _ _ c.requires.reached (omega (arith, c.requires.inside, c.requires.narrow))
+
+pub returns-then-b-le52 : goal.returns-then-b-le52
+returns-then-b-le52 c s before = more before c.count_digit.ensures
+
+pub returns-else-b-le52 : goal.returns-else-b-le52
+returns-else-b-le52 c s before = more before c.count_letter.ensures
