@@ -63,15 +63,7 @@ module _ (J : ℕ → Bool) (rows : List Row) (r : Row) where
       ap (ends_in J i) (pairs-snoc rows r c)
       ∙ count-append (λ (p : Pair). eqb p.tail i && J p.head) (pairs rows c) (paired (hold_at (byte_at c r)) (length rows) (stack_after rows c))
 
-  -- at the new row: what its cell pairs with
-  pub ends-new : (c : ℕ) → ends_in J (length rows) (pairs (rows ++ (r ∷ [])) c)
-      ≡ ends_in J (length rows) (paired (hold_at (byte_at c r)) (length rows) (stack_after rows c))
-  ends-new c =
-      let a = ends_snoc c (length rows) in
-      let b = ends-late J rows c (length rows) (omega arith) in
-      omega arith
-
-  -- at any other: as before
+  -- at any other row than the new one: as before
   pub ends-old : (i : ℕ) → (i ≡ length rows → ⊥) → ends_at J (rows ++ (r ∷ [])) i ≡ ends_at J rows i
   unfolding ends_at
   ends-old i n =
@@ -82,7 +74,3 @@ module _ (J : ℕ → Bool) (rows : List Row) (r : Row) where
       none_end J i
       (all_map (λ p (q : p.tail ≡ length rows). λ e. n (sym e ∙ q)) (tail-here (hold_at (byte_at c r)) (length rows) (stack_after rows c))) in
       omega arith)
-
-pub ends-none : (J : ℕ → Bool) (i : ℕ) → ends_at J [] i ≡ 0
-unfolding ends_at pairs
-ends-none J i = refl

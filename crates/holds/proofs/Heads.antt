@@ -1,17 +1,17 @@
 -- The paired heads of a row are heads of that row: so they are what a tally counts as holds and rolls of the row that is counted anew.
 use mathlib.Core.Path.{◌≡◌, refl, ap, ◌∙◌}
-use mathlib.Core.Bool.{Bool, true, false, cond, false≢true}
+use mathlib.Core.Bool.{Bool, true, false, false≢true}
 use mathlib.Core.List.{List, [], ◌∷◌}
 use Prim.Native.Nat.{ℕ, zero, suc, ◌+◌, ◌<◌}
 use native.Mathlib.Nat.{zero-add}
 use native.Mathlib.Omega.{arith}
 use borrow.Author.Tests.{eqb-true}
-use lib.Dec.{eqb, ltb}
+use lib.Dec.{eqb}
 use lib.ListN.{length, get_or}
 use Rattle.definitions.specs.Lists.{number_of_bool, sum_columns}
 use Rattle.definitions.specs.Lines.{Row}
 use Rattle.definitions.specs.Cells.{cell_of, byte_at, hold_effect, hold, roll}
-use Rattle.definitions.specs.Tracker.{Pair, next_stack, paired, hold_at, pairs_from, pairs, is_head_of}
+use Rattle.definitions.specs.Tracker.{Pair, next_stack, hold_at, pairs_from, pairs, is_head_of}
 use Rattle.definitions.specs.Tally.{counted_as, place, counted}
 use Rattle.definitions.specs.Correction.{is_opening, head_if_paired, keep_row}
 use Rattle.definitions.specs.declared.Cell.{Cell}
@@ -20,6 +20,7 @@ use Rattle.definitions.specs.declared.DepthEffect.{DepthEffect}
 use Rattle.definitions.specs.declared.DepthEffect.TheVariants.{Nothing, Blocks, Opens, Closes}
 use Rattle.definitions.proofs.Lists.{All, none, one, all_append, count-cons}
 use Rattle.holds.specs.Tracks.{paired_heads}
+use Rattle.holds.proofs.Pairs.{all-next, all-paired}
 use Rattle.holds.proofs.Ends.{sum_same}
 
 module _ (c : ℕ) (at : ℕ → Row) where
@@ -27,33 +28,15 @@ module _ (c : ℕ) (at : ℕ → Row) where
   abbrev Heads : ℕ → Type 0
   Heads h = hold_at (byte_at c (at h)) ≡ Opens
 
-  heads-next : (e : DepthEffect) (i : ℕ) (st : List ℕ) → (e ≡ Opens → Heads i) → All Heads st → All Heads (next_stack e i st)
-  heads-next Nothing i st h a = a
-  heads-next Blocks i st h a = none
-  heads-next Opens i st h a = go (ltb (length st) 8)
-    where
-      go : (b : Bool) → All Heads (cond b (i ∷ st) st)
-      go true = one (h refl) a
-      go false = a
-  heads-next Closes i [] h a = none
-  heads-next Closes i (x ∷ st) h (one l a) = a
-
-  heads-paired : (e : DepthEffect) (i : ℕ) (st : List ℕ) → All Heads st → All (λ (p : Pair). Heads p.head) (paired e i st)
-  heads-paired Nothing i st a = none
-  heads-paired Blocks i st a = none
-  heads-paired Opens i st a = none
-  heads-paired Closes i [] a = none
-  heads-paired Closes i (x ∷ st) (one l a) = one l none
-
   heads-from : (i : ℕ) (st : List ℕ) (rs : List Row) → ((k : ℕ) → k < length rs → at (i + k) ≡ get_or rs k []) → All Heads st
       → All (λ (p : Pair). Heads p.head) (pairs_from c i st rs)
   heads-from i st [] f a = none
   heads-from i st (r ∷ rs) f a =
       let here : at i ≡ r = let z : i + 0 ≡ i = omega arith in rw z at (f 0 (omega arith)) in
-      all_append (heads-paired (hold_at (byte_at c r)) i st a)
+      all_append (all-paired (hold_at (byte_at c r)) i st (λ h q. q) a)
       (heads-from (suc i) (next_stack (hold_at (byte_at c r)) i st) rs
       (λ k h. let z : i + suc k ≡ suc i + k = omega arith in rw z at (f (suc k) (omega arith)))
-      (heads-next (hold_at (byte_at c r)) i st (λ e. rw here e) a))
+      (all-next (hold_at (byte_at c r)) i st (λ e. rw here e) a))
 
 head_in : (P : ℕ → Type 0) (i : ℕ) {ps : List Pair} → All (λ (p : Pair). P p.head) ps → is_head_of i ps ≡ true → P i
 head_in P i none h = absurd (false≢true h)

@@ -4,5 +4,4 @@ pub mod Pairs
 pub mod Ends
 pub mod Opens
 pub mod Heads
-pub mod Tails
 pub mod Passed

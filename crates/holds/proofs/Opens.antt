@@ -1,11 +1,10 @@
 -- The open holds of the judged tally, from row to row: what ends at a row goes, and what is headed there comes.
 use mathlib.Core.Path.{◌≡◌, refl, ap, ap₂, sym, ◌∙◌}
-use mathlib.Core.Bool.{Bool, true, false, cond, ◌&&◌, ◌||◌, and-false}
+use mathlib.Core.Bool.{Bool, true, false, cond, ◌&&◌, ◌||◌, and-false, and-true}
 use mathlib.Core.List.{List, [], ◌∷◌}
 use Prim.Native.Nat.{ℕ, zero, suc, ◌+◌, ◌*◌, ◌≤◌, ◌<◌}
 use native.Mathlib.Decide.{dec_lt}
 use native.Mathlib.Nat.{zero-add, mul-zero, mul-suc}
-use native.Mathlib.Numerals.{add-one}
 use native.Mathlib.Omega.{arith}
 use borrow.Author.Tests.{lt-ltb, le-ltb, le-leb, lt-leb, eq-eqb, ne_eqb, eqb-true}
 use lib.Dec.{eqb, ltb, leb}
@@ -24,64 +23,31 @@ use Rattle.holds.specs.Tracks.{ends_in, ends_at, paired_heads}
 use Rattle.holds.proofs.Pairs.{Placed, placed, pairs-narrow}
 use Rattle.holds.proofs.Ends.{sum-beyond}
 
--- One pair, of a head before its tail.
-one-pair : (j : Bool) (h t i : ℕ) → h < t
-    → number_of_bool (j && (ltb h (i + 1) && leb (i + 1) t)) + number_of_bool (eqb t i && j) ≡ number_of_bool (j && (ltb h i && leb i t)) + number_of_bool (j && eqb h i)
-one-pair false h t i l = rw (and-false (eqb t i))
-one-pair true h t i l =
-    elim (dec_lt h i) [
-      | yes a ↦
-          elim (dec_lt i t) [
-            | yes b ↦
-                simp (
-                  lt-ltb h (i + 1) (omega arith),
-                  le-leb (i + 1) t (omega arith),
-                  ne_eqb t i (λ e. omega arith),
-                  lt-ltb h i a,
-                  le-leb i t (omega arith),
-                  ne_eqb h i (λ e. omega arith),
-                )
-            | no b ↦
-                elim (dec_lt t i) [
-                  | yes d ↦
-                      simp (
-                        lt-ltb h (i + 1) (omega arith),
-                        lt-leb (i + 1) t (omega arith),
-                        ne_eqb t i (λ e. omega arith),
-                        lt-ltb h i a,
-                        lt-leb i t d,
-                        ne_eqb h i (λ e. omega arith),
-                      )
-                  | no d ↦
-                      simp (
-                        lt-ltb h (i + 1) (omega arith),
-                        lt-leb (i + 1) t (omega arith),
-                        eq-eqb t i (omega arith),
-                        lt-ltb h i a,
-                        le-leb i t (omega arith),
-                        ne_eqb h i (λ e. omega arith),
-                      )
-                ]
-          ]
+-- ---- At a row: whether a pair of a head before its tail is open there, ends there or is headed there
+from-here : (i k : ℕ) → number_of_bool (eqb i k) + number_of_bool (leb (suc i) k) ≡ number_of_bool (leb i k)
+from-here i k =
+    elim (dec_lt i k) [
+      | yes a ↦ simp (ne_eqb i k (λ e. omega arith), le-leb (suc i) k (omega arith), le-leb i k (omega arith))
       | no a ↦
-          elim (dec_lt i h) [
-            | yes b ↦
-                simp (
-                  le-ltb h (i + 1) (omega arith),
-                  ne_eqb t i (λ e. omega arith),
-                  le-ltb h i (omega arith),
-                  ne_eqb h i (λ e. omega arith),
-                )
-            | no b ↦
-                simp (
-                  lt-ltb h (i + 1) (omega arith),
-                  le-leb (i + 1) t (omega arith),
-                  ne_eqb t i (λ e. omega arith),
-                  le-ltb h i (omega arith),
-                  eq-eqb h i (omega arith),
-                )
+          elim (dec_lt k i) [
+            | yes b ↦ simp (ne_eqb i k (λ e. omega arith), lt-leb (suc i) k (omega arith), lt-leb i k b)
+            | no b ↦ simp (eq-eqb i k (omega arith), lt-leb (suc i) k (omega arith), le-leb i k (omega arith))
           ]
     ]
+
+open-part : (h t i : ℕ) → h < t → number_of_bool (ltb h i && leb i t) + number_of_bool (leb i h) ≡ number_of_bool (leb i t)
+open-part h t i l =
+    elim (dec_lt h i) [
+      | yes a ↦ simp (lt-ltb h i a, lt-leb i h a) (omega arith)
+      | no a ↦ simp (le-ltb h i (omega arith), le-leb i h (omega arith), le-leb i t (omega arith))
+    ]
+
+one-pair : (j : Bool) (h t i : ℕ) → h < t
+    → number_of_bool (j && (ltb h (suc i) && leb (suc i) t)) + number_of_bool (eqb t i && j) ≡ number_of_bool (j && (ltb h i && leb i t)) + number_of_bool (j && eqb h i)
+one-pair false h t i l = rw (and-false (eqb t i))
+one-pair true h t i l =
+    rw (and-true (eqb t i), equal-turned t i, equal-turned h i)
+    (omega (arith, open-part h t i l, open-part h t (suc i) l, from-here i h, from-here i t))
 
 -- the pairs whose head is at row i, and of these the judged ones
 abbrev pub heads_in : ℕ → List Pair → ℕ
@@ -91,18 +57,31 @@ abbrev judged_in : (ℕ → Bool) → ℕ → List Pair → ℕ
 judged_in J i ps = count_by (λ (p : Pair). J p.head && eqb p.head i) ps
 
 open_step : (J : ℕ → Bool) (i n : ℕ) {ps : List Pair} → All (Placed n) ps
-    → open_of J (i + 1) ps + ends_in J i ps ≡ open_of J i ps + judged_in J i ps
+    → open_of J (suc i) ps + ends_in J i ps ≡ open_of J i ps + judged_in J i ps
 open_step J i n none = refl
 open_step J i n (one {a = p} {l = ps} h q) =
     let a = one-pair (J p.head) p.head p.tail i h.proper in
     let b = open_step J i n q in
     omega (
       arith,
-      count-cons (λ (x : Pair). J x.head && (ltb x.head (i + 1) && leb (i + 1) x.tail)) p ps,
+      count-cons (λ (x : Pair). J x.head && (ltb x.head (suc i) && leb (suc i) x.tail)) p ps,
       count-cons (λ (x : Pair). eqb x.tail i && J x.head) p ps,
       count-cons (λ (x : Pair). J x.head && (ltb x.head i && leb i x.tail)) p ps,
       count-cons (λ (x : Pair). J x.head && eqb x.head i) p ps,
     )
+
+-- ---- The pairs of a kind are few, where a row adds at most one to them and to the open heads that are yet to make one
+module _ (f : Pair → Bool) (w : List ℕ → ℕ) (k : ℕ)
+    (step : (e : DepthEffect) (i : ℕ) (st : List ℕ) → count_by f (paired e i st) + w (next_stack e i st) ≤ w st + number_of_bool (eqb i k)) where
+  few-from : (c : ℕ) (rs : List Row) (i : ℕ) (st : List ℕ) → count_by f (pairs_from c i st rs) ≤ w st + number_of_bool (leb i k)
+  few-from c [] i st = omega arith
+  few-from c (r ∷ rs) i st =
+      let next = next_stack (hold_at (byte_at c r)) i st in
+      let a = count-append f (paired (hold_at (byte_at c r)) i st) (pairs_from c (suc i) next rs) in
+      let b = few-from c rs (suc i) next in
+      let d = step (hold_at (byte_at c r)) i st in
+      let e = from-here i k in
+      omega arith
 
 -- ---- No head has two pairs
 abbrev times : ℕ → List ℕ → ℕ
@@ -119,30 +98,9 @@ next-times Opens k i st = omega (arith, push-times (ltb (length st) 8) k i st)
 next-times Closes k i [] = omega arith
 next-times Closes k i (h ∷ st) = omega (arith, count-cons (λ h. eqb h k) h st, count-cons (λ (p : Pair). eqb p.head k) (record { head = h; tail = i }) [])
 
-pub from-here : (i k : ℕ) → number_of_bool (eqb i k) + number_of_bool (leb (suc i) k) ≡ number_of_bool (leb i k)
-from-here i k =
-    elim (dec_lt i k) [
-      | yes a ↦ simp (ne_eqb i k (λ e. omega arith), le-leb (suc i) k (omega arith), le-leb i k (omega arith))
-      | no a ↦
-          elim (dec_lt k i) [
-            | yes b ↦ simp (ne_eqb i k (λ e. omega arith), lt-leb (suc i) k (omega arith), lt-leb i k b)
-            | no b ↦ simp (eq-eqb i k (omega arith), lt-leb (suc i) k (omega arith), le-leb i k (omega arith))
-          ]
-    ]
-
-once-from : (c : ℕ) (rs : List Row) (i k : ℕ) (st : List ℕ) → heads_in k (pairs_from c i st rs) ≤ times k st + number_of_bool (leb i k)
-once-from c [] i k st = omega arith
-once-from c (r ∷ rs) i k st =
-    let next = next_stack (hold_at (byte_at c r)) i st in
-    let a = count-append (λ (p : Pair). eqb p.head k) (paired (hold_at (byte_at c r)) i st) (pairs_from c (suc i) next rs) in
-    let b = once-from c rs (suc i) k next in
-    let d = next-times (hold_at (byte_at c r)) k i st in
-    let e = from-here i k in
-    omega arith
-
 pub once : (rows : List Row) (c k : ℕ) → heads_in k (pairs rows c) ≤ 1
 unfolding pairs
-once rows c k = let a = once-from c rows 0 k [] in let b = one-le (leb 0 k) in omega arith
+once rows c k = let a = few-from (λ p. eqb p.head k) (times k) k (λ e i st. next-times e k i st) c rows 0 [] in let b = one-le (leb 0 k) in omega arith
 
 -- ---- No row has two tails of a column
 ends-here : (J : ℕ → Bool) (k : ℕ) (e : DepthEffect) (i : ℕ) (st : List ℕ) → ends_in J k (paired e i st) ≤ number_of_bool (eqb i k)
@@ -156,20 +114,10 @@ ends-here J k Closes i (h ∷ st) = omega (arith, count-cons (λ (p : Pair). eqb
     both true b = one-le b
     both false b = omega arith
 
-ends-from : (J : ℕ → Bool) (c : ℕ) (rs : List Row) (i k : ℕ) (st : List ℕ) → ends_in J k (pairs_from c i st rs) ≤ number_of_bool (leb i k)
-ends-from J c [] i k st = omega arith
-ends-from J c (r ∷ rs) i k st =
-    let next = next_stack (hold_at (byte_at c r)) i st in
-    let a = count-append (λ (p : Pair). eqb p.tail k && J p.head) (paired (hold_at (byte_at c r)) i st) (pairs_from c (suc i) next rs) in
-    let b = ends-from J c rs (suc i) k next in
-    let d = ends-here J k (hold_at (byte_at c r)) i st in
-    let e = from-here i k in
-    omega arith
-
 ends-columns : (J : ℕ → Bool) (rows : List Row) (i n : ℕ) → sum_columns n (λ c. ends_in J i (pairs rows c)) ≤ n
 unfolding pairs
 ends-columns J rows i zero = omega arith
-ends-columns J rows i (suc n) = omega (arith, ends-columns J rows i n, ends-from J n rows 0 i [], one-le (leb 0 i))
+ends-columns J rows i (suc n) = omega (arith, ends-columns J rows i n, few-from (λ p. eqb p.tail i && J p.head) (λ st. 0) i (λ e j st. omega (arith, ends-here J i e j st)) n rows 0 [], one-le (leb 0 i))
 
 pub ends-few : (J : ℕ → Bool) (rows : List Row) (i : ℕ) → ends_at J rows i ≤ 10
 unfolding ends_at
@@ -218,7 +166,7 @@ headed J rows c i = judged-count J i (pairs rows c) ∙ ap (λ n. cond (J i) n 0
 
 -- ---- Over the columns
 columns-step : (J : ℕ → Bool) (rows : List Row) (i L : ℕ)
-    → sum_columns L (λ c. open_of J (i + 1) (pairs rows c)) + sum_columns L (λ c. ends_in J i (pairs rows c))
+    → sum_columns L (λ c. open_of J (suc i) (pairs rows c)) + sum_columns L (λ c. ends_in J i (pairs rows c))
     ≡ sum_columns L (λ c. open_of J i (pairs rows c)) + cond (J i) (paired_heads L (pairs rows) i) 0
 columns-step J rows i zero = omega (arith, cond-zero (J i))
 columns-step J rows i (suc L) =
@@ -238,7 +186,7 @@ ends-narrow J L rows i h a =
 module _ (L : ℕ) (J : ℕ → Bool) (rows : List Row) where
   -- The holds open before a row are those open before the row before it, less what ended there, and with the judged heads of that row.
   pub opens : (i : ℕ) → L ≤ 10 → All (λ r. length r ≤ L) rows
-      → open_before L J (pairs rows) (i + 1) + ends_at J rows i
+      → open_before L J (pairs rows) (suc i) + ends_at J rows i
       ≡ open_before L J (pairs rows) i + cond (J i) (paired_heads L (pairs rows) i) 0
   unfolding open_before
   opens i h a = rw (ends-narrow J L rows i h a) (columns-step J rows i L)
@@ -260,8 +208,7 @@ heads-most (suc L) ps i = omega (arith, heads-most L ps i, one-le (is_head_of i 
 pub opens-most : (L : ℕ) (J : ℕ → Bool) (rows : List Row) → L ≤ 10 → All (λ r. length r ≤ L) rows → (i : ℕ) → open_before L J (pairs rows) i ≤ L * i
 opens-most L J rows h a zero = omega (arith, opens-start L J rows, mul-zero L)
 opens-most L J rows h a (suc i) =
-    let e : open_before L J (pairs rows) (suc i) + ends_at J rows i
-    ≡ open_before L J (pairs rows) i + cond (J i) (paired_heads L (pairs rows) i) 0 = rw add-one at (opens L J rows i h a) in
+    let e = opens L J rows i h a in
     omega (arith, opens-most L J rows h a i, mul-suc L i, at_most (J i) (paired_heads L (pairs rows) i), heads-most L (pairs rows) i)
   where
     at_most : (b : Bool) (n : ℕ) → cond b n 0 ≤ n

@@ -1,9 +1,9 @@
--- The stacks and the pairs of the definition, one row more at the end; and where their heads and tails lie.
+-- The pairs of the definition, one row more at the end; and where the heads and tails of stacks and pairs lie.
 use mathlib.Core.Path.{◌≡◌, refl, sym, ap, ◌∙◌}
 use mathlib.Core.Bool.{Bool, true, false, cond, ◌||◌, or_assoc}
 use mathlib.Core.List.{List, [], ◌∷◌, ◌++◌, append_assoc, append-nil}
 use Prim.Native.Nat.{ℕ, suc, ◌+◌, ◌≤◌, ◌<◌}
-use native.Mathlib.Nat.{zero-add}
+use native.Mathlib.Nat.{zero-add, add-zero, add-suc, suc-add}
 use native.Mathlib.Omega.{arith}
 use borrow.Author.Tests.{ltb-true}
 use lib.Dec.{eqb, ltb}
@@ -19,43 +19,20 @@ use Rattle.definitions.proofs.Lists.{All, none, one, all_append, all_map}
 use Rattle.holds.specs.Tracks.{stack_from, stack_after}
 
 -- ---- One row more
-from-snoc : (c i : ℕ) (st : List ℕ) (rs : List Row) (r : Row)
-    → stack_from c i st (rs ++ (r ∷ [])) ≡ next_stack (hold_at (byte_at c r)) (i + length rs) (stack_from c i st rs)
-from-snoc c i st [] r = ap (λ n. next_stack (hold_at (byte_at c r)) n st) (omega arith)
-from-snoc c i st (q ∷ rs) r =
-    from-snoc c (suc i) (next_stack (hold_at (byte_at c q)) i st) rs r
-    ∙ ap (λ n. next_stack (hold_at (byte_at c r)) n (stack_from c (suc i) (next_stack (hold_at (byte_at c q)) i st) rs)) (omega arith)
-
-pub stack_snoc : (rows : List Row) (r : Row) (c : ℕ)
-    → stack_after (rows ++ (r ∷ [])) c ≡ next_stack (hold_at (byte_at c r)) (length rows) (stack_after rows c)
-unfolding stack_after
-stack_snoc rows r c = from-snoc c 0 [] rows r ∙ ap (λ n. next_stack (hold_at (byte_at c r)) n (stack_from c 0 [] rows)) (zero-add (length rows))
-
 pairs-from-snoc : (c i : ℕ) (st : List ℕ) (rs : List Row) (r : Row)
     → pairs_from c i st (rs ++ (r ∷ [])) ≡ pairs_from c i st rs ++ paired (hold_at (byte_at c r)) (i + length rs) (stack_from c i st rs)
-pairs-from-snoc c i st [] r =
-    append-nil (paired (hold_at (byte_at c r)) i st) ∙ ap (λ n. paired (hold_at (byte_at c r)) n st) (omega arith)
+pairs-from-snoc c i st [] r = rw add-zero (append-nil (paired (hold_at (byte_at c r)) i st))
 pairs-from-snoc c i st (q ∷ rs) r =
     let first = paired (hold_at (byte_at c q)) i st in
     let next = next_stack (hold_at (byte_at c q)) i st in
-    ap (λ l. first ++ l) (pairs-from-snoc c (suc i) next rs r)
-    ∙ sym (append_assoc first (pairs_from c (suc i) next rs) (paired (hold_at (byte_at c r)) (suc i + length rs) (stack_from c (suc i) next rs)))
-    ∙ ap (λ n. (first ++ pairs_from c (suc i) next rs) ++ paired (hold_at (byte_at c r)) n (stack_from c (suc i) next rs)) (omega arith)
+    rw (add-suc, ← suc-add)
+    (ap (λ l. first ++ l) (pairs-from-snoc c (suc i) next rs r)
+    ∙ sym (append_assoc first (pairs_from c (suc i) next rs) (paired (hold_at (byte_at c r)) (suc i + length rs) (stack_from c (suc i) next rs))))
 
 pub pairs-snoc : (rows : List Row) (r : Row) (c : ℕ)
     → pairs (rows ++ (r ∷ [])) c ≡ pairs rows c ++ paired (hold_at (byte_at c r)) (length rows) (stack_after rows c)
 unfolding pairs stack_after
-pairs-snoc rows r c =
-    pairs-from-snoc c 0 [] rows r
-    ∙ ap (λ n. pairs_from c 0 [] rows ++ paired (hold_at (byte_at c r)) n (stack_from c 0 [] rows)) (zero-add (length rows))
-
--- past the row's last cell a column stays as it is
-pub stack-beyond : (rows : List Row) (r : Row) (c : ℕ) → length r ≤ c → stack_after (rows ++ (r ∷ [])) c ≡ stack_after rows c
-stack-beyond rows r c h = stack_snoc rows r c ∙ ap (λ e. next_stack e (length rows) (stack_after rows c)) (past_end r c h)
-
-pub pairs-beyond : (rows : List Row) (r : Row) (c : ℕ) → length r ≤ c → pairs (rows ++ (r ∷ [])) c ≡ pairs rows c
-pairs-beyond rows r c h =
-    pairs-snoc rows r c ∙ ap (λ e. pairs rows c ++ paired e (length rows) (stack_after rows c)) (past_end r c h) ∙ append-nil (pairs rows c)
+pairs-snoc rows r c = rw zero-add at (pairs-from-snoc c 0 [] rows r)
 
 -- ---- Heads and counts of two lists of pairs
 pub heads-append : (i : ℕ) (ps qs : List Pair) → is_head_of i (ps ++ qs) ≡ (is_head_of i ps || is_head_of i qs)
@@ -66,6 +43,25 @@ heads-append i (p ∷ ps) qs =
 pub count_none : {A : Type 0} (p : A → Bool) {l : List A} → All (λ a. p a ≡ false) l → count_by p l ≡ 0
 count_none p none = refl
 count_none p (one {a = a} h q) = rw (h, count_none p q)
+
+-- ---- What holds of the open heads, and of a head that comes, holds of the open heads after a cell; and so of a pair what follows for it
+pub all-next : {P : ℕ → Type 0} (e : DepthEffect) (i : ℕ) (st : List ℕ) → (e ≡ Opens → P i) → All P st → All P (next_stack e i st)
+all-next Nothing i st h a = a
+all-next Blocks i st h a = none
+all-next {P} Opens i st h a = go (ltb (length st) 8)
+  where
+    go : (b : Bool) → All P (cond b (i ∷ st) st)
+    go true = one (h refl) a
+    go false = a
+all-next Closes i [] h a = none
+all-next Closes i (x ∷ st) h (one l a) = a
+
+pub all-paired : {P : ℕ → Type 0} {Q : Pair → Type 0} (e : DepthEffect) (i : ℕ) (st : List ℕ) → ((h : ℕ) → P h → Q (record { head = h; tail = i })) → All P st → All Q (paired e i st)
+all-paired Nothing i st f a = none
+all-paired Blocks i st f a = none
+all-paired Opens i st f a = none
+all-paired Closes i [] f a = none
+all-paired Closes i (x ∷ st) f (one l a) = one (f x l) none
 
 -- ---- Where heads and tails lie
 -- A stack before row i has at most eight heads, all before row i.
@@ -81,31 +77,22 @@ pub record Placed (n : ℕ) (p : Pair) : Type 0 where
 earlier : {i : ℕ} {st : List ℕ} → All (λ h. h < i) st → All (λ h. h < suc i) st
 earlier {i} a = all_map (λ h (l : h < i). omega arith) a
 
+few-next : (e : DepthEffect) (i : ℕ) (st : List ℕ) → length st ≤ 8 → length (next_stack e i st) ≤ 8
+few-next Nothing i st h = h
+few-next Blocks i st h = omega arith
+few-next Opens i st h = go (ltb (length st) 8) refl
+  where
+    go : (b : Bool) → ltb (length st) 8 ≡ b → length (cond b (i ∷ st) st) ≤ 8
+    go true e = let l = ltb-true (length st) 8 e in omega arith
+    go false e = h
+few-next Closes i [] h = omega arith
+few-next Closes i (x ∷ st) h = omega arith
+
 stacked-next : (e : DepthEffect) (i : ℕ) (st : List ℕ) → Stacked i st → Stacked (suc i) (next_stack e i st)
-stacked-next Nothing i st s = record { few = s.few; before = earlier s.before }
-stacked-next Blocks i st s = record { few = omega arith; before = none }
-stacked-next Opens i st s = go (ltb (length st) 8) refl
-  where
-    go : (b : Bool) → ltb (length st) 8 ≡ b → Stacked (suc i) (cond b (i ∷ st) st)
-    go true e =
-        let h = ltb-true (length st) 8 e in
-        record { few = omega arith; before = let l : i < suc i = omega arith in one l (earlier s.before) }
-    go false e = record { few = s.few; before = earlier s.before }
-stacked-next Closes i [] s = record { few = omega arith; before = none }
-stacked-next Closes i (h ∷ st) s = go s.few s.before
-  where
-    go : length (h ∷ st) ≤ 8 → All (λ h. h < i) (h ∷ st) → Stacked (suc i) st
-    go few (one l a) = record { few = omega arith; before = earlier a }
+stacked-next e i st s = record { few = few-next e i st s.few; before = all-next e i st (λ o. omega arith) (earlier s.before) }
 
 placed-next : (e : DepthEffect) (i : ℕ) (st : List ℕ) → Stacked i st → All (Placed (suc i)) (paired e i st)
-placed-next Nothing i st s = none
-placed-next Blocks i st s = none
-placed-next Opens i st s = none
-placed-next Closes i [] s = none
-placed-next Closes i (h ∷ st) s = go s.before
-  where
-    go : All (λ h. h < i) (h ∷ st) → All (Placed (suc i)) (record { head = h; tail = i } ∷ [])
-    go (one l a) = one (record { proper = l; inside = omega arith }) none
+placed-next e i st s = all-paired e i st (λ h (l : h < i). record { proper = l; inside = omega arith }) s.before
 
 placed-more : {m n : ℕ} {ps : List Pair} → m ≤ n → All (Placed m) ps → All (Placed n) ps
 placed-more {m} {n} h a = all_map (λ p (q : Placed m p). record { proper = q.proper; inside = let l = q.inside in omega arith }) a

@@ -3,7 +3,6 @@ use mathlib.Core.Path.{◌≡◌}
 use mathlib.Core.Bool.{false, ◌||◌}
 use mathlib.Core.List.{List, []}
 use Prim.Native.Nat.{ℕ, ◌<◌}
-use lib.ListN.{get_or}
 use Rattle.definitions.specs.Lines.{Row}
 use Rattle.definitions.specs.Cells.{cell_of, byte_at}
 use Rattle.definitions.specs.Tracker.{next_stack, paired, hold_at}
@@ -13,10 +12,7 @@ use Rattle.taps.specs.Taps.{bit, FreeTaps, FreeAre}
 use Rattle.taps.proofs.Free.{Free, zero-cell, tap-there, free-cell}
 use Rattle.holds.specs.Stacks.{stack_of}
 use Rattle.holds.specs.declared.Tracker.{Tracker}
-
-no-depth : (t : Tracker) (c : ℕ) → get_or t.depths c 0 ≡ 0 → stack_of t c ≡ []
-unfolding stack_of
-no-depth t c z = rw z
+use Rattle.holds.proofs.Stacks.{no-depth}
 
 -- a cell of such a row: a `0`, or a `1` in a column without an open head
 module _ (busy c i : ℕ) (st : List ℕ) (z : bit c busy ≡ 0 → st ≡ []) where

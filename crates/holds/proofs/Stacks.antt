@@ -9,6 +9,8 @@ use native.Mathlib.Omega.{arith}
 use borrow.Author.Tests.{lt-ltb, le-ltb}
 use lib.ListN.{length, get_or, set, length-set}
 use lib.Seq.{get_or-set_same, get_or-set_other}
+use Rattle.definitions.specs.Tracker.{next_stack, paired}
+use Rattle.definitions.specs.declared.DepthEffect.{DepthEffect}
 use Rattle.definitions.specs.declared.DepthEffect.TheVariants.{Nothing, Blocks, Opens, Closes}
 use Rattle.holds.specs.Stacks.{stack_at, stack_of, Sized, TrackReady, TrackStepped}
 use Rattle.holds.specs.declared.Tracker.{Tracker}
@@ -36,7 +38,11 @@ apart : (c d x y : ℕ) → (d ≡ c → ⊥) → x < 8 → y < 8 → 8 * d + y 
 apart c d x y n hx hy e =
     elim (dec_lt c d) [ yes p ↦ omega arith | no p ↦ elim (dec_lt d c) [ yes q ↦ omega arith | no q ↦ n (omega arith) ] ]
 
-module _ (t : Tracker) (c : ℕ) (r : TrackReady c t) where
+pub no-depth : (t : Tracker) (c : ℕ) → get_or t.depths c 0 ≡ 0 → stack_of t c ≡ []
+unfolding stack_of
+no-depth t c z = rw z
+
+module _ {t : Tracker} {c : ℕ} (r : TrackReady c t) where
   -- another depth of column c, and another mask of the busy columns
   module _ (busy n : ℕ) where
     abbrev Set : Tracker
@@ -59,10 +65,17 @@ module _ (t : Tracker) (c : ℕ) (r : TrackReady c t) where
         free-marked t.busy c busy used 0 t.depths (set t.depths c n) m (λ e. get_or-set_same t.depths c n 0 (omega arith) ∙ z e)
         (λ d ne. get_or-set_other t.depths c d n 0 ne) f
 
-  -- a cell that does nothing, and one that blocks
-  pub step-nothing : (row : ℕ) → TrackStepped Nothing row c t t []
-  step-nothing row = record { stack = refl; pairs = refl; sized = r.sized; others = λ d k ne. refl; busy = λ f. f }
+  -- a cell that leaves its stack and pairs with none: one that does nothing, and one that blocks where no head is open
+  step-same : (e : DepthEffect) (row : ℕ) → next_stack e row (stack_of t c) ≡ stack_of t c → paired e row (stack_of t c) ≡ [] → TrackStepped e row c t t []
+  step-same e row same none = record { stack = sym same; pairs = sym none; sized = r.sized; others = λ d k ne. refl; busy = λ f. f }
 
+  pub step-nothing : (row : ℕ) → TrackStepped Nothing row c t t []
+  step-nothing row = step-same Nothing row refl refl
+
+  pub step-clear : (row : ℕ) → get_or t.depths c 0 ≡ 0 → TrackStepped Blocks row c t t []
+  step-clear row z = step-same Blocks row (sym (no-depth t c z)) refl
+
+  -- a cell that blocks
   pub step-blocks : (busy row : ℕ) → Marked t.busy c false busy → TrackStepped Blocks row c t (Set busy 0) []
   step-blocks busy row m =
       record {
@@ -98,14 +111,7 @@ module _ (t : Tracker) (c : ℕ) (r : TrackReady c t) where
       }
 
   pub step-full : (row : ℕ) → 8 ≤ get_or t.depths c 0 → TrackStepped Opens row c t t []
-  step-full row h =
-      record {
-        stack = sym (rw (stack-length t c, le-ltb (get_or t.depths c 0) 8 h));
-        pairs = refl;
-        sized = r.sized;
-        others = λ d k ne. refl;
-        busy = λ f. f;
-      }
+  step-full row h = step-same Opens row (rw (stack-length t c, le-ltb (get_or t.depths c 0) 8 h)) refl
 
   -- a tail, where a head is open and where none is
   abbrev BusyAfter : ℕ → Type 0
@@ -137,9 +143,5 @@ module _ (t : Tracker) (c : ℕ) (r : TrackReady c t) where
       top zero h e = absurd (omega arith)
       top (suc n) h e = let p : at ≡ 8 * c + n = omega arith in let q : suc n - 1 ≡ n = omega arith in rw (p, q)
 
-  pub step-none : (row : ℕ) → get_or t.depths c 0 ≤ 0 → TrackStepped Closes row c t t []
-  unfolding stack_of
-  step-none row h =
-      let z : get_or t.depths c 0 ≡ 0 = omega arith in
-      let empty : stack_at t.heads c (get_or t.depths c 0) ≡ [] = ap (stack_at t.heads c) z in
-      record { stack = rw empty; pairs = sym (rw empty); sized = r.sized; others = λ d k ne. refl; busy = λ f. f }
+  pub step-none : (row : ℕ) → get_or t.depths c 0 ≡ 0 → TrackStepped Closes row c t t []
+  step-none row z = let empty = no-depth t c z in step-same Closes row (rw empty) (rw empty)

@@ -1,14 +1,14 @@
--- Where rows and a row begin: no rows, a row's first cell, and its end.
+-- Where a row begins and where it ends: what is counted of the rows before it hangs on no judging of later rows.
 use mathlib.Core.Path.{◌≡◌, refl, sym, ap, ap₂, ◌∙◌}
 use mathlib.Core.Bool.{Bool, cond, ◌&&◌}
 use mathlib.Core.List.{List, [], ◌∷◌, ◌++◌}
-use Prim.Native.Nat.{ℕ, suc, ◌+◌, ◌*◌, ◌≤◌, ◌<◌}
+use Prim.Native.Nat.{ℕ, suc, ◌+◌, ◌≤◌, ◌<◌}
 use native.Mathlib.Nat.{zero-add}
 use native.Mathlib.Omega.{arith}
 use borrow.Author.Tests.{eq-eqb, ne_eqb}
 use lib.Dec.{eqb}
 use lib.ListN.{length, get_or}
-use Rattle.definitions.specs.Sizes.{row_numbers_bound, count_bound}
+use Rattle.definitions.specs.Sizes.{row_numbers_bound}
 use Rattle.definitions.specs.Lists.{number_of_bool}
 use Rattle.definitions.specs.Lines.{Row}
 use Rattle.definitions.specs.Tracker.{Pair, pairs}
@@ -16,37 +16,16 @@ use Rattle.definitions.specs.Tally.{empty_stats, empty_sum}
 use Rattle.definitions.specs.Correction.{keep_row}
 use Rattle.definitions.specs.declared.ArrowStats.{ArrowStats}
 use Rattle.definitions.proofs.Lists.{All, none, one, count-cons}
-use Rattle.holds.specs.Stacks.{stack_of, Sized}
 use Rattle.holds.specs.Tracks.{ends_in, ends_at}
-use Rattle.holds.specs.declared.Tracker.{Tracker}
-use Rattle.holds.proofs.Stacks.{stack-length}
 use Rattle.holds.proofs.Pairs.{Placed, placed}
 use Rattle.holds.proofs.Ends.{sum_same}
-use Rattle.row_tally.specs.Bounds.{Below}
 use Rattle.row_tally.specs.Raised.{with_cells}
-use Rattle.row_tally.proofs.Bounds.{below_more}
 use Rattle.paired_tally.specs.declared.PairedTally.{PairedTally}
 use Rattle.paired_tally.specs.Entry.{entry_of}
-use Rattle.paired_tally.specs.Paired.{kind_sum, counts_from, numbers_after, PairedRows, LeftByRows, RowCounted}
+use Rattle.paired_tally.specs.Paired.{kind_sum, counts_from, PairedRows, LeftByRows, RowCounted}
 use Rattle.paired_tally.specs.Cells.{begun, Within, GoneOn}
-use Rattle.paired_tally.proofs.Bounds.{paired-below}
 use Rattle.paired_tally.proofs.Within.{begun-end}
 use Rattle.paired_tally.proofs.Rows.{row-begins}
-
--- before the first row
-pub rows-begin : (plain : Bool) (J : ℕ → Bool) (L : ℕ) (t : Tracker) (work : List ℕ) → ((c : ℕ) → c < 10 → stack_of t c ≡ []) → Sized t → ((i : ℕ) → get_or work i 0 ≡ 0)
-    → PairedRows plain J L [] (record { tracker = t; stats = empty_stats }) work
-unfolding numbers_after
-rows-begin plain J L t work h sized z =
-    record {
-      wide = λ i l. absurd (omega arith);
-      stacks = h;
-      sized = sized;
-      busy = λ c l e. sym (stack-length t c) ∙ ap length (h c l);
-      stats = refl;
-      entries = λ i l. absurd (omega arith);
-      later = λ i l. z i;
-    }
 
 -- ---- Which rows are judged counts for the rows that have come alone
 module _ (J J' : ℕ → Bool) where
@@ -104,7 +83,7 @@ unfolding judging-at
 before-row J row judged j h = sym (ap (λ b. cond b judged (J j)) (ne_eqb j row (λ e. omega arith)))
 
 -- ---- A row begins and ends
-module _ (plain judged : Bool) (row : ℕ) (cells : Row) (t : PairedTally) (work work' : List ℕ) (zero-entry : get_or work row 0 ≡ 0 → get_or work' row 0 ≡ entry_of plain judged empty_sum 0)
+module _ {plain judged : Bool} {row : ℕ} (cells : Row) (t : PairedTally) (work : List ℕ) {work' : List ℕ} (zero-entry : get_or work row 0 ≡ 0 → get_or work' row 0 ≡ entry_of plain judged empty_sum 0)
     (others : (i : ℕ) → (i ≡ row → ⊥) → get_or work' i 0 ≡ get_or work i 0) where
   begins : (J : ℕ → Bool) (rows : List Row) → length rows ≡ row → J row ≡ judged → PairedRows plain J (length cells) rows t work
       → PairedRows plain J (length cells) (rows ++ (begun cells 0 ∷ [])) t work'
@@ -126,14 +105,5 @@ module _ (plain judged : Bool) (row : ℕ) (cells : Row) (t : PairedTally) (work
         few = few;
       }
 
-  ended : (J : ℕ → Bool) (rows : List Row) (t' : PairedTally) (work'' : List ℕ) → PairedRows plain J (length cells) (rows ++ (begun cells (length cells) ∷ [])) t' work''
-      → PairedRows plain J (length cells) (rows ++ (cells ∷ [])) t' work''
-  ended J rows t' work'' s = rw (begun-end cells (length cells) (omega arith)) at s
-
-  pub row-counted : (t' : PairedTally) (work'' : List ℕ) → GoneOn plain judged row cells 0 t work' (length cells) t' work'' → RowCounted plain judged row cells t work t' work''
-  row-counted t' work'' g J rows size here s = ended J rows t' work'' (g J rows size here (begins J rows size here s))
-
--- the counts of rows that are left are low
-pub left-few : (plain : Bool) (L row : ℕ) (t : PairedTally) (work : List ℕ) → LeftByRows plain L row t work → L ≤ 10 → row < row_numbers_bound → Below count_bound t.stats
-left-few plain L row t work x narrow few =
-    below_more (10 * length x.rows) count_bound t.stats (omega (arith, x.size, few)) (paired-below plain x.judging L x.rows t work x.paired narrow)
+  pub row-counted : {t' : PairedTally} {work'' : List ℕ} → GoneOn plain judged row cells 0 t work' (length cells) t' work'' → RowCounted plain judged row cells t work t' work''
+  row-counted g J rows size here s = rw (begun-end cells (length cells) (omega arith)) at (g J rows size here (begins J rows size here s))

@@ -29,9 +29,6 @@ kind-under : (plain judged : Bool) (r : Row) → length r ≤ 10 → Under 10 (k
 kind-under true judged r h = under-row 10 r h
 kind-under false judged r h = under-judged 10 judged r h
 
-pub sum_under : (plain : Bool) (J : ℕ → Bool) (ps : ℕ → List Pair) (rows : List Row) (i : ℕ) → length (get_or rows i []) ≤ 10 → Under 10 (sum_at plain J ps rows i)
-sum_under plain J ps rows i h = kind-under plain (J i) (keep_row ps i 0 (get_or rows i [])) (rw keep-wide h)
-
 -- ---- The counts
 counts-below : (plain : Bool) (J : ℕ → Bool) (ps : ℕ → List Pair) (k : ℕ) (t : ArrowStats) (i : ℕ) (rs : List Row)
     → ((j : ℕ) → j < length rs → length (get_or rs j []) ≤ 10) → Below k t → Below (k + 10 * length rs) (counts_from plain J ps t i rs)
@@ -47,9 +44,9 @@ entry_low true judged s ends u h = omega (arith, u)
 entry_low false true s ends u h = omega (arith, u, one-le (leb 1 (s.mines + s.fakes)))
 entry_low false false s ends u h = omega arith
 
-module _ (plain : Bool) (J : ℕ → Bool) (L : ℕ) (rows : List Row) (t : PairedTally) (work : List ℕ) (s : PairedRows plain J L rows t work) (narrow : L ≤ 10) where
-  row-under : (i : ℕ) → i < length rows → Under 10 (sum_at plain J (pairs rows) rows i)
-  row-under i h = sum_under plain J (pairs rows) rows i (omega (arith, s.wide i h))
+module _ {plain : Bool} {J : ℕ → Bool} {L : ℕ} {rows : List Row} {t : PairedTally} {work : List ℕ} (s : PairedRows plain J L rows t work) (narrow : L ≤ 10) where
+  pub row-under : (i : ℕ) → i < length rows → Under 10 (sum_at plain J (pairs rows) rows i)
+  row-under i h = kind-under plain (J i) (keep_row (pairs rows) i 0 (get_or rows i [])) (rw keep-wide (omega (arith, s.wide i h)))
 
   pub entries_low : (i : ℕ) → get_or work i 0 ≤ 15018
   entries_low i =

@@ -50,7 +50,12 @@ sum-one (suc m) k x f g h o e =
           omega arith
     ]
 
-module _ (rows : List Row) (r : Row) (k b : ℕ) (inside : k < length r) (zero-there : get_or r k 0 ≡ 48) where
+-- a row has a `0` in column k
+pub record ZeroAt (r : Row) (k : ℕ) : Type 0 where
+  pub inside : k < length r
+  pub zero_there : get_or r k 0 ≡ 48
+
+module _ (rows : List Row) {r : Row} {k : ℕ} (b : ℕ) (z : ZeroAt r k) where
   abbrev Before : List Row
   Before = rows ++ (r ∷ [])
 
@@ -58,10 +63,10 @@ module _ (rows : List Row) (r : Row) (k b : ℕ) (inside : k < length r) (zero-t
   After = rows ++ (set r k b ∷ [])
 
   byte-before : byte_at k r ≡ 48
-  byte-before = any-default r k 48 0 inside ∙ zero-there
+  byte-before = any-default r k 48 0 z.inside ∙ z.zero_there
 
   byte-after : byte_at k (set r k b) ≡ b
-  byte-after = get_or-set_same r k b 48 inside
+  byte-after = get_or-set_same r k b 48 z.inside
 
   byte-other : (c : ℕ) → (c ≡ k → ⊥) → byte_at c (set r k b) ≡ byte_at c r
   byte-other c ne = get_or-set_other r k c b 48 ne
@@ -121,7 +126,7 @@ module _ (rows : List Row) (r : Row) (k b : ℕ) (inside : k < length r) (zero-t
     no-head = ap (is_head_of (length rows)) (same-pairs k ∙ pairs-before) ∙ head-late (length rows) (length rows) (omega arith) (placed rows k)
 
   -- ---- A pair ends
-  module _ (h : ℕ) (one-pair : paired (hold_at b) (length rows) (stack_after rows k) ≡ record { head = h; tail = length rows } ∷ []) where
+  module _ {h : ℕ} (one-pair : paired (hold_at b) (length rows) (stack_after rows k) ≡ record { head = h; tail = length rows } ∷ []) where
     pairs-more : pairs After k ≡ pairs rows k ++ (record { head = h; tail = length rows } ∷ [])
     pairs-more = pairs-after ∙ ap (λ ps. pairs rows k ++ ps) one-pair
 
@@ -185,7 +190,7 @@ module _ (rows : List Row) (r : Row) (k b : ℕ) (inside : k < length r) (zero-t
             plus n = omega arith
 
 -- ---- The head of a number
-module _ (rows : List Row) (k b v : ℕ) (st : List ℕ) (closes : hold_at b ≡ Closes) (shown : numbers_after rows k ≡ v ∷ st) where
+module _ (rows : List Row) (k b : ℕ) {v : ℕ} {st : List ℕ} (closes : hold_at b ≡ Closes) (shown : numbers_after rows k ≡ v ∷ st) where
   stack-is : stack_after rows k ≡ half v ∷ halves st
   stack-is = sym (numbers-halves rows k) ∙ ap halves shown
 

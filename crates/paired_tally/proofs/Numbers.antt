@@ -3,7 +3,7 @@ use mathlib.Core.Path.{◌≡◌, refl, sym, ap, ◌∙◌}
 use mathlib.Core.Bool.{Bool, true, false, cond}
 use mathlib.Core.List.{List, [], ◌∷◌, ◌++◌, map}
 use Prim.Native.Nat.{ℕ, suc, ◌+◌, ◌/◌, ◌≤◌, ◌<◌}
-use native.Mathlib.Nat.{zero-add}
+use native.Mathlib.Nat.{zero-add, add-zero, add-suc, suc-add}
 use native.Mathlib.Omega.{arith}
 use lib.Dec.{eqb, ltb}
 use lib.ListN.{length, get_or}
@@ -13,25 +13,21 @@ use Rattle.definitions.specs.Cells.{byte_at}
 use Rattle.definitions.specs.Tracker.{next_stack, hold_at}
 use Rattle.definitions.specs.declared.DepthEffect.{DepthEffect}
 use Rattle.definitions.specs.declared.DepthEffect.TheVariants.{Nothing, Blocks, Opens, Closes}
-use Rattle.definitions.proofs.Lists.{All, none, one, one-le}
+use Rattle.definitions.proofs.Lists.{All, none, one-le}
 use Rattle.holds.specs.Tracks.{stack_from, stack_after}
-use Rattle.holds.proofs.Pairs.{stacked}
+use Rattle.holds.proofs.Pairs.{stacked, all-next}
 use Rattle.paired_tally.specs.Paired.{head_number, numbers_from, numbers_after}
 
 -- ---- One row more
 from-snoc : (c i : ℕ) (st : List ℕ) (rs : List Row) (r : Row)
     → numbers_from c i st (rs ++ (r ∷ [])) ≡ next_stack (hold_at (byte_at c r)) (head_number (i + length rs) (byte_at c r)) (numbers_from c i st rs)
-from-snoc c i st [] r = ap (λ n. next_stack (hold_at (byte_at c r)) (head_number n (byte_at c r)) st) (omega arith)
-from-snoc c i st (q ∷ rs) r =
-    from-snoc c (suc i) (next_stack (hold_at (byte_at c q)) (head_number i (byte_at c q)) st) rs r
-    ∙ ap (λ n. next_stack (hold_at (byte_at c r)) (head_number n (byte_at c r)) (numbers_from c (suc i) (next_stack (hold_at (byte_at c q)) (head_number i (byte_at c q)) st) rs)) (omega arith)
+from-snoc c i st [] r = rw add-zero
+from-snoc c i st (q ∷ rs) r = rw (add-suc, ← suc-add) (from-snoc c (suc i) (next_stack (hold_at (byte_at c q)) (head_number i (byte_at c q)) st) rs r)
 
 pub numbers_snoc : (rows : List Row) (r : Row) (c : ℕ)
     → numbers_after (rows ++ (r ∷ [])) c ≡ next_stack (hold_at (byte_at c r)) (head_number (length rows) (byte_at c r)) (numbers_after rows c)
 unfolding numbers_after
-numbers_snoc rows r c =
-    from-snoc c 0 [] rows r
-    ∙ ap (λ n. next_stack (hold_at (byte_at c r)) (head_number n (byte_at c r)) (numbers_from c 0 [] rows)) (zero-add (length rows))
+numbers_snoc rows r c = rw zero-add at (from-snoc c 0 [] rows r)
 
 -- ---- The rows of the numbers
 abbrev pub half : ℕ → ℕ
@@ -80,17 +76,6 @@ module _ (c : ℕ) (at : ℕ → Row) where
       let e = half-number i (byte_at c (at i)) in
       record { number = sym (ap (λ k. head_number k (byte_at c (at k))) e); opens = ap (λ k. hold_at (byte_at c (at k))) e ∙ o }
 
-  told-next : (e : DepthEffect) (i : ℕ) (st : List ℕ) → hold_at (byte_at c (at i)) ≡ e → All Told st → All Told (next_stack e (head_number i (byte_at c (at i))) st)
-  told-next Nothing i st h a = a
-  told-next Blocks i st h a = none
-  told-next Opens i st h a = go (ltb (length st) 8)
-    where
-      go : (b : Bool) → All Told (cond b (head_number i (byte_at c (at i)) ∷ st) st)
-      go true = one (told-new i h) a
-      go false = a
-  told-next Closes i [] h a = none
-  told-next Closes i (x ∷ st) h (one l a) = a
-
   told-from : (i : ℕ) (st : List ℕ) (rs : List Row) → ((k : ℕ) → k < length rs → at (i + k) ≡ get_or rs k []) → All Told st
       → All Told (numbers_from c i st rs)
   told-from i st [] f a = a
@@ -98,7 +83,7 @@ module _ (c : ℕ) (at : ℕ → Row) where
       let here : at i ≡ r = let z : i + 0 ≡ i = omega arith in rw z at (f 0 (omega arith)) in
       told-from (suc i) (next_stack (hold_at (byte_at c r)) (head_number i (byte_at c r)) st) rs
       (λ k h. let z : i + suc k ≡ suc i + k = omega arith in rw z at (f (suc k) (omega arith)))
-      (rw here at (told-next (hold_at (byte_at c (at i))) i st refl a))
+      (rw here at (all-next (hold_at (byte_at c (at i))) (head_number i (byte_at c (at i))) st (told-new i) a))
 
 pub numbers-told : (rows : List Row) (c : ℕ) → All (Told c (λ k. get_or rows k [])) (numbers_after rows c)
 unfolding numbers_after

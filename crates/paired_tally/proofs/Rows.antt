@@ -17,7 +17,6 @@ use Rattle.definitions.specs.Correction.{keep_row}
 use Rattle.definitions.specs.Judged.{is_judged_arrow, is_unjudged_fake, sum_of_fakes, judged_sum}
 use Rattle.definitions.specs.declared.DepthEffect.TheVariants.{Nothing}
 use Rattle.definitions.specs.declared.RowSum.{RowSum}
-use Rattle.definitions.specs.declared.ArrowStats.{ArrowStats}
 use Rattle.definitions.proofs.Columns.{zero-byte}
 use Rattle.holds.specs.Tracks.{stack_after, ends_in, ends_at}
 use Rattle.holds.proofs.Pairs.{pairs-snoc}
@@ -41,17 +40,16 @@ module _
     (L : ℕ)
     (rows : List Row)
     (r : Row)
-    (t : PairedTally)
-    (work : List ℕ)
+    (t t' : PairedTally)
+    (work work' : List ℕ)
     (s : PairedRows plain J L rows t work)
     (wide : length r ≡ L)
     (pairs-same : (c : ℕ) → paired (hold_at (byte_at c r)) (length rows) (stack_after rows c) ≡ [])
     (stays : (c : ℕ) → c < 10 → next_stack (hold_at (byte_at c r)) (head_number (length rows) (byte_at c r)) (numbers_after rows c) ≡ numbers_after rows c)
     (sum : RowSum)
     (sum-is : kind_sum plain (J (length rows)) (keep_row (pairs rows) (length rows) 0 r) ≡ sum)
-    (stats' : ArrowStats)
-    (counted : stats' ≡ with_cells t.stats sum)
-    (work' : List ℕ)
+    (tracked : t'.tracker ≡ t.tracker)
+    (counted : t'.stats ≡ with_cells t.stats sum)
     (entry : get_or work' (length rows) 0 ≡ entry_of plain (J (length rows)) sum 0)
     (others : (i : ℕ) → (i ≡ length rows → ⊥) → get_or work' i 0 ≡ get_or work i 0)
   where
@@ -85,7 +83,7 @@ module _
         sum_same 10 (λ c. ends_in J n (pairs After c)) (λ c. 0) (λ c h. ap (ends_in J n) (pairs-after c) ∙ ends-late J rows c n (omega arith))
 
     -- the rows with this one
-    pub row-more : PairedRows plain J L After (record { tracker = t.tracker; stats = stats' }) work'
+    pub row-more : PairedRows plain J L After t' work'
     row-more =
         record {
           wide =
@@ -94,9 +92,9 @@ module _
                 | yes e ↦ rw e (ap length last ∙ wide)
                 | no ne ↦ ap length (first i (omega (arith, long))) ∙ s.wide i (omega (arith, long))
               ];
-          stacks = λ c h. s.stacks c h ∙ sym (numbers_snoc rows r c ∙ stays c h);
-          sized = s.sized;
-          busy = s.busy;
+          stacks = λ c h. rw tracked (s.stacks c h ∙ sym (numbers_snoc rows r c ∙ stays c h));
+          sized = rw tracked s.sized;
+          busy = rw tracked s.busy;
           stats =
               counted ∙ ap (λ u. with_cells u sum) s.stats
               ∙ sym (rw zero-add at (counts-snoc plain J (pairs After) empty_stats 0 rows r)
@@ -136,9 +134,9 @@ pub row-begins : (plain : Bool) (J : ℕ → Bool) (rows : List Row) (cells : Ro
 row-begins plain J rows cells t work work' s entry others =
     let z = begun-none cells in
     let nothing : (c : ℕ) → hold_at (byte_at c (begun cells 0)) ≡ Nothing = λ c. ap hold_at (zero-byte c (begun cells 0) z) ∙ zero-nothing in
-    row-more plain J (length cells) rows (begun cells 0) t work s (begun-long cells 0)
+    row-more plain J (length cells) rows (begun cells 0) t t work work' s (begun-long cells 0)
     (λ c. rw (nothing c))
     (λ c h. rw (nothing c))
     empty_sum
     (ap (kind_sum plain (J (length rows))) (zero-stays (pairs rows) (length rows) 0 (begun cells 0) z) ∙ zero-kind plain (J (length rows)) (begun cells 0) z)
-    t.stats (sym (cells-none t.stats)) work' entry others
+    refl (sym (cells-none t.stats)) entry others

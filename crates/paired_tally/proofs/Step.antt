@@ -31,7 +31,7 @@ use Rattle.paired_tally.specs.Cells.{add_kind}
 use Rattle.paired_tally.proofs.Sums.{kind-set, kind-next, kind-tail, cells-swap}
 use Rattle.paired_tally.proofs.Keep.{SameBut, Same, keep-same, keep-set, kept-byte}
 use Rattle.paired_tally.proofs.Counts.{counts-snoc, counts-same, counts-gain}
-use Rattle.paired_tally.proofs.Columns.{numbers-after, numbers-other, ends-earlier, same-heads, same-ends, no-head, but-here, other-heads, head-now, head-not_before, ends-more}
+use Rattle.paired_tally.proofs.Columns.{ZeroAt, numbers-after, numbers-other, ends-earlier, same-heads, same-ends, no-head, but-here, other-heads, head-now, head-not_before, ends-more}
 
 zero-cell : cell_of 48 ≡ Empty
 unfolding cell_of
@@ -42,16 +42,18 @@ unfolding hold_at cell_of
 zero-kept p = refl
 
 module _
-    (plain : Bool)
-    (J : ℕ → Bool)
-    (L : ℕ)
+    {plain : Bool}
+    {J : ℕ → Bool}
+    {L : ℕ}
     (rows : List Row)
-    (r : Row)
-    (k b : ℕ)
-    (inside : k < length r)
-    (zero-there : get_or r k 0 ≡ 48)
-    (t t' : PairedTally)
-    (work work' : List ℕ)
+    {r : Row}
+    {k : ℕ}
+    (b : ℕ)
+    (z : ZeroAt r k)
+    {t : PairedTally}
+    {work : List ℕ}
+    (t' : PairedTally)
+    (work' : List ℕ)
     (s : PairedRows plain J L (rows ++ (r ∷ [])) t work)
     (ps : List Pair)
     (m : TrackStepped (hold_at b) (head_number (length rows) b) k t.tracker t'.tracker ps)
@@ -101,8 +103,8 @@ module _
         elim (ℕ_discrete c k) [
           | yes e ↦
               rw e
-              (m.stack ∙ ap (next_stack (hold_at b) (head_number n b)) (rw e at (s.stacks c h)) ∙ sym (numbers-after rows r k b inside zero-there))
-          | no ne ↦ m.others c h ne ∙ s.stacks c h ∙ sym (numbers-other rows r k b inside zero-there c ne)
+              (m.stack ∙ ap (next_stack (hold_at b) (head_number n b)) (rw e at (s.stacks c h)) ∙ sym (numbers-after rows b z))
+          | no ne ↦ m.others c h ne ∙ s.stacks c h ∙ sym (numbers-other rows b z c ne)
         ]
 
     -- ---- What the rows add up to
@@ -123,13 +125,13 @@ module _
     byte = head_if_paired (hold_at b) (is_head_of n (pairs After k)) b
 
     kept-last : SameBut (pairs Before) (pairs After) n k → keep_row (pairs After) n 0 (set r k b) ≡ set (keep_row (pairs Before) n 0 r) k byte
-    kept-last f = keep-set (pairs Before) (pairs After) n k b r inside f
+    kept-last f = keep-set (pairs Before) (pairs After) n k b r z.inside f
 
     kept-empty : cell_of (get_or (keep_row (pairs Before) n 0 r) k 0) ≡ Empty
     kept-empty =
         ap cell_of
-        (kept-byte (pairs Before) n k r inside
-        ∙ ap (λ x. head_if_paired (hold_at x) (is_head_of n (pairs Before k)) x) zero-there
+        (kept-byte (pairs Before) n k r z.inside
+        ∙ ap (λ x. head_if_paired (hold_at x) (is_head_of n (pairs Before k)) x) z.zero_there
         ∙ zero-kept (is_head_of n (pairs Before k)))
         ∙ zero-cell
 
@@ -140,7 +142,7 @@ module _
         → kind_sum plain (J n) (keep_row (pairs After) n 0 (set r k b)) ≡ add_kind plain (J n) here (direction L k) (cell_of byte)
     gained f =
         ap (kind_sum plain (J n)) (kept-last f)
-        ∙ kind-set k byte (keep_row (pairs Before) n 0 r) (rw keep-wide inside) kept-empty plain (J n)
+        ∙ kind-set k byte (keep_row (pairs Before) n 0 r) (rw keep-wide z.inside) kept-empty plain (J n)
         ∙ ap (λ d. add_kind plain (J n) here (direction d k) (cell_of byte)) (keep-wide (pairs Before) n 0 r ∙ wide-last)
 
     here-is : here ≡ sum-before n
@@ -164,6 +166,29 @@ module _
     stats-after : counts_from plain J (pairs After) empty_stats 0 After ≡ with_cells C' (kind_sum plain (J n) (keep_row (pairs After) n 0 (set r k b)))
     stats-after = rw zero-add at (counts-snoc plain J (pairs After) empty_stats 0 rows (set r k b))
 
+    -- ---- The rows with it
+    abbrev Entry : ℕ → Type 0
+    Entry i = get_or work' i 0 ≡ entry_of plain (J i) (sum-after i) (ends_at J After i)
+
+    -- a row before it, whose heads and whose entry are the same
+    entry-same : (i : ℕ) → i < n → Same (pairs Before) (pairs After) i → get_or work' i 0 ≡ get_or work i 0 → Entry i
+    entry-same i l f e =
+        e ∙ s.entries i (omega (arith, long-before))
+        ∙ ap₂ (entry_of plain (J i)) (sym (sum-first i l f)) (sym (ends-earlier rows b z J i (λ q. omega arith)))
+
+    rows-after : t'.stats ≡ counts_from plain J (pairs After) empty_stats 0 After → Entry n → ((i : ℕ) → i < n → Entry i)
+        → ((i : ℕ) → n < i → get_or work' i 0 ≡ get_or work i 0) → PairedRows plain J L After t' work'
+    rows-after stats last first later =
+        record {
+          wide = wide-after;
+          stacks = stacks-after;
+          sized = m.sized;
+          busy = m.busy s.busy;
+          stats = stats;
+          entries = λ i l. elim (ℕ_discrete i n) [ yes e ↦ rw e last | no ne ↦ first i (omega (arith, long-after)) ];
+          later = λ i l. later i (omega (arith, long-after)) ∙ s.later i (omega (arith, long-before, long-after));
+        }
+
     -- ---- Nothing pairs: the row gains the cell x
     module _
         (no-pair : paired (hold_at b) n (stack_after rows k) ≡ [])
@@ -174,10 +199,10 @@ module _
         (others : (i : ℕ) → (i ≡ n → ⊥) → get_or work' i 0 ≡ get_or work i 0)
       where
         heads : (i : ℕ) → Same (pairs Before) (pairs After) i
-        heads = same-heads rows r k b inside zero-there no-pair
+        heads = same-heads rows b z no-pair
 
         byte-is : cell_of byte ≡ x
-        byte-is = ap (λ p. cell_of (head_if_paired (hold_at b) p b)) (no-head rows r k b inside zero-there no-pair) ∙ cell
+        byte-is = ap (λ p. cell_of (head_if_paired (hold_at b) p b)) (no-head rows b z no-pair) ∙ cell
 
         sum-own : sum-after n ≡ add_kind plain (J n) (sum-before n) (direction L k) x
         sum-own = sum-last (λ d ne. heads n d) ∙ ap (add_kind plain (J n) (sum-before n) (direction L k)) byte-is
@@ -193,26 +218,14 @@ module _
 
         pub own : PairedRows plain J L After t' work'
         own =
-            record {
-              wide = wide-after;
-              stacks = stacks-after;
-              sized = m.sized;
-              busy = m.busy s.busy;
-              stats = stats-own;
-              entries =
-                  λ i h.
-                  elim (ℕ_discrete i n) [
-                    | yes e ↦ rw e (entry ∙ ap₂ (entry_of plain (J n)) (sym sum-own) (sym (same-ends rows r k b inside zero-there no-pair J n)))
-                    | no ne ↦
-                        others i ne ∙ s.entries i (omega (arith, long-before, long-after))
-                        ∙ ap₂ (entry_of plain (J i)) (sym (sum-first i (omega (arith, long-after)) (heads i))) (sym (same-ends rows r k b inside zero-there no-pair J i))
-                  ];
-              later = λ i h. others i (λ e. omega (arith, long-after)) ∙ s.later i (omega (arith, long-before, long-after));
-            }
+            rows-after stats-own
+            (entry ∙ ap₂ (entry_of plain (J n)) (sym sum-own) (sym (same-ends rows b z no-pair J n)))
+            (λ i l. entry-same i l (heads i) (others i (λ e. omega arith)))
+            (λ i l. others i (λ e. omega arith))
 
     -- ---- A tail pairs with the head of row h
     module _
-        (h : ℕ)
+        {h : ℕ}
         (one-pair : paired (hold_at b) n (stack_after rows k) ≡ record { head = h; tail = n } ∷ [])
         (earlier : h < n)
         (low : k < 10)
@@ -236,10 +249,10 @@ module _
         tail-byte = ap cell_of (closes-kept (is_head_of n (pairs After k))) ∙ tail
 
         but : (i : ℕ) → SameBut (pairs Before) (pairs After) i k
-        but = but-here rows r k b inside zero-there h one-pair
+        but = but-here rows b z one-pair
 
         others-heads : (i : ℕ) → (i ≡ h → ⊥) → Same (pairs Before) (pairs After) i
-        others-heads = other-heads rows r k b inside zero-there h one-pair
+        others-heads = other-heads rows b z one-pair
 
         within : k < length headed
         unfolding headed
@@ -256,11 +269,11 @@ module _
             ∙ ap₂ (λ d c. add_kind plain (J h) (kind_sum plain (J h) kept) (direction d k) c) (keep-wide (pairs Before) h 0 headed ∙ wide-first h earlier) head
           where
             kept-now : head_if_paired (hold_at (get_or headed k 0)) (is_head_of h (pairs After k)) (get_or headed k 0) ≡ get_or headed k 0
-            kept-now = rw (opens, head-now rows r k b inside zero-there h one-pair)
+            kept-now = rw (opens, head-now rows b z one-pair)
 
             empty-before : cell_of (get_or (keep_row (pairs Before) h 0 headed) k 0) ≡ Empty
             empty-before =
-                ap cell_of (kept-byte (pairs Before) h k headed within ∙ rw (opens, head-not_before rows r k b inside zero-there h one-pair)) ∙ zero-cell
+                ap cell_of (kept-byte (pairs Before) h k headed within ∙ rw (opens, head-not_before rows b z one-pair)) ∙ zero-cell
 
         sum-head : sum-after h ≡ add_kind plain (J h) (sum-before h) (direction L k) x
         unfolding headed
@@ -290,29 +303,15 @@ module _
 
         pub closed : PairedRows plain J L After t' work'
         closed =
-            record {
-              wide = wide-after;
-              stacks = stacks-after;
-              sized = m.sized;
-              busy = m.busy s.busy;
-              stats = stats-paired;
-              entries =
-                  λ i l.
-                  elim (ℕ_discrete i n) [
-                    | yes e ↦
-                        rw e
-                        (tail-entry
-                        ∙ ap₂ (entry_of plain (J n)) (sym (sum-last (but n) ∙ ap (add_kind plain (J n) (sum-before n) (direction L k)) tail-byte))
-                        (sym (ends-more rows r k b inside zero-there h one-pair J low)))
-                    | no ne ↦
-                        elim (ℕ_discrete i h) [
-                          | yes e ↦
-                              rw e
-                              (head-entry ∙ ap₂ (entry_of plain (J h)) (sym sum-head) (sym (ends-earlier rows r k b inside zero-there J h (λ q. omega (arith, earlier)))))
-                          | no nh ↦
-                              others i ne nh ∙ s.entries i (omega (arith, long-before, long-after))
-                              ∙ ap₂ (entry_of plain (J i)) (sym (sum-first i (omega (arith, long-after)) (others-heads i nh))) (sym (ends-earlier rows r k b inside zero-there J i ne))
-                        ]
-                  ];
-              later = λ i l. others i (λ e. omega (arith, long-after)) (λ e. omega (arith, long-after, earlier)) ∙ s.later i (omega (arith, long-before, long-after));
-            }
+            rows-after stats-paired
+            (tail-entry
+            ∙ ap₂ (entry_of plain (J n)) (sym (sum-last (but n) ∙ ap (add_kind plain (J n) (sum-before n) (direction L k)) tail-byte))
+            (sym (ends-more rows b z one-pair J low)))
+            (λ i l.
+            elim (ℕ_discrete i h) [
+              | yes e ↦
+                  rw e
+                  (head-entry ∙ ap₂ (entry_of plain (J h)) (sym sum-head) (sym (ends-earlier rows b z J h (λ q. omega (arith, earlier)))))
+              | no nh ↦ entry-same i l (others-heads i nh) (others i (λ e. omega arith) nh)
+            ])
+            (λ i l. others i (λ e. omega arith) (λ e. omega (arith, earlier)))

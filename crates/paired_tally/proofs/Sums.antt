@@ -39,25 +39,21 @@ from-set p c (suc k) b (x ∷ r) h e =
     let g : number_of_bool (p (c + suc k) (cell_of b)) ≡ number_of_bool (p (suc c + k) (cell_of b)) = rw z in
     omega arith
 
-by-set : (f : ℕ → Bool) (k b : ℕ) (r : Row) → k < length r → f (get_or r k 0) ≡ false → count_by f (set r k b) ≡ count_by f r + number_of_bool (f b)
-by-set f k b [] h e = absurd (omega arith)
-by-set f zero b (x ∷ r) h e =
-    let g : number_of_bool (f x) ≡ 0 = ap number_of_bool e in
-    omega (arith, count-cons f b r, count-cons f x r)
-by-set f (suc k) b (x ∷ r) h e =
-    let g = by-set f k b r (omega arith) e in
-    omega (arith, count-cons f x (set r k b), count-cons f x r)
+-- a count that asks for no column is one over bytes
+by-bytes : (f : Cell → Bool) (c : ℕ) (r : Row) → count_from (λ c x. f x) c r ≡ count_by (λ b. f (cell_of b)) r
+by-bytes f c [] = refl
+by-bytes f c (b ∷ r) = omega (arith, by-bytes f (suc c) r, count-cons (λ b. f (cell_of b)) b r)
 
 module _ (k b : ℕ) (r : Row) (h : k < length r) (e : cell_of (get_or r k 0) ≡ Empty) where
+  arrows : (arrow : Cell → Bool) → arrow Empty ≡ false → count_from (λ c x. arrow x) 0 (set r k b) ≡ count_from (λ c x. arrow x) 0 r + number_of_bool (arrow (cell_of b))
+  arrows arrow z = from-set (λ c x. arrow x) 0 k b r h (ap arrow e ∙ z)
+
   by-cell : (f : Cell → Bool) → f Empty ≡ false → count_by (λ x. f (cell_of x)) (set r k b) ≡ count_by (λ x. f (cell_of x)) r + number_of_bool (f (cell_of b))
-  by-cell f z = by-set (λ x. f (cell_of x)) k b r h (ap f e ∙ z)
+  by-cell f z = rw (← by-bytes f 0 (set r k b), ← by-bytes f 0 r) (arrows f z)
 
   kinds : (n : ℕ) → eqb 0 n ≡ false → count_by (λ x. eqb (place (counted_as (cell_of x))) n) (set r k b)
       ≡ count_by (λ x. eqb (place (counted_as (cell_of x))) n) r + number_of_bool (eqb (place (counted_as (cell_of b))) n)
   kinds n z = by-cell (λ x. eqb (place (counted_as x)) n) z
-
-  arrows : (arrow : Cell → Bool) → arrow Empty ≡ false → count_from (λ c x. arrow x) 0 (set r k b) ≡ count_from (λ c x. arrow x) 0 r + number_of_bool (arrow (cell_of b))
-  arrows arrow z = from-set (λ c x. arrow x) 0 k b r h (ap arrow e ∙ z)
 
   towards : (arrow : Cell → Bool) (L d : ℕ) → arrow Empty ≡ false
       → count_from (λ c x. arrow x && eqb (direction L c) d) 0 (set r k b)

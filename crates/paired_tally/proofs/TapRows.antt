@@ -24,7 +24,7 @@ use Rattle.paired_tally.specs.Paired.{kind_sum}
 pub entry-stays : (work : List ℕ) (row : ℕ) → get_or work row 0 ≡ 0 → work ≡ set work row 0
 entry-stays work row z = sym (ap (set work row) (sym z) ∙ set-get_or work row 0)
 
-module _ (r : Row) (m : ℕ) (e : mask_of_line r ≡ Mask m) where
+module _ (r : Row) {m : ℕ} (e : mask_of_line r ≡ Mask m) where
   -- judged or not, a row's arrows are its taps
   pub judged-row : judged_sum true r ≡ row_sum r
   judged-row = sym (taps-judged r m e) ∙ sym (tap-line-sum r m e)

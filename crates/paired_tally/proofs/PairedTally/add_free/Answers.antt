@@ -12,8 +12,8 @@ returns-then-not-plain c r e =
     rw c.if-not-plain.true
     (record {
       tracker = refl;
-      stats = no-taps-stats r _ e c.if-mask-eq0.true false c.args.judged c.args.self.now.stats;
-      entry = ap (set c.args.work.now c.args.row) (c.taps_entry.ensures ∙ sym (no-taps-entry r _ e c.if-mask-eq0.true c.args.judged));
+      stats = no-taps-stats r e c.if-mask-eq0.true false c.args.judged c.args.self.now.stats;
+      entry = ap (set c.args.work.now c.args.row) (c.taps_entry.ensures ∙ sym (no-taps-entry r e c.if-mask-eq0.true c.args.judged));
     })
 
 pub returns-else-not-plain : goal.returns-else-not-plain
@@ -21,10 +21,10 @@ returns-else-not-plain c r e =
     rw c.if-not-plain.false
     (record {
       tracker = refl;
-      stats = no-taps-stats r _ e c.if-mask-eq0.true true c.args.judged c.args.self.now.stats;
+      stats = no-taps-stats r e c.if-mask-eq0.true true c.args.judged c.args.self.now.stats;
       entry =
           entry-stays c.args.work.now c.args.row c.requires.entry_clear
-          ∙ ap (set c.args.work.now c.args.row) (sym (no-taps-plain r _ e c.if-mask-eq0.true c.args.judged));
+          ∙ ap (set c.args.work.now c.args.row) (sym (no-taps-plain r e c.if-mask-eq0.true c.args.judged));
     })
 
 pub returns-then-plain : goal.returns-then-plain
@@ -34,7 +34,7 @@ returns-then-plain c r e =
     (record {
       tracker = refl;
       stats = x.stats;
-      entry = ap (set c.args.work.now c.args.row) (c.taps_entry-then-plain.ensures ∙ ap (λ n. n + 8192 * 0) x.few ∙ sym (plain-entry r _ e c.args.judged));
+      entry = ap (set c.args.work.now c.args.row) (c.taps_entry-then-plain.ensures ∙ ap (λ n. n + 8192 * 0) x.few ∙ sym (plain-entry r e c.args.judged));
     })
 
 pub returns-then-judged : goal.returns-then-judged
@@ -43,8 +43,8 @@ returns-then-judged c r e =
     rw (c.if-plain.false, c.if-judged.true)
     (record {
       tracker = refl;
-      stats = x.stats ∙ ap (with_cells c.args.self.now.stats) (sym (judged-row r _ e));
-      entry = ap (set c.args.work.now c.args.row) (c.taps_entry-then-judged.ensures ∙ ap (λ n. n + 8192 * 1) x.few ∙ sym (judged-entry r _ e));
+      stats = x.stats ∙ ap (with_cells c.args.self.now.stats) (sym (judged-row r e));
+      entry = ap (set c.args.work.now c.args.row) (c.taps_entry-then-judged.ensures ∙ ap (λ n. n + 8192 * 1) x.few ∙ sym (judged-entry r e));
     })
 
 pub returns : goal.returns

@@ -14,10 +14,10 @@ add_free-requires g c =
     let x = c.requires.reached in
     record {
       mask_known = fits-table c.args.table.now _ (below-at _ _ _ (sym c.requires.wide) f.mask);
-      few = below_more _ _ _ (omega (arith, x.size, c.requires.rows_few)) (paired-below _ _ _ _ _ _ x.paired (omega (arith, c.requires.wide, c.args.table.now.lanes.within.1)));
+      few = below_more _ _ _ (omega (arith, x.size, c.requires.rows_few)) (paired-below x.paired (omega (arith, c.requires.wide, c.args.table.now.lanes.within.1)));
       entry_room = c.requires.entry_room;
       entry_clear = x.paired.later _ (omega (arith, x.size));
     }
 
 pub returns-in-Mask : goal.returns-in-Mask
-returns-in-Mask g c = let f = free-told c.free_taps.ensures c.in-Mask.is in free-counted _ _ _ _ _ _ _ _ _ f (c.add_free.ensures _ f.mask) c.requires.entry_room
+returns-in-Mask g c = let f = free-told c.free_taps.ensures c.in-Mask.is in free-counted f (c.add_free.ensures _ f.mask) c.requires.entry_room

@@ -1,42 +1,39 @@
 -- `PairedTally::close_cell` meets its contract: with a head open, and with none.
 use mathlib.Core.Path.{refl, sym}
 use Rattle.definitions.specs.declared.Cell.TheVariants.{Tail}
-use Rattle.paired_tally.proofs.Within.{within-few, within-low, within-ready, stepped, ended-is, tail-on, close-on, head-before}
+use Rattle.paired_tally.proofs.Within.{within-few, within-low, within-ready, ended-is, cell-on, close-on, head-before}
 use Rattle.paired_tally.proofs.PairedTally.close_cell.Goals as goal
 
 pub pop-requires : goal.pop-requires
-pop-requires c = within-ready _ _ _ _ _ _ _ c.requires.reached c.requires.inside
+pop-requires c = within-ready c.requires.reached c.requires.inside
 
 pub count_own-requires-clause-few : goal.count_own-requires-clause-few
-count_own-requires-clause-few c = within-few _ _ _ _ _ _ _ c.requires.reached
+count_own-requires-clause-few c = within-few c.requires.reached
 
 pub count_own-requires-clause-entry_low : goal.count_own-requires-clause-entry_low
-count_own-requires-clause-entry_low c = within-low _ _ _ _ _ _ _ c.requires.reached c.args.row
+count_own-requires-clause-entry_low c = within-low c.requires.reached c.args.row
 
 pub end_pair-requires-clause-few : goal.end_pair-requires-clause-few
-end_pair-requires-clause-few c = within-few _ _ _ _ _ _ _ c.requires.reached
+end_pair-requires-clause-few c = within-few c.requires.reached
 
 pub end_pair-requires-clause-row_entry_low : goal.end_pair-requires-clause-row_entry_low
-end_pair-requires-clause-row_entry_low c = within-low _ _ _ _ _ _ _ c.requires.reached c.args.row
+end_pair-requires-clause-row_entry_low c = within-low c.requires.reached c.args.row
 
 pub end_pair-requires-clause-head_entry_low : goal.end_pair-requires-clause-head_entry_low
-end_pair-requires-clause-head_entry_low c = within-low _ _ _ _ _ _ _ c.requires.reached _
+end_pair-requires-clause-head_entry_low c = within-low c.requires.reached _
 
 pub end_pair-requires-clause-earlier : goal.end_pair-requires-clause-earlier
-end_pair-requires-clause-earlier c = head-before _ _ _ _ _ _ _ c.requires.reached c.requires.inside _ _ (sym c.requires.known) (ended-is _ _ c.in-Some.is (c.pop.ensures _))
+end_pair-requires-clause-earlier c = head-before c.requires.reached c.requires.inside _ (sym c.requires.known) (ended-is c.in-Some.is (c.pop.ensures _))
 
 pub returns-in-None : goal.returns-in-None
 returns-in-None c =
-    let w = c.requires.reached in
-    tail-on _ _ _ _ _ c.requires.inside w.narrow _ _ _ _ w.room (sym c.requires.known)
-    (rw c.count_own.ensures.tracker (ended-is _ _ c.in-None.is (c.pop.ensures _)))
+    cell-on c.requires.reached c.requires.inside Tail c.requires.known refl refl
+    (rw c.count_own.ensures.tracker (ended-is c.in-None.is (c.pop.ensures _)))
     (rw c.direction-towards.ensures at c.count_own.ensures.value)
     c.count_own.ensures.work_after
 
 pub returns-in-Some : goal.returns-in-Some
 returns-in-Some c =
-    let w = c.requires.reached in
-    close-on _ _ _ _ _ c.requires.inside w.narrow _ _ _ _ w.room _ (sym c.requires.known)
-    (stepped _ Tail c.requires.known refl (ended-is _ _ c.in-Some.is (c.pop.ensures _)))
+    close-on c.requires.reached c.requires.inside _ (sym c.requires.known) (ended-is c.in-Some.is (c.pop.ensures _)) refl
     (rw c.direction-towards.ensures at c.end_pair.ensures.value)
     c.end_pair.ensures.work_after

@@ -1,22 +1,18 @@
 -- `PairedTally::pass_cell` meets its contract: one cell more.
-use mathlib.Core.Path.{ap}
-use Rattle.definitions.specs.Correction.{is_opening}
-use Rattle.paired_tally.proofs.Within.{within-few, within-low, within-ready, plain-cell, passed, own-on}
+use mathlib.Core.Path.{refl}
+use Rattle.holds.proofs.Stacks.{step-nothing}
+use Rattle.paired_tally.proofs.Within.{within-few, within-low, within-ready, cell-on}
 use Rattle.paired_tally.proofs.PairedTally.pass_cell.Goals as goal
 
 pub count_own-requires-clause-few : goal.count_own-requires-clause-few
-count_own-requires-clause-few c = within-few _ _ _ _ _ _ _ c.requires.reached
+count_own-requires-clause-few c = within-few c.requires.reached
 
 pub count_own-requires-clause-entry_low : goal.count_own-requires-clause-entry_low
-count_own-requires-clause-entry_low c = within-low _ _ _ _ _ _ _ c.requires.reached c.args.row
+count_own-requires-clause-entry_low c = within-low c.requires.reached c.args.row
 
 pub returns : goal.returns
 returns c =
-    let w = c.requires.reached in
-    let ready = within-ready _ _ _ _ _ _ _ w c.requires.inside in
-    own-on _ _ _ _ _ c.requires.inside w.narrow _ _ _ _ w.room c.args.cell
-    (rw c.count_own.ensures.tracker (passed _ c.args.cell c.requires.known c.requires.passes ready))
-    (plain-cell _ c.args.cell c.requires.known (ap is_opening c.requires.passes))
-    (ap is_opening c.requires.passes)
+    cell-on c.requires.reached c.requires.inside c.args.cell c.requires.known c.requires.passes refl
+    (rw c.count_own.ensures.tracker (step-nothing (within-ready c.requires.reached c.requires.inside) _))
     (rw c.direction-towards.ensures at c.count_own.ensures.value)
     c.count_own.ensures.work_after
