@@ -65,11 +65,12 @@ pub fn row_has_note(row: &[u8]) -> bool
     if (n < 4) | (12 < n) {
         return cells_have_note(row);
     }
-    if n <= 8 {
-        return word_has_note(words::half_at(row, 0) + words::half_at(row, n - 4) * 0x1_0000_0000);
+    if 8 < n {
+        let first = word_has_note(words::half_at(row, 0) + words::half_at(row, 4) * 0x1_0000_0000);
+        let last = words::half_at(row, n - 8) + words::half_at(row, n - 4) * 0x1_0000_0000;
+        return first | word_has_note(last);
     }
-    let first = word_has_note(words::half_at(row, 0) + words::half_at(row, 4) * 0x1_0000_0000);
-    first | word_has_note(words::half_at(row, n - 8) + words::half_at(row, n - 4) * 0x1_0000_0000)
+    word_has_note(words::half_at(row, 0) + words::half_at(row, n - 4) * 0x1_0000_0000)
 }
 
 // Whether every byte of a row is `0`, byte by byte.
