@@ -1,10 +1,10 @@
--- Why the lowest bit of `byte_hits` stands in the first byte that is the one looked for, and that of `starts_high` in the first below 16: by induction over the word's bytes.
+-- Why the lowest bit of `byte_hits` stands in the first byte that is the one looked for, and that of `starts_plain` in the first byte not from 16 to 143: by induction over the word's bytes.
 use Rattle.std.proofs.Common.{◌≡◌, ℕ, zero, suc, ◌+◌, ◌-◌, ◌*◌, ◌/◌, ◌%◌, ◌^◌, ◌<◌, ◌⊎◌, ◌≤◌, List, [], ◌∷◌, length, refl, sym, ap, ap₂, ◌∙◌, inl, inr, ⊎_elim, lt_of_le_of_lt, pow-suc, div-add-mod', mul-one, arith, lit<}
 use native.Mathlib.Decide.{dec_lt}
 use lib.Bits.{bit_and, bit_xor, and_block, and_zero_r, and_le_l, and_le_r, shifted_half, shifted_even}
 use lib.Count.{count_trailing_zeros, under}
-use borrow.Author.Tests.{lt-ltb, le-ltb}
-use Rattle.lines.specs.Words.{word_of, Bytes, first_in, first_below}
+use borrow.Author.Tests.{lt-ltb, le-ltb, lt-leb, le-leb}
+use Rattle.lines.specs.Words.{word_of, Bytes, first_in, first_below, first_outside}
 use Rattle.lines.proofs.Bytes.{cap, each, hi, word_lt, small, xor_all, xor_bytes, xor_first, xor_is, xor-eight}
 
 -- ---- trailing zeros
@@ -51,7 +51,15 @@ tz-miss d q =
 
 -- ---- the first byte below k
 
--- two bytes of 128 and more have the high bit in common
+-- a byte of 128 and more has the high bit
+high : (s : ℕ) → 128 ≤ s → s < 256 → bit_and s 128 ≡ 128
+high s a b =
+    let x = s - 128 in
+    let e : s ≡ 1 * 128 + x = omega arith in
+    let h : x < 128 = omega arith in
+    ap (λ n. bit_and n 128) e ∙ and_block 7 1 1 x 0 h (lit< tt) ∙ rw and_zero_r
+
+-- two of them have it in common
 high-set : (s t : ℕ) → 128 ≤ s → s < 256 → 128 ≤ t → t < 256 → bit_and (bit_and s t) 128 ≡ 128
 high-set s t a b c d =
     let x = s - 128 in
@@ -61,7 +69,7 @@ high-set s t a b c d =
     let hx : x < 128 = omega arith in
     let hy : y < 128 = omega arith in
     let both : bit_and s t ≡ 1 * 128 + bit_and x y = ap₂ bit_and es et ∙ and_block 7 1 1 x y hx hy in
-    ap (λ n. bit_and n 128) both ∙ and_block 7 1 1 (bit_and x y) 0 (lt_of_le_of_lt (and_le_l x y) hx) (lit< tt) ∙ rw and_zero_r
+    high (bit_and s t) (omega (arith, both)) (lt_of_le_of_lt (and_le_l s t) b)
 
 -- a byte of k and more leaves none when k is taken off
 high-clear : (s r k : ℕ) → s + k ≡ r → r < 256 → bit_and (bit_and s (255 - r)) 128 ≡ 0
@@ -137,13 +145,46 @@ hits-place xs w b y eight hx hw hb hy e =
     let q : Place 1 8 (xor_all b xs) y = rw len at (place 1 (xor_all b xs) y (omega arith) hz p) in
     rw x-is (q ∙ xor_first b xs)
 
+-- ---- the first byte that is none of the 128 from k on
+
+abbrev Outside : ℕ → ℕ → List ℕ → ℕ → Type 0
+Outside k n xs y = count_trailing_zeros (bits n) (bit_and y (hi n)) / 8 ≡ first_outside k xs
+
+outside-step : (k r : ℕ) (xs : List ℕ) (Y s : ℕ) → k ≤ 128 → s < 256 → r < 256 → (Less (cap (length xs)) (each k (length xs)) (word_of xs) Y → Outside k (length xs) xs Y)
+    → Less (cap (length xs) * 256) (each k (length xs) * 256 + k) (word_of xs * 256 + r) (Y * 256 + s) → Outside k (suc (length xs)) (r ∷ xs) (Y * 256 + s)
+unfolding word_of first_outside
+outside-step k r xs Y s few hs hr ih l =
+    let n = length xs in
+    let w = word_of xs in
+    let apart = and_block 8 Y (hi n) s 128 hs (lit< tt) in
+    elim (dec_lt r k) [
+      | yes h ↦
+          let f : s + k ≡ r + 256 = below-low k n w Y s r few hs hr l h in
+          rw (apart, high s (omega arith) hs, lt-ltb r k h) (tz-hit _ _)
+      | no h ↦
+          let g : k ≤ r = omega arith in
+          let f : s + k ≡ r = other-low k n w Y s r few hs hr l g in
+          elim (dec_lt r (k + 128)) [
+            | yes i ↦
+                rw (apart, small s (omega arith), le-ltb r k g, lt-leb (k + 128) r i)
+                (tz-miss _ _ ∙ ap suc (ih (other-high k n w Y s r few hs hr l g)))
+            | no i ↦ rw (apart, high s (omega arith) hs, le-ltb r k g, le-leb (k + 128) r (omega arith)) (tz-hit _ _)
+          ]
+    ]
+
+outside : (k : ℕ) (xs : List ℕ) (y : ℕ) → k ≤ 128 → Bytes xs → Less (cap (length xs)) (each k (length xs)) (word_of xs) y → Outside k (length xs) xs y
+unfolding count_trailing_zeros first_outside word_of
+outside k [] y few hb l = refl
+outside k (r ∷ xs) y few hb l =
+    rw (← div-add-mod' y 256)
+    (outside-step k r xs (y / 256) (y % 256) few (omega arith) hb.0 (outside k xs (y / 256) few hb.1) (rw (div-add-mod' y 256) l))
+
 -- a word of eight bytes w, and y that is less by 16 in each byte
-pub low-place : (xs : List ℕ) (w y : ℕ) → length xs ≡ 8 → Bytes xs → word_of xs ≡ w → y < 2 ^ 64
+pub plain-place : (xs : List ℕ) (w y : ℕ) → length xs ≡ 8 → Bytes xs → word_of xs ≡ w → y < 2 ^ 64
     → (y + 1157442765409226768) % 2 ^ 64 ≡ w
-    → count_trailing_zeros 64 (bit_and (bit_and y (18446744073709551615 - w)) 9259542123273814144) / 8 ≡ first_below 16 xs
-low-place xs w y eight hx hw hy e =
+    → count_trailing_zeros 64 (bit_and y 9259542123273814144) / 8 ≡ first_outside 16 xs
+plain-place xs w y eight hx hw hy e =
     let lt : word_of xs < 2 ^ 64 = rw eight at (word_lt xs hx) in
     let l : Less (2 ^ 64) 1157442765409226768 (word_of xs) y = wrapped _ _ y (lit< tt) lt hy (e ∙ sym hw) in
     let p : Less (cap (length xs)) (each 16 (length xs)) (word_of xs) y = rw eight l in
-    let q : Place 16 8 xs y = rw eight at (place 16 xs y (omega arith) hx p) in
-    rw (← hw) q
+    rw eight at (outside 16 xs y (omega arith) hx p)

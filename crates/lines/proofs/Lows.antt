@@ -1,13 +1,13 @@
--- The first byte below k, told by the trailing zeros of a word, and by the first eight bytes of a list and eight that begin further on.
+-- The first byte that is not plain, told by the trailing zeros of a word and by eight bytes of a list.
 use mathlib.Core.Path.{◌≡◌, refl, ap, sym, ◌∙◌}
 use mathlib.Core.Logic.{◌⊎◌, inl, inr, ⊎_elim}
-use mathlib.Core.Bool.{Bool, true, false, cond, ◌&&◌}
+use mathlib.Core.Bool.{Bool, true, false, cond, ◌||◌}
 use mathlib.Core.List.{List, [], ◌∷◌}
 use Prim.Native.Nat.{ℕ, zero, suc, ◌+◌, ◌-◌, ◌*◌, ◌/◌, ◌%◌, ◌^◌, ◌≤◌, ◌<◌}
 use native.Mathlib.Nat.{zero-add, pow-suc}
 use native.Mathlib.Decide.{dec_lt}
 use native.Mathlib.Omega.{arith}
-use borrow.Author.Tests.{eqb-true, eqb-false, eq-eqb, ne_eqb, leb-true, leb-false, le-leb, lt-leb, lt-ltb, le-ltb}
+use borrow.Author.Tests.{eqb-true, eqb-false, eq-eqb, ne_eqb, leb-true, leb-false, le-leb, lt-leb, le-ltb}
 use lib.Dec.{eqb, leb, ltb}
 use lib.Arith.{mod-mul}
 use lib.Pow.{pow_pos}
@@ -16,7 +16,8 @@ use lib.Count.{count_trailing_zeros, under}
 use lib.ListN.{length, take, drop}
 use Rattle.std.proofs.lemmas.Nat.{and_assoc}
 use Rattle.std.specs.Prelude.{slice_index}
-use Rattle.lines.specs.Words.{first_below}
+use Rattle.definitions.proofs.Bools.{and_left, and_right}
+use Rattle.lines.specs.Words.{first_below, first_outside, starts_plain}
 
 -- ---- trailing zeros
 
@@ -94,22 +95,47 @@ high-told h n f a b e =
 -- ---- lists
 
 -- among the first n bytes it has the same place, or it is none of them
-place-near : (k n : ℕ) (s : List ℕ) → (first_below k (take n s) ≡ first_below k s) ⊎ ((n ≤ first_below k (take n s)) × (n ≤ first_below k s))
-unfolding first_below
+place-near : (k n : ℕ) (s : List ℕ) → (first_outside k (take n s) ≡ first_outside k s) ⊎ ((n ≤ first_outside k (take n s)) × (n ≤ first_outside k s))
+unfolding first_outside
 place-near k zero s = inr (omega arith, omega arith)
 place-near k (suc n) [] = inl refl
-place-near k (suc n) (x ∷ s) = go (ltb x k) (place-near k n s)
+place-near k (suc n) (x ∷ s) = go (ltb x k || leb (k + 128) x) (place-near k n s)
   where
-    go : (t : Bool) → (first_below k (take n s) ≡ first_below k s) ⊎ ((n ≤ first_below k (take n s)) × (n ≤ first_below k s))
-        → (cond t 0 (suc (first_below k (take n s))) ≡ cond t 0 (suc (first_below k s))) ⊎ ((suc n ≤ cond t 0 (suc (first_below k (take n s)))) × (suc n ≤ cond t 0 (suc (first_below k s))))
+    go : (t : Bool) → (first_outside k (take n s) ≡ first_outside k s) ⊎ ((n ≤ first_outside k (take n s)) × (n ≤ first_outside k s))
+        → (cond t 0 (suc (first_outside k (take n s))) ≡ cond t 0 (suc (first_outside k s)))
+        ⊎ ((suc n ≤ cond t 0 (suc (first_outside k (take n s)))) × (suc n ≤ cond t 0 (suc (first_outside k s))))
     go true h = inl refl
     go false h = ⊎_elim (λ e. inl (ap suc e)) (λ f. inr (omega (arith, f.0), omega (arith, f.1))) h
 
 -- up to n, the first n bytes tell it
-near : (k n few : ℕ) (s : List ℕ) → few ≤ n → leb few (first_below k (take n s)) ≡ leb few (first_below k s)
+near : (k n few : ℕ) (s : List ℕ) → few ≤ n → leb few (first_outside k (take n s)) ≡ leb few (first_outside k s)
 near k n few s h =
-    ⊎_elim (λ e. ap (leb few) e) (λ f. le-leb few (first_below k (take n s)) (omega (arith, f.0)) ∙ sym (le-leb few (first_below k s) (omega (arith, f.1))))
+    ⊎_elim (λ e. ap (leb few) e) (λ f. le-leb few (first_outside k (take n s)) (omega (arith, f.0)) ∙ sym (le-leb few (first_outside k s) (omega (arith, f.1))))
     (place-near k n s)
+
+-- The last `few` of n bytes, by the eight that begin with them.
+pub last-told : (k n few : ℕ) (s : List ℕ) → few ≤ 8 → n - few ≡ n - 8 → n - 8 + few ≡ n
+    → leb few (first_outside k (take 8 (drop (n - few) s))) ≡ leb n (n - 8 + first_outside k (drop (n - 8) s))
+last-told k n few s h d e = rw (near k 8 few (drop (n - few) s) h, d) (ends (first_outside k (drop (n - 8) s)))
+  where
+    ends : (rest : ℕ) → leb few rest ≡ leb n (n - 8 + rest)
+    ends rest = elim (dec_lt rest few) [
+      | yes a ↦ rw (lt-leb few rest a, lt-leb n (n - 8 + rest) (omega arith))
+      | no a ↦ rw (le-leb few rest (omega arith), le-leb n (n - 8 + rest) (omega arith))
+    ]
+
+-- ---- what plain bytes tell
+
+-- a byte below k is none of the 128 from k on
+outside-below : (k : ℕ) (s : List ℕ) → first_outside k s ≤ first_below k s
+unfolding first_outside first_below
+outside-below k [] = omega arith
+outside-below k (x ∷ s) = go (ltb x k) (leb (k + 128) x) (outside-below k s)
+  where
+    go : (t u : Bool) → first_outside k s ≤ first_below k s → cond (t || u) 0 (suc (first_outside k s)) ≤ cond t 0 (suc (first_below k s))
+    go true u h = omega arith
+    go false true h = omega arith
+    go false false h = omega arith
 
 -- past i bytes that are not below k it is i further on
 past : (k i : ℕ) (s : List ℕ) → i ≤ first_below k s → first_below k s ≡ i + first_below k (drop i s)
@@ -123,41 +149,18 @@ past k (suc i) (x ∷ s) h = go (ltb x k) h (past k i s)
     go true g ih = absurd (omega arith)
     go false g ih = let e = ih (omega arith) in omega arith
 
--- Of two bytes and more of which the first is not below k, the first that is below it is the second, or a later one.
-second : (k : ℕ) (s : List ℕ) → 2 ≤ length s → k ≤ slice_index s 0
-    → ((2 ≤ first_below k s) × (k ≤ slice_index s 1)) ⊎ ((first_below k s ≡ 1) × (slice_index s 1 < k))
+-- none of the first two bytes is below k
+two-high : (k : ℕ) (s : List ℕ) → 2 ≤ length s → k ≤ slice_index s 0 → k ≤ slice_index s 1 → 2 ≤ first_below k s
 unfolding first_below
-second k [] h a = absurd (omega arith)
-second k (x ∷ []) h a = absurd (omega arith)
-second k (x ∷ y ∷ s) h a =
-    rw (le-ltb x k a)
-    (elim (dec_lt y k) [
-      | yes b ↦ rw (lt-ltb y k b) (inr (refl, b))
-      | no b ↦ rw (le-ltb y k (omega arith)) (inl (omega arith, omega arith))
-    ])
+two-high k [] h a b = absurd (omega arith)
+two-high k (x ∷ []) h a b = absurd (omega arith)
+two-high k (x ∷ y ∷ s) h a b = rw (le-ltb x k a, le-ltb y k b) (omega arith)
 
--- The first n bytes of up to ten, of which the first is not below k, by the last `few` of them and the second.
-pub last-told : (k n few : ℕ) (s : List ℕ) → 2 ≤ n → n ≤ length s → few ≤ n → n ≤ few + 2 → few ≤ 8 → k ≤ slice_index s 0
-    → (leb few (first_below k (take 8 (drop (n - few) s))) && leb k (slice_index s 1)) ≡ leb n (first_below k s)
-last-told k n few s two long g h e a =
-    rw (near k 8 few (drop (n - few) s) e)
-    (⊎_elim
-    (λ f.
-    let p : first_below k s ≡ n - few + first_below k (drop (n - few) s) = past k (n - few) s (omega (arith, f.0)) in
-    rw (le-leb k (slice_index s 1) (f.1)) (and-true (leb few (first_below k (drop (n - few) s))) ∙ ends (first_below k s) (first_below k (drop (n - few) s)) p))
-    (λ f. rw (lt-leb k (slice_index s 1) (f.1)) (and-false (leb few (first_below k (drop (n - few) s))) ∙ sym (lt-leb n (first_below k s) (omega (arith, f.0)))))
-    (second k s (omega arith) a))
-  where
-    and-true : (b : Bool) → (b && true) ≡ b
-    and-true true = refl
-    and-true false = refl
-
-    and-false : (b : Bool) → (b && false) ≡ false
-    and-false true = refl
-    and-false false = refl
-
-    ends : (all rest : ℕ) → all ≡ n - few + rest → leb few rest ≡ leb n all
-    ends all rest p = elim (dec_lt rest few) [
-      | yes a ↦ rw (lt-leb few rest a, lt-leb n all (omega arith))
-      | no a ↦ rw (le-leb few rest (omega arith), le-leb n all (omega arith))
-    ]
+-- None of n bytes that start plain is below 16, where the first is not.
+pub plain-high : (n : ℕ) (s : List ℕ) → n ≤ 10 → 2 ≤ length s → 16 ≤ slice_index s 0 → starts_plain n s ≡ true → n ≤ first_below 16 s
+plain-high n s few long first e =
+    let rest = drop (n - 8) s in
+    let word = leb n (n - 8 + first_outside 16 rest) in
+    let last : n ≤ n - 8 + first_outside 16 rest = leb-true n _ (and_left word (leb 16 (slice_index s 1)) e) in
+    let second : 16 ≤ slice_index s 1 = leb-true 16 _ (and_right word (leb 16 (slice_index s 1)) e) in
+    omega (arith, last, outside-below 16 rest, past 16 (n - 8) s (omega (arith, two-high 16 s long first second)))

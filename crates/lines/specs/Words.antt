@@ -1,5 +1,5 @@
 -- Words of bytes, the first one lowest. Only contracts of functions that go by words cite these.
-use Rattle.std.specs.Prelude.{ℕ, zero, suc, ◌+◌, ◌*◌, ◌/◌, ◌%◌, ◌<◌, if◌then◌else◌, List, [], ◌∷◌, ◌==◌, nat_lt, slice_index}
+use Rattle.std.specs.Prelude.{ℕ, zero, suc, ◌+◌, ◌-◌, ◌*◌, ◌/◌, ◌%◌, ◌<◌, Bool, ◌&&◌, ◌||◌, if◌then◌else◌, List, [], ◌∷◌, ◌==◌, nat_lt, nat_le, slice_index, drop}
 
 -- the word of the four bytes from i on
 abbrev pub half_word_at : List ℕ → ℕ → ℕ
@@ -45,3 +45,12 @@ first_in b (x ∷ xs) = if x == b then 0 else suc (first_in b xs)
 unfoldable pub first_below : ℕ → List ℕ → ℕ
 first_below k [] = 0
 first_below k (x ∷ xs) = if nat_lt x k then 0 else suc (first_below k xs)
+
+-- the place of the first byte that is none of the 128 from k on, or the length
+unfoldable pub first_outside : ℕ → List ℕ → ℕ
+first_outside k [] = 0
+first_outside k (x ∷ xs) = if nat_lt x k || nat_le (k + 128) x then 0 else suc (first_outside k xs)
+
+-- whether of the first n bytes the last eight, or all of fewer, are from 16 to 143, and the second is 16 or more
+abbrev pub starts_plain : ℕ → List ℕ → Bool
+starts_plain n s = nat_le n (n - 8 + first_outside 16 (drop (n - 8) s)) && nat_le 16 (slice_index s 1)

@@ -3,13 +3,13 @@
 
 pub mod words;
 
-ghost use Rattle.std.specs.Prelude.{◌≡◌, ◌==◌, ◌+◌, ◌<◌, ◌≤◌, Some, nat_le, length, slice_index, take, drop, position};
+ghost use Rattle.std.specs.Prelude.{◌≡◌, ◌==◌, ◌+◌, ◌<◌, ◌≤◌, Some, length, take, drop, position};
 ghost use Rattle.std.specs.List.{position_from};
 ghost use Rattle.definitions.specs.Lists.{among, after};
 ghost use Rattle.definitions.specs.Lines.{is_blank_byte, trim};
 ghost use Rattle.definitions.specs.ReadBack.{without_cr};
 ghost use Rattle.lines.specs.Search.{count_of, or_else};
-ghost use Rattle.lines.specs.Words.{first_below};
+ghost use Rattle.lines.specs.Words.{starts_plain};
 ghost use Rattle.lines.specs.Lines.{first_line};
 
 /// The line without one carriage return at its end.
@@ -196,17 +196,17 @@ pub fn find_byte(slice: &[u8], needle: u8) -> Option<usize>
     find_far(slice, needle, near)
 }
 
-/// Of bytes that begin with one of 16 or more, whether none of the first `n` is below 16, as newlines and carriage returns are: by one word of eight bytes
-/// that ends with the last of them, or begins with the first where they are fewer, and by the second byte, which of ten stands before it.
-pub fn starts_high(data: &[u8], n: usize) -> bool
+/// Whether the last eight of the first `n` bytes, or all of fewer, are from 16 to 143, by one word, and the second, which of ten stands before them, is 16 or
+/// more. Where the first is too, no newline or carriage return is among the `n`.
+pub fn starts_plain(data: &[u8], n: usize) -> bool
     requires some { 2 ≤ n }
     requires few { n ≤ 10 }
     requires within { n ≤ length «data».now }
     requires wide { 8 ≤ length «data».now }
-    ensures { 16 ≤ slice_index «data».now 0 → result ≡ nat_le n (first_below 16 «data».now) }
+    ensures { result ≡ starts_plain n «data».now }
 {
     let few = usize::min(n, 8);
-    words::starts_high(words::halves_at(data, n - few), few) & (16 <= data[1])
+    words::starts_plain(words::halves_at(data, n - few), few) & (16 <= data[1])
 }
 
 /// The line that starts at `start`, without its newline, and what follows that newline: nothing where there is none, nor past the text's end. It is

@@ -3,7 +3,7 @@ ghost use Rattle.std.specs.Prelude.{◌≡◌, ◌+◌, ◌/◌, ◌<◌, ◌≤
 ghost use Rattle.std.specs.Int.Count.{count_trailing_zeros};
 ghost use Rattle.lines.specs.Search.{count_of};
 ghost use Rattle.definitions.specs.Lists.{among};
-ghost use Rattle.lines.specs.Words.{half_word_at, word_at, bytes_of_word, first_in, first_below};
+ghost use Rattle.lines.specs.Words.{half_word_at, word_at, bytes_of_word, first_in, first_outside};
 
 // In each byte: a one, a sixteen, the seven low bits, the high bit.
 const LO: u64 = 0x0101_0101_0101_0101;
@@ -68,14 +68,14 @@ pub fn byte_hits(word: u64, byte: u8) -> u64
     std::num::wrapping_sub_u64(x, LO) & !x & HI
 }
 
-/// Whether none of the first `n` of the word's bytes is below 16: with 16 taken off each, the high bit of the first that is below is set, and it was not.
-pub fn starts_high(word: u64, n: usize) -> bool
+/// Whether each of the first `n` of the word's bytes is from 16 to 143: with 16 taken off each, the high bit of the first that is not is set.
+pub fn starts_plain(word: u64, n: usize) -> bool
     requires some { 1 ≤ n }
     requires few { n ≤ 8 }
-    ensures { result ≡ nat_le n (first_below 16 (bytes_of_word word)) }
+    ensures { result ≡ nat_le n (first_outside 16 (bytes_of_word word)) }
 {
     let high_bits = HI >> (64 - 8 * n);
-    std::num::wrapping_sub_u64(word, SIXTEEN) & !word & high_bits == 0
+    std::num::wrapping_sub_u64(word, SIXTEEN) & high_bits == 0
 }
 
 /// Whether one of the word's bytes equals `byte`.

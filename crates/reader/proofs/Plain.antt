@@ -21,7 +21,8 @@ use Rattle.definitions.proofs.Lists.{after-cons}
 use Rattle.definitions.proofs.ChartRows.{test-length}
 use Rattle.reader.proofs.Cuts.{line-front}
 use Rattle.lines.specs.Lines.{first_line}
-use Rattle.lines.specs.Words.{first_below}
+use Rattle.lines.specs.Words.{first_below, starts_plain}
+use Rattle.lines.proofs.Lows.{plain-high}
 use Rattle.reader.specs.Reading.{LineStep, near_cells, Below}
 
 -- ---- such a line is a row
@@ -128,12 +129,12 @@ front L s some h f =
     }
 
 pub near-long : (L : ℕ) (s : List ℕ) → near_cells L s ≡ true → 12 ≤ length s
-near-long L s e = leb-true 12 (length s) (and_left (leb 12 (length s)) (leb L (first_below 16 s)) e)
+near-long L s e = leb-true 12 (length s) (and_left (leb 12 (length s)) (starts_plain L s) e)
 
-pub near-front : (L : ℕ) (s : List ℕ) → 4 ≤ L → L ≤ 10 → near_cells L s ≡ true → Front L s
-near-front L s low high e =
-    let long = leb-true 12 (length s) (and_left (leb 12 (length s)) (leb L (first_below 16 s)) e) in
-    front L s (omega arith) (omega arith) (leb-true L (first_below 16 s) (and_right (leb 12 (length s)) (leb L (first_below 16 s)) e))
+pub near-front : (L : ℕ) (s : List ℕ) → 4 ≤ L → L ≤ 10 → near_cells L s ≡ true → 16 ≤ get_or s 0 0 → Front L s
+near-front L s low few e first =
+    let long = near-long L s e in
+    front L s (omega arith) (omega arith) (plain-high L s few (omega arith) first (and_right (leb 12 (length s)) (starts_plain L s) e))
 
 -- ---- what follows it
 

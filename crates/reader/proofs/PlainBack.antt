@@ -6,7 +6,7 @@ use mathlib.Core.List.{List, [], ◌∷◌, ◌++◌}
 use Prim.Native.Nat.{ℕ, zero, suc, ◌-◌, ◌≤◌, ◌<◌}
 use native.Mathlib.Decide.{dec_lt}
 use native.Mathlib.Omega.{arith}
-use borrow.Author.Tests.{eq-eqb, eqb-true, eqb-false, leb-true, le-leb, lt-leb, not-true}
+use borrow.Author.Tests.{eq-eqb, eqb-true, eqb-false, leb-true, le-leb, lt-leb, not-true, ltb-true}
 use lib.Dec.{eqb, ltb, leb}
 use lib.ListN.{length, get_or, take, drop}
 use lib.Seq.{get_or-take, length-take-le, take-take}
@@ -113,7 +113,7 @@ rows-near L s below low high e w =
     let semi = eqb (get_or s 0 0) 59 in
     let three = and_left ((cells && past) && not comma) (not semi) e in
     let two = and_left (cells && past) (not comma) three in
-    let p = near-front L s low high (and_left cells past two) in
+    let p = near-front L s low high (and_left cells past two) (ltb-true 15 (get_or s 0 0) (and_right cells past two)) in
     let l = first_line s in
     let row : true ≡ is_row_line L l = is-row L l p.long (ap (among 13) p.cells ∙ p.plain) in
     let mark : begins_mark l ≡ false =

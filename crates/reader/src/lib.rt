@@ -5,7 +5,7 @@
 pub mod back;
 pub mod charts;
 
-ghost use Rattle.std.specs.Prelude.{◌≡◌, ◌<◌, ◌≤◌, length, drop, slice_index};
+ghost use Rattle.std.specs.Prelude.{◌≡◌, ◌<◌, ◌≤◌, length, drop};
 ghost use Rattle.definitions.specs.Lists.{among, after};
 ghost use Rattle.definitions.specs.Lines.{is_row_line};
 ghost use Rattle.lines.specs.Lines.{first_line};
@@ -32,15 +32,15 @@ pub fn begins_row(text: &[u8], lanes: usize) -> bool
     !has_byte(cells, 10) & !has_byte(cells, 13)
 }
 
-/// Whether a text begins with all cells of a row, none of them below 16, as a newline and a byte 13 are: asked where its first byte is 16 or more, and
-/// answered with no where the text is nearly at its end. Where the line ends is not asked.
+/// Whether a text whose first byte is 16 or more begins with all cells of a row, none of them below 16, as a newline and a byte 13 are. The answer is no
+/// too where the text is nearly at its end, or a cell is above 143, as no letter is. Where the line ends is not asked.
 pub fn has_cells(text: &[u8], lanes: Lanes) -> bool
-    ensures { 16 ≤ slice_index text.now 0 → result ≡ near_cells lanes.count text.now }
+    ensures { result ≡ near_cells lanes.count text.now }
 {
     if text.len() < 12 {
         return false;
     }
-    lines::starts_high(text, lanes.count)
+    lines::starts_plain(text, lanes.count)
 }
 
 /// What follows the line of a row that the text begins with: its newline stands right after the cells or one byte further, or is searched for. Out of line
