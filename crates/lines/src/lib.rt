@@ -72,22 +72,20 @@ pub fn count_byte(slice: &[u8], needle: u8) -> usize
     n
 }
 
-/// The place of the first of `near` bytes of `slice` that is `needle`, or `near`: one byte after the other.
-fn find_near(slice: &[u8], needle: u8, near: usize) -> usize
+/// The place of the first of `near` bytes of `slice` that is `needle`: one byte after the other.
+fn find_near(slice: &[u8], needle: u8, near: usize) -> Option<usize>
     requires { near ≤ length slice.now }
-    ensures found { result < near → position (λ x. x == needle) slice.now ≡ Some result }
-    ensures passed { near ≤ result →
-        position (λ x. x == needle) slice.now
-        ≡ position_from (λ x. x == needle) near (drop near slice.now) }
+    ensures { position (λ x. x == needle) slice.now
+        ≡ or_else result (position_from (λ x. x == needle) near (drop near slice.now)) }
 {
-    let mut i = 0;
-    while i < near {
-        if slice[i] == needle {
-            return i;
+    let mut place = 0;
+    while place < near {
+        if slice[place] == needle {
+            return Some(place);
         }
-        i += 1;
+        place += 1;
     }
-    near
+    None
 }
 
 /// The first place from `from` on where `slice` has `needle`: one byte after the other.
@@ -189,9 +187,8 @@ pub fn find_byte(slice: &[u8], needle: u8) -> Option<usize>
     ensures { result ≡ position (λ x. x == needle) slice.now }
 {
     let near = usize::min(slice.len(), 16);
-    let first = find_near(slice, needle, near);
-    if first < near {
-        return Some(first);
+    if let Some(at) = find_near(slice, needle, near) {
+        return Some(at);
     }
     find_far(slice, needle, near)
 }
