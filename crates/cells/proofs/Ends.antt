@@ -13,6 +13,8 @@ use Rattle.definitions.specs.Lists.{among}
 use Rattle.definitions.specs.Lines.{Row}
 use Rattle.definitions.specs.Cells.{cell_of, is_arrow}
 use Rattle.definitions.specs.Figures.{is_step}
+use Rattle.lines.specs.Words.{half_word_at, word_of, bytes_of_word}
+use Rattle.lines.proofs.WordBytes.{bytes_read}
 use Rattle.lines.proofs.RowWords.{places, picks, AllBelow, place_here, place-later}
 
 -- a row without an arrow has none in a column, and the other way round
@@ -79,6 +81,18 @@ module _ (r : Row) where
               | no c ↦ place-later k 4 ends (place-later k (length r - 8) (places (length r - 4) []) (place_here k (length r - 4) [] (omega arith) (omega arith)))
             ])
       ])
+
+-- the half word of four cells: the bytes above them are 0, which is no arrow
+pub step-four : (r : Row) → length r ≡ 4 → ((k : ℕ) → get_or r k 0 < 256) → is_step (bytes_of_word (half_word_at r 0)) ≡ is_step r
+unfolding is_step cell_of word_of
+step-four [] e h = absurd (omega arith)
+step-four (a ∷ []) e h = absurd (omega arith)
+step-four (a ∷ b ∷ []) e h = absurd (omega arith)
+step-four (a ∷ b ∷ c ∷ []) e h = absurd (omega arith)
+step-four (a ∷ b ∷ c ∷ d ∷ []) e h =
+    let word : word_of (a ∷ b ∷ c ∷ d ∷ 0 ∷ 0 ∷ 0 ∷ 0 ∷ []) ≡ half_word_at (a ∷ b ∷ c ∷ d ∷ []) 0 = omega arith in
+    ap is_step (bytes_read (a ∷ b ∷ c ∷ d ∷ 0 ∷ 0 ∷ 0 ∷ 0 ∷ []) _ refl (h 0, (h 1, (h 2, (h 3, (h 4, (h 5, (h 6, (h 7, tt)))))))) word)
+step-four (a ∷ b ∷ c ∷ d ∷ x ∷ r) e h = absurd (omega arith)
 
 -- two tests joined
 pub step-append : (r s : Row) → (is_step r || is_step s) ≡ is_step (r ++ s)

@@ -56,21 +56,24 @@ fn word_has_note(word: u64) -> bool
     words::has_byte(word, b'1') | words::has_byte(word, b'2') | words::has_byte(word, b'4')
 }
 
-/// Whether the row has an arrow: by words of eight cells where it has four to twelve, which may overlap.
+/// Whether the row has an arrow: by words where it has four to twelve cells. Four are half a word, and the zeros above them no arrow; of more than four
+/// the halves and words may overlap.
 #[inline(always)]
 pub fn row_has_note(row: &[u8]) -> bool
     ensures { result ≡ is_step row.now }
 {
     let n = row.len();
+    if n == 4 {
+        return word_has_note(words::half_at(row, 0));
+    }
     if (n < 4) | (12 < n) {
         return cells_have_note(row);
     }
-    if 8 < n {
-        let first = word_has_note(words::half_at(row, 0) + words::half_at(row, 4) * 0x1_0000_0000);
-        let last = words::half_at(row, n - 8) + words::half_at(row, n - 4) * 0x1_0000_0000;
-        return first | word_has_note(last);
+    if n <= 8 {
+        return word_has_note(words::half_at(row, 0) + words::half_at(row, n - 4) * 0x1_0000_0000);
     }
-    word_has_note(words::half_at(row, 0) + words::half_at(row, n - 4) * 0x1_0000_0000)
+    let first = word_has_note(words::half_at(row, 0) + words::half_at(row, 4) * 0x1_0000_0000);
+    first | word_has_note(words::half_at(row, n - 8) + words::half_at(row, n - 4) * 0x1_0000_0000)
 }
 
 // Whether every byte of a row is `0`, byte by byte.
