@@ -1,6 +1,6 @@
 -- Densities and spacing of raw rows: minimising drops only rows that are all zero, which are no steps.
 use mathlib.Core.Path.{◌≡◌, refl, ap, sym, ◌∙◌}
-use mathlib.Core.Bool.{Bool, true, false, ◌&&◌, not, true≢false, false≢true}
+use mathlib.Core.Bool.{Bool, true, false, ◌&&◌, false≢true}
 use mathlib.Core.List.{List, [], ◌∷◌, map}
 use Prim.Native.Nat.{ℕ, suc, ◌+◌}
 use native.Mathlib.Nat.{zero-add}
@@ -27,15 +27,6 @@ unfolding is_step cell_of
 zero-step [] z = refl
 zero-step (b ∷ r) z =
     rw (eqb-true b 48 (and_left (eqb b 48) (all_zero r) z), zero-step r (and_right (eqb b 48) (all_zero r) z))
-
--- so a step is not
-pub step_other : (b : Bool) (r : Row) → b ≡ is_step r → not b ≡ false → not b ≡ all_zero r
-step_other true r e h = go (all_zero r) refl
-  where
-    go : (t : Bool) → all_zero r ≡ t → false ≡ all_zero r
-    go true z = absurd (true≢false (e ∙ zero-step r z))
-    go false z = sym z
-step_other false r e h = absurd (true≢false h)
 
 thin-steps : {s t : List Row} → Thinned s t → count_by is_step s ≡ count_by is_step t
 thin-steps none = refl

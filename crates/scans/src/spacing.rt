@@ -4,23 +4,13 @@ ghost use Rattle.definitions.specs.Sizes.{most_bytes, row_numbers_bound};
 ghost use Rattle.definitions.specs.Lists.{padded};
 ghost use Rattle.definitions.specs.Refusals.{leaves};
 ghost use Rattle.definitions.specs.Lines.{Row};
-ghost use Rattle.definitions.specs.Reduction.{all_zero, reduce};
-ghost use Rattle.definitions.specs.Figures.{is_step, spacing as spacing_of, spacings};
+ghost use Rattle.definitions.specs.Reduction.{reduce};
+ghost use Rattle.definitions.specs.Figures.{spacing as spacing_of, spacings};
 ghost use Rattle.definitions.specs.Entries.{measures_answer};
 ghost use Rattle.scans.specs.Spaces.{Spaces};
 
 use definitions::{Lanes, Refusal};
 use reader::charts::ChartLine;
-
-// Whether every cell of a row is `0`, where it is known whether it has a 1, 2 or 4: with one it is not looked at.
-#[inline(always)]
-#[tactic(auto, using(crate::proofs::Raw::step_other))]
-fn is_zero(row: &[u8], has_note: bool) -> bool
-    requires { has_note ≡ is_step row.now }
-    ensures { result ≡ all_zero row.now }
-{
-    !has_note && cells::is_all_zero(row)
-}
 
 /// What the spacing scan keeps of the open measure: its rows, those with a 1, 2 or 4, and how many times its stride may be doubled as far as
 /// its rows allow it. A row that is all zero allows any stride, another one those that divide its number.
@@ -59,7 +49,7 @@ impl MeasureSpacing {
         }
         let has_note = cells::row_has_note(row);
         self.steps += u32::from(has_note);
-        if !is_zero(row, has_note) {
+        if !cells::is_all_zero(row) {
             self.shift = self.shift.min(number.trailing_zeros());
         }
     }

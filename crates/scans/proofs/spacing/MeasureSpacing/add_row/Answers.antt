@@ -9,16 +9,16 @@ returns-then-self-number c =
     let lost = lost-test _ _ _ c.if-self-number.true in
     λ cur x. spaces-lost _ cur x _ lost.0 lost.1
 
-pub returns-else-not-is_zero : goal.returns-else-not-is_zero
-returns-else-not-is_zero c =
+pub returns-else-not-is_all_zero : goal.returns-else-not-is_all_zero
+returns-else-not-is_all_zero c =
     λ cur x.
     spaces-zero _ cur x (hope-test _ _ _ c.if-self-number.false) _ _
     (c.from.ensures ∙ ap number_of_bool c.row_has_note-has_note.ensures)
-    (sym c.is_zero.ensures ∙ c.if-not-is_zero.false)
+    (sym c.is_all_zero.ensures ∙ c.if-not-is_all_zero.false)
 
-pub returns-then-not-is_zero : goal.returns-then-not-is_zero
-returns-then-not-is_zero c =
+pub returns-then-not-is_all_zero : goal.returns-then-not-is_all_zero
+returns-then-not-is_all_zero c =
     λ cur x.
     spaces-other _ cur x (hope-test _ _ _ c.if-self-number.false) _ _
     (c.from.ensures ∙ ap number_of_bool c.row_has_note-has_note.ensures)
-    _ c.min-self.ensures (sym c.is_zero.ensures ∙ c.if-not-is_zero.true)
+    _ c.min-self.ensures (sym c.is_all_zero.ensures ∙ c.if-not-is_all_zero.true)
