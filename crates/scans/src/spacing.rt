@@ -67,14 +67,16 @@ impl MeasureSpacing {
     }
 }
 
-/// The spacing of an accepted text, with zeros after it.
-pub fn fill_spacing(data: &[u8], lanes: Lanes, spacing: &mut [u8]) -> usize
+// The spacing of an accepted text at L lanes, with zeros after it: one loop for each lane count, so that the compiler knows how long a row is.
+fn fill_at<const L: usize>(data: &[u8], spacing: &mut [u8]) -> usize
+    requires within { (4 ≤ L) × (L ≤ 10) }
+    requires gaps { (L ≡ 7 → ⊥) × (L ≡ 9 → ⊥) }
     requires text_length { length «data».now ≤ most_bytes }
     requires spacing_room { (length «data».now + 1) / 2 + 1 ≤ length spacing.old }
-    ensures value { result ≡ length (spacings lanes.count «data».now) }
-    ensures spacing_after { spacing.new
-        ≡ padded 0 (length spacing.old) (spacings lanes.count «data».now) }
+    ensures value { result ≡ length (spacings L «data».now) }
+    ensures spacing_after { spacing.new ≡ padded 0 (length spacing.old) (spacings L «data».now) }
 {
+    let lanes = Lanes { count: L };
     let mut m = 0;
     let mut measure = MeasureSpacing::new();
     for line in reader::charts::chart_lines(data, lanes) {
@@ -93,6 +95,23 @@ pub fn fill_spacing(data: &[u8], lanes: Lanes, spacing: &mut [u8]) -> usize
     m
 }
 
+/// The spacing of an accepted text, with zeros after it.
+pub fn fill_spacing(data: &[u8], lanes: Lanes, spacing: &mut [u8]) -> usize
+    requires text_length { length «data».now ≤ most_bytes }
+    requires spacing_room { (length «data».now + 1) / 2 + 1 ≤ length spacing.old }
+    ensures value { result ≡ length (spacings lanes.count «data».now) }
+    ensures spacing_after { spacing.new
+        ≡ padded 0 (length spacing.old) (spacings lanes.count «data».now) }
+{
+    match lanes.count {
+        4 => fill_at::<4>(data, spacing),
+        5 => fill_at::<5>(data, spacing),
+        6 => fill_at::<6>(data, spacing),
+        8 => fill_at::<8>(data, spacing),
+        _ => fill_at::<10>(data, spacing),
+    }
+}
+
 /// For each measure whether it has no rows or each of its minimised rows has a 1, 2 or 4, 1 or 0, as the Rust's function of that name. The answer counts
 /// the measures. A refusal (12, 1 or 3) is the caller's mistake.
 #[tactic(auto, using(crate::proofs::Raw::spacings_count), unfolding(definitions::specs::Entries::measures_answer))]
@@ -101,7 +120,7 @@ pub fn equally_spaced_impl(data: &[u8], lanes: usize, spacing: &mut [u8]) -> Res
     ensures spacing_after { spacing.new
         ≡ leaves 0 result (spacings lanes «data».now) spacing.old }
 {
-    let columns = Lanes::of_number(lanes)?.known();
+    let columns = Lanes::of_number(lanes)?;
     let len = data.len();
     refusals::text_fits(len)?;
     refusals::room_for_measures(len, spacing.len())?;

@@ -1,4 +1,4 @@
--- `scans::fill_densities` meets its contract: each line that has come takes what is held on as `Filling` says, and at the end one measure is still
+-- `scans::fill_at` meets its contract: each line that has come takes what is held on as `Filling` says, and at the end one measure is still
 -- open, with `steps`.
 use Prim.Native.Nat.{◌<◌}
 use mathlib.Core.Path.{sym, ap, ◌∙◌}
@@ -10,30 +10,30 @@ use Rattle.reader.proofs.ChartLoops.{holds-start, holds-row, holds-comma, holds-
 use Rattle.scans.proofs.Raw.{densities-raw}
 use Rattle.scans.proofs.Filling.{Filled, filling_start, filling_row, filling_comma, filling_over, filled_count, filled_slice}
 use Rattle.scans.proofs.Steps.{Steps, steps-start, steps-more}
-use Rattle.scans.proofs.densities.fill_densities.Goals as goal
+use Rattle.scans.proofs.densities.fill_at.Goals as goal
 
 pub loop-line-init : goal.loop-line-init
-loop-line-init c = holds-start (c.into_iter-line-iterator.ensures.into_iter_gives ∙ c.chart_lines-line-items.ensures) c.args.lanes.within.0 (filling_start density (Steps 0) _ steps-start)
+loop-line-init g c = holds-start (c.into_iter-line-iterator.ensures.into_iter_gives ∙ c.chart_lines-line-items.ensures) c.requires.within.0 (filling_start density (Steps 0) _ steps-start)
 
 pub loop-line-preserved-in-Row : goal.loop-line-preserved-in-Row
-loop-line-preserved-in-Row c =
+loop-line-preserved-in-Row g c =
     holds-row c.loop-line.invariant c.in-Some.ensures.steps _ c.in-Row.is
     (filling_row density (Steps _) (Steps _) _ _ _ (steps-more _ _ _ (c.from-steps.ensures ∙ ap number_of_bool c.row_has_note.ensures)))
 
 pub loop-line-preserved : goal.loop-line-preserved
-loop-line-preserved c =
+loop-line-preserved g c =
     -- the measures so far are few enough for the slice
     let room : c.loop-line.m < length c.loop-line.densities = omega arith in
     holds-comma c.loop-line.invariant c.in-Some.ensures.steps c.in-Comma.is
     (filling_comma density (Steps _) (Steps 0) _ _ _ room (λ cur h. h) steps-start)
 
 pub returns : goal.returns
-returns c =
-    let last : Filled density c.args.lanes.count c.args.«data».now c.loop-line.m c.loop-line.steps c.loop-line.densities =
+returns g c =
+    let last : Filled density g.row.L c.args.«data».now c.loop-line.m c.loop-line.steps c.loop-line.densities =
     filling_over density (Steps _) _ _ _ _ _ (λ cur h. h)
     (holds-over c.loop-line.invariant c.in-None.ensures.steps.0) in
     let room : c.loop-line.m < length c.loop-line.densities = omega (arith, last.room) in
-    let raw = densities-raw c.args.lanes.count c.args.«data».now in record {
+    let raw = densities-raw g.row.L c.args.«data».now in record {
       value = filled_count density _ _ _ _ _ room last ∙ sym (ap length raw);
       densities_after =
           c.zero_past.ensures
