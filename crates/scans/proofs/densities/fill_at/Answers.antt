@@ -1,4 +1,4 @@
--- `scans::fill_at` meets its contract: each line that has come takes what is held on as `Filling` says, and at the end one measure is still
+-- `densities::fill_at` meets its contract: each line that has come takes what is held on as `Filling` says, and at the end one measure is still
 -- open, with `steps`.
 use Prim.Native.Nat.{◌<◌}
 use mathlib.Core.Path.{sym, ap, ◌∙◌}
