@@ -33,7 +33,7 @@ push_tap-count-requires-in-loop-left c =
     let F = c.requires.fits in
     let t = c.loop-left.invariant _ _ F in
     record {
-      notes_room = mask-late _ _ _ _ _ _ F _ _ _ t _ _ _ c.low_bit-next.ensures c.loop-left-test.true;
+      notes_room = mask-late _ _ _ _ _ _ F _ _ _ t _ _ _ c.low_bit-next.ensures (omega (arith, c.loop-left-test.true));
       column_narrow = c.low_bit-next.ensures.inside;
       notes_few = mask-few _ _ _ _ _ _ F _ _ _ t;
     }
@@ -44,4 +44,4 @@ loop-left-preserved c = λ s cells F.
     mask_next _ _ _ _ s cells F _ _ _ (c.loop-left.invariant s cells F) _ _ _ c.low_bit-next.ensures _ _ next.notes_after next.value c.push_tap-count-in-loop-left.auto.notes
 
 pub returns : goal.returns
-returns c = λ s cells F. mask_end _ _ _ _ s cells F _ _ _ (c.loop-left.invariant s cells F) c.loop-left-test.false
+returns c = λ s cells F. mask_end _ _ _ _ s cells F _ _ _ (c.loop-left.invariant s cells F) (omega (arith, c.loop-left-test.false))
