@@ -1,6 +1,6 @@
 // The ends of rows whose cells are counted: over their entries in the work slice alone, without the text.
-ghost use Rattle.std.specs.Prelude.{◌≡◌, ℕ, Bool, List, true, false, ◌≤◌, ◌<◌, length, slice_index};
-ghost use Rattle.definitions.specs.Sizes.{row_numbers_bound, count_bound};
+ghost use Rattle.std.specs.Prelude.{◌≡◌, ℕ, Bool, List, true, false, ◌≤◌, ◌<◌, length};
+ghost use Rattle.definitions.specs.Sizes.{row_numbers_bound};
 ghost use Rattle.definitions.specs.Lines.{Row};
 ghost use Rattle.definitions.specs.Tally.{tally};
 ghost use Rattle.definitions.specs.Correction.{paired_only};

@@ -1,5 +1,5 @@
 // Rows of taps alone in columns without an open head: they are counted by their mask, and leave the open heads.
-ghost use Rattle.std.specs.Prelude.{◌≡◌, Bool, true, false, not, ◌&&◌, ◌+◌, ◌*◌, ◌≤◌, ◌<◌, length, slice_index};
+ghost use Rattle.std.specs.Prelude.{◌≡◌, true, false, ◌+◌, ◌*◌, ◌≤◌, ◌<◌, length, slice_index};
 ghost use Rattle.definitions.specs.Lists.{number_of_bool};
 ghost use Rattle.definitions.specs.Lines.{Row};
 ghost use Rattle.definitions.specs.Sizes.{count_bound};

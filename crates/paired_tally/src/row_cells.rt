@@ -1,5 +1,5 @@
 // The cells of a row, one after the other: each counts at once, but for a head, which counts when a tail pairs with it.
-ghost use Rattle.std.specs.Prelude.{◌≡◌, ℕ, [], true, false, ◌==◌, ◌+◌, ◌/◌, ◌≤◌, ◌<◌, length, slice_index, slice_set};
+ghost use Rattle.std.specs.Prelude.{◌≡◌, false, ◌==◌, ◌+◌, ◌≤◌, ◌<◌, length, slice_index, slice_set};
 ghost use Rattle.definitions.specs.Lists.{number_of_bool};
 ghost use Rattle.definitions.specs.Tracker.{hold_at};
 ghost use Rattle.definitions.specs.declared.Cell.TheVariants.{Tail};
@@ -8,132 +8,99 @@ ghost use Rattle.definitions.specs.Cells.{cell_of, hold_effect};
 ghost use Rattle.definitions.specs.Correction.{is_opening};
 ghost use Rattle.definitions.specs.Tally.{empty_sum};
 ghost use Rattle.definitions.specs.declared.DepthEffect.TheVariants.{Nothing, Blocks, Opens};
-ghost use Rattle.holds.specs.Stacks.{TrackReady, TrackStepped};
 ghost use Rattle.row_tally.specs.Bounds.{Below};
 ghost use Rattle.row_tally.specs.Raised.{with_cells};
 ghost use Rattle.paired_tally.specs.Paired.{LeftByRows, RowCounted};
-ghost use Rattle.paired_tally.specs.Cells.{Within, GoneOn, add_kind, own_entry, head_counts, pair_stats, pair_work};
+ghost use Rattle.paired_tally.specs.Cells.{Within, GoneOn, add_kind, own_entry};
 
 use crate::{PairedTally, entry, kinds};
 use definitions::{Cell, direction};
 
+// The place of a cell: its row and its column, whether the tally is plain, and where it is not, whether the row is judged.
+#[derive(Clone, Copy)]
+struct Place {
+    row: u32,
+    column: usize,
+    plain: bool,
+    judged: bool,
+}
+
 impl PairedTally {
     // A cell of the row that is no head counts.
     #[inline(always)]
-    fn count_own(
-        &mut self,
-        row: u32,
-        direction: usize,
-        cell: Cell,
-        plain: bool,
-        judged: bool,
-        work: &mut [u16],
-    )
+    fn count_own(&mut self, at: Place, towards: usize, cell: Cell, work: &mut [u16])
         requires few { Below (count_bound + 9) self.old.stats }
-        requires entry_room { row < length work.old }
-        requires entry_low { slice_index work.old row ≤ 15018 }
+        requires entry_room { at.row < length work.old }
+        requires entry_low { slice_index work.old at.row ≤ 15018 }
         requires no_head { is_opening (hold_effect cell) ≡ false }
         ensures tracker { self.new.tracker ≡ self.old.tracker }
         ensures value { self.new.stats ≡ with_cells self.old.stats
-            (add_kind plain judged empty_sum direction cell) }
-        ensures work_after { work.new ≡ slice_set work.old row
-            (own_entry plain judged cell (slice_index work.old row)) }
+            (add_kind at.plain at.judged empty_sum towards cell) }
+        ensures work_after { work.new ≡ slice_set work.old at.row
+            (own_entry at.plain at.judged cell (slice_index work.old at.row)) }
     {
-        let at = row as usize;
-        kinds::count_kind(&mut self.stats, direction, cell, plain, judged);
-        work[at] = entry::with_cell(work[at], cell, plain, judged);
+        let row = at.row as usize;
+        kinds::count_kind(&mut self.stats, towards, cell, at.plain, at.judged);
+        work[row] = entry::with_cell(work[row], cell, at.plain, at.judged);
     }
 
     // A cell that does nothing to the open heads of its column.
     #[inline(always)]
-    fn pass_cell(
-        &mut self,
-        row: u32,
-        cells: &[u8],
-        column: usize,
-        cell: Cell,
-        plain: bool,
-        judged: bool,
-        work: &mut [u16],
-    )
-        requires inside { column < length cells.now }
-        requires known { cell ≡ cell_of (slice_index cells.now column) }
+    fn pass_cell(&mut self, at: Place, cells: &[u8], cell: Cell, work: &mut [u16])
+        requires inside { at.column < length cells.now }
+        requires known { cell ≡ cell_of (slice_index cells.now at.column) }
         requires passes { hold_effect cell ≡ Nothing }
-        requires reached { Within plain judged row cells.now column self.old work.old }
-        ensures { GoneOn plain judged row cells.now column self.old work.old
-            (column + 1) self.new work.new }
+        requires reached { Within at.plain at.judged at.row cells.now at.column self.old work.old }
+        ensures { GoneOn at.plain at.judged at.row cells.now at.column self.old work.old
+            (at.column + 1) self.new work.new }
     {
-        let towards = direction(cells.len(), column);
-        self.count_own(row, towards, cell, plain, judged, work);
+        let towards = direction(cells.len(), at.column);
+        self.count_own(at, towards, cell, work);
     }
 
     // A cell that empties its column's stack.
     #[inline(always)]
-    fn block_cell(
-        &mut self,
-        row: u32,
-        cells: &[u8],
-        column: usize,
-        cell: Cell,
-        plain: bool,
-        judged: bool,
-        work: &mut [u16],
-    )
-        requires inside { column < length cells.now }
-        requires known { cell ≡ cell_of (slice_index cells.now column) }
+    fn block_cell(&mut self, at: Place, cells: &[u8], cell: Cell, work: &mut [u16])
+        requires inside { at.column < length cells.now }
+        requires known { cell ≡ cell_of (slice_index cells.now at.column) }
         requires blocks { hold_effect cell ≡ Blocks }
-        requires reached { Within plain judged row cells.now column self.old work.old }
-        ensures { GoneOn plain judged row cells.now column self.old work.old
-            (column + 1) self.new work.new }
+        requires reached { Within at.plain at.judged at.row cells.now at.column self.old work.old }
+        ensures { GoneOn at.plain at.judged at.row cells.now at.column self.old work.old
+            (at.column + 1) self.new work.new }
     {
-        kinds::clear_open(&mut self.tracker, column);
-        let towards = direction(cells.len(), column);
-        self.count_own(row, towards, cell, plain, judged, work);
+        kinds::clear_open(&mut self.tracker, at.column);
+        let towards = direction(cells.len(), at.column);
+        self.count_own(at, towards, cell, work);
     }
 
     // A head, which is pushed alone.
     #[inline(always)]
-    fn open_cell(
-        &mut self,
-        row: u32,
-        cells: &[u8],
-        column: usize,
-        roll: u32,
-        plain: bool,
-        judged: bool,
-        work: &mut [u16],
-    )
-        requires inside { column < length cells.now }
-        requires known { roll ≡ number_of_bool (slice_index cells.now column == 52) }
-        requires opens { hold_at (slice_index cells.now column) ≡ Opens }
-        requires reached { Within plain judged row cells.now column self.old work.old }
-        ensures { GoneOn plain judged row cells.now column self.old work.old
-            (column + 1) self.new work.new }
+    fn open_cell(&mut self, at: Place, cells: &[u8], roll: u32, work: &mut [u16])
+        requires inside { at.column < length cells.now }
+        requires known { roll ≡ number_of_bool (slice_index cells.now at.column == 52) }
+        requires opens { hold_at (slice_index cells.now at.column) ≡ Opens }
+        requires reached { Within at.plain at.judged at.row cells.now at.column self.old work.old }
+        ensures { GoneOn at.plain at.judged at.row cells.now at.column self.old work.old
+            (at.column + 1) self.new work.new }
     {
-        self.tracker.push(2 * row + roll, column);
+        self.tracker.push(2 * at.row + roll, at.column);
     }
 
     // A tail, which pairs with the newest head of its column or with none.
     #[inline(always)]
-    fn close_cell(
-        &mut self,
-        row: u32,
-        cells: &[u8],
-        column: usize,
-        plain: bool,
-        judged: bool,
-        work: &mut [u16],
-    )
-        requires inside { column < length cells.now }
-        requires known { Tail ≡ cell_of (slice_index cells.now column) }
-        requires reached { Within plain judged row cells.now column self.old work.old }
-        ensures { GoneOn plain judged row cells.now column self.old work.old
-            (column + 1) self.new work.new }
+    fn close_cell(&mut self, at: Place, cells: &[u8], work: &mut [u16])
+        requires inside { at.column < length cells.now }
+        requires known { Tail ≡ cell_of (slice_index cells.now at.column) }
+        requires reached { Within at.plain at.judged at.row cells.now at.column self.old work.old }
+        ensures { GoneOn at.plain at.judged at.row cells.now at.column self.old work.old
+            (at.column + 1) self.new work.new }
     {
-        let towards = direction(cells.len(), column);
-        match self.tracker.pop(column) {
-            None => self.count_own(row, towards, Cell::Tail, plain, judged, work),
-            Some(number) => kinds::end_pair(&mut self.stats, row, towards, number, plain, work),
+        let towards = direction(cells.len(), at.column);
+        match self.tracker.pop(at.column) {
+            None => self.count_own(at, towards, Cell::Tail, work),
+            Some(number) => {
+                kinds::end_pair(&mut self.stats, at.row, towards, number, at.plain, work)
+            }
         }
     }
 
@@ -151,27 +118,25 @@ impl PairedTally {
         ensures { GoneOn PLAIN JUDGED row cells.now column self.old work.old
             (column + 1) self.new work.new }
     {
+        let at = Place {
+            row,
+            column,
+            plain: PLAIN,
+            judged: JUDGED,
+        };
         match cells::cell_of(cells[column]) {
-            Cell::Empty => self.pass_cell(row, cells, column, Cell::Empty, PLAIN, JUDGED, work),
-            Cell::Tap => self.block_cell(row, cells, column, Cell::Tap, PLAIN, JUDGED, work),
-            Cell::Hold => self.open_cell(row, cells, column, 0, PLAIN, JUDGED, work),
-            Cell::Tail => self.close_cell(row, cells, column, PLAIN, JUDGED, work),
-            Cell::Roll => self.open_cell(row, cells, column, 1, PLAIN, JUDGED, work),
-            Cell::Mine => self.block_cell(row, cells, column, Cell::Mine, PLAIN, JUDGED, work),
-            Cell::Lift => self.block_cell(row, cells, column, Cell::Lift, PLAIN, JUDGED, work),
-            Cell::Fake => self.block_cell(row, cells, column, Cell::Fake, PLAIN, JUDGED, work),
-            Cell::KeySound => {
-                self.pass_cell(row, cells, column, Cell::KeySound, PLAIN, JUDGED, work)
-            }
-            Cell::LowerMine => {
-                self.pass_cell(row, cells, column, Cell::LowerMine, PLAIN, JUDGED, work)
-            }
-            Cell::LowerLift => {
-                self.pass_cell(row, cells, column, Cell::LowerLift, PLAIN, JUDGED, work)
-            }
-            Cell::LowerFake => {
-                self.pass_cell(row, cells, column, Cell::LowerFake, PLAIN, JUDGED, work)
-            }
+            Cell::Empty => self.pass_cell(at, cells, Cell::Empty, work),
+            Cell::Tap => self.block_cell(at, cells, Cell::Tap, work),
+            Cell::Hold => self.open_cell(at, cells, 0, work),
+            Cell::Tail => self.close_cell(at, cells, work),
+            Cell::Roll => self.open_cell(at, cells, 1, work),
+            Cell::Mine => self.block_cell(at, cells, Cell::Mine, work),
+            Cell::Lift => self.block_cell(at, cells, Cell::Lift, work),
+            Cell::Fake => self.block_cell(at, cells, Cell::Fake, work),
+            Cell::KeySound => self.pass_cell(at, cells, Cell::KeySound, work),
+            Cell::LowerMine => self.pass_cell(at, cells, Cell::LowerMine, work),
+            Cell::LowerLift => self.pass_cell(at, cells, Cell::LowerLift, work),
+            Cell::LowerFake => self.pass_cell(at, cells, Cell::LowerFake, work),
         }
     }
 
@@ -191,7 +156,13 @@ impl PairedTally {
             (column + 1) self.new work.new }
     {
         if cells[column] <= b'0' {
-            self.pass_cell(row, cells, column, Cell::Empty, PLAIN, JUDGED, work);
+            let at = Place {
+                row,
+                column,
+                plain: PLAIN,
+                judged: JUDGED,
+            };
+            self.pass_cell(at, cells, Cell::Empty, work);
             return;
         }
         self.count_met::<PLAIN, JUDGED>(row, cells, column, work);

@@ -10,7 +10,7 @@ pub count_own-requires-clause-few : goal.count_own-requires-clause-few
 count_own-requires-clause-few c = within-few c.requires.reached
 
 pub count_own-requires-clause-entry_low : goal.count_own-requires-clause-entry_low
-count_own-requires-clause-entry_low c = within-low c.requires.reached c.args.row
+count_own-requires-clause-entry_low c = within-low c.requires.reached c.args.at.row
 
 pub returns : goal.returns
 returns c =

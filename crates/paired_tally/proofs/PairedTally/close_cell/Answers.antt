@@ -11,13 +11,13 @@ pub count_own-requires-clause-few : goal.count_own-requires-clause-few
 count_own-requires-clause-few c = within-few c.requires.reached
 
 pub count_own-requires-clause-entry_low : goal.count_own-requires-clause-entry_low
-count_own-requires-clause-entry_low c = within-low c.requires.reached c.args.row
+count_own-requires-clause-entry_low c = within-low c.requires.reached c.args.at.row
 
 pub end_pair-requires-clause-few : goal.end_pair-requires-clause-few
 end_pair-requires-clause-few c = within-few c.requires.reached
 
 pub end_pair-requires-clause-row_entry_low : goal.end_pair-requires-clause-row_entry_low
-end_pair-requires-clause-row_entry_low c = within-low c.requires.reached c.args.row
+end_pair-requires-clause-row_entry_low c = within-low c.requires.reached c.args.at.row
 
 pub end_pair-requires-clause-head_entry_low : goal.end_pair-requires-clause-head_entry_low
 end_pair-requires-clause-head_entry_low c = within-low c.requires.reached _
