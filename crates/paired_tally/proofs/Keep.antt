@@ -1,7 +1,7 @@
 -- A row with its paired heads alone, where one of its cells or one of its heads is another.
 use mathlib.Core.Path.{◌≡◌, refl, sym, ap, ap₂, ◌∙◌}
 use mathlib.Core.List.{List, [], ◌∷◌}
-use Prim.Native.Nat.{ℕ, zero, suc, ◌+◌, ◌<◌}
+use Prim.Native.Nat.{ℕ, zero, suc, ◌+◌, ◌≤◌, ◌<◌}
 use native.Mathlib.Nat.{zero-add}
 use native.Mathlib.Omega.{arith}
 use lib.ListN.{length, get_or, set}
@@ -17,22 +17,21 @@ module _ (ps ps' : ℕ → List Pair) (i : ℕ) where
   abbrev pub Same : Type 0
   Same = (d : ℕ) → is_head_of i (ps' d) ≡ is_head_of i (ps d)
 
-  pub keep-same : (c : ℕ) (r : Row) → Same → keep_row ps' i c r ≡ keep_row ps i c r
-  keep-same c [] f = refl
-  keep-same c (b ∷ r) f = ap₂ (λ (x : ℕ) (xs : Row). x ∷ xs) (ap (λ p. head_if_paired (hold_at b) p b) (f c)) (keep-same (suc c) r f)
+  -- those from column c on
+  keep-on : (c : ℕ) (r : Row) → ((d : ℕ) → c ≤ d → is_head_of i (ps' d) ≡ is_head_of i (ps d)) → keep_row ps' i c r ≡ keep_row ps i c r
+  keep-on c [] f = refl
+  keep-on c (b ∷ r) f =
+      ap₂ (λ (x : ℕ) (xs : Row). x ∷ xs) (ap (λ p. head_if_paired (hold_at b) p b) (f c (omega arith))) (keep-on (suc c) r (λ d l. f d (omega arith)))
 
-  -- those from column c on, with this column before them
-  keep-past : (c j : ℕ) (r : Row) → j < c → SameBut j → keep_row ps' i c r ≡ keep_row ps i c r
-  keep-past c j [] h f = refl
-  keep-past c j (b ∷ r) h f =
-      ap₂ (λ (x : ℕ) (xs : Row). x ∷ xs) (ap (λ p. head_if_paired (hold_at b) p b) (f c (λ e. omega arith))) (keep-past (suc c) j r (omega arith) f)
+  pub keep-same : (c : ℕ) (r : Row) → Same → keep_row ps' i c r ≡ keep_row ps i c r
+  keep-same c r f = keep-on c r (λ d l. f d)
 
   keep-from : (c k b : ℕ) (r : Row) → k < length r → SameBut (c + k)
       → keep_row ps' i c (set r k b) ≡ set (keep_row ps i c r) k (head_if_paired (hold_at b) (is_head_of i (ps' (c + k))) b)
   keep-from c k b [] h f = absurd (omega arith)
   keep-from c zero b (x ∷ r) h f =
       let z : c + 0 ≡ c = omega arith in
-      ap₂ (λ (x : ℕ) (xs : Row). x ∷ xs) (ap (λ n. head_if_paired (hold_at b) (is_head_of i (ps' n)) b) (sym z)) (keep-past (suc c) (c + 0) r (omega arith) f)
+      ap₂ (λ (x : ℕ) (xs : Row). x ∷ xs) (ap (λ n. head_if_paired (hold_at b) (is_head_of i (ps' n)) b) (sym z)) (keep-on (suc c) r (λ d l. f d (λ e. omega arith)))
   keep-from c (suc k) b (x ∷ r) h f =
       let z : c + suc k ≡ suc c + k = omega arith in
       ap₂ (λ (x : ℕ) (xs : Row). x ∷ xs) (ap (λ p. head_if_paired (hold_at x) p x) (f c (λ e. omega arith)))

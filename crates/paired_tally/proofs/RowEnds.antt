@@ -11,7 +11,7 @@ use lib.ListN.{length, get_or, drop, drop_of_length-le}
 use lib.Seq.{drop-cons}
 use Rattle.definitions.specs.Lists.{number_of_bool}
 use Rattle.definitions.specs.Lines.{Row}
-use Rattle.definitions.specs.Tracker.{Pair, pairs}
+use Rattle.definitions.specs.Tracker.{pairs}
 use Rattle.definitions.specs.Tally.{empty_stats, row_sum_by, tally_with_row, tally_from, tally}
 use Rattle.definitions.specs.Correction.{keep_row, keep_from, paired_only}
 use Rattle.definitions.specs.Judged.{judged_sum, judge_row, open_before, judge_from, judged_rows}
@@ -23,10 +23,10 @@ use Rattle.holds.proofs.Heads.{counted-heads}
 use Rattle.holds.proofs.Opens.{opens, opens-start, opens-most, ends-few}
 use Rattle.row_tally.specs.Bounds.{Under, EndsBelow}
 use Rattle.row_tally.specs.Ends.{cells_from}
-use Rattle.row_tally.specs.Raised.{with_cells, row_end, judged_row_end}
+use Rattle.row_tally.specs.Raised.{row_end, judged_row_end}
 use Rattle.row_tally.proofs.Ends.{plain_sum, judged_sum_at, plain-next, judged-next, others-told, cells-from-ends, ends-plain, ends-judged}
 use Rattle.paired_tally.specs.Entry.{entry_of, arrows_of, heads_of, ends_of, others_of}
-use Rattle.paired_tally.specs.Paired.{kind_sum, PairedRows, counts_from}
+use Rattle.paired_tally.specs.Paired.{PairedRows}
 use Rattle.paired_tally.specs.declared.PairedTally.{PairedTally}
 use Rattle.paired_tally.proofs.Bounds.{row-under}
 
@@ -121,19 +121,13 @@ module _ {sum : ℕ → Row → RowSum} {rest : ArrowStats → ℕ → List Row 
       let over : drop i rows ≡ [] = drop_of_length-le rows h in
       e.counted ∙ rw over (sym (whole e.told) ∙ (rw over at e.whole))
 
--- the counts of rows are those of their cells
-counts-cells : (plain : Bool) (J : ℕ → Bool) (ps : ℕ → List Pair) (t : ArrowStats) (i : ℕ) (rows : List Row)
-    → counts_from plain J ps t i rows ≡ cells_from (λ k r. kind_sum plain (J k) (keep_row ps k 0 r)) t i rows
-counts-cells plain J ps t i [] = refl
-counts-cells plain J ps t i (r ∷ rows) = counts-cells plain J ps (with_cells t (kind_sum plain (J i) (keep_row ps i 0 r))) (suc i) rows
-
 -- ---- The loop over the entries of plain rows
 abbrev pub PlainEnding : List Row → ℕ → ArrowStats → Type 0
 PlainEnding rows i stats = Ending (plain_sum (pairs rows)) (λ t k rs. tally_from t (keep_from (pairs rows) k rs)) rows i stats
 
 module _ {J : ℕ → Bool} {L : ℕ} {rows : List Row} {t : PairedTally} {work : List ℕ} (x : PairedRows true J L rows t work) where
   pub ending-start : PlainEnding rows 0 t.stats
-  ending-start = no-ends (x.stats ∙ counts-cells true J (pairs rows) empty_stats 0 rows)
+  ending-start = no-ends x.stats
 
   module _ (i : ℕ) (h : i < length rows) (m : L ≤ 10) where
     abbrev r : Row
@@ -182,7 +176,7 @@ module _ {J : ℕ → Bool} {L : ℕ} {rows : List Row} {t : PairedTally} {work 
   pub judged-start : JudgedEnding J L rows 0 0 t.stats
   judged-start =
       record {
-        ending = no-ends (x.stats ∙ counts-cells false J (pairs rows) empty_stats 0 rows);
+        ending = no-ends x.stats;
         held = sym (opens-start L J rows);
       }
 

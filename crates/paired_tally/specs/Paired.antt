@@ -12,7 +12,7 @@ use Rattle.definitions.specs.declared.ArrowStats.{ArrowStats}
 use Rattle.taps.specs.Taps.{FreeAre}
 use Rattle.holds.specs.Stacks.{stack_of, Sized}
 use Rattle.holds.specs.Tracks.{ends_at}
-use Rattle.row_tally.specs.Raised.{with_cells}
+use Rattle.row_tally.specs.Ends.{cells_from}
 use Rattle.paired_tally.specs.Entry.{entry_of}
 use Rattle.paired_tally.specs.declared.PairedTally.{PairedTally}
 
@@ -21,14 +21,17 @@ abbrev pub kind_sum : Bool → Bool → Row → RowSum
 kind_sum true judged r = row_sum r
 kind_sum false judged r = judged_sum judged r
 
--- The counts of rows numbered from i on top of t, where ps has the pairs of each column: steps, jumps, hands and what is held are yet to be told.
+-- What row i adds up to with its paired heads alone, where ps has the pairs of each column.
+abbrev pub kept_sum : Bool → (ℕ → Bool) → (ℕ → List Pair) → ℕ → Row → RowSum
+kept_sum plain J ps i r = kind_sum plain (J i) (keep_row ps i 0 r)
+
+-- The counts of rows numbered from i on top of t: steps, jumps, hands and what is held are yet to be told.
 abbrev pub counts_from : Bool → (ℕ → Bool) → (ℕ → List Pair) → ArrowStats → ℕ → List Row → ArrowStats
-counts_from plain J ps t i [] = t
-counts_from plain J ps t i (r ∷ rs) = counts_from plain J ps (with_cells t (kind_sum plain (J i) (keep_row ps i 0 r))) (suc i) rs
+counts_from plain J ps = cells_from (kept_sum plain J ps)
 
 -- what row i adds up to
 abbrev pub sum_at : Bool → (ℕ → Bool) → (ℕ → List Pair) → List Row → ℕ → RowSum
-sum_at plain J ps rows i = kind_sum plain (J i) (keep_row ps i 0 (slice_index_or rows i []))
+sum_at plain J ps rows i = kept_sum plain J ps i (slice_index_or rows i [])
 
 -- A head as the tracker keeps it: twice its row, and 1 more for a roll.
 abbrev pub head_number : ℕ → ℕ → ℕ
