@@ -31,9 +31,9 @@
 #include <stdint.h>
 
 /* The version of the library, as words and as numbers. */
-#define PADCHECK_VERSION "0.1.0"
+#define PADCHECK_VERSION "0.2.0"
 #define PADCHECK_VERSION_MAJOR 0
-#define PADCHECK_VERSION_MINOR 1
+#define PADCHECK_VERSION_MINOR 2
 #define PADCHECK_VERSION_PATCH 0
 
 #ifdef __cplusplus

@@ -76,7 +76,12 @@ pub fn request(mut words: impl Iterator<Item = OsString>) -> Result<Request, Str
             &["--chart", "--lanes", "--notes", "--beats", "--force"],
         ),
         "diff" => (help::DIFF, &["--chart", "--lanes", "--force"]),
-        _ => return Err(usage(&format!("`{}` is no word", word.escape_debug()))),
+        _ => {
+            let word = word.escape_debug();
+            return Err(usage(&format!(
+                "`{word}` is no word; the words are charts, sheet, dropped, rig and diff"
+            )));
+        }
     };
     let made = Options::read(words, known).and_then(|options| {
         if options.help {
@@ -318,7 +323,10 @@ mod tests {
     fn what_is_wrong_is_said() {
         let wrong = [
             ("", "charts, sheet, dropped, rig or diff is wanted"),
-            ("print a", "`print` is no word"),
+            (
+                "print a",
+                "`print` is no word; the words are charts, sheet, dropped, rig and diff;",
+            ),
             ("charts", "charts: a file is wanted"),
             ("charts a --chart 0", "`--chart` is not known here"),
             ("sheet a --chart", "--chart needs a value"),

@@ -1,18 +1,23 @@
 //! The charts of an SM file, and the word `charts`. Which there are and which of them are read is the library's answer.
 
 use crate::args::Charts;
-use crate::input::{contents, shown};
+use crate::doubt::NoteData;
+use crate::input::{BYTE_ORDER_MARKS, contents, shown};
 use crate::left::Left;
 use crate::lines::lines;
-use crate::memory::push;
+use crate::memory::{NoMemory, push};
+use crate::missed::missed_chart;
 use crate::output::{Status, doubtful, fault};
-use crate::select::whole_file;
 use padcheck::{MAX_LEN, Refusal, SmBlock, SmChart, sm_blocks};
 use std::io::{self, Write};
 use std::path::Path;
 
 /// What is said of an SM file without a chart.
 const NO_CHART: &str = "none of its lines begins with #NOTES:, and bare note data needs --lanes";
+
+/// The same where its letters are written otherwise.
+const UTF_16: &str =
+    "it begins with the byte-order mark of UTF-16, in which no chart is found: save it as UTF-8";
 
 /// A chart of an SM file.
 #[derive(Clone, Copy, Debug, PartialEq)]
@@ -21,10 +26,59 @@ pub struct Listed<'a> {
     pub number: usize,
     /// Its type as it is written there, empty where it has none.
     pub name: &'a [u8],
+    /// Where its tag ends in the file.
+    pub tag_end: usize,
     /// Where its note data begins; of a refused one, where its tag ends.
     pub place: usize,
+    /// The line of that place, counted from 1.
+    pub line: usize,
+    /// Where its block ends, and whether a `;` ends it; else the file does.
+    pub end: usize,
+    pub has_end: bool,
     /// What the library says of it.
     pub answer: Result<SmChart<'a>, Refusal>,
+}
+
+impl Listed<'_> {
+    /// Its note data in the file, or why it is refused.
+    pub fn note_data<'a>(&self, file: &'a [u8]) -> Result<NoteData<'a>, Refusal> {
+        let SmChart { lanes, .. } = self.answer?;
+        Ok(NoteData {
+            data: &file[self.place..self.end],
+            lanes,
+            line: self.line,
+            behind: Some(&file[self.end..]),
+        })
+    }
+}
+
+/// All charts that the library knows in a file that is not too long.
+pub fn charts_of(file: &[u8]) -> Result<Vec<Listed<'_>>, NoMemory> {
+    let place = |part: &[u8]| part.as_ptr().addr() - file.as_ptr().addr();
+    let mut charts = Vec::new();
+    let (mut counted, mut line) = (0, 1);
+    for SmBlock { after_tag, chart } in sm_blocks(file) {
+        let start = place(chart.map_or(after_tag, |chart| chart.data));
+        line += file[counted..start]
+            .iter()
+            .filter(|&&byte| byte == b'\n')
+            .count();
+        counted = start;
+        let semicolon = after_tag.iter().position(|&byte| byte == b';');
+        let tag_end = place(after_tag);
+        let chart = Listed {
+            number: charts.len(),
+            name: written_type(after_tag),
+            tag_end,
+            place: start,
+            line,
+            end: semicolon.map_or(file.len(), |place| tag_end + place + 1),
+            has_end: semicolon.is_some(),
+            answer: chart,
+        };
+        push(&mut charts, chart)?;
+    }
+    Ok(charts)
 }
 
 /// The charts of an SM file, or why it has none that can be listed: it is too long, is an SSC file, or has none at all.
@@ -32,22 +86,16 @@ pub fn listed(file: &[u8]) -> Result<Vec<Listed<'_>>, Left> {
     if file.len() > MAX_LEN {
         return Err(Refusal::LongText.into());
     }
-    let mut charts = Vec::new();
-    for SmBlock { after_tag, chart } in sm_blocks(file) {
-        let start = chart.map_or(after_tag, |chart| chart.data);
-        let chart = Listed {
-            number: charts.len(),
-            name: written_type(after_tag),
-            place: start.as_ptr().addr() - file.as_ptr().addr(),
-            answer: chart,
-        };
-        push(&mut charts, chart)?;
-    }
+    let charts = charts_of(file)?;
     if let Some(left) = ssc_file(file, &charts) {
         return Err(left);
     }
     if charts.is_empty() {
-        return Err(no_chart(file, Some(NO_CHART)));
+        let is_utf_16 = BYTE_ORDER_MARKS[1..]
+            .iter()
+            .any(|mark| file.starts_with(mark));
+        let besides = if is_utf_16 { UTF_16 } else { NO_CHART };
+        return Err(no_chart(file, &charts, Some(besides)));
     }
     Ok(charts)
 }
@@ -73,43 +121,15 @@ fn ssc_file(file: &[u8], charts: &[Listed]) -> Option<Left> {
     ))
 }
 
-/// The refusal of a file that has no chart, or not the one that is asked for, with what can be told besides and the first line
-/// that has a chart's tag in other letters.
-pub fn no_chart(file: &[u8], besides: Option<&str>) -> Left {
-    let letters = other_letters(file).map(|(line, tag)| {
-        let tag = tag.escape_ascii();
-        format!("line {line} begins with {tag}, and tags are in capitals")
-    });
-    let told: Vec<_> = besides.into_iter().chain(letters.as_deref()).collect();
+/// The refusal of a file that has no chart, or not the one that is asked for, with what can be told besides and the first tag
+/// that starts none.
+pub fn no_chart(file: &[u8], charts: &[Listed], besides: Option<&str>) -> Left {
+    let missed = missed_chart(file, charts);
+    let told: Vec<_> = besides.into_iter().chain(missed.as_deref()).collect();
     if told.is_empty() {
         return Refusal::NoChart.into();
     }
     Left::refused(Refusal::NoChart, &told.join("; "))
-}
-
-/// Doubts a file of which not every chart may be listed, unless it is taken all the same: a line that begins with a chart's
-/// tag in other letters starts none.
-pub fn letters_doubt(file: &[u8], force: bool) -> Result<(), Left> {
-    match other_letters(file) {
-        Some((line, tag)) if !force => {
-            let tag = tag.escape_ascii();
-            Err(Left::Doubtful(format!(
-                "line {line} begins with {tag}, which starts no chart, since tags are in capitals"
-            )))
-        }
-        _ => Ok(()),
-    }
-}
-
-/// The first line that begins with a chart's tag in other letters, counted from 1, and the tag. The library knows the tag in
-/// capitals alone, so that of these it says nothing.
-fn other_letters(file: &[u8]) -> Option<(usize, &[u8])> {
-    const TAG: &[u8] = b"#NOTES:";
-    lines(file).enumerate().find_map(|(place, line)| {
-        let tag = line.trim_ascii_start().get(..TAG.len())?;
-        let other = tag != TAG && tag.eq_ignore_ascii_case(TAG);
-        other.then_some((place + 1, tag))
-    })
 }
 
 /// A type from a file, in one short line whatever its bytes are.
@@ -139,30 +159,55 @@ pub fn run(asked: &Charts, out: &mut dyn Write) -> io::Result<Status> {
     Ok(worst)
 }
 
-/// The list of one file.
+/// The list of one file, with what is doubtful in it.
 fn list(path: &Path, file: &[u8], force: bool, out: &mut dyn Write) -> io::Result<Status> {
     let path = shown(path);
-    let charts = whole_file(file, force).and_then(|file| {
-        let charts = listed(file)?;
-        letters_doubt(file, force)?;
-        Ok(charts)
-    });
-    let charts = match charts {
+    let charts = match listed(file) {
         Ok(charts) => charts,
         Err(Left::Refused(refusal, words)) => {
             writeln!(out, "{path}: refused {}: {words}", refusal.number())?;
             return Ok(Status::Refused);
         }
-        Err(Left::Doubtful(why)) => return doubtful(out, &path, &why),
         Err(Left::NoMemory(lack)) => return fault(out, &format!("{path}: {lack}")),
+        // A file is not doubtful before its charts are known.
+        Err(Left::Doubtful(why)) => return doubtful(out, &path, &why),
+    };
+    let missed = missed_chart(file, &charts);
+    let doubt = |chart: &Listed| {
+        chart
+            .note_data(file)
+            .ok()
+            .and_then(|data| data.look().doubt)
     };
     let refused = charts.iter().filter(|chart| chart.answer.is_err()).count();
-    writeln!(out, "{path}: {} charts, {refused} refused", charts.len())?;
+    let doubted = charts.iter().filter(|chart| doubt(chart).is_some()).count();
+    let plural = if charts.len() == 1 { "" } else { "s" };
+    write!(
+        out,
+        "{path}: {} chart{plural}, {refused} refused",
+        charts.len()
+    )?;
+    if doubted > 0 {
+        write!(out, ", {doubted} doubtful")?;
+    }
+    writeln!(out)?;
+    let word = if force { "forced" } else { "doubtful" };
+    if let Some(why) = &missed {
+        writeln!(out, "{word}: {why}")?;
+    }
     writeln!(out, "chart  lanes     place    length  type")?;
     for chart in &charts {
         line(chart, out)?;
+        if let Some(why) = doubt(chart) {
+            writeln!(out, "       {word}: {why}")?;
+        }
     }
-    Ok(Status::Done)
+    let is_doubtful = !force && (missed.is_some() || doubted > 0);
+    Ok(if is_doubtful {
+        Status::Doubtful
+    } else {
+        Status::Done
+    })
 }
 
 /// The line of one chart, and another where it is refused.
@@ -270,27 +315,63 @@ mod tests {
     fn a_tag_in_other_letters_is_told() {
         let (refusal, words) = refused(b"#TITLE:x;\n #Notes:\ndance-single:::::\n#notes:;");
         assert_eq!(refusal, Refusal::NoChart);
-        assert!(words.ends_with("; line 2 begins with #Notes:, and tags are in capitals"));
+        assert!(
+            words.ends_with("; line 2 begins with #Notes:, which starts no chart: write #NOTES:")
+        );
         for file in [&b"#NOTE:;\n"[..], b"x #Notes:;\n", b"#Notes"] {
             assert!(refused(file).1.ends_with(NO_CHART));
         }
     }
 
-    #[test]
-    fn charts_beside_a_tag_in_other_letters_are_doubtful() {
-        let file = b"#NOTES:dance-single:::::\n1000\n;\n \t#Notes:\ndance-single:::::\n1000\n;\n";
-        let why = "line 4 begins with #Notes:, which starts no chart, since tags are in capitals";
-        let doubt = letters_doubt(file, false);
-        assert_eq!(doubt, Err(Left::Doubtful(why.to_owned())));
-        assert_eq!(letters_doubt(file, true), Ok(()));
-        assert_eq!(letters_doubt(SM_FILE, false), Ok(()));
+    /// What is printed of a file, and the status.
+    fn printed(file: &[u8], force: bool) -> (String, Status) {
         let mut out = Vec::new();
-        let list = |force, out: &mut Vec<u8>| list(Path::new("x"), file, force, out).unwrap();
-        assert_eq!(list(false, &mut out), Status::Doubtful);
-        assert_eq!(
-            (list(true, &mut out), out.is_empty()),
-            (Status::Done, false)
+        let status = list(Path::new("x"), file, force, &mut out).unwrap();
+        (String::from_utf8(out).unwrap(), status)
+    }
+
+    #[test]
+    fn the_list_of_a_doubtful_file_is_whole() {
+        let file = b"#NOTES:dance-single:::::\n1000\n;\n \t#Notes:\ndance-single:::::\n1000\n;\n\
+                     #NOTES:dance-single:::::\n10000\n;\n#NOTES:a:;\n";
+        let (doubted, status) = printed(file, false);
+        let why = "line 9 has `0` behind its 4 cells, where nothing is read: put it on a line of its own or take it out";
+        let wanted = format!(
+            "x: 3 charts, 1 refused, 1 doubtful\n\
+             doubtful: line 4 begins with #Notes:, which starts no chart: write #NOTES:\n\
+             chart  lanes     place    length  type\n    \
+             0      4        24         7  dance-single\n    \
+             1      4        91         8  dance-single\n       \
+             doubtful: {why}\n    \
+             2      -       107         -  a\n       \
+             refused 9: the block has fewer than five fields, by whoever writes the SM file\n"
         );
+        assert_eq!((doubted, status), (wanted.clone(), Status::Doubtful));
+        let forced = wanted
+            .replace("\ndoubtful:", "\nforced:")
+            .replace(" doubtful:", " forced:");
+        assert_eq!(printed(file, true), (forced, Status::Done));
+        let (told, status) = printed(SM_FILE, false);
+        assert!(told.starts_with("x: 3 charts, 1 refused\n") && status == Status::Done);
+        assert!(
+            printed(b"#NOTES:a:;", false)
+                .0
+                .starts_with("x: 1 chart, 1 refused\n")
+        );
+    }
+
+    #[test]
+    fn numbers_wider_than_their_columns_stand_apart() {
+        let file = [
+            "#NOTES:a:;\n".repeat(100_001),
+            "#NOTES:dance-single:::::\n;\n".repeat(2),
+        ]
+        .concat();
+        let (told, _) = printed(file.as_bytes(), true);
+        let columns = |line: &str| line.split_whitespace().count();
+        let last = told.lines().rfind(|line| line.ends_with("dance-single"));
+        assert_eq!(last.map(columns), Some(5), "{last:?}");
+        assert!(last.unwrap().starts_with("100002      4   "));
     }
 
     #[test]

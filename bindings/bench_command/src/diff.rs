@@ -7,8 +7,8 @@ use crate::figures::Figures;
 use crate::input::{contents, shown};
 use crate::left::Left;
 use crate::lines::MeasureLines;
-use crate::output::{Status, doubtful, fault};
-use crate::select::{Selected, selected};
+use crate::output::{Status, doubtful, fault, remark};
+use crate::select::{Selected, Taken, selected};
 use std::io::{self, Write};
 use std::path::Path;
 
@@ -38,7 +38,10 @@ pub fn run(asked: &Diff, out: &mut dyn Write) -> io::Result<Status> {
     let mut charts = Vec::new();
     for side in &sides {
         match selected(&side.bytes, asked.selection, asked.force) {
-            Ok(selected) => charts.push(selected),
+            Ok(found) => {
+                forced(side, "", found.forced.as_deref(), out)?;
+                charts.push(found.charts);
+            }
             Err(left) => return left_out(side, "", &left, out),
         }
     }
@@ -68,6 +71,13 @@ fn left_out(side: &Side, title: &str, left: &Left, out: &mut dyn Write) -> io::R
     }
 }
 
+/// Says why a file or a chart is doubtful that is compared all the same.
+fn forced(side: &Side, title: &str, why: Option<&str>, out: &mut dyn Write) -> io::Result<()> {
+    why.map_or(Ok(()), |why| {
+        writeln!(out, "{}{title} forced: {why}", side.name)
+    })
+}
+
 /// The comparison of one chart, which one of the files may not have.
 fn chart(
     force: bool,
@@ -92,7 +102,13 @@ fn chart(
     let mut read = Vec::new();
     for (side, chart) in here {
         match Read::of(chart, force) {
-            Ok(chart) => read.push(chart),
+            Ok((taken, chart)) => {
+                if let Some(odd) = taken.odd {
+                    remark(out, &format!("{}{title}", shown(side.path)), &odd)?;
+                }
+                forced(side, &title, taken.forced.as_deref(), out)?;
+                read.push(chart);
+            }
             Err(left) => worst = worst.max(left_out(side, &title, &left, out)?),
         }
         // Without memory for the one the other is not asked about.
@@ -113,11 +129,11 @@ struct Read<'a> {
 }
 
 impl<'a> Read<'a> {
-    fn of(chart: &'a Selected, force: bool) -> Result<Self, Left> {
-        let chart = chart.taken(force)?;
-        let figures = Figures::of(chart.data, chart.lanes)?;
-        let lines = MeasureLines::of(chart.data, figures.lanes())?;
-        Ok(Self { lines, figures })
+    fn of(chart: &Selected<'a>, force: bool) -> Result<(Taken<'a>, Self), Left> {
+        let taken = chart.taken(force)?;
+        let figures = Figures::of(taken.data, taken.lanes)?;
+        let lines = MeasureLines::of(taken.data, figures.lanes())?;
+        Ok((taken, Self { lines, figures }))
     }
 }
 

@@ -113,6 +113,34 @@ roll       6      1       3     1          14  the chart's end
     }
 
     #[test]
+    fn numbers_wider_than_their_columns_stand_apart() {
+        // Row 1 of 307, a row of 7 digits in a measure of 7 digits, and a cause in a row of 7 digits.
+        let rows = |count| "0000\n".repeat(count);
+        let few = format!("0000\n2000\n0000\n1000\n{}", rows(303));
+        let many = format!(
+            "{}{}0020\n0000\n0010\n{}0200\n",
+            ",\n".repeat(1_000_000),
+            rows(1_100_000),
+            rows(1_100_000)
+        );
+        let wanted = [
+            vec!["hold 1 0 0 1 0.0130293155 another cell 3 0"],
+            vec![
+                "hold 1100000 2 1000000 1100000 4000002 another cell 1100002 1000000",
+                "hold 2200003 1 1000000 2200003 4000004 the chart's end",
+            ],
+        ];
+        for (data, wanted) in [few, many].iter().zip(wanted) {
+            let (list, _) = printed(data.as_bytes(), Selection::Bare(4), SheetForm::Print);
+            let heads = list.lines().filter(|line| line.starts_with("hold "));
+            let heads: Vec<_> = heads
+                .map(|line| line.split_whitespace().collect::<Vec<_>>().join(" "))
+                .collect();
+            assert_eq!(heads, wanted);
+        }
+    }
+
+    #[test]
     fn a_chart_may_have_none() {
         let whole = include_bytes!("../../../examples/first-steps.sm");
         let (paper, status) = printed(whole, Selection::All, SheetForm::Print);

@@ -20,6 +20,8 @@ pub struct Subject<'a> {
     pub sum: Option<Sum>,
     /// The chart's number in it and its type as it is written; none for bare note data, or where the whole file is refused.
     pub chart: Option<(usize, &'a [u8])>,
+    /// Why the file and the chart are doubtful, where they are taken all the same.
+    pub forced: Vec<String>,
 }
 
 /// The columns of a line on paper.
@@ -97,17 +99,25 @@ impl<'a> Sheets<'a> {
                 if let Some((number, name)) = subject.chart {
                     writeln!(self.out, "chart {number} {}", shortened(name))?;
                 }
+                for why in &subject.forced {
+                    writeln!(self.out, "forced: {why}")?;
+                }
                 self.out.write_all(figures)
             }
             SheetForm::Print => {
                 self.head(subject)?;
                 writeln!(self.out, "{:<11}{lanes:>10}\n", "lanes")?;
                 self.figures_on_paper(figures, places)?;
-                self.foot()
+                writeln!(self.out, "\nlibrary {LIBRARY}, kit {KIT}\n")?;
+                self.forced_on_paper(subject)?;
+                writeln!(
+                    self.out,
+                    "checked by ____________________  date ____________"
+                )
             }
             SheetForm::Json => {
-                let subject = json_subject(subject);
-                write!(self.out, "{{{subject},\"lanes\":{lanes},\"figures\":")?;
+                let head = json_head(subject, lanes);
+                write!(self.out, "{{{head},\"figures\":")?;
                 self.out.write_all(figures)?;
                 self.out.write_all(b"}\n")
             }
@@ -135,6 +145,7 @@ impl<'a> Sheets<'a> {
     ) -> io::Result<()> {
         self.head(subject)?;
         writeln!(self.out, "{:<11}{lanes:>10}\n", "lanes")?;
+        self.forced_on_paper(subject)?;
         let mut heads = heads.peekable();
         if heads.peek().is_none() {
             return writeln!(self.out, "no hold came to nothing");
@@ -162,14 +173,15 @@ impl<'a> Sheets<'a> {
                 measure,
                 row_in_measure,
             } = at;
+            // A number that is wider than its column still has a blank before it.
             write!(
                 self.out,
-                "{name}{row:>8}{column:>7}{measure:>8}{row_in_measure:>6}{beat:>12}"
+                "{name} {row:>7} {column:>6} {measure:>7} {row_in_measure:>5} {beat:>11}"
             )?;
             match by {
                 None => writeln!(self.out, "  {cause}")?,
                 Some(Spot { row, measure, .. }) => {
-                    writeln!(self.out, "  {cause:<15}{row:>8}{measure:>8}")?;
+                    writeln!(self.out, "  {cause:<15} {row:>7} {measure:>7}")?;
                 }
             }
         }
@@ -182,8 +194,8 @@ impl<'a> Sheets<'a> {
         lanes: usize,
         heads: impl Iterator<Item = Dropped>,
     ) -> io::Result<()> {
-        let subject = json_subject(subject);
-        write!(self.out, "{{{subject},\"lanes\":{lanes},\"dropped\":[")?;
+        let head = json_head(subject, lanes);
+        write!(self.out, "{{{head},\"dropped\":[")?;
         let mut comma = "";
         for head in heads {
             let Dropped {
@@ -309,13 +321,17 @@ impl<'a> Sheets<'a> {
         self.out.write_all(rest)
     }
 
-    /// The foot on paper.
-    fn foot(&mut self) -> io::Result<()> {
-        writeln!(self.out, "\nlibrary {LIBRARY}, kit {KIT}\n")?;
-        writeln!(
-            self.out,
-            "checked by ____________________  date ____________"
-        )
+    /// Why a sheet on paper is doubtful, in lines that an empty one sets off.
+    fn forced_on_paper(&mut self, subject: &Subject) -> io::Result<()> {
+        for why in &subject.forced {
+            for line in wrapped(&format!("forced: {why}")) {
+                writeln!(self.out, "{line}")?;
+            }
+        }
+        if !subject.forced.is_empty() {
+            writeln!(self.out)?;
+        }
+        Ok(())
     }
 }
 
@@ -371,6 +387,17 @@ fn json_subject(subject: &Subject) -> String {
     format!("\"file\":{file},{sum}{}", json_chart(subject))
 }
 
+/// What stands in JSON before the figures: the file and the chart, its lanes, and why it is doubtful where it is taken all the
+/// same.
+fn json_head(subject: &Subject, lanes: usize) -> String {
+    let forced: Vec<_> = subject.forced.iter().map(|why| quoted(why)).collect();
+    let forced = match &forced[..] {
+        [] => String::new(),
+        forced => format!(",\"forced\":[{}]", forced.join(",")),
+    };
+    format!("{},\"lanes\":{lanes}{forced}", json_subject(subject))
+}
+
 fn json_chart(subject: &Subject) -> String {
     match subject.chart {
         None => String::from("\"chart\":null,\"type\":null"),
@@ -400,6 +427,7 @@ mod tests {
                 cksum: 4_294_967_295,
             }),
             chart,
+            forced: Vec::new(),
         }
     }
 
@@ -415,7 +443,7 @@ mod tests {
                       chart               2  dance-single\n\
                       lanes               4\n\n\
                       measures\n\n\
-                      library 0.1.0, kit rattle-kit-13f logic dac8208d650f15bf\n\n\
+                      library 0.2.0, kit rattle-kit-13f logic dac8208d650f15bf\n\n\
                       checked by ____________________  date ____________\n";
         assert_eq!(sheet, wanted);
     }

@@ -1,7 +1,7 @@
 //! What `--help` and `--version` print.
 
 /// The version of the library, which is that of the binding and of padcheck.h.
-pub const LIBRARY: &str = "0.1.0";
+pub const LIBRARY: &str = "0.2.0";
 
 /// The identity of the Rattle kit with which the library was proved.
 pub const KIT: &str = "rattle-kit-13f logic dac8208d650f15bf";
@@ -29,8 +29,9 @@ The exit status is the worst of all files and charts:
   1  the library refused a file, all its charts, or one that was asked for by number
   2  the arguments, an input, the output, memory or the processor are at fault;
      standard error says which
-  3  a file or its note data looks like something else and was not read;
-     --force reads it all the same
+  3  doubtful: a file or its note data looks like something else, or not all of it
+     would be read, and nothing was made of it; the line that says so says what to
+     mend, and --force takes it all the same
 
 Charts, measures, rows and columns count from 0.
 ";
@@ -41,11 +42,15 @@ padcheck charts FILE... [--force]
 
 Lists the charts of each SM file: number, lane count, place and length in bytes of its
 note data, and type. A chart that is refused is listed too, with the refusal's number
-and words; its place is where its #NOTES: ends, and it has no length.
+and words; its place is where its #NOTES: ends, and it has no length. A chart that
+padcheck sheet would doubt is listed with the line that says why.
 
-  --force   lists a doubtful file all the same: one that begins with a byte-order mark,
-            or that has a line such as #Notes: beside charts, which starts no chart,
-            since tags are in capitals
+A file is doubtful as a whole where it may have a chart that is not read, since its tag
+starts none: #NOTES: in other letters, #NOTES2:, one inside a chart that has no ; before
+it, one behind a ; on its line, one behind a byte-order mark. `doubtful:` stands above
+the list then.
+
+  --force   ends with 0 all the same, and has `forced:` in the place of `doubtful:`
 ";
 
 /// The word `sheet`.
@@ -63,15 +68,21 @@ each file is the bare note data of one chart, read with N lanes: 4, 5, 6, 8 or 1
                  and n ROW COLUMN KIND TAIL with kinds 0 tap, 1 hold, 2 roll, 3 mine,
                  4 lift, 5 fake
   --form json    one object a chart, each on one line
-  --force        prints doubtful note data all the same
+  --force        prints doubtful note data all the same: the doubt stands on the sheet,
+                 behind `forced:`
 
-Note data is doubtful where it or its file begins with a byte-order mark, where its
-first byte after blanks is #, where it has a line that begins with #NOTES:, a NUL
-byte, a : outside comments, a row with a byte among its cells that is none of
-0 1 2 3 4 M K L F m l f, a line between rows of one measure that is too short for a
-row, no rows or only lines shorter than the lanes, or where most of its rows have
-more than a comment after their cells. What makes a whole SM file doubtful,
-padcheck charts --help says.
+Note data is doubtful where it looks like something else: bare, it begins with a
+byte-order mark or #, or has a line that begins with #NOTES:; it has a NUL byte, a :
+outside comments, a row with a byte among its cells that is none of
+0 1 2 3 4 M K L F m l f, no rows, or only lines shorter than the lanes. And it is
+doubtful where not all of it would be read: a ; in a comment ends the chart; something
+other than blanks and a comment stands behind a row's cells, a comma, or the ; that ends
+the chart; a line is too short for a row; a line that looks like a row stands below that
+;. A ; right behind the last row's cells is none of these. What makes a whole SM file
+doubtful, padcheck charts --help says.
+
+A measure whose rows do not divide 192 is read and no doubt: a line on standard error
+names the first of a chart, and how many there are.
 ";
 
 /// The word `dropped`.
@@ -90,7 +101,8 @@ and measure of the cell. Rows are those that are left by minimising.
                  `row`, `measure`, `row_in_measure`, `beat`, `column`, `head` (hold or
                  roll), `cause` (other_head, other_cell or chart_end), `by_row` and
                  `by_measure`, which are null at the chart's end
-  --force        takes doubtful note data all the same (see padcheck sheet --help)
+  --force        takes doubtful note data all the same, and says so behind `forced:` (see
+                 padcheck sheet --help)
 
 The exit status is 0 whether there are any or not; of refused charts it is that of
 padcheck sheet.
@@ -107,12 +119,13 @@ Writes what the rig reads of chart K of an SM file, or with --lanes of bare note
                 first, column, kind (0 tap, 1 hold, 2 roll, 3 mine, 4 lift, 5 fake);
                 the tail is 4294967295 where there is none
   --beats OUT   the beat of each row, a float of 4 bytes, low byte first
-  --force       takes doubtful note data all the same (see padcheck sheet --help)
+  --force       takes doubtful note data all the same, and says so behind `forced:` (see
+                padcheck sheet --help)
 
-Both are written to new files, which take these names when both are whole and what is
-printed has gone out: first the old beats and notes are removed, then the new notes
-take their name, then the new beats. Whenever it is killed, both files are the old
-ones, both are the new ones, or one is missing.
+Both are written to new files, which take these names when both are whole: first the
+old beats and notes are removed, then the new notes take their name, then the new
+beats. Whenever it is killed, both files are the old ones, both are the new ones, or
+one is missing. What is printed is printed when both stand.
 ";
 
 /// The word `diff`.
@@ -126,7 +139,8 @@ alone, or with --lanes of bare note data. Where the lines of one measure alone d
 it says what the damage theorem says of the rest, and checks each of it on the two
 files.
 
-  --force   takes doubtful note data all the same (see padcheck sheet --help)
+  --force   takes doubtful note data all the same, and says so behind `forced:` (see
+            padcheck sheet --help)
 
 The exit status is 0 whether they differ or not, and 1 where a chart is refused in
 either file.

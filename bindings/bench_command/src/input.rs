@@ -40,6 +40,15 @@ pub fn shown(path: &Path) -> String {
     letters.collect()
 }
 
+/// The marks with which a text may say how its letters are written: UTF-8, and UTF-16 in both orders.
+pub const BYTE_ORDER_MARKS: [&[u8]; 3] = [b"\xEF\xBB\xBF", b"\xFE\xFF", b"\xFF\xFE"];
+
+/// What follows a byte-order mark at the front of a text, if one stands there.
+pub fn behind_mark(text: &[u8]) -> Option<&[u8]> {
+    let mut marks = BYTE_ORDER_MARKS.iter();
+    marks.find_map(|mark| text.strip_prefix(*mark))
+}
+
 /// Whether a text is an SM file with a chart, read or refused. Taken for note data it would give a sheet, but of wrong beats.
 pub fn has_chart(data: &[u8]) -> bool {
     !matches!(sm_chart(data, 0), Err(Refusal::NoChart | Refusal::LongText))

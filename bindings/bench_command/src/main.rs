@@ -17,6 +17,8 @@ mod left;
 mod lines;
 mod measures;
 mod memory;
+mod missed;
+mod odd;
 mod output;
 mod pair;
 mod processor;

@@ -1,5 +1,6 @@
 //! What the program ends with, and the lines that it writes to standard error.
 
+use std::fmt::Display;
 use std::io::{self, Write};
 use std::process::ExitCode;
 
@@ -37,10 +38,15 @@ pub fn fault(out: &mut dyn Write, message: &str) -> io::Result<Status> {
 /// A chart that is not read for doubt.
 pub fn doubtful(out: &mut dyn Write, whose: &str, why: &str) -> io::Result<Status> {
     out.flush()?;
-    complain(&format!(
-        "{whose} is doubtful: {why}; --force takes it all the same"
-    ));
+    complain(&format!("{whose} is doubtful: {why}"));
     Ok(Status::Doubtful)
+}
+
+/// What is told of a chart that is read all the same. It is no fault.
+pub fn remark(out: &mut dyn Write, whose: &str, what: &dyn Display) -> io::Result<()> {
+    out.flush()?;
+    complain(&format!("{whose}: {what}"));
+    Ok(())
 }
 
 #[cfg(test)]

@@ -5,6 +5,7 @@ use crate::input::shown;
 use crate::unnamed;
 use std::fs::{self, File, OpenOptions};
 use std::io::{self, ErrorKind, Write};
+use std::os::unix::ffi::OsStrExt;
 use std::path::{Path, PathBuf};
 
 /// What is done one after the other to give both new files their names. Between any two of these no new file stands beside an
@@ -152,9 +153,12 @@ fn gone(path: &Path) -> io::Result<()> {
     }
 }
 
-/// Neither output may be a folder, a device or a link, nor the input, nor the other one.
+/// Each output is to be named, and neither may be a folder, a device or a link, nor the input, nor the other one.
 pub fn check_targets(input: &Path, notes: &Path, beats: &Path) -> Result<(), String> {
-    for path in [notes, beats] {
+    for (option, path) in [("--notes", notes), ("--beats", beats)] {
+        if path.file_name().is_none() || path.as_os_str().as_bytes().ends_with(b"/") {
+            return Err(format!("{option} names no file: `{}`", shown(path)));
+        }
         match fs::symlink_metadata(path) {
             Ok(found) if !found.is_file() => {
                 return Err(format!("{} is not a plain file", shown(path)));
@@ -207,6 +211,19 @@ mod tests {
             place(Path::new("./no-such-file"))
         );
         assert_ne!(place(Path::new("no-such-file")), place(Path::new("other")));
+    }
+
+    #[test]
+    fn an_output_needs_a_name() {
+        let [input, file] = ["in", "out"].map(Path::new);
+        for name in ["", "/", "..", "a/..", "out/"] {
+            let name = Path::new(name);
+            for (option, notes, beats) in [("--notes", name, file), ("--beats", file, name)] {
+                let message = check_targets(input, notes, beats).unwrap_err();
+                assert!(message.starts_with(&format!("{option} names no file")));
+            }
+        }
+        assert_eq!(check_targets(input, file, Path::new("./other")), Ok(()));
     }
 
     /// A folder of its own for a test, with names of 255 bytes for both files.

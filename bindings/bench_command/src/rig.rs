@@ -5,11 +5,11 @@ use crate::charts::shortened;
 use crate::input::{contents, shown};
 use crate::left::Left;
 use crate::memory::room;
-use crate::output::{Status, complain, doubtful, fault};
+use crate::output::{Status, complain, doubtful, fault, remark};
 use crate::pair::{Pair, check_targets};
 use crate::select::selected;
 use crate::slices::Slices;
-use padcheck::{NOTE_BYTES, SmChart};
+use padcheck::NOTE_BYTES;
 use std::io::{self, Write};
 use std::path::Path;
 
@@ -23,39 +23,42 @@ pub fn run(asked: &Rig, out: &mut dyn Write) -> io::Result<Status> {
         Err(message) => return fault(out, &message),
     };
     let path = shown(&asked.file);
-    let charts = match selected(&file, asked.selection, asked.force) {
-        Ok(charts) => charts,
+    let found = match selected(&file, asked.selection, asked.force) {
+        Ok(found) => found,
         Err(left) => return left_out(&path, &left, out),
     };
     // One chart is selected, since this word is never asked for all.
-    let chart = charts[0];
+    let chart = found.charts[0];
     let title = format!("{path}{}", chart.title());
     let mut slices = Slices::default();
-    let taken = chart.taken(asked.force).and_then(|chart| {
-        let beats = rig_beats(&chart, &mut slices)?;
-        Ok((chart.lanes, beats))
+    let taken = chart.taken(asked.force).and_then(|taken| {
+        let beats = rig_beats(taken.data, taken.lanes, &mut slices)?;
+        Ok((taken, beats))
     });
-    let (lanes, beats) = match taken {
+    let (taken, beats) = match taken {
         Ok(taken) => taken,
         Err(left) => return left_out(&title, &left, out),
     };
+    if let Some(odd) = taken.odd {
+        remark(out, &title, &odd)?;
+    }
     let notes = slices.records();
     let checked = check_targets(&asked.file, &asked.notes, &asked.beats);
-    let pair = match checked.and_then(|()| Pair::write(&asked.notes, notes, &asked.beats, &beats)) {
-        Ok(pair) => pair,
-        Err(message) => return fault(out, &message),
-    };
+    let pair = checked.and_then(|()| Pair::write(&asked.notes, notes, &asked.beats, &beats));
+    if let Err(message) = pair.and_then(Pair::take_names) {
+        return fault(out, &message);
+    }
+    // Nothing is said before both files stand.
     let name = chart.chart.map_or(&b""[..], |(_, name)| name);
     let kind = format!("{title} {}", shortened(name));
-    writeln!(out, "{}, {lanes} lanes", kind.trim_end())?;
+    write!(out, "{}, {} lanes", kind.trim_end(), taken.lanes)?;
+    for why in found.forced.iter().chain(&taken.forced) {
+        write!(out, "; forced: {why}")?;
+    }
+    writeln!(out)?;
     report(out, &asked.notes, notes.len(), NOTE_BYTES, "note records")?;
     report(out, &asked.beats, beats.len(), BEAT_BYTES, "row beats")?;
-    // Where that cannot be told, nothing is written.
-    out.flush()?;
-    match pair.take_names() {
-        Ok(()) => Ok(Status::Done),
-        Err(message) => fault(out, &message),
-    }
+    Ok(Status::Done)
 }
 
 /// Says on standard error why nothing is written.
@@ -82,8 +85,8 @@ fn report(
 }
 
 /// Makes the main call, and answers the row beats as they stand in the file; the note records stand in the slices.
-fn rig_beats(chart: &SmChart, slices: &mut Slices) -> Result<Vec<u8>, Left> {
-    slices.main_call(chart.data, chart.lanes)?;
+fn rig_beats(data: &[u8], lanes: usize, slices: &mut Slices) -> Result<Vec<u8>, Left> {
+    slices.main_call(data, lanes)?;
     let mut bytes = room(BEAT_BYTES * slices.beats().len())?;
     for beat in slices.beats() {
         bytes.extend(beat.to_le_bytes());
@@ -99,7 +102,7 @@ mod tests {
     fn records_and_beats_have_their_low_byte_first() {
         let mut slices = Slices::default();
         let data = b"0000\n2001\n3000\n0000\n";
-        let beats = rig_beats(&SmChart { lanes: 4, data }, &mut slices).unwrap();
+        let beats = rig_beats(data, 4, &mut slices).unwrap();
         let hold = [1, 0, 0, 0, 2, 0, 0, 0, 0, 1];
         let tap = [1, 0, 0, 0, 255, 255, 255, 255, 3, 0];
         assert_eq!(slices.records(), [hold, tap].as_flattened());

@@ -1,10 +1,12 @@
 //! Which charts of a file are asked for, and which of them are taken.
 
-use crate::charts::{letters_doubt, listed, no_chart};
-use crate::doubt::{data_doubt, file_doubt};
+use crate::charts::{listed, no_chart};
+use crate::doubt::{Look, NoteData};
 use crate::left::Left;
 use crate::memory::push;
-use padcheck::{MAX_LEN, Refusal, SmChart, is_lane_count};
+use crate::missed::missed_chart;
+use crate::odd::Odd;
+use padcheck::{MAX_LEN, Refusal, is_lane_count};
 
 /// Which charts of a file are asked for.
 #[derive(Clone, Copy, Debug, PartialEq, Eq)]
@@ -17,27 +19,51 @@ pub enum Selection {
     Bare(usize),
 }
 
+/// The charts of a file that are asked for.
+#[derive(Debug, PartialEq)]
+pub struct Asked<'a> {
+    pub charts: Vec<Selected<'a>>,
+    /// Why the file is doubtful, where that is taken all the same.
+    pub forced: Option<String>,
+}
+
 /// A chart that is asked for.
 #[derive(Clone, Copy, Debug, PartialEq)]
 pub struct Selected<'a> {
     /// Its number in the SM file and its type as it is written there; none for bare note data.
     pub chart: Option<(usize, &'a [u8])>,
-    /// What the file has before its note data.
-    pub before: &'a [u8],
-    /// What the library says of it.
-    pub answer: Result<SmChart<'a>, Refusal>,
+    /// Its note data, or why the library refuses it.
+    pub answer: Result<NoteData<'a>, Refusal>,
 }
 
-impl Selected<'_> {
+/// A chart that is taken.
+#[derive(Debug, PartialEq)]
+pub struct Taken<'a> {
+    pub data: &'a [u8],
+    pub lanes: usize,
+    /// Why it is doubtful, where that is taken all the same.
+    pub forced: Option<String>,
+    /// Its measures whose rows do not divide 192.
+    pub odd: Option<Odd>,
+}
+
+impl<'a> Selected<'a> {
     /// The chart, unless it is refused, or doubtful and not forced.
-    pub fn taken(&self, force: bool) -> Result<SmChart<'_>, Left> {
-        let SmChart { lanes, data } = self.answer?;
+    pub fn taken(&self, force: bool) -> Result<Taken<'a>, Left> {
+        let chart = self.answer?;
+        let NoteData { data, lanes, .. } = chart;
         if data.len() > MAX_LEN {
             return Err(Refusal::LongText.into());
         }
-        match data_doubt(self.before, data, lanes) {
+        let Look { doubt: forced, odd } = chart.look();
+        match forced {
             Some(why) if !force => Err(Left::Doubtful(why)),
-            _ => Ok(SmChart { lanes, data }),
+            forced => Ok(Taken {
+                data,
+                lanes,
+                forced,
+                odd,
+            }),
         }
     }
 
@@ -48,43 +74,44 @@ impl Selected<'_> {
     }
 }
 
-/// A file that is taken as an SM file, unless it is doubtful as a whole and not forced.
-pub fn whole_file(file: &[u8], force: bool) -> Result<&[u8], Left> {
-    // A file that is too long is refused, doubtful or not.
-    match file_doubt(file) {
-        Some(why) if !force && file.len() <= MAX_LEN => Err(Left::Doubtful(why.to_owned())),
-        _ => Ok(file),
-    }
-}
-
-/// The charts of a file that are asked for.
-pub fn selected(file: &[u8], selection: Selection, force: bool) -> Result<Vec<Selected<'_>>, Left> {
+/// The charts of a file that are asked for, unless it is refused, or doubtful as a whole and not forced.
+pub fn selected(file: &[u8], selection: Selection, force: bool) -> Result<Asked<'_>, Left> {
     if let Selection::Bare(lanes) = selection {
         // A lane number that is refused is refused first, whatever the file is.
-        let chart = is_lane_count(lanes).then_some(SmChart { lanes, data: file });
-        return Ok(vec![Selected {
+        let chart = is_lane_count(lanes).then_some(NoteData {
+            data: file,
+            lanes,
+            line: 1,
+            behind: None,
+        });
+        let chart = Selected {
             chart: None,
-            before: &[],
             answer: chart.ok_or(Refusal::OtherLanes),
-        }]);
+        };
+        return Ok(Asked {
+            charts: vec![chart],
+            forced: None,
+        });
     }
+    let all = listed(file)?;
     let mut charts = Vec::new();
-    for chart in listed(whole_file(file, force)?)? {
+    for chart in &all {
         if matches!(selection, Selection::Chart(number) if number != chart.number) {
             continue;
         }
         let chart = Selected {
             chart: Some((chart.number, chart.name)),
-            before: &file[..chart.place],
-            answer: chart.answer,
+            answer: chart.note_data(file),
         };
         push(&mut charts, chart)?;
     }
     if charts.is_empty() {
-        return Err(no_chart(file, None));
+        return Err(no_chart(file, &all, None));
     }
-    letters_doubt(file, force)?;
-    Ok(charts)
+    match missed_chart(file, &all) {
+        Some(why) if !force => Err(Left::Doubtful(why)),
+        forced => Ok(Asked { charts, forced }),
+    }
 }
 
 #[cfg(test)]
@@ -95,8 +122,9 @@ mod tests {
 
     /// The numbers of the charts that are selected.
     fn numbers(selection: Selection) -> Result<Vec<Option<usize>>, Left> {
-        let charts = selected(SM_FILE, selection, false)?;
-        Ok(charts
+        let found = selected(SM_FILE, selection, false)?;
+        Ok(found
+            .charts
             .iter()
             .map(|chart| chart.chart.map(|(number, _)| number))
             .collect())
@@ -125,45 +153,72 @@ mod tests {
     #[test]
     fn a_chart_that_is_not_there_is_looked_for_in_other_letters() {
         let file = b"#NOTES:dance-single:::::\n1000\n;\n#notes:dance-single:::::\n;\n";
-        let letters = "line 4 begins with #notes:, and tags are in capitals";
+        let letters = "line 4 begins with #notes:, which starts no chart: write #NOTES:";
         let left = selected(file, Selection::Chart(1), false);
         assert_eq!(left, Err(Left::refused(Refusal::NoChart, letters)));
         // One that is there may be another than the one that is meant.
         for selection in [Selection::All, Selection::Chart(0)] {
             let left = selected(file, selection, false);
-            assert!(matches!(left, Err(Left::Doubtful(_))));
-            assert_eq!(selected(file, selection, true).unwrap().len(), 1);
+            assert_eq!(left, Err(Left::Doubtful(letters.to_owned())));
+            let found = selected(file, selection, true).unwrap();
+            assert_eq!(
+                (found.charts.len(), found.forced.as_deref()),
+                (1, Some(letters))
+            );
         }
     }
 
     #[test]
     fn a_doubtful_line_is_counted_through_the_file() {
         let file = b"#TITLE:x;\n#NOTES:\ndance-single:a\\:b:Easy:1:\n0,0:\n1000\n;\n";
-        let charts = selected(file, Selection::All, false).unwrap();
-        let Err(Left::Doubtful(why)) = charts[0].taken(false) else {
+        let found = selected(file, Selection::All, false).unwrap();
+        let Err(Left::Doubtful(why)) = found.charts[0].taken(false) else {
             panic!("it is taken");
         };
         assert!(why.starts_with("line 4 has a : outside comments"), "{why}");
+        let forced = found.charts[0].taken(true).unwrap().forced;
+        assert_eq!(forced, Some(why));
     }
 
     #[test]
-    fn a_marked_file_is_doubtful_unless_forced() {
-        let file = b"\xEF\xBB\xBF\n#NOTES:dance-single:::::1000\n;";
-        assert!(matches!(
-            selected(file, Selection::All, false),
-            Err(Left::Doubtful(_))
-        ));
-        assert_eq!(selected(file, Selection::All, true).unwrap().len(), 1);
+    fn a_mark_is_doubtful_where_it_hides_a_chart() {
+        let file = b"\xEF\xBB\xBF#TITLE:x;\n#NOTES:dance-single:::::1000\n;";
+        assert_eq!(
+            selected(file, Selection::All, false).unwrap().charts.len(),
+            1
+        );
+        let file = b"\xEF\xBB\xBF#NOTES:dance-single:::::1000\n;\n#NOTES:dance-single:::::1000\n;";
+        for selection in [Selection::All, Selection::Chart(0)] {
+            let left = selected(file, selection, false);
+            assert!(matches!(left, Err(Left::Doubtful(_))));
+            assert_eq!(selected(file, selection, true).unwrap().charts.len(), 1);
+        }
+        // What is refused is refused, doubtful or not.
+        let left = selected(file, Selection::Chart(1), true);
+        assert!(matches!(left, Err(Left::Refused(Refusal::NoChart, _))));
         let long = [&file[..], &vec![0; MAX_LEN]].concat();
         let left = selected(&long, Selection::All, false);
         assert_eq!(left, Err(Left::from(Refusal::LongText)));
     }
 
     #[test]
+    fn text_of_two_bytes_a_letter_is_told() {
+        for mark in [b"\xFF\xFE", b"\xFE\xFF"] {
+            let file = [&mark[..], b"#\0N\0O\0T\0E\0S\0:\0"].concat();
+            let Err(Left::Refused(Refusal::NoChart, words)) =
+                selected(&file, Selection::All, false)
+            else {
+                panic!("it is taken");
+            };
+            assert!(words.contains("byte-order mark of UTF-16"), "{words}");
+        }
+    }
+
+    #[test]
     fn doubt_gives_way_to_force_and_refusals_do_not() {
         let taken = |data: &[u8], force| {
-            let charts = selected(data, Selection::Bare(4), force)?;
-            charts[0].taken(force).map(|chart| chart.data.len())
+            let found = selected(data, Selection::Bare(4), force)?;
+            found.charts[0].taken(force).map(|chart| chart.data.len())
         };
         assert!(matches!(taken(b"100\n", false), Err(Left::Doubtful(_))));
         assert_eq!(taken(b"100\n", true), Ok(4));
@@ -171,8 +226,9 @@ mod tests {
         for force in [false, true] {
             assert_eq!(taken(&long, force), Err(Left::from(Refusal::LongText)));
             for lanes in [0, 7, usize::MAX] {
-                let charts = selected(&long, Selection::Bare(lanes), force).unwrap();
-                assert_eq!(charts[0].taken(force), Err(Left::from(Refusal::OtherLanes)));
+                let found = selected(&long, Selection::Bare(lanes), force).unwrap();
+                let taken = found.charts[0].taken(force);
+                assert_eq!(taken, Err(Left::from(Refusal::OtherLanes)));
             }
         }
     }

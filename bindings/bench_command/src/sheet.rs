@@ -7,7 +7,7 @@ use crate::input::{contents, shown};
 use crate::left::Left;
 use crate::measures::Measures;
 use crate::memory::NoMemory;
-use crate::output::{Status, doubtful, fault};
+use crate::output::{Status, doubtful, fault, remark};
 use crate::select::selected;
 use crate::slices::Slices;
 use padcheck::SheetForm;
@@ -68,21 +68,26 @@ pub fn of_file(
         path,
         sum: Sum::of(file),
         chart: None,
+        forced: Vec::new(),
     };
-    let charts = match selected(file, asked.selection, asked.force) {
-        Ok(charts) => charts,
+    let found = match selected(file, asked.selection, asked.force) {
+        Ok(found) => found,
         Err(left) => return left_out(&subject, &left, sheets),
     };
     let mut worst = None;
-    for chart in &charts {
+    for chart in &found.charts {
         subject.chart = chart.chart;
         let made = chart.taken(asked.force).and_then(|chart| {
             let measures = (word.make)(slices, chart.data, chart.lanes, asked.form)?;
-            Ok((chart.lanes, measures))
+            Ok((chart, measures))
         });
         let status = match made {
-            Ok((lanes, measures)) => {
-                (word.write)(sheets, &subject, lanes, slices, measures)?;
+            Ok((chart, measures)) => {
+                if let Some(odd) = chart.odd {
+                    remark(sheets.out(), &whose(&subject), &odd)?;
+                }
+                subject.forced = found.forced.iter().cloned().chain(chart.forced).collect();
+                (word.write)(sheets, &subject, chart.lanes, slices, measures)?;
                 Status::Done
             }
             Err(left) => left_out(&subject, &left, sheets)?,
@@ -104,19 +109,23 @@ fn measures(slices: &Slices, lanes: usize, form: SheetForm) -> Result<Measures, 
 
 /// Says why there is nothing of a chart: a refusal in its place, anything else on standard error.
 fn left_out(subject: &Subject, left: &Left, sheets: &mut Sheets) -> io::Result<Status> {
-    let path = shown(subject.path);
-    let whose = subject.chart.map_or_else(
-        || path.clone(),
-        |(number, _)| format!("{path} chart {number}"),
-    );
     match left {
         Left::Refused(refusal, words) => {
             sheets.refused(subject, *refusal, words)?;
             Ok(Status::Refused)
         }
-        Left::Doubtful(why) => doubtful(sheets.out(), &whose, why),
-        Left::NoMemory(lack) => fault(sheets.out(), &format!("{whose}: {lack}")),
+        Left::Doubtful(why) => doubtful(sheets.out(), &whose(subject), why),
+        Left::NoMemory(lack) => fault(sheets.out(), &format!("{}: {lack}", whose(subject))),
     }
+}
+
+/// What a chart is called on standard error, or a file where no chart of it is meant.
+fn whose(subject: &Subject) -> String {
+    let path = shown(subject.path);
+    subject.chart.map_or_else(
+        || path.clone(),
+        |(number, _)| format!("{path} chart {number}"),
+    )
 }
 
 #[cfg(test)]
@@ -128,11 +137,15 @@ mod tests {
 
     /// All that is printed of a file, and the status.
     fn printed(file: &[u8], selection: Selection, form: SheetForm) -> (String, Status) {
+        said(file, selection, form, false)
+    }
+
+    fn said(file: &[u8], selection: Selection, form: SheetForm, force: bool) -> (String, Status) {
         let asked = Sheet {
             files: Vec::new(),
             selection,
             form,
-            force: false,
+            force,
         };
         let mut out = Vec::new();
         let mut sheets = Sheets::new(form, &mut out);
@@ -192,6 +205,48 @@ mod tests {
         for form in [SheetForm::Card, SheetForm::Print, SheetForm::Json] {
             let printed = printed(b"100\n", Selection::Bare(4), form);
             assert_eq!(printed, (String::new(), Status::Doubtful));
+        }
+    }
+
+    #[test]
+    fn what_is_forced_is_said_in_each_form() {
+        let file = b"#NOTES:dance-single:::::\n1000\n01000\n;\n#Notes:\n";
+        let tag = "line 5 begins with #Notes:, which starts no chart: write #NOTES:";
+        let row = "line 3 has `0` behind its 4 cells, where nothing is read: put it on a line of its own or take it out";
+        let of = |form| said(file, Selection::All, form, true).0;
+        let card = format!("chart 0 dance-single\nforced: {tag}\nforced: {row}\nmeasures 1\n");
+        assert!(of(SheetForm::Card).starts_with(&card));
+        let print = of(SheetForm::Print);
+        let (_, foot) = print.split_once("\nlibrary ").unwrap();
+        let lines: Vec<_> = foot.lines().skip(1).collect();
+        let forced = format!("forced: {tag} forced: {row}  checked by");
+        assert!(
+            lines.join(" ").replace("     ", " ").contains(&forced),
+            "{foot}"
+        );
+        assert!(print.lines().all(|line| line.len() <= 80));
+        let json = of(SheetForm::Json);
+        let forced = format!("\"lanes\":4,\"forced\":[\"{tag}\",\"{row}\"],\"figures\":{{");
+        assert!(json.contains(&forced), "{json}");
+        assert_eq!(after_value(json.trim_end()), Some(""));
+    }
+
+    #[test]
+    fn numbers_wider_than_their_columns_stand_apart() {
+        // The longest text: every number of holds and rolls has its most digits.
+        let mut data = ",\n".repeat(1_000_000);
+        data += &"0000\n".repeat(2_200_000);
+        data += "0020\n0000\n0030\n0000\n0000\n";
+        let (sheet, status) = printed(data.as_bytes(), Selection::Bare(4), SheetForm::Print);
+        assert_eq!(status, Status::Done);
+        let held = sheet.lines().find(|line| line.starts_with("hold "));
+        let columns: Vec<_> = held.unwrap().split_whitespace().collect();
+        assert_eq!(
+            columns,
+            ["hold", "2200000", "2", "2200002", "1000000", "4000004"]
+        );
+        for line in sheet.lines() {
+            assert!(line.len() <= 80, "{line}");
         }
     }
 

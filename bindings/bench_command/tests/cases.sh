@@ -53,3 +53,12 @@ one_line() {
     grep -qF -- "$1" "$out/stderr" || failed "padcheck $2: standard error does not say '$1'"
     passed=$((passed + 1))
 }
+
+# What it prints has this text, and standard error is one line with that one, which is no doubt.
+noted() {
+    want=$1 text=$2 line=$3
+    shift 3
+    run "$want" "$@"
+    grep -qF -- "$text" "$out/stdout" || failed "padcheck $*: '$text' is not printed"
+    one_line "$line" "$*"
+}

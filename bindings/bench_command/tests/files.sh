@@ -16,7 +16,7 @@ printed 1 "refused 1: len is over 16,777,215, by whoever wires up the call" diff
     printf ';\n\n\n\n'
 } >"$out/longest"
 [ "$(wc -c <"$out/longest")" -eq 16777215 ] || failed "the longest SM file has another length"
-printed 0 "rows          3355437" sheet "$out/longest"
+noted 0 "rows          3355437" "measure 0 on line 2 has 3355437 rows, which do not divide 192" sheet "$out/longest"
 printed 0 "16777187" charts "$out/longest"
 passed=$((passed + 1))
 rm "$out/longest" "$out/stdout"
@@ -76,9 +76,14 @@ cp "$sm" "$out/input.sm"
 beats=$out/input.sm
 unchanged 2 "is the input" rig "$out/input.sm" --chart 2
 
-# Where the output is full or closed, it is not told what was written, and nothing is.
+beats=
+unchanged 2 "--beats names no file" rig "$sm" --chart 2
+beats=$folder/no/
+unchanged 2 "--beats names no file" rig "$sm" --chart 2
 beats=$folder/beats.bin
-for output in full closed; do
+
+# Where the output is closed, nothing is written. Nothing is said before both files stand, so that where it is full they do.
+for output in closed full; do
     : >"$out/stdout"
     status=0
     case $output in
@@ -88,5 +93,11 @@ for output in full closed; do
     [ "$status" -eq 2 ] || failed "rig with its output $output: status $status"
     one_line "cannot write the output" "rig, its output $output"
     [ "$(rig_files)" = "beats.bin notes.bin " ] || failed "rig leaves $(rig_files)"
-    cmp "$out/notes.bin" "$folder/notes.bin" || failed "rig changed a file"
+    case $output in
+    full)
+        run 0 rig "$sm" --chart 2 --notes "$out/told.notes" --beats "$out/told.beats"
+        cmp "$out/told.notes" "$notes" && cmp "$out/told.beats" "$beats" || failed "the files of a run whose output is full"
+        ;;
+    closed) cmp "$out/notes.bin" "$notes" || failed "rig changed a file" ;;
+    esac
 done

@@ -19,8 +19,8 @@ within() {
     passed=$((passed + 1))
 }
 
-# Texts of some 4 MB: rows, measures without rows, and charts without a field.
-yes 1000 | head -c 4000000 >"$out/rows"
+# Texts of some 4 MB: rows, measures without rows, and charts without a field. Of measures of 192 rows nothing is said besides.
+yes 1000 | sed '192~192 s/$/\n,/' | head -c 4000000 >"$out/rows"
 yes , | head -c 4000000 >"$out/measures"
 yes '#NOTES:;' | head -c 4000000 >"$out/many.sm"
 {
@@ -41,7 +41,10 @@ done
 [ "$status" -eq 0 ] || failed "padcheck diff within 400000: status $status"
 
 # 16 MB within 400,000 units: the page of a sheet has 42 bytes for each byte of the text.
-yes 1000 | head -c 16000000 >"$out/rows"
+{
+    yes 1000 | sed '192~192 s/$/\n,/' | head -c 15999984
+    printf '// 16 bytes more'
+} >"$out/rows"
 within 400000 sheet "$out/rows" --lanes 4
 [ "$(cat "$out/stderr")" = "padcheck: $out/rows: no memory for 672003042 bytes" ] || failed "the page of a sheet of 16 MB"
 rm "$out/rows" "$out/measures" "$out/many.sm" "$out/one.sm" "$out/stdout" "$out/n" "$out/b"

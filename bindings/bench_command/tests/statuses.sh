@@ -36,7 +36,7 @@ printed 0 "2 charts, 0 refused" charts "$out/two-charts.sm"
 
 # 2: arguments and inputs, with one line on standard error.
 told 2 "charts, sheet, dropped, rig or diff is wanted"
-told 2 "\`print\` is no word" print "$sm"
+told 2 "\`print\` is no word; the words are charts, sheet, dropped, rig and diff" print "$sm"
 told 2 "sheet: a file is wanted" sheet
 told 2 "dropped: a file is wanted" dropped
 told 2 "dropped: --form needs print or json here, and not \`card\`" dropped "$sm" --form card
@@ -53,9 +53,9 @@ told 2 "cannot read .: Is a directory" sheet . --lanes 4
 
 # 3: doubtful note data, which --force takes all the same.
 doubtful() {
-    told 3 "$1; --force takes it all the same" sheet "$out/doubtful" --lanes 4
-    told 3 "$1; --force takes it all the same" dropped "$out/doubtful" --lanes 4
-    told 3 "$1; --force takes it all the same" rig "$out/doubtful" --lanes 4 --notes "$out/n" --beats "$out/b"
+    told 3 "$out/doubtful is doubtful: $1" sheet "$out/doubtful" --lanes 4
+    told 3 "$out/doubtful is doubtful: $1" dropped "$out/doubtful" --lanes 4
+    told 3 "$out/doubtful is doubtful: $1" rig "$out/doubtful" --lanes 4 --notes "$out/n" --beats "$out/b"
     printed 0 "no hold came to nothing" dropped "$out/doubtful" --lanes 4 --force
     printed 0 "measures 1" sheet "$out/doubtful" --lanes 4 --force --form card
     [ ! -e "$out/n" ] && [ ! -e "$out/b" ] || failed "rig wrote a file for doubtful data"
@@ -67,20 +67,24 @@ doubtful "one of its lines begins with #NOTES:, as a chart in an SM file does"
 printf '\357\273\2771000\n' >"$out/doubtful"
 doubtful "it begins with a byte-order mark"
 printf '1000\n0\000000\n' >"$out/doubtful"
-doubtful "it has a NUL byte"
+doubtful "line 2 has a NUL byte"
 printf '// nothing\n\n;\n1000\n' >"$out/doubtful"
 doubtful "it has no rows at all"
 printf '100\n001\n' >"$out/doubtful"
 doubtful "every line is shorter than 4 lanes"
-printf '10000\n00001\n0000\n' >"$out/doubtful"
-doubtful "2 of 3 rows have cells past 4 lanes"
+printf '0000\n10000\n00001\n' >"$out/doubtful"
+doubtful "line 2 has \`0\` behind its 4 cells"
+printf '1000\n;\n0100\n' >"$out/doubtful"
+doubtful "line 3 looks like a row and stands below the ; that ends the chart"
 told 3 "$sm is doubtful: its first byte is #" sheet "$sm" --lanes 4
 told 3 "every line is shorter than 10 lanes" sheet "$chart" --lanes 10
 printf '\357\273\277' | cat - "$sm" >"$out/marked.sm"
-told 3 "marked.sm is doubtful: it begins with a byte-order mark" sheet "$out/marked.sm"
+printed 0 "3 charts, 1 refused" charts "$out/marked.sm"
+printf '\377\376#\0N\0O\0T\0E\0S\0:\0' >"$out/utf-16.sm"
+printed 1 "refused 11: the file has no such block, by whoever asks for the chart; it begins with the byte-order mark of UTF-16" charts "$out/utf-16.sm"
 printf '#NOTES:dance-single:::::\n10000\n;\n#NOTES:pump-single:::::\n10000\n;\n' >"$out/wide.sm"
 run 3 sheet "$out/wide.sm" --form card
-one_line "wide.sm chart 0 is doubtful: 1 of 1 rows have cells past 4 lanes" "a chart among others"
+one_line "wide.sm chart 0 is doubtful: line 2 has \`0\` behind its 4 cells" "a chart among others"
 [ "$(head -n 1 "$out/stdout")" = "chart 1 pump-single" ] || failed "the chart after a doubtful one is not there"
 passed=$((passed + 1))
 
@@ -110,8 +114,10 @@ for words in "charts $sm" "sheet $sm" "sheet $sm --form json" "dropped $sm" "dro
     [ "$status" -eq 2 ] || failed "padcheck $words >&-: status $status"
     one_line "cannot write the output: it is closed" "$words >&-"
 done
-[ ! -e "$out/n" ] && [ ! -e "$out/b" ] || failed "rig wrote a file that it could not tell of"
-yes 1000 | head -c 1000000 >"$out/long"
+# Nothing is said of the rig's files before both stand.
+[ -s "$out/n" ] && [ -s "$out/b" ] || failed "rig's files, its output full"
+rm "$out/n" "$out/b"
+yes 1000 | sed '192~192 s/$/\n,/' | head -c 999518 >"$out/long"
 {
     status=0
     "$padcheck" sheet "$out/long" --lanes 4 --form card 2>"$out/stderr" || status=$?

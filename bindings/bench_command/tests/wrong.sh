@@ -11,38 +11,118 @@ answered() {
     passed=$((passed + 1))
 }
 
-# Doubtful lines: every word that reads the data says so in the same words, --force takes it, and the neighbour is not doubtful.
+# Doubtful note data: every word that reads the data says so in the same words, which do not name --force, `charts` lists the chart
+# with them, --force takes it and says so, and the neighbour is not doubtful.
 doubtful_line() {
     answered 3 "wrong.$1" sheet "$given/$1.sm" --form card
-    said=$(cat "$out/stderr")
+    said=$(cat "$out/stderr") why=$(sed 's/^.* is doubtful: //' "$out/stderr")
+    case $said in *--force*) failed "the doubt of $1 names --force" ;; esac
     told 3 "$said" rig "$given/$1.sm" --chart 0 --notes "$out/n" --beats "$out/b"
     told 3 "$said" dropped "$given/$1.sm"
     run 3 diff "$given/$1.sm" "$given/$2.sm"
     one_line "$said" "diff of $1"
+    run 3 charts "$given/$1.sm"
+    grep -qxF "       doubtful: $why" "$out/stdout" || failed "charts of $1: not its doubt"
+    grep -qxF "$given/$1.sm: 1 chart, 0 refused, 1 doubtful" "$out/stdout" || failed "charts of $1"
+    [ ! -s "$out/stderr" ] || failed "charts of $1: standard error is not empty"
+    run 0 charts "$given/$1.sm" --force
+    grep -qxF "       forced: $why" "$out/stdout" || failed "charts of $1 --force: not its doubt"
     run 0 sheet "$given/$1.sm" --form card --force
+    grep -qxF "forced: $why" "$out/stdout" || failed "sheet of $1 --force: not its doubt"
     answered 0 "wrong.$2" sheet "$given/$2.sm" --form card
-    printed 0 "1 charts, 0 refused" charts "$given/$1.sm"
+    printed 0 ": 1 chart, 0 refused" charts "$given/$2.sm"
+    passed=$((passed + 3))
 }
 doubtful_line colon colon-comment
 doubtful_line keysounds letters
 doubtful_line return letters
-doubtful_line short blanks
+doubtful_line short blank-lines
+doubtful_line blanks blank-lines
+doubtful_line short-first blank-lines
+doubtful_line short-last blank-lines
+doubtful_line long-row chart
+doubtful_line comma-behind comma-own
+doubtful_line comma-row comma-own
+doubtful_line comment-row comment-quiet
+doubtful_line comment-comma comment-quiet
+doubtful_line comment-last comment-quiet
+doubtful_line semicolon-rest semicolon-comment
+doubtful_line rows-below tags-below
+answered 0 wrong.semicolon-behind sheet "$given/semicolon-behind.sm" --form card
 
-# A byte-order mark is of the whole file, so that `charts` doubts it too.
-answered 3 wrong.marked charts "$given/marked.sm"
-answered 3 wrong.marked sheet "$given/marked.sm"
+# A file that may have a chart which is not read is doubtful whichever chart is asked for, since numbers shift. Its list is whole.
+doubtful_file() {
+    answered 3 "wrong.$1" charts "$given/$1.sm"
+    why=$(sed -n 's/^doubtful: //p' "$out/stdout")
+    [ -n "$why" ] || failed "charts of $1: no doubt"
+    case $why in *--force*) failed "the doubt of $1 names --force" ;; esac
+    said="padcheck: $given/$1.sm is doubtful: $why"
+    for words in "sheet $given/$1.sm" "sheet $given/$1.sm --chart 0" "dropped $given/$1.sm --form json" \
+        "rig $given/$1.sm --chart 0 --notes $out/n --beats $out/b"; do
+        # The words have no blanks in them.
+        told 3 "$said" $words
+        [ "$(cat "$out/stderr")" = "$said" ] || failed "padcheck $words: not '$said'"
+    done
+    run 3 diff "$given/$1.sm" "$given/$2.sm"
+    one_line "$said" "diff of $1"
+    answered 0 "wrong.$1.force" charts "$given/$1.sm" --force
+    answered 0 "wrong.$2.charts" charts "$given/$2.sm"
+}
+doubtful_file some-letters three
+doubtful_file notes2 three
+doubtful_file semicolon-tag three
+doubtful_file no-semicolon three
+doubtful_file lights-no-semicolon three
+doubtful_file marked-chart marked
+
+# Elsewhere a byte-order mark harms nothing.
+answered 0 wrong.marked sheet "$given/marked.sm" --form card
 answered 0 wrong.marked.force charts "$given/marked.sm" --force
 answered 0 wrong.marked.neighbour charts "$given/chart.sm"
 
-# A line with a chart's tag in other letters starts no chart: beside charts it is doubted by every word, since one may be missed.
-answered 3 wrong.some-letters charts "$given/some-letters.sm"
-told 3 "$(cat "$out/stderr")" sheet "$given/some-letters.sm"
-told 3 "$(cat "$out/stderr")" dropped "$given/some-letters.sm"
-told 3 "$(cat "$out/stderr")" rig "$given/some-letters.sm" --chart 0 --notes "$out/n" --beats "$out/b"
-run 3 diff "$given/some-letters.sm" "$given/chart.sm"
-one_line "$(cat "$out/stderr")" "diff of some-letters"
-answered 0 wrong.some-letters.force charts "$given/some-letters.sm" --force
+# A chart that is not there is refused before a doubt is told.
 answered 1 wrong.some-letters.number sheet "$given/some-letters.sm" --chart 1 --form card
+answered 1 wrong.no-semicolon.number sheet "$given/no-semicolon.sm" --chart 2 --form card
+
+# What is taken all the same says so: above the line to initial, in JSON, in the line that `rig` prints, for a file and for a chart.
+answered 0 wrong.forced.print sheet "$given/comma-behind.sm" --force
+awk 'length > 80 { exit 1 }' "$out/stdout" || failed "a forced sheet has a line of more than 80 columns"
+answered 0 wrong.forced.card sheet "$given/notes2.sm" "$given/comma-behind.sm" --form card --force
+answered 0 wrong.forced.json sheet "$given/notes2.sm" "$given/comma-behind.sm" --form json --force
+answered 0 wrong.forced.dropped dropped "$given/long-row.sm" --force
+answered 0 wrong.forced.dropped.json dropped "$given/long-row.sm" --force --form json
+answered 0 wrong.forced.diff diff "$given/notes2.sm" "$given/comma-behind.sm" --chart 0 --force
+printed 0 "dance-single, 4 lanes; forced: line 10 has \`0\` behind its 4 cells, where nothing" \
+    rig "$given/long-row.sm" --chart 0 --notes "$out/n" --beats "$out/b" --force
+printed 0 "dance-single, 4 lanes; forced: line 14 begins with #NOTES2:, which starts no chart" \
+    rig "$given/notes2.sm" --chart 0 --notes "$out/n" --beats "$out/b" --force
+rm "$out/n" "$out/b"
+# Where there is nothing to force, --force changes nothing.
+for form in print card json; do
+    run 0 sheet "$given/three.sm" --form "$form"
+    mv "$out/stdout" "$out/unforced"
+    run 0 sheet "$given/three.sm" --form "$form" --force
+    cmp "$out/unforced" "$out/stdout" || failed "--force on a file without doubt"
+    passed=$((passed + 1))
+done
+
+# Files as editors write them are quiet: with both line ends, measures numbered in comments, a last comma, keysounds, titles in UTF-8.
+for editor in stepmania stepmania-crlf arrowvortex; do
+    answered 0 "wrong.$editor" sheet "$given/$editor.sm" --form card
+    printed 0 "2 charts, 0 refused" charts "$given/$editor.sm"
+done
+diff "$tests/stored/wrong.stepmania" "$tests/stored/wrong.stepmania-crlf" || failed "line ends"
+
+# A measure whose rows do not divide 192 is no doubt: one line for each chart that has one.
+noted 0 "total_arrows        3" "padcheck: $given/odd.sm chart 0: measure 1 on line 15 has 5 rows, which do not divide 192, as where a row is lost or doubled; 2 such measures" \
+    sheet "$given/odd.sm"
+odd=$(cat "$out/stderr")
+noted 0 "no hold came to nothing" "$odd" dropped "$given/odd.sm"
+noted 0 "row beats" "$odd" rig "$given/odd.sm" --chart 0 --notes "$out/n" --beats "$out/b"
+run 0 diff "$given/odd.sm" "$given/odd.sm"
+[ "$(grep -cxF "$odd" "$out/stderr")" -eq 2 ] || failed "diff of odd.sm"
+printed 0 ": 1 chart, 0 refused" charts "$given/odd.sm"
+rm "$out/n" "$out/b"
 
 # A chart that is refused among others, and where none is left.
 answered 0 wrong.lights.charts charts "$given/chart-lights.sm"
