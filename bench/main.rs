@@ -11,14 +11,11 @@ mod once;
 mod options;
 mod report;
 mod sm_files;
-#[path = "../bindings/rust/src/symbols.rs"]
-#[allow(dead_code)] // Not every entry is timed.
-mod symbols;
 mod ways;
 
 use loads::{Lines, Load, Text};
 use options::{HELP, Options};
-use oracle::calls::{Call, Figures};
+use oracle::calls::Call;
 use report::Cell;
 use std::process::ExitCode;
 use ways::{Pair, Way};

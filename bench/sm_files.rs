@@ -1,8 +1,8 @@
 //! SM files that are timed and counted, and the entry that finds a chart in one.
 
 use crate::chart::{self, Kind};
-use crate::symbols::padcheck_sm_chart;
 use oracle::sm::SmChart;
+use padcheck::{Refusal, lent};
 
 /// What stands before the charts.
 const SONG: &[u8] =
@@ -75,12 +75,7 @@ pub type Answer = Result<SmChart, u32>;
 /// What the entry answers, in the reference's form.
 pub fn enter(file: &[u8], k: usize) -> Answer {
     let mut chart = [0; 3];
-    // The pointer goes with the length of its slice, and the chart is three numbers.
-    let number = unsafe { padcheck_sm_chart(file.as_ptr(), file.len(), k, &mut chart) };
-    let [lanes, start, len] = chart.map(|number| number as usize);
-    if number == 0 {
-        Ok(SmChart { lanes, start, len })
-    } else {
-        Err(number)
-    }
+    lent::sm_chart(file, k, &mut chart).map_err(Refusal::number)?;
+    let [lanes, start, len] = chart.map(|figure| figure as usize);
+    Ok(SmChart { lanes, start, len })
 }

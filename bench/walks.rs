@@ -10,13 +10,9 @@ mod loads;
 #[allow(dead_code)] // Every slice is lent anew.
 mod loans;
 mod sm_files;
-#[path = "../bindings/rust/src/symbols.rs"]
-#[allow(dead_code)] // Not every entry is timed.
-mod symbols;
 
 use entries::ENTRIES;
 use loads::{Lines, Load, Text};
-use oracle::calls::Figures; // What `symbols` lends.
 use oracle::entry::MAX_LEN;
 use sm_files::File;
 use std::hint::black_box;

@@ -27,6 +27,8 @@ if [ -z "${PADCHECK_LIB_DIR:-}" ]; then
     PADCHECK_LIB_DIR=target/staticlib
 fi
 sh tests/oracle/build.sh
+mkdir -p "$out"
+rustc --edition 2024 -O --crate-type rlib --crate-name padcheck -o "$out/libpadcheck.rlib" bindings/rust/src/lib.rs
 
 # The program over the libraries of a folder; functions begin at multiples of 32 bytes, as in build.sh.
 build() {
@@ -34,8 +36,8 @@ build() {
     for it in "$2/libpadcheck.a" "$2/libleaves.a" target/oracle/liboracle.rlib; do
         objcopy --set-section-alignment '.text*=32' "$it" "$out/$1/${it##*/}"
     done
-    rustc --edition 2024 -O --extern oracle="$out/$1/liboracle.rlib" -L native="$out/$1" -l static=padcheck -l static=leaves \
-        -o "$out/$1/walks" bench/walks.rs
+    rustc --edition 2024 -O --extern oracle="$out/$1/liboracle.rlib" --extern padcheck="$out/libpadcheck.rlib" \
+        -L native="$out/$1" -l static=padcheck -l static=leaves -o "$out/$1/walks" bench/walks.rs
 }
 sides=now
 if [ -n "${PADCHECK_LIB_DIR_BEFORE:-}" ]; then

@@ -1,7 +1,8 @@
 #!/bin/sh
 # Shows that the C test notices a wrong header: each number, length and word of padcheck.h is changed alone, and the test must fail.
 # A wrong number must be noticed twice, by the static assertions and, without them, by what the library answers.
-# Each word of a declaration, here and in the Rust binding, is changed alone too; prototypes.sh must fail.
+# Each word of a declaration, here and in the Rust binding's table of calls, is changed alone too; there a parameter is left out besides, two
+# change places, or one has another's type. prototypes.sh must fail.
 # The library is taken from PADCHECK_LIB_DIR, else from target/staticlib. The last line is 'N passed, M failed'; takes a minute.
 set -eu
 cd "$(dirname "$0")/../.."
@@ -106,11 +107,59 @@ declarations() {
         fi
     done <"$out/edits"
 }
-symbols=bindings/rust/src/symbols.rs
+table=bindings/rust/src/lent.rs
 words "$header" '^uint32_t padcheck_' >"$out/edits"
-declarations "$header" "$out/changed" "$symbols"
-words "$symbols" '^    pub fn ' >"$out/edits"
-declarations "$symbols" "$header" "$out/changed"
+declarations "$header" "$out/changed" "$table"
+words "$table" '^    pub fn [a-z]' >"$out/edits"
+declarations "$table" "$header" "$out/changed"
+
+# What the table's macro declares for each form of what is lent, behind its form, and the entry that it declares.
+awk '
+    function edits(from) {
+        before = gsub(/[A-Za-z0-9_]+/, "&", from)
+        count = gsub(/[A-Za-z0-9_]+/, "&")
+        for (i = before + 1; i <= count; i++) print NR "s/[A-Za-z0-9_][A-Za-z0-9_]*/&x/" i
+    }
+    match($0, /^    \(\$call:tt .*\$lent:ident: /) { from = substr($0, 1, RLENGTH); sub(/ \$\(, .*/, ""); edits(from) }
+    /^ *\[\$\(\$declared\)\* / || /^ *#\[link_name/ || /^ *fn entry\(/ { edits("") }' "$table" >"$out/edits"
+declarations "$table" "$header" "$out/changed"
+
+# The table with each signature on one line, and for each thing that a call is lent the signature without it, with it behind the next, and with
+# another type of the table for its own.
+sed -e ':join' -e '/^    pub fn .*[(,]$/ {' -e 'N' -e 's/\n */ /' -e 'b join' -e '}' \
+    -e '/^    pub fn / { s/( /(/; s/, );$/);/' -e '}' "$table" >"$out/signatures.rs"
+if sh tests/c/prototypes.sh "$header" "$out/signatures.rs" >"$out/log" 2>&1; then
+    said yes
+else
+    said no "the table with each signature on one line does not pass"
+fi
+awk '
+    # The line with these in the place of the parameters from one to another.
+    function edit(from, to, others) {
+        line = ""
+        for (j = 1; j <= count; j++) {
+            one = j == from ? others : j > from && j <= to ? "" : lent[j]
+            if (one != "") line = line (line == "" ? "" : ", ") one
+        }
+        print FNR "c\\" call line ");"
+    }
+    !/^    pub fn / { next }
+    {
+        call = substr($0, 1, index($0, "("))
+        count = split(substr($0, length(call) + 1, length($0) - length(call) - 2), lent, ", ")
+        for (i = 1; i <= count; i++) {
+            name = substr(lent[i], 1, index(lent[i], " "))
+            own = substr(lent[i], length(name) + 1)
+            if (NR == FNR) {
+                if (!(own in place)) { place[own] = types; type[types++] = own }
+                continue
+            }
+            edit(i, i, "")
+            if (i < count) edit(i, i + 1, lent[i + 1] ", " lent[i])
+            edit(i, i, name type[(place[own] + 1) % types])
+        }
+    }' "$out/signatures.rs" "$out/signatures.rs" >"$out/edits"
+declarations "$out/signatures.rs" "$header" "$out/changed"
 rm -rf "$out"
 echo "$passed passed, $failed failed"
 [ "$failed" = 0 ]

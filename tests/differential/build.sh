@@ -1,6 +1,6 @@
 #!/bin/sh
-# Builds the differential run into target/differential: the oracle and the program (rustc 1.88 or later). The static libraries padcheck and
-# leaves are built first (rt), or taken from PADCHECK_LIB_DIR where that is set.
+# Builds the differential run into target/differential: the oracle, the Rust binding and the program (rustc 1.88 or later). The static libraries
+# padcheck and leaves are built first (rt), or taken from PADCHECK_LIB_DIR where that is set.
 set -eu
 cd "$(dirname "$0")/../.."
 . tests/need.sh
@@ -14,6 +14,7 @@ if [ -z "${PADCHECK_LIB_DIR:-}" ]; then
 fi
 out=target/differential
 mkdir -p "$out"
-rustc --edition 2024 -O --extern oracle=target/oracle/liboracle.rlib \
+rustc --edition 2024 -O --crate-type rlib --crate-name padcheck -o "$out/libpadcheck.rlib" bindings/rust/src/lib.rs
+rustc --edition 2024 -O --extern oracle=target/oracle/liboracle.rlib --extern padcheck="$out/libpadcheck.rlib" \
     -L native="$PADCHECK_LIB_DIR" -l static=padcheck -l static=leaves \
     -o "$out/differential" tests/differential/main.rs

@@ -20,14 +20,11 @@ mod places;
 mod random;
 mod row_checks;
 mod sheet_checks;
-#[path = "../../bindings/rust/src/symbols.rs"]
-mod symbols;
 mod text_checks;
 
 use case::{Case, Check};
 use file_checks::Files;
 use kinds::Kinds;
-use oracle::calls::Figures;
 use random::Rng;
 use std::process::ExitCode;
 

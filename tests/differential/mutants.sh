@@ -1,6 +1,7 @@
 #!/bin/sh
 # Shows that the differential run can fail: each wrong change of mutants.txt goes into a copy of the Rust, and the run must notice it.
-# Wants target/staticlib as build.sh leaves it; takes some minutes. 'mutants.sh CHECK' runs those of one check. Ends with 'N passed, M failed'.
+# Wants target/staticlib and target/differential as build.sh leaves them; takes some minutes. 'mutants.sh CHECK' runs those of one check.
+# Ends with 'N passed, M failed'.
 set -u
 only=${1-}
 cd "$(dirname "$0")/../.."
@@ -23,7 +24,7 @@ while IFS='|' read -r check file edit; do
     elif ! rustc --edition 2024 -C opt-level=1 -A warnings --crate-type rlib --crate-name oracle \
         -o "$copy/liboracle.rlib" "$copy/tests/oracle/oracle.rs" ||
         ! rustc --edition 2024 -C opt-level=1 -A warnings --extern oracle="$copy/liboracle.rlib" \
-            -L native=target/staticlib -l static=padcheck -l static=leaves \
+            --extern padcheck=target/differential/libpadcheck.rlib -L native=target/staticlib -l static=padcheck -l static=leaves \
             -o "$copy/differential" tests/differential/main.rs; then
         said="the copy does not build"
     elif "$copy/differential" --cases 20000 >"$copy/out" 2>&1; then

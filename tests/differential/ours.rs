@@ -45,13 +45,14 @@ mod leaves {
     }
 }
 
-use crate::symbols::{padcheck_chart_sheet, padcheck_read_note, padcheck_sm_chart};
+use crate::entries::number;
 use leaves::*;
 pub use leaves::{
     leaves_cell_of as cell_of, leaves_hold_effect as hold_effect, leaves_lanes_of as lanes_of,
     leaves_object_effect as object_effect,
 };
 use oracle::entry::Loan;
+use padcheck::lent;
 
 // Below, each pointer goes with the length of its slice or points to an array of the size that the leaf names.
 
@@ -131,7 +132,7 @@ pub fn calc_last_beat(m: u32, r: u32, n: u32, last: &mut [u64; 2]) -> Option<()>
 
 /// The entry that reads a note record: its number, and the note where that is 0.
 pub fn read_note(records: &[u8], index: usize, note: &mut [u64; 4]) -> u32 {
-    unsafe { padcheck_read_note(records.as_ptr(), records.len(), index, note) }
+    number(lent::read_note(records, index, note))
 }
 
 /// The entry that writes the sheet of a chart: its number.
@@ -142,34 +143,24 @@ pub fn chart_sheet(
     loan: &mut Loan,
     sheet: &mut [u8],
 ) -> u32 {
-    unsafe {
-        padcheck_chart_sheet(
-            data.as_ptr(),
-            data.len(),
-            lanes,
-            form,
-            loan.text.as_mut_ptr(),
-            loan.text.len(),
-            loan.densities.as_mut_ptr(),
-            loan.densities.len(),
-            loan.spacing.as_mut_ptr(),
-            loan.spacing.len(),
-            loan.beats.as_mut_ptr(),
-            loan.beats.len(),
-            loan.work.as_mut_ptr(),
-            loan.work.len(),
-            loan.notes.as_mut_ptr(),
-            loan.notes.len(),
-            sheet.as_mut_ptr(),
-            sheet.len(),
-            &mut loan.figures,
-        )
-    }
+    number(lent::chart_sheet(
+        data,
+        lanes,
+        form,
+        &mut loan.text,
+        &mut loan.densities,
+        &mut loan.spacing,
+        &mut loan.beats,
+        &mut loan.work,
+        &mut loan.notes,
+        sheet,
+        &mut loan.figures,
+    ))
 }
 
 /// The entry that finds a chart in an SM file: its number, and lane count, start and length where that is 0.
 pub fn sm_chart(file: &[u8], k: usize, chart: &mut [u64; 3]) -> u32 {
-    unsafe { padcheck_sm_chart(file.as_ptr(), file.len(), k, chart) }
+    number(lent::sm_chart(file, k, chart))
 }
 
 fn place(number: usize) -> Option<usize> {

@@ -18,277 +18,207 @@
 //! # Ok::<(), Refusal>(())
 //! ```
 
-use crate::symbols::*;
 use crate::{Figures, Refusal};
 
-// In each call below a pointer goes with the length of its slice, and `figures`, `note` and `chart` have the size that the entry names.
-
-/// The main call: minimised text, densities, row beats, note records, last beat, and the tally corrected over the
-/// minimised text read back.
-///
-/// # Errors
-///
-/// Refusals 12, 1 to 6.
-#[expect(clippy::too_many_arguments, reason = "the entry is lent these")]
-pub fn minimize_chart_count_rows_notes(
-    data: &[u8],
-    lanes: usize,
-    text: &mut [u8],
-    densities: &mut [u32],
-    beats: &mut [f32],
-    work: &mut [u16],
-    notes: &mut [u8],
-    figures: &mut Figures,
-) -> Result<(), Refusal> {
-    Refusal::of(unsafe {
-        padcheck_minimize_chart_count_rows_notes(
-            data.as_ptr(),
-            data.len(),
-            lanes,
-            text.as_mut_ptr(),
-            text.len(),
-            densities.as_mut_ptr(),
-            densities.len(),
-            beats.as_mut_ptr(),
-            beats.len(),
-            work.as_mut_ptr(),
-            work.len(),
-            notes.as_mut_ptr(),
-            notes.len(),
-            figures,
-        )
-    })
+/// The table of the calls. Of each it has the words, the name, which is the entry's without `padcheck_`, and by name and type what the entry is
+/// lent, in its order. From these follow the entry's declaration, which is that of `include/padcheck.h`, and a safe function over it.
+macro_rules! calls {
+    ($($(#[$said:meta])* pub fn $name:ident($($lent:tt)*);)*) => {
+        $(call! { ($(#[$said])* $name($($lent)*)) [] [] $($lent)* })*
+    };
 }
 
-/// The kept-row call: minimised text, densities, and the tally, which is that of the main call.
-///
-/// # Errors
-///
-/// Refusals 12, 1, 2, 3 and 5.
-pub fn process_chart_kept(
-    data: &[u8],
-    lanes: usize,
-    text: &mut [u8],
-    densities: &mut [u32],
-    work: &mut [u16],
-    figures: &mut Figures,
-) -> Result<(), Refusal> {
-    Refusal::of(unsafe {
-        padcheck_process_chart_kept(
-            data.as_ptr(),
-            data.len(),
-            lanes,
-            text.as_mut_ptr(),
-            text.len(),
-            densities.as_mut_ptr(),
-            densities.len(),
-            work.as_mut_ptr(),
-            work.len(),
-            figures,
-        )
-    })
+/// One call. What it is lent is read from the left, each to how it is declared and to what is handed over for it; then stands the function.
+macro_rules! call {
+    ($call:tt [$($declared:tt)*] [$($handed:tt)*] $lent:ident: &[$element:ty] $(, $($rest:tt)*)?) => {
+        call! {
+            $call
+            [$($declared)* $lent: *const $element, _: usize,]
+            [$($handed)* $lent.as_ptr(), $lent.len(),]
+            $($($rest)*)?
+        }
+    };
+    ($call:tt [$($declared:tt)*] [$($handed:tt)*] $lent:ident: &mut [$element:ty] $(, $($rest:tt)*)?) => {
+        call! {
+            $call
+            [$($declared)* $lent: *mut $element, _: usize,]
+            [$($handed)* $lent.as_mut_ptr(), $lent.len(),]
+            $($($rest)*)?
+        }
+    };
+    ($call:tt [$($declared:tt)*] [$($handed:tt)*] $lent:ident: &mut $numbers:ty $(, $($rest:tt)*)?) => {
+        call! {
+            $call
+            [$($declared)* $lent: *mut $numbers,]
+            [$($handed)* $lent,]
+            $($($rest)*)?
+        }
+    };
+    ($call:tt [$($declared:tt)*] [$($handed:tt)*] $lent:ident: usize $(, $($rest:tt)*)?) => {
+        call! {
+            $call
+            [$($declared)* $lent: usize,]
+            [$($handed)* $lent,]
+            $($($rest)*)?
+        }
+    };
+    (($(#[$said:meta])* $name:ident($($lent:tt)*)) [$($declared:tt)*] [$($handed:tt)*]) => {
+        $(#[$said])*
+        #[allow(clippy::too_many_arguments, reason = "the entry is lent these")]
+        pub fn $name($($lent)*) -> Result<(), Refusal> {
+            unsafe extern "C" {
+                #[link_name = concat!("padcheck_", stringify!($name))]
+                fn entry($($declared)*) -> u32;
+            }
+            // A pointer goes with the length of its slice, and what is answered in numbers has the size that the entry names.
+            Refusal::of(unsafe { entry($($handed)*) })
+        }
+    };
 }
 
-/// The minimised rows, L bytes each and back to back in the text slice, their beats, and whether any has a 2 or 4.
-///
-/// # Errors
-///
-/// Refusals 12, 1, 2 and 4.
-pub fn minimize_timing_rows(
-    data: &[u8],
-    lanes: usize,
-    text: &mut [u8],
-    beats: &mut [f32],
-    figures: &mut Figures,
-) -> Result<(), Refusal> {
-    Refusal::of(unsafe {
-        padcheck_minimize_timing_rows(
-            data.as_ptr(),
-            data.len(),
-            lanes,
-            text.as_mut_ptr(),
-            text.len(),
-            beats.as_mut_ptr(),
-            beats.len(),
-            figures,
-        )
-    })
-}
+calls! {
+    /// The main call: minimised text, densities, row beats, note records, last beat, and the tally corrected over the
+    /// minimised text read back.
+    ///
+    /// # Errors
+    ///
+    /// Refusals 12, 1 to 6.
+    pub fn minimize_chart_count_rows_notes(
+        data: &[u8],
+        lanes: usize,
+        text: &mut [u8],
+        densities: &mut [u32],
+        beats: &mut [f32],
+        work: &mut [u16],
+        notes: &mut [u8],
+        figures: &mut Figures,
+    );
 
-/// For each measure how many of its minimised rows have a 1, 2 or 4.
-///
-/// # Errors
-///
-/// Refusals 12, 1 and 3.
-pub fn measure_densities(
-    data: &[u8],
-    lanes: usize,
-    densities: &mut [u32],
-    figures: &mut Figures,
-) -> Result<(), Refusal> {
-    let (densities, len) = (densities.as_mut_ptr(), densities.len());
-    Refusal::of(unsafe {
-        padcheck_measure_densities(data.as_ptr(), data.len(), lanes, densities, len, figures)
-    })
-}
+    /// The kept-row call: minimised text, densities, and the tally, which is that of the main call.
+    ///
+    /// # Errors
+    ///
+    /// Refusals 12, 1, 2, 3 and 5.
+    pub fn process_chart_kept(
+        data: &[u8],
+        lanes: usize,
+        text: &mut [u8],
+        densities: &mut [u32],
+        work: &mut [u16],
+        figures: &mut Figures,
+    );
 
-/// For each measure 1 where it has no rows or each minimised row has a 1, 2 or 4, else 0.
-///
-/// # Errors
-///
-/// Refusals 12, 1 and 3.
-pub fn equally_spaced(
-    data: &[u8],
-    lanes: usize,
-    spacing: &mut [u8],
-    figures: &mut Figures,
-) -> Result<(), Refusal> {
-    let (spacing, len) = (spacing.as_mut_ptr(), spacing.len());
-    Refusal::of(unsafe {
-        padcheck_equally_spaced(data.as_ptr(), data.len(), lanes, spacing, len, figures)
-    })
-}
+    /// The minimised rows, L bytes each and back to back in the text slice, their beats, and whether any has a 2 or 4.
+    ///
+    /// # Errors
+    ///
+    /// Refusals 12, 1, 2 and 4.
+    pub fn minimize_timing_rows(
+        data: &[u8],
+        lanes: usize,
+        text: &mut [u8],
+        beats: &mut [f32],
+        figures: &mut Figures,
+    );
 
-/// The last object row's beat, by its bits and in 48ths.
-///
-/// # Errors
-///
-/// Refusals 12 and 1.
-pub fn chart_last_beat(data: &[u8], lanes: usize, figures: &mut Figures) -> Result<(), Refusal> {
-    Refusal::of(unsafe { padcheck_chart_last_beat(data.as_ptr(), data.len(), lanes, figures) })
-}
+    /// For each measure how many of its minimised rows have a 1, 2 or 4.
+    ///
+    /// # Errors
+    ///
+    /// Refusals 12, 1 and 3.
+    pub fn measure_densities(
+        data: &[u8],
+        lanes: usize,
+        densities: &mut [u32],
+        figures: &mut Figures,
+    );
 
-/// The judged tally of minimised text, every row judged.
-///
-/// # Errors
-///
-/// Refusals 12, 1 and 5.
-pub fn process_rows_judgable(
-    data: &[u8],
-    lanes: usize,
-    work: &mut [u16],
-    figures: &mut Figures,
-) -> Result<(), Refusal> {
-    let (work, len) = (work.as_mut_ptr(), work.len());
-    Refusal::of(unsafe {
-        padcheck_process_rows_judgable(data.as_ptr(), data.len(), lanes, work, len, figures)
-    })
-}
+    /// For each measure 1 where it has no rows or each minimised row has a 1, 2 or 4, else 0.
+    ///
+    /// # Errors
+    ///
+    /// Refusals 12, 1 and 3.
+    pub fn equally_spaced(data: &[u8], lanes: usize, spacing: &mut [u8], figures: &mut Figures);
 
-/// The judged tally of minimised text with one flag a row: 0 unjudged, else judged. A row past the flags is judged.
-///
-/// # Errors
-///
-/// Refusals 12, 1 and 5.
-pub fn process_timing_rows(
-    data: &[u8],
-    lanes: usize,
-    flags: &[u8],
-    work: &mut [u16],
-    figures: &mut Figures,
-) -> Result<(), Refusal> {
-    Refusal::of(unsafe {
-        padcheck_process_timing_rows(
-            data.as_ptr(),
-            data.len(),
-            lanes,
-            flags.as_ptr(),
-            flags.len(),
-            work.as_mut_ptr(),
-            work.len(),
-            figures,
-        )
-    })
-}
+    /// The last object row's beat, by its bits and in 48ths.
+    ///
+    /// # Errors
+    ///
+    /// Refusals 12 and 1.
+    pub fn chart_last_beat(data: &[u8], lanes: usize, figures: &mut Figures);
 
-/// The heads that come to nothing: minimised text, and for each 2 or 4 of its rows that has no note a record of
-/// [`DROPPED_BYTES`](crate::DROPPED_BYTES) in `list`, their number at [`place::NOTES`](crate::place::NOTES).
-/// [`DroppedHeads::new`](crate::DroppedHeads::new) reads them.
-///
-/// # Errors
-///
-/// Refusals 12, 1, 2 and 6; 6 is of the list, which has the length of the notes.
-pub fn dropped_holds(
-    data: &[u8],
-    lanes: usize,
-    text: &mut [u8],
-    list: &mut [u8],
-    figures: &mut Figures,
-) -> Result<(), Refusal> {
-    Refusal::of(unsafe {
-        padcheck_dropped_holds(
-            data.as_ptr(),
-            data.len(),
-            lanes,
-            text.as_mut_ptr(),
-            text.len(),
-            list.as_mut_ptr(),
-            list.len(),
-            figures,
-        )
-    })
-}
+    /// The judged tally of minimised text, every row judged.
+    ///
+    /// # Errors
+    ///
+    /// Refusals 12, 1 and 5.
+    pub fn process_rows_judgable(
+        data: &[u8],
+        lanes: usize,
+        work: &mut [u16],
+        figures: &mut Figures,
+    );
 
-/// Note record number `index`: row, tail (4,294,967,295 for none), column, kind.
-///
-/// # Errors
-///
-/// Refusals 7 and 8.
-pub fn read_note(records: &[u8], index: usize, note: &mut [u64; 4]) -> Result<(), Refusal> {
-    Refusal::of(unsafe { padcheck_read_note(records.as_ptr(), records.len(), index, note) })
-}
+    /// The judged tally of minimised text with one flag a row: 0 unjudged, else judged. A row past the flags is judged.
+    ///
+    /// # Errors
+    ///
+    /// Refusals 12, 1 and 5.
+    pub fn process_timing_rows(
+        data: &[u8],
+        lanes: usize,
+        flags: &[u8],
+        work: &mut [u16],
+        figures: &mut Figures,
+    );
 
-/// The sheet of a chart in the form of this number ([`SheetForm::number`](crate::SheetForm::number)). Text, densities, beats, work, notes
-/// and figures are left as the main call leaves them, the spacing as [`equally_spaced`] does; the bytes of the sheet stand at
-/// [`place::SHEET_BYTES`](crate::place::SHEET_BYTES).
-///
-/// # Errors
-///
-/// Refusals 12, 1 to 6, 3 for the densities before 3 for the spacing, then 19 and 20.
-#[expect(clippy::too_many_arguments, reason = "the entry is lent these")]
-pub fn chart_sheet(
-    data: &[u8],
-    lanes: usize,
-    form: usize,
-    text: &mut [u8],
-    densities: &mut [u32],
-    spacing: &mut [u8],
-    beats: &mut [f32],
-    work: &mut [u16],
-    notes: &mut [u8],
-    sheet: &mut [u8],
-    figures: &mut Figures,
-) -> Result<(), Refusal> {
-    Refusal::of(unsafe {
-        padcheck_chart_sheet(
-            data.as_ptr(),
-            data.len(),
-            lanes,
-            form,
-            text.as_mut_ptr(),
-            text.len(),
-            densities.as_mut_ptr(),
-            densities.len(),
-            spacing.as_mut_ptr(),
-            spacing.len(),
-            beats.as_mut_ptr(),
-            beats.len(),
-            work.as_mut_ptr(),
-            work.len(),
-            notes.as_mut_ptr(),
-            notes.len(),
-            sheet.as_mut_ptr(),
-            sheet.len(),
-            figures,
-        )
-    })
-}
+    /// The heads that come to nothing: minimised text, and for each 2 or 4 of its rows that has no note a record of
+    /// [`DROPPED_BYTES`](crate::DROPPED_BYTES) in `list`, their number at [`place::NOTES`](crate::place::NOTES).
+    /// [`DroppedHeads::new`](crate::DroppedHeads::new) reads them.
+    ///
+    /// # Errors
+    ///
+    /// Refusals 12, 1, 2 and 6; 6 is of the list, which has the length of the notes.
+    pub fn dropped_holds(
+        data: &[u8],
+        lanes: usize,
+        text: &mut [u8],
+        list: &mut [u8],
+        figures: &mut Figures,
+    );
 
-/// Chart number `k` of an SM file, counted from 0: its lane count, where its note data begins in the file, how long that is.
-///
-/// # Errors
-///
-/// Refusals 1, 11, 9 and 10, checked in this order.
-pub fn sm_chart(file: &[u8], k: usize, chart: &mut [u64; 3]) -> Result<(), Refusal> {
-    Refusal::of(unsafe { padcheck_sm_chart(file.as_ptr(), file.len(), k, chart) })
+    /// Note record number `index`: row, tail (4,294,967,295 for none), column, kind.
+    ///
+    /// # Errors
+    ///
+    /// Refusals 7 and 8.
+    pub fn read_note(records: &[u8], index: usize, note: &mut [u64; 4]);
+
+    /// The sheet of a chart in the form of this number ([`SheetForm::number`](crate::SheetForm::number)). Text, densities, beats, work, notes
+    /// and figures are left as the main call leaves them, the spacing as [`equally_spaced`] does; the bytes of the sheet stand at
+    /// [`place::SHEET_BYTES`](crate::place::SHEET_BYTES).
+    ///
+    /// # Errors
+    ///
+    /// Refusals 12, 1 to 6, 3 for the densities before 3 for the spacing, then 19 and 20.
+    pub fn chart_sheet(
+        data: &[u8],
+        lanes: usize,
+        form: usize,
+        text: &mut [u8],
+        densities: &mut [u32],
+        spacing: &mut [u8],
+        beats: &mut [f32],
+        work: &mut [u16],
+        notes: &mut [u8],
+        sheet: &mut [u8],
+        figures: &mut Figures,
+    );
+
+    /// Chart number `k` of an SM file, counted from 0: its lane count, where its note data begins in the file, how long that is.
+    ///
+    /// # Errors
+    ///
+    /// Refusals 1, 11, 9 and 10, checked in this order.
+    pub fn sm_chart(file: &[u8], k: usize, chart: &mut [u64; 3]);
 }

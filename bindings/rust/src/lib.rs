@@ -37,7 +37,6 @@ mod refusal;
 mod sheet;
 mod sm;
 pub mod stats;
-mod symbols;
 
 pub use buffers::{Buffers, Chart, DroppedHolds, KeptChart, LastBeat, TimingRows, release_buffers};
 pub use dropped::{DropCause, DroppedHead, DroppedHeads};
