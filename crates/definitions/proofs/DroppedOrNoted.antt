@@ -1,5 +1,5 @@
 -- Each head of a text's minimised rows is listed once or has one note record, and not both.
-use mathlib.Core.Path.{◌≡◌, refl, ap, sym, ◌∙◌}
+use mathlib.Core.Path.{◌≡◌, refl, ap, ap₂, sym, ◌∙◌}
 use mathlib.Core.Bool.{Bool, true, false, ◌&&◌}
 use mathlib.Core.List.{List, [], ◌∷◌, ◌++◌}
 use Prim.Native.Nat.{ℕ, zero, suc, ◌+◌, ◌≤◌, ◌<◌}
@@ -229,7 +229,7 @@ data Sorted : List DroppedHead → Type 0 where
 sorted-rises : {ds : List DroppedHead} → Sorted ds → rises ds ≡ true
 sorted-rises no_more = refl
 sorted-rises (first none no_more) = refl
-sorted-rises (first (one h a) s) = rw h (sorted-rises s)
+sorted-rises (first (one h a) s) = ap₂ (λ b r. b && r) h (sorted-rises s)
 
 sorted_append : {s t : List DroppedHead} → Sorted s → Sorted t → All (λ x. All (Before x) t) s → Sorted (s ++ t)
 sorted_append no_more q all = q

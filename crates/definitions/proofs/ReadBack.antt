@@ -44,17 +44,17 @@ word-tail r t c k h = bytes4-back t h
 note-back : (r c : ℕ) (k : Kind) (t : Tail) → c < 10 → r < row_numbers_bound → TailMade r k t
     → note_of r (number_of_tail t) c (number_of_kind k) ≡ Ok (record { row = r; tail = t; column = c; kind = k })
 unfolding note_of
-note-back r c Tap Without p q m = simp (lt-leb 10 c p, lt-leb row_numbers_bound r q)
+note-back r c Tap Without p q m = simp (lt-leb 10 c p, lt-leb row_numbers_bound r q) refl
 note-back r c Tap (Row j) p q m = absurd m
 note-back r c Hold Without p q m = absurd m
-note-back r c Hold (Row j) p q m = simp (lt-leb 10 c p, lt-leb row_numbers_bound r q, lt-ltb r j m.0, lt-ltb j row_numbers_bound m.1)
+note-back r c Hold (Row j) p q m = simp (lt-leb 10 c p, lt-leb row_numbers_bound r q, lt-ltb r j m.0, lt-ltb j row_numbers_bound m.1) refl
 note-back r c Roll Without p q m = absurd m
-note-back r c Roll (Row j) p q m = simp (lt-leb 10 c p, lt-leb row_numbers_bound r q, lt-ltb r j m.0, lt-ltb j row_numbers_bound m.1)
-note-back r c Mine Without p q m = simp (lt-leb 10 c p, lt-leb row_numbers_bound r q)
+note-back r c Roll (Row j) p q m = simp (lt-leb 10 c p, lt-leb row_numbers_bound r q, lt-ltb r j m.0, lt-ltb j row_numbers_bound m.1) refl
+note-back r c Mine Without p q m = simp (lt-leb 10 c p, lt-leb row_numbers_bound r q) refl
 note-back r c Mine (Row j) p q m = absurd m
-note-back r c Lift Without p q m = simp (lt-leb 10 c p, lt-leb row_numbers_bound r q)
+note-back r c Lift Without p q m = simp (lt-leb 10 c p, lt-leb row_numbers_bound r q) refl
 note-back r c Lift (Row j) p q m = absurd m
-note-back r c Fake Without p q m = simp (lt-leb 10 c p, lt-leb row_numbers_bound r q)
+note-back r c Fake Without p q m = simp (lt-leb 10 c p, lt-leb row_numbers_bound r q) refl
 note-back r c Fake (Row j) p q m = absurd m
 
 tail-small : (r : ℕ) (k : Kind) (t : Tail) → TailMade r k t → number_of_tail t < 4294967296
