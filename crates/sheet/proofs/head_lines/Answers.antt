@@ -1,8 +1,16 @@
 -- The seven lines, one after the other.
-use Rattle.std.proofs.Common.{arith}
+use mathlib.Core.Path.{◌≡◌, refl, subst}
+use mathlib.Core.List.{List}
+use Prim.Native.Nat.{ℕ}
 use Rattle.sheet.specs.Sheet.{lines_of_head}
+use Rattle.page.specs.declared.Page.{Page}
+use Rattle.page.specs.Prints.{Appends}
 use Rattle.page.proofs.Pages.{appends_then}
 use Rattle.sheet.proofs.head_lines.Goals as goal
+
+-- what is appended
+abbrev appended : {a b : Page} {x : List ℕ} → Appends a x b → List ℕ
+appended {x = x} p = x
 
 pub returns : goal.returns
 unfolding lines_of_head
@@ -19,4 +27,5 @@ returns c =
     c.in_ok-figure_line-6.ensures)
     c.in_ok-figure_line-7.ensures
     in
-    grind (arith, lines)
+    let head : appended lines ≡ lines_of_head c.args.figures.now = refl in
+    subst (λ l. Appends c.args.page.now l c.figure_line-7.new.page) head lines
