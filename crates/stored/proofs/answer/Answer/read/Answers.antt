@@ -1,8 +1,15 @@
 -- `stored::answer::Answer::read` meets its contract: what is read is as long as the lengths say, and each part that is missed is one that they say.
-use Rattle.std.proofs.Common.{arith}
-use Rattle.stored.specs.Layout.{answer_bytes, answer_length}
+use Rattle.std.proofs.Common.{◌≡◌, refl, ap, ◌∙◌, List, ◌++◌, ℕ, arith}
+use Rattle.stored.specs.Layout.{Begins, answer_bytes, answer_length}
 use Rattle.stored.proofs.Joined.{and_then, head_of_answer, length-parts, rest-parts, length-number_bytes}
 use Rattle.stored.proofs.answer.Answer.read.Goals as goal
+
+-- what is read, and the same bytes put otherwise
+abbrev part : {s p r : List ℕ} → Begins s p r → List ℕ
+part {p = p} b = p
+
+same-part : {s p q r : List ℕ} (b : Begins s p r) → part b ≡ q → Begins s q r
+same-part {r = r} b e = record { parts = b.parts ∙ ap (λ (l : List ℕ). l ++ r) e }
 
 pub returns-in_err-figures-clause-variant : goal.returns-in_err-figures-clause-variant
 unfolding answer_length
@@ -56,4 +63,6 @@ returns-clause-variant c =
 
 pub returns-clause-value : goal.returns-clause-value
 unfolding answer_bytes
-returns-clause-value c = rw (c.in_ok-bytes.ensures.size, c.in_ok-bytes-2.ensures.size, c.in_ok-bytes-3.ensures.size, c.in_ok-bytes-4.ensures.size) (and_then (and_then (and_then (and_then (and_then (and_then (and_then (and_then c.in_ok-figures.ensures.value c.in_ok-text.ensures.value) c.in_ok-measures.ensures.value) c.in_ok-beats.ensures.value) c.in_ok-notes.ensures.value) c.in_ok-bytes.ensures.value) c.in_ok-bytes-2.ensures.value) c.in_ok-bytes-3.ensures.value) c.in_ok-bytes-4.ensures.value)
+returns-clause-value c =
+    let read = and_then (and_then (and_then (and_then (and_then (and_then (and_then (and_then c.in_ok-figures.ensures.value c.in_ok-text.ensures.value) c.in_ok-measures.ensures.value) c.in_ok-beats.ensures.value) c.in_ok-notes.ensures.value) c.in_ok-bytes.ensures.value) c.in_ok-bytes-2.ensures.value) c.in_ok-bytes-3.ensures.value) c.in_ok-bytes-4.ensures.value in
+    same-part read (rw (c.in_ok-bytes.ensures.size, c.in_ok-bytes-2.ensures.size, c.in_ok-bytes-3.ensures.size, c.in_ok-bytes-4.ensures.size) refl)
