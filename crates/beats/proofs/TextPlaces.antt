@@ -62,6 +62,18 @@ pub record RowAt (k : ℕ) (ms : List (List Row)) (i : ℕ) : Type 0 where
   pub place : i ≡ length (joined (take m ms)) + r
   pub beat : get_or (joined (beats_from k ms)) i nan ≡ beat_of_row (k + m) r (length (get_or ms m []))
 
+-- there are as many as rows
+pub as-many : (k : ℕ) (ms : List (List Row)) → length (joined (beats_from k ms)) ≡ length (joined ms)
+as-many k [] = refl
+as-many k (x ∷ ms) =
+    omega (
+      arith,
+      length-append (row_beats k (length x) 0 (length x)) (joined (beats_from (suc k) ms)),
+      length-beats k (length x) 0 (length x),
+      length-append x (joined ms),
+      as-many (suc k) ms,
+    )
+
 pub row_at : (k : ℕ) (ms : List (List Row)) (i : ℕ) → i < length (joined (beats_from k ms)) → RowAt k ms i
 row_at k [] i h = absurd (omega arith)
 row_at k (x ∷ ms) i h = go (row_at (suc k) ms) (ltb i n) refl

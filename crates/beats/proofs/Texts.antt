@@ -10,8 +10,8 @@ use Rattle.definitions.specs.Reduction.{minimised}
 use Rattle.definitions.specs.Beats.{beat_of_row, beats_from, measure_beats, beats}
 use Rattle.definitions.specs.Objects.{place48, last48}
 use Rattle.definitions.specs.Damage.{rows_of}
-use Rattle.definitions.specs.BeatsNear.{BeatsNear, BeatsToSpare, BeatsNearer, BeatsExact, LastNear, Nearest48, TextBeatsStand, TextLastNear}
-use Rattle.beats.proofs.TextPlaces.{measure-fits, rows-fit, RowAt, row_at, ObjectAt, last-at}
+use Rattle.definitions.specs.BeatsNear.{BeatsNear, BeatsToSpare, BeatsNearer, BeatsExact, LastNear, Nearest48, BeatStands, TextBeatsStand, TextLastNear}
+use Rattle.beats.proofs.TextPlaces.{measure-fits, rows-fit, as-many, RowAt, row_at, ObjectAt, last-at}
 use Rattle.beats.proofs.Near.{beat-near, beat-to-spare, beat-nearer}
 use Rattle.beats.proofs.Exact48.{beat-exact}
 use Rattle.beats.proofs.Nearest48.{last-nearest}
@@ -43,27 +43,30 @@ last-near = last-nearest
 
 pub text-beats-stand : TextBeatsStand
 unfolding TextBeatsStand beats measure_beats
-text-beats-stand L text w few i h =
-    let x : RowAt 0 (minimised L text) i = row_at 0 (minimised L text) i h in
-    let n : ℕ = length (rows_of L x.m text) in
-    let fits : 5 * n + 2 * x.m ≤ most_bytes + 1 = measure-fits L text x.m w few x.measure in
-    let few-rows : n < 2 ^ 22 = most n (rows-fit x.m n fits) in
-    record {
-      m = x.m;
-      r = x.r;
-      n = n;
-      rows = refl;
-      row = x.row;
-      place = x.place;
-      measure = omega (arith, fits, x.row);
-      beat =
-          slice_get-get_or (joined (beats_from 0 (minimised L text))) i nan h
-          ∙ ap Some (x.beat ∙ ap (λ k. beat_of_row k x.r n) (zero-add x.m));
-      near = beat-near x.m x.r n x.row few-rows;
-      to_spare = beat-to-spare x.m x.r n x.row few-rows;
-      nearer = λ j. beat-nearer x.m x.r n j x.row few-rows;
-      exact = beat-exact x.m x.r n x.row;
-    }
+text-beats-stand L text w few = (as-many 0 (minimised L text), stands)
+  where
+    stands : (i : ℕ) → i < length (beats L text) → BeatStands L text i
+    stands i h =
+        let x : RowAt 0 (minimised L text) i = row_at 0 (minimised L text) i h in
+        let n : ℕ = length (rows_of L x.m text) in
+        let fits : 5 * n + 2 * x.m ≤ most_bytes + 1 = measure-fits L text x.m w few x.measure in
+        let few-rows : n < 2 ^ 22 = most n (rows-fit x.m n fits) in
+        record {
+          m = x.m;
+          r = x.r;
+          n = n;
+          rows = refl;
+          row = x.row;
+          place = x.place;
+          measure = omega (arith, fits, x.row);
+          beat =
+              slice_get-get_or (joined (beats_from 0 (minimised L text))) i nan h
+              ∙ ap Some (x.beat ∙ ap (λ k. beat_of_row k x.r n) (zero-add x.m));
+          near = beat-near x.m x.r n x.row few-rows;
+          to_spare = beat-to-spare x.m x.r n x.row few-rows;
+          nearer = λ j. beat-nearer x.m x.r n j x.row few-rows;
+          exact = beat-exact x.m x.r n x.row;
+        }
 
 pub text-last-near : TextLastNear
 unfolding TextLastNear last48

@@ -2,8 +2,13 @@
 pub mod Places
 pub mod Measures
 pub mod LaterNotes
+pub mod Filters
 pub mod EarlierNotes
+pub mod LastBeat
 pub mod Records
 pub mod Blocks
+pub mod Dropped
+pub mod Tallies
+pub mod Beats
 pub mod Minimising
 pub mod Examples

@@ -12,6 +12,7 @@ use Rattle.definitions.specs.Sizes.{most_bytes}
 use Rattle.definitions.specs.Lanes.{most_rows_in}
 use Rattle.definitions.specs.Beats.{f32, beat_of_row, beats, whole, last_row}
 use Rattle.definitions.specs.Objects.{Place, last_object, last48}
+use Rattle.definitions.specs.Entries.{row_count}
 use Rattle.definitions.specs.Damage.{rows_above, rows_of}
 
 -- a / b and c / d lie within e / k of one another: neither is more than that above the other
@@ -100,15 +101,14 @@ pub record BeatStands (L : ℕ) (text : List ℕ) (i : ℕ) : Type 0 where
   pub nearer : BeatNearer m r n
   pub exact : BeatExact m r n
 
--- each beat of each accepted text: "What follows holds of every accepted text at every lane count."
+-- "Each minimised row has a beat", and each beat of each accepted text stands so: "What follows holds of every accepted text at every lane count."
 unfoldable pub TextBeatsStand : Type 0
 TextBeatsStand =
     (L : ℕ) (text : List ℕ)
     → 4 ≤ L
     → length text ≤ most_bytes
-    → (i : ℕ)
-    → i < length (beats L text)
-    → BeatStands L text i
+    → (length (beats L text) ≡ row_count L text)
+    × ((i : ℕ) → i < length (beats L text) → BeatStands L text i)
 
 -- A text's last object row is one of the rows of its measure, and no whole number is nearer to it than the text's last beat in 48ths.
 pub record LastStands (L : ℕ) (text : List ℕ) (p : Place) : Type 0 where

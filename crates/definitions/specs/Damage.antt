@@ -9,7 +9,7 @@ use Rattle.definitions.specs.Measures.{chart}
 use Rattle.definitions.specs.Reduction.{minimised}
 use Rattle.definitions.specs.Figures.{densities, spacings}
 use Rattle.definitions.specs.Beats.{measure_beats}
-use Rattle.definitions.specs.Objects.{last_beat_of}
+use Rattle.definitions.specs.Objects.{last48, last_beat_of}
 use Rattle.definitions.specs.Notes.{notes}
 use Rattle.definitions.specs.Entries.{row_count}
 use Rattle.definitions.specs.declared.LineKind.{LineKind}
@@ -171,6 +171,7 @@ pub record DamageStays (L d : ℕ) (old new : List ℕ) : Type 0 where
       → open_in (rows_above L d old) i c ≡ true
       → MissingOrLate (length (rows_above L d old)) (row_count L old) i c (head_kind (byte_in (rows_above L d old) i c)) (notes L old)
       × MissingOrLate (length (rows_above L d old)) (row_count L new) i c (head_kind (byte_in (rows_above L d old) i c)) (notes L new)
-  -- The last beat: "its bits, where the later measures have a 1, M, L, F or K, and in each of their columns with a 3 such a cell stands before the
-  -- first 3". "Equal floats have equal bits."
+  -- The last beat: "its bits, and it in 48ths, where the later measures have a 1, M, L, F or K, and in each of their columns with a 3 such a cell
+  -- stands before the first 3". "Equal floats have equal bits."
   pub same_last : HoldObject (all_later L d old) → ObjectFirst (all_later L d old) → last_beat_of L old ≡ last_beat_of L new
+  pub same_last48 : HoldObject (all_later L d old) → ObjectFirst (all_later L d old) → last48 L old ≡ last48 L new

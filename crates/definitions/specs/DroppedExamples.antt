@@ -28,7 +28,7 @@ told_of e = joined (map told (dropped_heads 4 (bytes e.given)))
 abbrev pub lists : String → List ℕ → Example
 lists s l = record { given = s; list = l }
 
-pub table : List Example
+unfoldable pub table : List Example
 table =
     -- "A 3 closes the head, and it is a note", "K and the empty cells tell nothing, and neither does another column."
     lists "2000|K000|x000|3000" []

@@ -41,7 +41,7 @@ abbrev pub zero_rows : ℕ → List ℕ
 zero_rows n = joined (replicate n (bytes "0000|"))
 
 -- R1 to R40
-pub table : List Example
+unfoldable pub table : List Example
 table =
     -- R1: a row is the first L bytes; a 2 is a head of the timing rows
     at4 "00011|2000"

@@ -1,6 +1,6 @@
 -- The blocks of an SM file.
 use mathlib.Core.Path.{◌≡◌, refl, ap, sym, ◌∙◌}
-use mathlib.Core.Bool.{false}
+use mathlib.Core.Bool.{Bool, true, false, cond}
 use mathlib.Core.List.{List, [], ◌∷◌, ◌++◌}
 use Prim.Native.Nat.{ℕ, zero, suc, ◌+◌, ◌≤◌, ◌<◌}
 use native.Mathlib.Decide.{dec_lt}
@@ -11,6 +11,7 @@ use lib.ListN.{length, take, drop, length-take}
 use lib.Seq.{take-append_seam, drop-append_seam}
 use Rattle.std.specs.Prelude.{slice_index}
 use Rattle.std.specs.List.{count_by}
+use Rattle.definitions.specs.Lists.{up_to, after}
 use Rattle.definitions.specs.SmFile.{block_end, blocks, sm_tag, sm_data, sm_start, sm_number}
 use Rattle.definitions.specs.SmBlocks.{DataInFile, SemicolonLast, Apart, BlocksApart, Least, LeastRefused}
 use Rattle.definitions.specs.Consequences.{DataThere, OneSemicolon, FewBlocks, BlocksDisjoint, ElevenSays}
@@ -35,9 +36,21 @@ one-at-last b (x ∷ y ∷ s) h =
     rw (count-cons (λ x. eqb x b) x (y ∷ s), ne_eqb x b (h 0 (omega arith)))
     (omega (arith, one-at-last b (y ∷ s) (λ i l e. h (suc i) (omega arith) e)))
 
+after-none : (b : ℕ) (s : List ℕ) → ((i : ℕ) → i + 1 < length s → slice_index s i ≡ b → ⊥) → after b s ≡ []
+unfolding after up_to
+after-none b [] h = refl
+after-none b (x ∷ []) h = go (eqb x b)
+  where
+    go : (t : Bool) → drop {A = ℕ} (length (cond t [] (x ∷ []))) [] ≡ []
+    go true = refl
+    go false = refl
+after-none b (x ∷ y ∷ s) h = rw (ne_eqb x b (h 0 (omega arith))) (after-none b (y ∷ s) (λ i l e. h (suc i) (omega arith) e))
+
 pub one-semicolon : SemicolonLast → OneSemicolon
 unfolding SemicolonLast OneSemicolon
-one-semicolon f file k = one-at-last 59 (sm_data file k) (λ i h. f file k i (omega (arith, h)))
+one-semicolon f file k =
+    let last : (i : ℕ) → i + 1 < length (sm_data file k) → slice_index (sm_data file k) i ≡ 59 → ⊥ = λ i h. f file k i (omega (arith, h)) in
+    (one-at-last 59 (sm_data file k) last, after-none 59 (sm_data file k) last)
 
 -- ---- Where blocks lie
 -- at least i bytes stand before the end of block i

@@ -1,6 +1,6 @@
 -- The notes headed after the damaged measure.
-use mathlib.Core.Path.{◌≡◌, refl, ap, ap₂}
-use mathlib.Core.List.{List, [], ◌∷◌, map}
+use mathlib.Core.Path.{◌≡◌, refl, ap}
+use mathlib.Core.List.{List}
 use Prim.Native.Nat.{ℕ, ◌+◌}
 use native.Mathlib.Omega.{arith}
 use lib.ListN.{length}
@@ -10,12 +10,7 @@ use Rattle.definitions.specs.Consequences.{tail_down, LaterNotes}
 use Rattle.definitions.specs.declared.Tail.{Tail}
 use Rattle.definitions.specs.declared.Tail.TheVariants as tail
 use Rattle.definitions.specs.declared.Note.{Note}
-
-each-same : {A B : Type 0} {R : A → A → Type 0} (f g : A → B) → ((x y : A) → R x y → f x ≡ g y) → (s t : List A) → AllZip R s t → map f s ≡ map g t
-each-same f g h [] [] e = refl
-each-same f g h [] (b ∷ t) e = absurd e
-each-same f g h (a ∷ s) [] e = absurd e
-each-same f g h (a ∷ s) (b ∷ t) e = ap₂ (λ y l. y ∷ l) (h a b e.0) (each-same f g h s t e.1)
+use Rattle.definitions.proofs.Consequences.Places.{each-same}
 
 tails-same : (a b : ℕ) (x y : Tail) → ShiftedTail a b x y → tail_down b x ≡ tail_down a y
 tails-same a b tail.Without tail.Without e = refl

@@ -7,7 +7,7 @@ use native.Mathlib.Nat.{add-zero, zero-add}
 use native.Mathlib.Omega.{arith}
 use lib.ListN.{length, take, drop, get_or}
 use Rattle.std.specs.Prelude.{Option, Some, None, slice_get, find}
-use Rattle.std.specs.List.{range_with_len}
+use Rattle.std.specs.List.{range_with_len, AllZip}
 
 same_at : {B : Type 0} (f : ℕ → B) (i j : ℕ) → i ≡ j → f i ≡ f j
 same_at f i j e = ap f e
@@ -47,6 +47,13 @@ module _ {A : Type 0} where
 
   pub after-place : (d : ℕ) (s t : List A) → ((i : ℕ) → d < i → slice_get s i ≡ slice_get t i) → drop (suc d) s ≡ drop (suc d) t
   after-place d s t h = all-places (drop (suc d) s) (drop (suc d) t) (λ i. dropped (suc d) s i ∙ h (suc d + i) (omega arith) ∙ sym (dropped (suc d) t i))
+
+-- f of each of the one list is g of what stands there in the other
+pub each-same : {A B : Type 0} {R : A → A → Type 0} (f g : A → B) → ((x y : A) → R x y → f x ≡ g y) → (s t : List A) → AllZip R s t → map f s ≡ map g t
+each-same f g h [] [] e = refl
+each-same f g h [] (b ∷ t) e = absurd e
+each-same f g h (a ∷ s) [] e = absurd e
+each-same f g h (a ∷ s) (b ∷ t) e = ap₂ (λ y l. y ∷ l) (h a b e.0) (each-same f g h s t e.1)
 
 -- what f makes of the places of a list is what g makes of what stands there
 pub by-places : {A B : Type 0} (f : ℕ → B) (g : A → B) (s : List A) (a : ℕ)

@@ -1,15 +1,17 @@
 -- The note records of an accepted text.
 use mathlib.Core.Path.{◌≡◌, refl, ap, sym, ◌∙◌, subst}
-use mathlib.Core.Logic.{◌⊎◌, inl, inr}
+use mathlib.Core.Bool.{Bool, true, false, true≢false, false≢true}
 use mathlib.Core.List.{List, [], ◌∷◌, map}
 use Prim.Native.Nat.{ℕ, zero, ◌<◌}
 use native.Mathlib.Nat.{zero-add}
+use native.Mathlib.Omega.{arith}
 use lib.ListN.{length, get_or, replicate}
 use Rattle.std.specs.Prelude.{Ok, Result}
 use Rattle.definitions.specs.declared.Refusal.{Refusal}
 use Rattle.definitions.specs.Sizes.{row_numbers_bound}
 use Rattle.definitions.specs.Notes.{notes}
-use Rattle.definitions.specs.Records.{number_of_tail, records, note_of_record}
+use Rattle.definitions.specs.Lists.{among}
+use Rattle.definitions.specs.Records.{number_of_kind, number_of_tail, records, note_of_record}
 use Rattle.definitions.specs.Refusals.{number_told, replaces}
 use Rattle.definitions.specs.Entries.{figures_of_note}
 use Rattle.definitions.specs.WriterMakes.{TailMade, Made, ReadsBack, WriterMakes}
@@ -28,14 +30,27 @@ zeros : {A : Type 0} (s : List A) → map (λ a. zero) s ≡ replicate (length s
 zeros [] = refl
 zeros (a ∷ s) = ap (λ l. 0 ∷ l) (zeros s)
 
-tail-told : (r : ℕ) (k : Kind) (t : Tail) → TailMade r k t → (number_of_tail t ≡ 4294967295) ⊎ ((r < number_of_tail t) × (number_of_tail t < row_numbers_bound))
-tail-told r k Without m = inl refl
-tail-told r Tap (Row j) m = absurd m
-tail-told r Hold (Row j) m = inr (m.0, m.1)
-tail-told r Roll (Row j) m = inr (m.0, m.1)
-tail-told r Mine (Row j) m = absurd m
-tail-told r Lift (Row j) m = absurd m
-tail-told r Fake (Row j) m = absurd m
+abbrev is_held : Kind → Bool
+is_held k = among (number_of_kind k) (1 ∷ 2 ∷ [])
+
+tail-told : (r : ℕ) (k : Kind) (t : Tail) → TailMade r k t → is_held k ≡ true → (r < number_of_tail t) × (number_of_tail t < row_numbers_bound)
+tail-told r Tap t m e = absurd (false≢true e)
+tail-told r Hold Without m e = absurd m
+tail-told r Hold (Row j) m e = (omega (arith, m.0), omega (arith, m.1))
+tail-told r Roll Without m e = absurd m
+tail-told r Roll (Row j) m e = (omega (arith, m.0), omega (arith, m.1))
+tail-told r Mine t m e = absurd (false≢true e)
+tail-told r Lift t m e = absurd (false≢true e)
+tail-told r Fake t m e = absurd (false≢true e)
+
+no-tail : (r : ℕ) (k : Kind) (t : Tail) → TailMade r k t → is_held k ≡ false → number_of_tail t ≡ 4294967295
+no-tail r k Without m e = refl
+no-tail r Tap (Row j) m e = absurd m
+no-tail r Hold (Row j) m e = absurd (true≢false e)
+no-tail r Roll (Row j) m e = absurd (true≢false e)
+no-tail r Mine (Row j) m e = absurd m
+no-tail r Lift (Row j) m e = absurd m
+no-tail r Fake (Row j) m e = absurd m
 
 module _ (ns : List Note) (r : (k : ℕ) → k < length ns → ReadsBack ns k) where
   records-read : RecordsRead ns
@@ -59,6 +74,7 @@ module _ (ns : List Note) (r : (k : ℕ) → k < length ns → ReadsBack ns k) w
   notes-in_range = (
     λ k d h. (made-at k d h).row,
     λ k d h. let n = get_or ns k d in tail-told n.row n.kind n.tail (made-at k d h).tail,
+    λ k d h. let n = get_or ns k d in no-tail n.row n.kind n.tail (made-at k d h).tail,
     λ k d h. (made-at k d h).column,
     λ k d h. (made-at k d h).kind,
   )

@@ -96,6 +96,10 @@ module _ (L d : ℕ) (old new : List ℕ) (x : Differ L d old new) where
   unfolding last_beat_of last48
   same_last h f = ap (λ o. row_to_beat (place48 o)) (same_object h f)
 
+  same_last48 : HoldObject (all_later L d old) → ObjectFirst (all_later L d old) → last48 L old ≡ last48 L new
+  unfolding last48
+  same_last48 h f = ap place48 (same_object h f)
+
   pub damage-stays : DamageStays L d old new
   unfolding densities spacings measure_beats
   damage-stays =
@@ -109,4 +113,5 @@ module _ (L d : ℕ) (old new : List ℕ) (x : Differ L d old new) where
         earlier_notes = search earlier_notes;
         open_heads = λ i c h. search (open_heads old refl i c h, open_heads new same_before i c h);
         same_last = search same_last;
+        same_last48 = search same_last48;
       }

@@ -1,4 +1,4 @@
-use Rattle.definitions.proofs.Consequences.EarlierNotes.{same-last-beat}
+use Rattle.definitions.proofs.Consequences.LastBeat.{same-last-beat}
 use Rattle.definitions.proofs.Damage.Stays.{damage-stays}
 use Rattle.laws.proofs.same_last_beat.Goals as goal
 
