@@ -12,8 +12,8 @@ use Rattle.definitions.specs.Cells.{cell_of, is_arrow}
 use Rattle.definitions.specs.Tracker.{Pair, pairs}
 use Rattle.definitions.specs.Tally.{count_from, six_columns, direction, row_sum_by, row_sum, empty_stats, tally_with_row, tally_from, tally}
 use Rattle.definitions.specs.Correction.{keep_row, corrects, paired_only, tally_with_steps, corrected}
-use Rattle.definitions.specs.Judged.{is_judged_arrow, judged_at, judged_sum, judge_row, open_before, judge_from, judged_rows, judged_tally, flagged_tally}
-use Rattle.definitions.specs.ReadBack.{rows_read_back, main_tally, kept_tally}
+use Rattle.definitions.specs.Judged.{is_judged_arrow, judged_sum, judge_row, open_before, judge_from, judged_rows, judged_tally, flagged_tally}
+use Rattle.definitions.specs.ReadBack.{main_tally, kept_tally}
 use Rattle.definitions.specs.Directions.{SumOfDirections, DirectionsSum}
 use Rattle.definitions.specs.declared.Cell.{Cell}
 use Rattle.definitions.specs.declared.RowSum.{RowSum}
@@ -97,12 +97,16 @@ module _ (L : ℕ) (J : ℕ → Bool) (ps : ℕ → List Pair) where
       judge-ways (judge_row t (J i) (open_before L J ps i) (judged_sum (J i) (keep_row ps i 0 r))) (suc i) rows
       (omega (arith, judged-ways (J i) (keep_row ps i 0 r)))
 
+all-judged : (L : ℕ) (J : ℕ → Bool) (rows : List Row) → SumOfDirections (judged_rows L J rows)
+unfolding judged_rows
+all-judged L J rows = judge-ways L J (pairs rows) empty_stats 0 rows refl
+
 pub directions-sum : (L : ℕ) (text flags : List ℕ) → DirectionsSum L text flags
-unfolding main_tally kept_tally judged_tally flagged_tally judged_rows
+unfolding main_tally kept_tally judged_tally flagged_tally
 directions-sum L text flags =
     record {
       main = corrected-ways L _ _;
       kept = corrected-ways L _ _;
-      judged = judge-ways L (λ i. true) (pairs (rows_read_back L text)) empty_stats 0 (rows_read_back L text) refl;
-      flagged = judge-ways L (judged_at flags) (pairs (rows_read_back L text)) empty_stats 0 (rows_read_back L text) refl;
+      judged = all-judged L _ _;
+      flagged = all-judged L _ _;
     }

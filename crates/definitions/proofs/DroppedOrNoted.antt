@@ -299,6 +299,6 @@ dropped-or-noted L text =
       others = λ i c e.
           let no : heading (effect_at (byte_in rows i c)) ≡ false = sym (head-is (byte_in rows i c)) ∙ e in
           omega (arith, all-heads i c 0 rows, all-at i c heading refl 0 i rows (zero-add i), ap number_of_bool no);
-      sum = rows-sum 0 rows;
+      sum = omega (arith, rows-sum 0 rows);
       rising = sorted-rises (rows-sorted 0 rows);
     }

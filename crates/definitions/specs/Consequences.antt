@@ -1,7 +1,7 @@
 -- What a reader expects of the main theorems, in other words. Each law follows from the statements of its theorems alone, and each field of each main
 -- statement is used by one, so no part of a statement can say less unseen; only `LimitsSuffice` is of any notes, and `ExamplesCounted` of the tables.
 -- proofs/Consequences.antt proves them.
-use Rattle.std.specs.Prelude.{◌≡◌, ◌≢◌, ◌⊎◌, Bool, true, false, ◌&&◌, not, List, [], ◌∷◌, map, filter, All, AllPairs, count_by, find, ℕ, suc, ◌+◌, ◌-◌, ◌*◌, ◌/◌, ◌%◌, ◌^◌, ◌≤◌, ◌<◌, ◌==◌, nat_lt, nat_le, length, take, drop, replicate, slice_get, slice_index_or, Option, Some, None, Ok, Float}
+use Rattle.std.specs.Prelude.{◌≡◌, ◌≢◌, ◌⊎◌, Bool, true, false, ◌&&◌, List, [], ◌∷◌, map, filter, All, AllPairs, count_by, find, ℕ, suc, ◌+◌, ◌-◌, ◌*◌, ◌/◌, ◌%◌, ◌^◌, ◌≤◌, ◌<◌, ◌==◌, nat_lt, nat_le, length, take, drop, replicate, slice_get, slice_index_or, Option, Some, None, Ok, Float}
 use Rattle.std.specs.List.{range_with_len}
 use Rattle.std.specs.Float.{binary32}
 use Rattle.std.specs.Float.Ieee.{mul}
@@ -18,7 +18,6 @@ use Rattle.definitions.specs.Objects.{Place, last_object, last48}
 use Rattle.definitions.specs.Notes.{notes}
 use Rattle.definitions.specs.Records.{number_of_kind, number_of_tail, records, note_of_record}
 use Rattle.definitions.specs.Correction.{head_count}
-use Rattle.definitions.specs.ReadBack.{rows_read_back}
 use Rattle.definitions.specs.Judged.{judged_at, judged_rows, judged_tally, flagged_tally}
 use Rattle.definitions.specs.Refusals.{number_told, replaces}
 use Rattle.definitions.specs.Entries.{figures_of_note, row_count, bits_of_last_beat, figures_of_chart, places_of_chart, figures_of_kept, places_of_kept, places_of_judged}
@@ -38,7 +37,6 @@ use Rattle.definitions.specs.declared.Tail.TheVariants.{Without, Row as to_row}
 use Rattle.definitions.specs.declared.Note.{Note}
 use Rattle.definitions.specs.declared.DropCause.{DropCause}
 use Rattle.definitions.specs.declared.DropCause.TheVariants.{OtherHead, OtherCell, ChartEnd}
-use Rattle.definitions.specs.declared.DroppedHead.{DroppedHead}
 
 -- ---- Of damage: texts `old` and `new` at L lanes that differ only in lines of measure d
 

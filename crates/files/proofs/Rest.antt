@@ -3,7 +3,6 @@ use mathlib.Core.Path.{◌≡◌, refl, ap, sym, ◌∙◌}
 use mathlib.Core.Bool.{Bool, true, false, cond}
 use mathlib.Core.List.{List, [], ◌∷◌, ◌++◌, map}
 use Prim.Native.Nat.{ℕ, zero, suc, ◌+◌, ◌≤◌, ◌<◌}
-use native.Mathlib.Nat.{zero-add}
 use native.Mathlib.Decide.{dec_lt}
 use native.Mathlib.Omega.{arith}
 use lib.Dec.{leb}
@@ -22,7 +21,7 @@ use Rattle.lines.specs.Lines.{lines_from}
 use Rattle.lines.proofs.Lines.{lines_start}
 use Rattle.files.specs.Tags.{first_tag}
 use Rattle.files.specs.Sm.{line_past_block}
-use Rattle.files.specs.Rest.{chart_from, answer_from, RestAnswered}
+use Rattle.files.specs.Rest.{BlockChart, chart_from, answer_from, RestAnswered}
 use Rattle.std.specs.Prelude.{Option}
 use Rattle.std.specs.Prelude.{Some, None}
 use Rattle.files.proofs.Words.{drop_head}
@@ -128,6 +127,11 @@ first_block file h = go (first_tag notes_tag 0 (lines_from file 0)) refl
         let is : get_or (blocks file) 0 (record { line = 0; end = 0 }) ≡ t = (drop_head (blocks file) 0 t (record { line = 0; end = 0 }) _ all).1 in
         all ∙ ap (λ (u : Tag). u ∷ from file 0 (line_past_block file u)) (sym is)
 
+-- charts that are the same in each part
+alike : {l l' : Option ℕ} {n n' : ℕ} {s s' : List ℕ} → l ≡ l' → n ≡ n' → s ≡ s'
+    → ◌≡◌ {A = BlockChart} (record { lanes = l; start = n; part = s }) (record { lanes = l'; start = n'; part = s' })
+alike e f g = rw (e, f, g)
+
 module _ (file : List ℕ) (short : length file ≤ most_bytes) (some : 0 < length (blocks file)) where
   abbrev p : ℕ
   p = line_past_block file (sm_tag file 0)
@@ -163,7 +167,7 @@ module _ (file : List ℕ) (short : length file ≤ most_bytes) (some : 0 < leng
     start-same h = omega (arith, ap (λ (t : Tag). t.end) (tag_same h), ap length (text_same h), ap length (part_same h))
 
     chart-same : k < length (blocks rest) → chart_from p rest k ≡ chart_from 0 file (suc k)
-    chart-same h = rw (lanes-same h, part_same h, start-same h, zero-add)
+    chart-same h = alike (lanes-same h) (omega (arith, start-same h)) (part_same h)
 
     number-there : k < length (blocks rest) → sm_number rest k ≡ sm_number file (suc k)
     unfolding sm_answer long_text

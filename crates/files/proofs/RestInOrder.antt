@@ -8,11 +8,11 @@ use borrow.Author.Tests.{lt-ltb}
 use lib.ListN.{length, drop, length-drop}
 use Rattle.std.specs.List.{range_with_len}
 use Rattle.definitions.specs.Sizes.{most_bytes}
-use Rattle.definitions.specs.SmFile.{blocks, sm_tag, sm_number}
+use Rattle.definitions.specs.SmFile.{blocks, sm_tag, sm_lanes, sm_data, sm_start, sm_number}
 use Rattle.definitions.specs.SmBlocks.{Least, LeastRefused}
 use Rattle.definitions.proofs.Consequences.Places.{some-same}
 use Rattle.files.specs.Sm.{line_past_block}
-use Rattle.files.specs.Rest.{chart_from, BlockAnswer, answer_from, RestAnswered, numbers, charts, RestInOrder}
+use Rattle.files.specs.Rest.{BlockChart, chart_from, BlockAnswer, answer_from, RestAnswered, each_block, RestInOrder}
 
 -- what f makes of n numbers from a on is what g makes of n numbers from b on
 ranges-same : {A : Type 0} (f g : ℕ → A) (n a b : ℕ) → ((k : ℕ) → k < n → f (a + k) ≡ g (b + k)) → map f (range_with_len a n) ≡ map g (range_with_len b n)
@@ -70,13 +70,24 @@ module _ (rest : RestAnswered) (least : LeastRefused) (file : List ℕ) (short :
       some-same (rw (lt-ltb k (length (blocks others)) h, lt-ltb (suc k) (length (blocks file)) more) at (ap (λ (a : BlockAnswer). a.chart) (same k)))
 
   in-order : (length (blocks file) ≡ suc (length (blocks others)))
-      × (numbers file ≡ sm_number file 0 ∷ numbers others)
-      × (charts 0 file ≡ chart_from 0 file 0 ∷ charts p others)
+      × (each_block sm_number file ≡ sm_number file 0 ∷ each_block sm_number others)
+      × (each_block sm_lanes file ≡ sm_lanes file 0 ∷ each_block sm_lanes others)
+      × (each_block sm_data file ≡ sm_data file 0 ∷ each_block sm_data others)
+      × (each_block sm_start file ≡ sm_start file 0 ∷ each_block (λ rest k. p + sm_start rest k) others)
   in-order = (
     one-less,
-    first-then (sm_number file) (sm_number others) (length (blocks file)) (length (blocks others)) one-less (λ k h. same-number k),
-    first-then (chart_from 0 file) (chart_from p others) (length (blocks file)) (length (blocks others)) one-less same-chart,
+    each sm_number sm_number (λ k h. same-number k),
+    each sm_lanes sm_lanes (λ k h. ap (λ (c : BlockChart). c.lanes) (same-chart k h)),
+    each sm_data sm_data (λ k h. ap (λ (c : BlockChart). c.part) (same-chart k h)),
+    each sm_start (λ rest k. p + sm_start rest k)
+        (λ k h.
+        let moved : p + sm_start others k ≡ 0 + sm_start file (suc k) = ap (λ (c : BlockChart). c.start) (same-chart k h) in
+        omega (arith, moved)),
   )
+    where
+      each : {A : Type 0} (f g : List ℕ → ℕ → A) → ((k : ℕ) → k < length (blocks others) → g others k ≡ f file (suc k))
+          → each_block f file ≡ f file 0 ∷ each_block g others
+      each f g h = first-then (f file) (g others) (length (blocks file)) (length (blocks others)) one-less h
 
 pub rest-in_order : RestAnswered → LeastRefused → RestInOrder
 unfolding RestInOrder

@@ -34,15 +34,12 @@ RestAnswered =
     → 0 < length (blocks file)
     → (k : ℕ) → let p = line_past_block file (sm_tag file 0) in answer_from p (drop p file) k ≡ answer_from 0 file (suc k)
 
--- The numbers and the charts of all blocks, in their order.
-abbrev pub numbers : List ℕ → List ℕ
-numbers file = map (sm_number file) (range_with_len 0 (length (blocks file)))
+-- what f says of each block of a file, in their order
+abbrev pub each_block : {A : Type 0} → (List ℕ → ℕ → A) → List ℕ → List A
+each_block f file = map (f file) (range_with_len 0 (length (blocks file)))
 
--- the charts, in a file that begins p bytes into another
-abbrev pub charts : ℕ → List ℕ → List BlockChart
-charts p file = map (chart_from p file) (range_with_len 0 (length (blocks file)))
-
--- a file's numbers and charts are those of its first block and then those of what follows it, which has one block less
+-- a file has one block more than what follows its first one, and its numbers, lane counts, data and places of data are those of that block and then
+-- those of what follows, whose places are told in the whole
 unfoldable pub RestInOrder : Type 0
 RestInOrder =
     (file : List ℕ)
@@ -50,5 +47,7 @@ RestInOrder =
     → 0 < length (blocks file)
     → let p = line_past_block file (sm_tag file 0) in
     (length (blocks file) ≡ suc (length (blocks (drop p file))))
-    × (numbers file ≡ sm_number file 0 ∷ numbers (drop p file))
-    × (charts 0 file ≡ chart_from 0 file 0 ∷ charts p (drop p file))
+    × (each_block sm_number file ≡ sm_number file 0 ∷ each_block sm_number (drop p file))
+    × (each_block sm_lanes file ≡ sm_lanes file 0 ∷ each_block sm_lanes (drop p file))
+    × (each_block sm_data file ≡ sm_data file 0 ∷ each_block sm_data (drop p file))
+    × (each_block sm_start file ≡ sm_start file 0 ∷ each_block (λ rest k. p + sm_start rest k) (drop p file))

@@ -1,6 +1,6 @@
 -- How near the beats are, by places and by texts.
-use mathlib.Core.Path.{◌≡◌, refl, ap, sym, ◌∙◌, subst}
-use mathlib.Core.List.{List, [], ◌∷◌, ◌++◌}
+use mathlib.Core.Path.{◌≡◌, refl, ap, ◌∙◌, subst}
+use mathlib.Core.List.{List, [], ◌∷◌}
 use Prim.Native.Nat.{ℕ, zero, suc, ◌+◌, ◌-◌, ◌*◌, ◌/◌, ◌%◌, ◌^◌, ◌≤◌, ◌<◌}
 use native.Mathlib.Decide.{dec_lt}
 use native.Mathlib.Omega.{arith}
@@ -13,9 +13,8 @@ use Rattle.definitions.specs.Lists.{joined}
 use Rattle.definitions.specs.Reduction.{minimised}
 use Rattle.definitions.specs.Beats.{beat_of_row, beats}
 use Rattle.definitions.specs.Objects.{last48}
-use Rattle.definitions.specs.Entries.{row_count}
 use Rattle.definitions.specs.Damage.{rows_above, rows_of}
-use Rattle.definitions.specs.BeatsNear.{Within, BeatWithin, BeatNear, BeatToSpare, BeatNearer, BeatExact, BeatsNear, BeatsToSpare, BeatsNearer, BeatsExact, beat48, LastNear, BeatStands, TextBeatsStand, LastStands, TextLastNear}
+use Rattle.definitions.specs.BeatsNear.{Within, BeatWithin, BeatNear, BeatToSpare, BeatNearer, BeatExact, BeatsNear, BeatsToSpare, BeatsNearer, BeatsExact, beat48, LastNear, BeatStands, TextBeatsStand, TextLastNear}
 use Rattle.definitions.specs.Consequences.{NearFraction, RowNear, PlacesNear, RowsNear, NoneNearer, LastPlaces, LastOfTexts}
 use Rattle.definitions.proofs.Lists.{parts}
 
@@ -78,14 +77,14 @@ module _ (L : ℕ) (text : List ℕ) (i : ℕ) where
   that-row : (m r : ℕ) → r < length (rows_of L m text) → i ≡ length (rows_above L m text) + r → BeatStands L text i → Stands m r (length (rows_of L m text))
   that-row m r h e s =
       let same = one-place (minimised L text) s.m s.r m r (omega (arith, s.row, s.rows)) h (omega (arith, s.place, e)) in
-      moved Stands same.0 same.1 (s.rows ∙ ap (λ m. length (rows_of L m text)) same.0)
+      moved Stands same.0 same.1 (omega (arith, s.rows, ap (λ m. length (rows_of L m text)) same.0))
       (s.beat, omega (arith, s.measure), row-near s.row s.near s.to_spare s.nearer s.exact)
 
 pub rows-near : TextBeatsStand → RowsNear
 unfolding TextBeatsStand RowsNear
 rows-near stand L text four short =
     let t = stand L text four short in (
-      t.0,
+      omega (arith, t.0),
       λ m r h.
           let i : ℕ = length (rows_above L m text) + r in
           that-row L text i m r h refl (t.1 i (omega (arith, t.0, place-in (minimised L text) m r h))),
@@ -112,4 +111,5 @@ pub last-of_texts : TextLastNear → LastOfTexts
 unfolding TextLastNear LastOfTexts
 last-of_texts near L text four short p e =
     let s = near L text four short p e in
-    (omega (arith, s.row, s.rows), subst (λ n. NoneNearer (last48 L text) p.m p.r n) s.rows (none-nearer _ p.m p.r p.n s.near))
+    let rows : p.n ≡ length (rows_of L p.m text) = omega (arith, s.rows) in
+    (omega (arith, s.row, rows), subst (λ n. NoneNearer (last48 L text) p.m p.r n) rows (none-nearer _ p.m p.r p.n s.near))

@@ -1,5 +1,5 @@
 -- The list of dropped heads.
-use mathlib.Core.Path.{◌≡◌, refl, ap, sym, ◌∙◌}
+use mathlib.Core.Path.{◌≡◌, refl, ap, sym, ◌∙◌, subst}
 use mathlib.Core.Logic.{◌⊎◌, inl, inr}
 use mathlib.Core.Bool.{Bool, true, false, ◌&&◌, ◌||◌, not, true≢false, false≢true}
 use mathlib.Core.List.{List, [], ◌∷◌}
@@ -12,11 +12,10 @@ use Rattle.std.specs.List.{filter}
 use Rattle.definitions.specs.Lists.{joined}
 use Rattle.definitions.specs.Lines.{Row}
 use Rattle.definitions.specs.Reduction.{minimised}
-use Rattle.definitions.specs.Notes.{notes}
 use Rattle.definitions.specs.Entries.{row_count}
 use Rattle.definitions.specs.Dropped.{dropped_heads}
 use Rattle.definitions.specs.Damage.{DamageStays, is_head, byte_in, rows_above, rows_of, open_in}
-use Rattle.definitions.specs.DroppedOrNoted.{listed, noted, before, rises, DroppedOrNoted}
+use Rattle.definitions.specs.DroppedOrNoted.{listed, before, rises, DroppedOrNoted}
 use Rattle.definitions.specs.DroppedStays.{earlier_drops, later_drops, ShiftedCause, by_head, by_cell, by_end, LateCause, UnlistedOrLate, DroppedStays}
 use Rattle.definitions.specs.Consequences.{ListedExactly, HeadsShared, ListRises, cause_down, LaterDrops, dropped_before, EarlierDrops, dropped_within, OpenDrops}
 use Rattle.definitions.specs.declared.DropCause.{DropCause}
@@ -115,8 +114,8 @@ within s n ChartEnd l = refl
 unlisted-or-late : {P : DroppedHead → Type 0} (s n i c : ℕ) (ds : List DroppedHead) → UnlistedOrLate s n i c ds
     → ((x : DroppedHead) → LateCause s n x.cause → P x) → All P (filter (here row_of column_of i c) ds)
 unfolding UnlistedOrLate
-unlisted-or-late s n i c ds (inl e) f = rw e none
-unlisted-or-late s n i c ds (inr (cause, late, e)) f = rw e (one (f (record { row = i; column = c; cause = cause }) late) none)
+unlisted-or-late {P} s n i c ds (inl e) f = subst (All P) (sym e) none
+unlisted-or-late {P} s n i c ds (inr (cause, late, e)) f = subst (All P) (sym e) (one (f (record { row = i; column = c; cause = cause }) late) none)
 
 one-at_most : (s n i c : ℕ) (ds : List DroppedHead) → UnlistedOrLate s n i c ds → length (filter (here row_of column_of i c) ds) ≤ 1
 unfolding UnlistedOrLate

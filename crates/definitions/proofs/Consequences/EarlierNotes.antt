@@ -1,8 +1,8 @@
 -- The notes headed before the damaged measure, and those of the heads that are open there.
-use mathlib.Core.Path.{◌≡◌, refl, ap, sym, ◌∙◌}
+use mathlib.Core.Path.{◌≡◌, refl, ap, sym, ◌∙◌, subst}
 use mathlib.Core.Logic.{◌⊎◌, inl, inr}
-use mathlib.Core.Bool.{Bool, true, false, ◌&&◌, not, true≢false}
-use mathlib.Core.List.{List, [], ◌∷◌}
+use mathlib.Core.Bool.{Bool, true, false, not, true≢false}
+use mathlib.Core.List.{List}
 use Prim.Native.Nat.{ℕ, ◌≤◌}
 use native.Mathlib.Omega.{arith}
 use borrow.Author.Tests.{le-ltb, lt-ltb}
@@ -31,10 +31,10 @@ column_of n = n.column
 missing-or-late : {P : Note → Type 0} (s n i c : ℕ) (k : Kind) (ns : List Note) → MissingOrLate s n i c k ns
     → ((x : Note) → x.kind ≡ k → lies_before s x ≡ false → tail_within n x.tail ≡ true → P x) → All P (filter (here row_of column_of i c) ns)
 unfolding MissingOrLate
-missing-or-late s n i c k ns (inl e) f = rw e none
-missing-or-late s n i c k ns (inr (j, late, there, e)) f =
+missing-or-late {P} s n i c k ns (inl e) f = subst (All P) (sym e) none
+missing-or-late {P} s n i c k ns (inr (j, late, there, e)) f =
     let x : Note = record { row = i; tail = tail.Row j; column = c; kind = k } in
-    rw e (one (f x refl (rw (le-ltb j s (omega (arith, late))) (and-false (ltb i s))) (lt-ltb j n (omega (arith, there)))) none)
+    subst (All P) (sym e) (one (f x refl (rw (le-ltb j s (omega (arith, late))) (and-false (ltb i s))) (lt-ltb j n (omega (arith, there)))) none)
 
 one-at_most : (s n i c : ℕ) (k : Kind) (ns : List Note) → MissingOrLate s n i c k ns → length (filter (here row_of column_of i c) ns) ≤ 1
 unfolding MissingOrLate

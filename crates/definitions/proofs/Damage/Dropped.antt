@@ -52,7 +52,7 @@ cell-shift a b Nothing i j c e f g h = tt
 cell-shift a b Closes i j c e f g h = tt
 cell-shift a b (Single k) i j c e f g h = tt
 cell-shift a b (Head k) i j c e _ _ (closes w) = tt
-cell-shift a b (Head k) i j c e _ _ (drops w) = (record { row = e; cause = w; column = refl }, tt)
+cell-shift a b (Head k) i j c e _ _ (drops w) = (record { row = omega (arith, e); cause = w; column = refl }, tt)
 
 -- the list of a text, parted at measure d
 drops-parts : (L d : ℕ) (text : List ℕ) → dropped_heads L text ≡ drops_from 0 (rows_above L d text ++ (rows_of L d text ++ rows_later L d text))
