@@ -2,7 +2,7 @@
 use Rattle.std.specs.Prelude.{◌≡◌, true, map}
 use Rattle.definitions.specs.Damage.{Differ, DamageStays, rows_above, open_in}
 use Rattle.definitions.specs.DamageExample.{old_text, new_text, parts, parts_of_old, parts_of_new}
-use Rattle.definitions.specs.Objects.{last_beat_of}
+use Rattle.definitions.specs.Objects.{last48, last_beat_of}
 use Rattle.definitions.specs.Examples as texts
 use Rattle.definitions.specs.RuleExamples as rules
 use Rattle.definitions.specs.TallyExamples as tallies
@@ -53,6 +53,6 @@ DamageMet =
     × (parts old_text ≡ parts_of_old)
     × (parts new_text ≡ parts_of_new)
 
--- and so does their last beat
+-- and so does their last beat, as a float and in 48ths
 abbrev pub LastBeatStays : Type 0
-LastBeatStays = last_beat_of 4 old_text ≡ last_beat_of 4 new_text
+LastBeatStays = (last_beat_of 4 old_text ≡ last_beat_of 4 new_text) × (last48 4 old_text ≡ last48 4 new_text)

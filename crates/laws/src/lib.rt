@@ -16,7 +16,7 @@ ghost use Rattle.definitions.specs.DroppedStays.{DroppedStays};
 ghost use Rattle.definitions.specs.SmBlocks.{DataInFile, SemicolonLast, BlocksApart, LeastRefused};
 ghost use Rattle.definitions.specs.Beats.{last_row};
 ghost use Rattle.definitions.specs.BeatsNear.{SizeWithin, Nearest48, BeatsNear, BeatsToSpare, BeatsNearer, BeatsExact, LastNear, TextBeatsStand, TextLastNear};
-ghost use Rattle.definitions.specs.Consequences.{MeasuresAround, LaterNotes, NothingOpen, NotesBefore, OpenHeads, SameLastBeat, ReducedStays, LimitsSuffice, RecordsOfTexts, DataThere, OneSemicolon, FewBlocks, BlocksDisjoint, ElevenSays, ExamplesCounted};
+ghost use Rattle.definitions.specs.Consequences.{MeasuresAround, LaterNotes, NothingOpen, NotesBefore, OpenHeads, SameLastBeat, ListedExactly, HeadsShared, ListRises, LaterDrops, EarlierDrops, OpenDrops, ReducedStays, JudgedAgain, SameTallies, ArrowsAdd, PlacesNear, RowsNear, LastPlaces, LastOfTexts, LimitsSuffice, RecordsOfTexts, DataThere, OneSemicolon, FewBlocks, BlocksDisjoint, ElevenSays, ExamplesCounted};
 ghost use Rattle.files.specs.Rest.{RestAnswered, RestInOrder};
 ghost use Rattle.sheet_print.specs.Example.{PrintExample};
 ghost use Rattle.sheet_json.specs.Example.{JsonExample};
@@ -100,7 +100,7 @@ pub fn damage_met()
     ensures { DamageMet }
 {}
 
-/// Two texts that meet the hypotheses under which the last beat stays have the same last beat.
+/// Two texts that meet the hypotheses under which the last beat stays have the same last beat, in 48ths too.
 pub fn last_beat_stays()
     ensures { LastBeatStays }
 {}
@@ -227,19 +227,81 @@ pub fn notes_before()
     ensures { (L d : ℕ) (old new : List ℕ) → Differ L d old new → NotesBefore L d old new }
 {}
 
-/// The note of a head that is open at d has the head's kind and its tail in a row of the text.
+/// A head that is open at d has one note at most, of the head's kind and with its tail in a row of the text.
 pub fn open_heads()
     ensures { (L d : ℕ) (old new : List ℕ) → Differ L d old new → OpenHeads L d old new }
 {}
 
-/// Where the later measures hold a 1, M, L, F or K and no 3, the last beat has the same bits.
+/// Where the later measures have a 1, 3, M, L, F or K, and the first in none of their columns is a 3, the last beat is the same, by its bits and in
+/// 48ths.
 pub fn same_last_beat()
     ensures { (L d : ℕ) (old new : List ℕ) → Differ L d old new → SameLastBeat L d old new }
+{}
+
+/// A head is listed once where no note has its place, and not where one note has it; and nothing but heads is listed.
+pub fn listed_exactly()
+    ensures { (L : ℕ) (text : List ℕ) → ListedExactly L text }
+{}
+
+/// As many heads are listed as there are heads without a note.
+pub fn heads_shared()
+    ensures { (L : ℕ) (text : List ℕ) → HeadsShared L text }
+{}
+
+/// Of any two listed heads the later one stands in a later row, or further right in the same row.
+pub fn list_rises()
+    ensures { (L : ℕ) (text : List ℕ) → ListRises L text }
+{}
+
+/// The columns of the heads listed in later measures are the same list, their rows and causes the same less the shift.
+pub fn later_drops()
+    ensures { (L d : ℕ) (old new : List ℕ) → Differ L d old new → LaterDrops L d old new }
+{}
+
+/// Where no head is open at d, the heads listed before it are the same, and those that a row before d dropped are the same whatever is open.
+pub fn earlier_drops()
+    ensures { (L d : ℕ) (old new : List ℕ) → Differ L d old new → EarlierDrops L d old new }
+{}
+
+/// A head that is open at d is listed once at most, dropped by a row of the text or by its end.
+pub fn open_drops()
+    ensures { (L d : ℕ) (old new : List ℕ) → Differ L d old new → OpenDrops L d old new }
 {}
 
 /// What is minimised stays as it is.
 pub fn reduced_stays()
     ensures { ReducedStays }
+{}
+
+/// The judged tallies of a chart's minimised text count the chart's own minimised rows.
+pub fn judged_again()
+    ensures { JudgedAgain }
+{}
+
+/// The main call and the kept-row call answer the same tally in the same places.
+pub fn same_tallies()
+    ensures { SameTallies }
+{}
+
+/// In the places of each call with a tally the six directions together are all arrows.
+pub fn arrows_add()
+    ensures { (L : ℕ) (text flags : List ℕ) → ArrowsAdd L text flags }
+{}
+
+/// The beat of row r of n in measure m is near 4 × m + 4 × r / n, and how near goes by the measure.
+pub fn places_near()
+    ensures { PlacesNear }
+{}
+
+/// A text has as many beats as rows, and at each row's place stands the beat of that very row of its own measure, which is near so.
+pub fn rows_near()
+    ensures { RowsNear }
+{}
+
+/// No whole number is nearer to 192 × m + 192 × r / n than the last beat in 48ths: at each place, and for each text at its last object row.
+pub fn none_nearer()
+    ensures places { LastPlaces }
+    ensures texts { LastOfTexts }
 {}
 
 /// Notes that keep the writer's limits are read back, whether or not a text has them.
@@ -257,7 +319,7 @@ pub fn data_there()
     ensures { DataThere }
 {}
 
-/// The data holds one `;` at most.
+/// The data holds one `;` at most, and nothing follows it.
 pub fn one_semicolon()
     ensures { OneSemicolon }
 {}
@@ -277,12 +339,13 @@ pub fn eleven_says()
     ensures { ElevenSays }
 {}
 
-/// A file's charts are that of its first block and then those of what follows it, which has one block less.
+/// A file's charts are that of its first block and then those of what follows it, which has one block less, told part by part.
 pub fn rest_in_order()
     ensures { RestInOrder }
 {}
 
-/// The tables have all of P1 to P11, with as many things as each says, and 18 examples of SM files.
+/// The tables have all of P1 to P11, R1 to R40, K1 to K5 and S1 to S6, with as many things as each says, 18 examples of SM files, and seven lists of
+/// dropped heads with all their fields.
 pub fn examples_counted()
     ensures { ExamplesCounted }
 {}

@@ -10,7 +10,7 @@ use Rattle.definitions.specs.Lists.{among}
 use Rattle.definitions.specs.Lines.{Row, is_blank_byte, is_row_line, kind_of, line_kind}
 use Rattle.definitions.specs.Cells.{byte_at}
 use Rattle.definitions.specs.Measures.{chart}
-use Rattle.definitions.specs.Objects.{last_beat_of}
+use Rattle.definitions.specs.Objects.{last48, last_beat_of}
 use Rattle.definitions.specs.Examples.{bytes}
 use Rattle.definitions.specs.Damage.{DamageStays, all_later, object, HoldObject, ObjectFirst}
 use Rattle.definitions.specs.DamageExample.{old_text, new_text, they_differ}
@@ -44,5 +44,5 @@ object-first (suc (suc c)) (suc (suc zero)) e = absurd (no-three (bytes "00") c 
 object-first c (suc (suc (suc zero))) e = absurd (no-three (bytes "1000") c refl e)
 object-first c (suc (suc (suc (suc i)))) e = absurd (no-three [] c refl e)
 
-pub example-last : last_beat_of 4 old_text ≡ last_beat_of 4 new_text
-example-last = example-stays.same_last holds-object object-first
+pub example-last : (last_beat_of 4 old_text ≡ last_beat_of 4 new_text) × (last48 4 old_text ≡ last48 4 new_text)
+example-last = (example-stays.same_last holds-object object-first, example-stays.same_last48 holds-object object-first)

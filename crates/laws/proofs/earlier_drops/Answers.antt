@@ -1,0 +1,7 @@
+use Rattle.definitions.proofs.Consequences.Dropped.{earlier-drops}
+use Rattle.definitions.proofs.Damage.Dropped.{dropped-stays}
+use Rattle.definitions.proofs.Damage.Stays.{damage-stays}
+use Rattle.laws.proofs.earlier_drops.Goals as goal
+
+pub returns : goal.returns
+returns c = λ L d old new x. earlier-drops (damage-stays L d old new x) (dropped-stays L d old new x)
