@@ -3,6 +3,7 @@ use mathlib.Core.Path.{ap}
 use mathlib.Core.Bool.{true}
 use mathlib.Core.List.{List, ◌++◌}
 use Prim.Native.Nat.{ℕ}
+use native.Mathlib.Omega.{arith}
 use lib.ListN.{replicate}
 use Rattle.definitions.specs.Tally.{tally_figures}
 use Rattle.definitions.specs.ReadBack.{OwnRows, MainKeptAgree}
@@ -13,7 +14,7 @@ use Rattle.definitions.specs.Consequences.{JudgedAgain, SameTallies, ArrowsAdd}
 
 pub judged-again : OwnRows → JudgedAgain
 unfolding OwnRows JudgedAgain judged_tally flagged_tally
-judged-again own L text flags some = (ap (judged_rows L (λ i. true)) (own L text some), ap (judged_rows L (judged_at flags)) (own L text some))
+judged-again own L text flags some = (ap (judged_rows L (λ i. true)) (own L text (omega (arith, some))), ap (judged_rows L (judged_at flags)) (own L text (omega (arith, some))))
 
 pub same-tallies : MainKeptAgree → SameTallies
 unfolding MainKeptAgree SameTallies figures_of_chart figures_of_kept
