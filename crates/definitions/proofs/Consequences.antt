@@ -12,3 +12,4 @@ pub mod Tallies
 pub mod Beats
 pub mod Minimising
 pub mod Examples
+pub mod Written

@@ -9,7 +9,7 @@ use borrow.Author.Tests.{eq-eqb, ne_eqb, lt-ltb, le-ltb}
 use lib.Dec.{eqb}
 use lib.ListN.{length, length-append}
 use Rattle.std.specs.List.{count_by}
-use Rattle.definitions.specs.Lists.{number_of_bool, joined}
+use Rattle.definitions.specs.Lists.{number_of_bool, joined, before, rises}
 use Rattle.definitions.specs.Lines.{Row}
 use Rattle.definitions.specs.Cells.{cell_of, byte_at, hold_effect}
 use Rattle.definitions.specs.Tracker.{hold_at}
@@ -17,7 +17,7 @@ use Rattle.definitions.specs.Correction.{is_opening, head_count}
 use Rattle.definitions.specs.Reduction.{minimised}
 use Rattle.definitions.specs.Notes.{effect_of, effect_at, cell_notes, row_notes, notes_from, notes}
 use Rattle.definitions.specs.Dropped.{fate_of, cell_drops, made_row, drops_from, dropped_heads}
-use Rattle.definitions.specs.DroppedOrNoted.{listed, noted, has_tail, before, rises, DroppedOrNoted}
+use Rattle.definitions.specs.DroppedOrNoted.{listed, noted, has_tail, DroppedOrNoted}
 use Rattle.definitions.specs.declared.Cell.{Cell}
 use Rattle.definitions.specs.declared.Cell.TheVariants.{Empty, Tap, Hold, Tail, Roll, Mine, Lift, Fake, KeySound, LowerMine, LowerLift, LowerFake}
 use Rattle.definitions.specs.declared.Note.{Note}
@@ -34,7 +34,7 @@ use Rattle.definitions.proofs.Fates.{tail_by, tail-fate}
 use Rattle.definitions.proofs.Damage.Bytes.{heading, head-is, head-kind}
 
 -- an effect that heads a note, or makes one at once
-abbrev noting : NoteEffect → Bool
+abbrev pub noting : NoteEffect → Bool
 noting Nothing = false
 noting Closes = false
 noting (Single k) = true
@@ -56,11 +56,11 @@ module _ (a b : ℕ) where
   note_there n = here n.row n.column
 
   -- how many cells of a row, from column c on, pass a test and stand there
-  hits : (NoteEffect → Bool) → ℕ → ℕ → Row → ℕ
+  pub hits : (NoteEffect → Bool) → ℕ → ℕ → Row → ℕ
   hits w i c [] = 0
   hits w i c (x ∷ xs) = number_of_bool (here i c && w (effect_at x)) + hits w i (suc c) xs
 
-  all_hits : (NoteEffect → Bool) → ℕ → List Row → ℕ
+  pub all_hits : (NoteEffect → Bool) → ℕ → List Row → ℕ
   all_hits w i [] = 0
   all_hits w i (r ∷ rs) = hits w i 0 r + all_hits w (suc i) rs
 
@@ -86,7 +86,7 @@ module _ (a b : ℕ) where
         row-once i (suc c) xs rs,
       ))
 
-  all-once : (i : ℕ) (rs : List Row) → listed a b (drops_from i rs) + noted a b (notes_from i rs) ≡ all_hits noting i rs
+  pub all-once : (i : ℕ) (rs : List Row) → listed a b (drops_from i rs) + noted a b (notes_from i rs) ≡ all_hits noting i rs
   unfolding all_hits
   all-once i [] = refl
   all-once i (r ∷ rs) =
@@ -153,7 +153,7 @@ module _ (a b : ℕ) where
     all-past i [] h = refl
     all-past i (r ∷ rs) h = omega (arith, hits-other i 0 r (λ q. omega arith), all-past (suc i) rs (omega arith))
 
-    all-at : (i k : ℕ) (rs : List Row) → i + k ≡ a → all_hits w i rs ≡ number_of_bool (w (effect_at (byte_in rs k b)))
+    pub all-at : (i k : ℕ) (rs : List Row) → i + k ≡ a → all_hits w i rs ≡ number_of_bool (w (effect_at (byte_in rs k b)))
     unfolding all_hits
     all-at i k [] q = sym zero-none
     all-at i zero (r ∷ rs) q = omega (arith, hits-at i 0 b r (omega arith) (omega arith), all-past (suc i) rs (omega arith))
@@ -226,7 +226,7 @@ data Sorted : List DroppedHead → Type 0 where
   no_more : Sorted []
   first : {x : DroppedHead} {ds : List DroppedHead} → All (Before x) ds → Sorted ds → Sorted (x ∷ ds)
 
-sorted-rises : {ds : List DroppedHead} → Sorted ds → rises ds ≡ true
+sorted-rises : {ds : List DroppedHead} → Sorted ds → rises (λ d. d.row) (λ d. d.column) ds ≡ true
 sorted-rises no_more = refl
 sorted-rises (first none no_more) = refl
 sorted-rises (first (one h a) s) = ap₂ (λ b r. b && r) h (sorted-rises s)

@@ -24,3 +24,4 @@ pub mod Consequences
 pub mod Refusals
 pub mod DroppedOrNoted
 pub mod Directions
+pub mod Written

@@ -21,7 +21,7 @@ use Rattle.definitions.proofs.Lists.{All, one, all-joined}
 use Rattle.definitions.proofs.ChartRows.{Clean, ChartRow, minimised-rows, minimised-narrow}
 
 -- ---- The lines of minimised text are its rows, the `,` lines and an empty last one.
-cut-row : (r : Row) (s : List ℕ) → Clean r → cut (r ++ (10 ∷ s)) ≡ r ∷ cut s
+pub cut-row : (r : Row) (s : List ℕ) → Clean r → cut (r ++ (10 ∷ s)) ≡ r ∷ cut s
 cut-row [] s a = refl
 cut-row (b ∷ r) s (one e a) = rw (e, cut-row r s a)
 
@@ -78,11 +78,15 @@ own-measures L (m ∷ m' ∷ ms) w (one p a) =
     own-measure L m ((44 ∷ []) ∷ text_lines (m' ∷ ms)) p
     ∙ rw (comma-none L) (ap (λ (l : List Row). m ++ l) (own-measures L (m' ∷ ms) w a))
 
+-- The text of measures read back has their rows.
+pub text-back : (L : ℕ) (ms : List (List Row)) → 1 ≤ L → All (All (ChartRow L)) ms → rows_read_back L (text_of ms) ≡ joined ms
+unfolding rows_read_back
+text-back L ms w a = ap (back_rows L) (cut-text L ms a) ∙ own-measures L ms w a
+
 -- Minimised text read back gives the chart's own rows.
 pub own-rows : OwnRows
-unfolding OwnRows rows_read_back minimised_text
-own-rows L text w =
-    ap (back_rows L) (cut-text L (minimised L text) (minimised-rows L text w)) ∙ own-measures L (minimised L text) w (minimised-rows L text w)
+unfolding OwnRows minimised_text
+own-rows L text w = text-back L (minimised L text) w (minimised-rows L text w)
 
 -- ---- The tallies agree.
 -- rows without cells have no head, so nothing is counted anew

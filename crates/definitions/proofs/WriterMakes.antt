@@ -30,7 +30,7 @@ use Rattle.definitions.proofs.Tails.{tail_within}
 use Rattle.definitions.proofs.ReadBack.{all-at, read_back}
 
 -- ---- The limits
-kind-below : (k : Kind) → number_of_kind k < 6
+pub kind-below : (k : Kind) → number_of_kind k < 6
 kind-below Tap = omega arith
 kind-below Hold = omega arith
 kind-below Roll = omega arith

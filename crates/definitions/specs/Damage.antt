@@ -1,5 +1,6 @@
--- Specification, Damage: when two texts differ only in lines of one measure, and what is then the same in both. "So it is of every call that answers
--- minimised text, row beats, densities, spacing, typed notes or the last beat." "Damage speaks of the data alone, and not of files."
+-- Specification, Damage: when two texts differ only in lines of one measure, and what is then the same in both. "So it is of every call that is
+-- lent a text and answers minimised text, row beats, densities, spacing, typed notes or the last beat." "Damage speaks of the data alone, and not
+-- of files."
 use Rattle.std.specs.Prelude.{◌≡◌, ◌≢◌, ◌⊎◌, Bool, true, false, if◌then◌else◌, ◌&&◌, not, List, [], ◌∷◌, ℕ, suc, ◌+◌, ◌≤◌, ◌<◌, ◌==◌, nat_lt, nat_le, length, take, drop, slice_get, slice_index_or, filter}
 use Rattle.std.specs.List.{AllZip}
 use Rattle.definitions.specs.Lists.{among, joined}

@@ -1,6 +1,6 @@
 -- Specification, Dropped holds: what holds of every text. `dropped-or-noted` in proofs/DroppedOrNoted.antt proves it.
-use Rattle.std.specs.Prelude.{◌≡◌, Bool, true, false, ◌&&◌, ◌||◌, ◌==◌, nat_lt, List, [], ◌∷◌, ℕ, ◌+◌, length, count_by}
-use Rattle.definitions.specs.Lists.{joined}
+use Rattle.std.specs.Prelude.{◌≡◌, Bool, true, false, ◌&&◌, ◌==◌, List, ℕ, ◌+◌, length, count_by}
+use Rattle.definitions.specs.Lists.{joined, rises}
 use Rattle.definitions.specs.Reduction.{minimised}
 use Rattle.definitions.specs.Correction.{head_count}
 use Rattle.definitions.specs.Notes.{notes}
@@ -23,16 +23,6 @@ abbrev pub has_tail : Tail → Bool
 has_tail Without = false
 has_tail (Row j) = true
 
--- a place stands before another by row, then column
-abbrev pub before : ℕ → ℕ → ℕ → ℕ → Bool
-before i c j d = nat_lt i j || (i == j && nat_lt c d)
-
--- each stands before the next
-abbrev pub rises : List DroppedHead → Bool
-rises [] = true
-rises (x ∷ []) = true
-rises (x ∷ y ∷ ds) = before x.row x.column y.row y.column && rises (y ∷ ds)
-
 -- Of every text, at every row and column.
 pub record DroppedOrNoted (L : ℕ) (text : List ℕ) : Type 0 where
   -- "each head of the minimised rows is listed once or has one note record, and not both"
@@ -43,4 +33,4 @@ pub record DroppedOrNoted (L : ℕ) (text : List ℕ) : Type 0 where
   -- "the listed heads and the note records with a tail together are as many as the heads"
   pub sum : length (dropped_heads L text) + count_by (λ n. has_tail n.tail) (notes L text) ≡ head_count (joined (minimised L text))
   -- "each listed head stands before the next, by row, then column"
-  pub rising : rises (dropped_heads L text) ≡ true
+  pub rising : rises (λ d. d.row) (λ d. d.column) (dropped_heads L text) ≡ true

@@ -2,11 +2,11 @@
 -- The entries callable from outside return the number told, 0 for accepted, and put the value in the figures. "`data` is the text and `lanes` the
 -- caller's lane number": here `text` and L; the lists named after slices are what those held before the call, and what a call leaves in each is
 -- `leaves` of its answer. The entry that is lent a file is in SmFile.antt.
-use Rattle.std.specs.Prelude.{List, [], ◌∷◌, ◌++◌, ℕ, Float, length, replicate, Result}
+use Rattle.std.specs.Prelude.{List, [], ◌∷◌, ◌++◌, ℕ, ◌/◌, nat_lt, Float, length, replicate, Result}
 use Rattle.std.specs.Float.{binary64}
 use Rattle.std.specs.Float.Ieee.{to_bits}
 use Rattle.definitions.specs.Lists.{number_of_bool, joined}
-use Rattle.definitions.specs.Refusals.{other_lanes, long_text, short_text, short_measures, short_beats, short_work, short_notes, answered}
+use Rattle.definitions.specs.Refusals.{refused_if, other_lanes, long_text, short_text, short_measures, short_beats, short_work, short_notes, answered}
 use Rattle.definitions.specs.Reduction.{minimised}
 use Rattle.definitions.specs.Figures.{minimised_text}
 use Rattle.definitions.specs.Objects.{last48, last_beat_of}
@@ -17,13 +17,16 @@ use Rattle.definitions.specs.ReadBack.{main_tally, kept_tally}
 use Rattle.definitions.specs.Tally.{tally_figures}
 use Rattle.definitions.specs.Judged.{judged_tally, flagged_tally}
 use Rattle.definitions.specs.TimingRows.{timing_rows, timing_heads}
+use Rattle.definitions.specs.Written.{written_length, sum_of, notes_in, uneven_records, broken_records, out_of_order, some_meet, other_counts}
 use Rattle.definitions.specs.declared.ArrowStats.{ArrowStats}
 use Rattle.definitions.specs.declared.ChartFigures.{ChartFigures}
 use Rattle.definitions.specs.declared.KeptFigures.{KeptFigures}
 use Rattle.definitions.specs.declared.DroppedFigures.{DroppedFigures}
 use Rattle.definitions.specs.declared.TimingFigures.{TimingFigures}
 use Rattle.definitions.specs.declared.LastBeat.{LastBeat}
+use Rattle.definitions.specs.declared.WrittenFigures.{WrittenFigures}
 use Rattle.definitions.specs.declared.Refusal.{Refusal}
+use Rattle.definitions.specs.declared.Refusal.TheVariants.{ShortText, NoRecord, BadRecord, OutOfOrder, NotesMeet, OtherCounts}
 use Rattle.definitions.specs.declared.Note.{Note}
 
 -- the places of the tally in a call that answers none: "An accepted call sets each place that it does not answer to 0."
@@ -198,6 +201,36 @@ module _ (L : ℕ) (text work : List ℕ) where
   -- what `process_timing_rows` answers, with these flags: "judged tally by flags"
   abbrev pub flagged_answer : List ℕ → Result ArrowStats Refusal
   flagged_answer flags = judged_checked (flagged_tally L flags text)
+
+-- notes_to_chart, of records s and row counts: its value, and its places
+unfoldable pub figures_of_written : ℕ → List ℕ → List ℕ → WrittenFigures
+figures_of_written L s counts =
+    record {
+      bytes = written_length L counts;
+      measures = length counts;
+      rows = sum_of counts;
+      records = length s / 10;
+    }
+
+abbrev pub places_of_written : WrittenFigures → List ℕ
+places_of_written f = figures f.bytes f.measures f.rows f.records 0 0 0 no_tally
+
+module _ (L : ℕ) (s counts out : List ℕ) where
+  -- What the call answers; its refusals: "12 1 7 8 13 14 15 2". 1: "of `notes_to_chart` the length of the text to be written"; 2: "of
+  -- `notes_to_chart` shorter than that text"
+  unfoldable pub written_answer : Result WrittenFigures Refusal
+  written_answer =
+      answered
+      (other_lanes L
+      ∷ long_text (written_length L counts)
+      ∷ refused_if (uneven_records s) NoRecord
+      ∷ refused_if (broken_records s) BadRecord
+      ∷ refused_if (out_of_order L (notes_in s)) OutOfOrder
+      ∷ refused_if (some_meet (notes_in s)) NotesMeet
+      ∷ refused_if (other_counts L (notes_in s) counts) OtherCounts
+      ∷ refused_if (nat_lt (length out) (written_length L counts)) ShortText
+      ∷ [])
+      (figures_of_written L s counts)
 
 -- read_note: the four places of a note, "row, tail row or 4,294,967,295, column, kind". What it answers is in Records.antt.
 abbrev pub figures_of_note : Note → List ℕ

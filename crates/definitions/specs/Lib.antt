@@ -24,8 +24,10 @@ pub mod ReadBack
 pub mod Judged
 pub mod Directions
 pub mod TimingRows
+pub mod Written
 pub mod Entries
 pub mod Refusals
+pub mod WrittenBack
 pub mod Damage
 pub mod DamageExample
 pub mod DroppedStays
@@ -36,4 +38,6 @@ pub mod RuleExamples
 pub mod TallyExamples
 pub mod RequestExamples
 pub mod DroppedExamples
+pub mod WrittenExamples
 pub mod Consequences
+pub mod WrittenConsequences

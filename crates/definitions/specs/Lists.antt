@@ -1,12 +1,22 @@
 -- Words on lists that the other files use.
-use Rattle.std.specs.Prelude.{Bool, true, false, if◌then◌else◌, ◌||◌, List, [], ◌∷◌, ◌++◌, ℕ, zero, suc, ◌+◌, ◌-◌, ◌==◌, length, take, drop, replicate}
+use Rattle.std.specs.Prelude.{Bool, true, false, if◌then◌else◌, ◌&&◌, ◌||◌, List, [], ◌∷◌, ◌++◌, ℕ, zero, suc, ◌+◌, ◌-◌, ◌==◌, nat_lt, length, take, drop, replicate}
 
 -- 1 where the test holds, else 0
 abbrev pub number_of_bool : Bool → ℕ
 number_of_bool true = 1
 number_of_bool false = 0
 
+-- a place stands before another by row, then column
+abbrev pub before : ℕ → ℕ → ℕ → ℕ → Bool
+before i c j d = nat_lt i j || (i == j && nat_lt c d)
+
 module _ {A : Type 0} where
+  -- each stands before the next, by the row and the column that each has
+  abbrev pub rises : (A → ℕ) → (A → ℕ) → List A → Bool
+  rises row column [] = true
+  rises row column (x ∷ []) = true
+  rises row column (x ∷ y ∷ l) = before (row x) (column x) (row y) (column y) && rises row column (y ∷ l)
+
   -- the lists one after the other
   abbrev pub joined : List (List A) → List A
   joined [] = []

@@ -1,12 +1,12 @@
--- Specification, Refusals and Slices: the refusals by their numbers, the conditions of 12 and 1 to 6, their order, and what a call leaves in what it was
--- lent. "A refusal's condition is looked at in those calls alone that are lent what it speaks of. No text is refused for what stands in it." 7 and 8
--- are in Records.antt, 9 to 11 in SmFile.antt, 19 and 20 in `chart_sheet`.
+-- Specification, Refusals and Slices: the refusals by their numbers, the conditions of 12 and 1 to 6, their order, and what a call leaves in what
+-- it was lent. "A refusal's condition is looked at in those calls alone that are lent what it speaks of. No text is refused for what stands in it."
+-- 7 and 8 are in Records.antt, 9 to 11 in SmFile.antt, 13 to 15 in Written.antt, 19 and 20 in `chart_sheet`.
 use Rattle.std.specs.Prelude.{Bool, if◌then◌else◌, List, [], ◌∷◌, ℕ, ◌+◌, ◌*◌, ◌/◌, ◌++◌, not, nat_lt, length, codes, Result, Ok, Err}
 use Rattle.definitions.specs.Sizes.{most_bytes}
 use Rattle.definitions.specs.Lists.{padded}
 use Rattle.definitions.specs.Lanes.{is_lane_count, most_rows_in}
 use Rattle.definitions.specs.declared.Refusal.{Refusal}
-use Rattle.definitions.specs.declared.Refusal.TheVariants.{LongText, ShortText, ShortMeasures, ShortBeats, ShortWork, ShortNotes, NoRecord, BadRecord, FewFields, OtherType, NoChart, OtherLanes, ShortSheet, OtherForm}
+use Rattle.definitions.specs.declared.Refusal.TheVariants.{LongText, ShortText, ShortMeasures, ShortBeats, ShortWork, ShortNotes, NoRecord, BadRecord, FewFields, OtherType, NoChart, OtherLanes, OutOfOrder, NotesMeet, OtherCounts, ShortSheet, OtherForm}
 
 -- "A refusal is a value of one type, and a definition gives each its number"
 abbrev pub number_of : Refusal → ℕ
@@ -22,6 +22,9 @@ number_of FewFields = 9
 number_of OtherType = 10
 number_of NoChart = 11
 number_of OtherLanes = 12
+number_of OutOfOrder = 13
+number_of NotesMeet = 14
+number_of OtherCounts = 15
 number_of ShortSheet = 19
 number_of OtherForm = 20
 
@@ -39,23 +42,29 @@ cause_of FewFields = codes "whoever writes the SM file"
 cause_of OtherType = codes "whoever writes the SM file"
 cause_of NoChart = codes "whoever asks for the chart"
 cause_of OtherLanes = codes "whoever gives the lane number"
+cause_of OutOfOrder = codes "whoever edits the notes"
+cause_of NotesMeet = codes "whoever edits the notes"
+cause_of OtherCounts = codes "whoever counts the rows"
 cause_of ShortSheet = codes "whoever wires up the call"
 cause_of OtherForm = codes "whoever wires up the call"
 
 -- What is wrong. "The words in which a refusal is printed are those of `words_of` and `cause_of` of `Refusals`."
 abbrev pub words_of : Refusal → List ℕ
-words_of LongText = codes "len is over 16,777,215"
-words_of ShortText = codes "the text slice is shorter than len + 1"
-words_of ShortMeasures = codes "the measure slice is shorter than (len + 1) div 2 + 1"
+words_of LongText = codes "the text or file, or the text to be written, is longer than the call takes"
+words_of ShortText = codes "the text slice is shorter than the call needs"
+words_of ShortMeasures = codes "the measure slice is shorter than the call needs"
 words_of ShortBeats = codes "the beat slice is shorter than R"
 words_of ShortWork = codes "the work slice is shorter than R"
 words_of ShortNotes = codes "the note slice is shorter than 10 * L * R"
-words_of NoRecord = codes "there is no such note record"
-words_of BadRecord = codes "that record breaks a limit"
+words_of NoRecord = codes "the records end in part of a record, or there is none of that number"
+words_of BadRecord = codes "a record breaks a limit"
 words_of FewFields = codes "the block has fewer than five fields"
 words_of OtherType = codes "the chart has another type name"
 words_of NoChart = codes "the file has no such block"
 words_of OtherLanes = codes "the lane number is none of 4, 5, 6, 8 and 10"
+words_of OutOfOrder = codes "a note does not stand before the next, or its column is not below L"
+words_of NotesMeet = codes "two notes of a column meet"
+words_of OtherCounts = codes "the row counts are not those of the notes, or a measure could be minimised"
 words_of ShortSheet = codes "the sheet slice is shorter than 42 * (len + 1) + 3000"
 words_of OtherForm = codes "the form's number is over 2"
 
@@ -71,7 +80,7 @@ refused_if t r = if t then Err r else Ok tt
 unfoldable pub other_lanes : ℕ → Result Unit Refusal
 other_lanes lanes = refused_if (not (is_lane_count lanes)) OtherLanes
 
--- 1: "len is over 16,777,215"
+-- 1: "the text or file, or the text to be written, is longer than the call takes"
 unfoldable pub long_text : ℕ → Result Unit Refusal
 long_text len = refused_if (nat_lt most_bytes len) LongText
 

@@ -172,6 +172,9 @@ pub enum Refusal {
     OtherType = 10,
     NoChart = 11,
     OtherLanes = 12,
+    OutOfOrder = 13,
+    NotesMeet = 14,
+    OtherCounts = 15,
     ShortSheet = 19,
     OtherForm = 20,
 }
@@ -201,6 +204,8 @@ impl Refusal {
             Refusal::FewFields | Refusal::OtherType => "whoever writes the SM file",
             Refusal::NoChart => "whoever asks for the chart",
             Refusal::OtherLanes => "whoever gives the lane number",
+            Refusal::OutOfOrder | Refusal::NotesMeet => "whoever edits the notes",
+            Refusal::OtherCounts => "whoever counts the rows",
         }
     }
 
@@ -209,18 +214,25 @@ impl Refusal {
         ensures { result.now ≡ words_of self }
     {
         match self {
-            Refusal::LongText => "len is over 16,777,215",
-            Refusal::ShortText => "the text slice is shorter than len + 1",
-            Refusal::ShortMeasures => "the measure slice is shorter than (len + 1) div 2 + 1",
+            Refusal::LongText =>
+                "the text or file, or the text to be written, is longer than the call takes",
+            Refusal::ShortText => "the text slice is shorter than the call needs",
+            Refusal::ShortMeasures => "the measure slice is shorter than the call needs",
             Refusal::ShortBeats => "the beat slice is shorter than R",
             Refusal::ShortWork => "the work slice is shorter than R",
             Refusal::ShortNotes => "the note slice is shorter than 10 * L * R",
-            Refusal::NoRecord => "there is no such note record",
-            Refusal::BadRecord => "that record breaks a limit",
+            Refusal::NoRecord =>
+                "the records end in part of a record, or there is none of that number",
+            Refusal::BadRecord => "a record breaks a limit",
             Refusal::FewFields => "the block has fewer than five fields",
             Refusal::OtherType => "the chart has another type name",
             Refusal::NoChart => "the file has no such block",
             Refusal::OtherLanes => "the lane number is none of 4, 5, 6, 8 and 10",
+            Refusal::OutOfOrder =>
+                "a note does not stand before the next, or its column is not below L",
+            Refusal::NotesMeet => "two notes of a column meet",
+            Refusal::OtherCounts =>
+                "the row counts are not those of the notes, or a measure could be minimised",
             Refusal::ShortSheet => "the sheet slice is shorter than 42 * (len + 1) + 3000",
             Refusal::OtherForm => "the form's number is over 2",
         }
@@ -277,6 +289,15 @@ pub struct TimingFigures {
     pub bytes: usize,
     pub rows: usize,
     pub heads: bool,
+}
+
+/// What writing a chart answers: bytes of the text, measures, rows, and the note records that were read.
+#[derive(Clone, Copy)]
+pub struct WrittenFigures {
+    pub bytes: usize,
+    pub measures: usize,
+    pub rows: u32,
+    pub records: usize,
 }
 
 /// A last beat: its float, the bits of that, and in 48ths.

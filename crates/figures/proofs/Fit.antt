@@ -1,4 +1,6 @@
 -- Every figure of an accepted text, in its place among the 32 of its call, is below 2 ^ 64.
+use mathlib.Core.Path.{◌≡◌, ap, subst}
+use Rattle.std.specs.Prelude.{Ok}
 use Rattle.std.proofs.Common.{ℕ, ◌+◌, ◌*◌, ◌/◌, ◌^◌, ◌<◌, ◌≤◌, Bool, true, List, length, length-append, All, le-div_iff_mul-le, mul-suc, mul_comm, mul-le-mul_right, arith}
 use Rattle.std.proofs.lemmas.List.Elements.{All-from_recursion}
 use Rattle.std.proofs.lemmas.List.Sums.{count_by-le-length}
@@ -12,16 +14,21 @@ use Rattle.definitions.specs.Figures.{minimised_text}
 use Rattle.definitions.specs.Notes.{notes}
 use Rattle.definitions.specs.Dropped.{dropped_heads}
 use Rattle.definitions.specs.Tracker.{hold_at}
+use Rattle.definitions.specs.Written.{written_text, written_length, notes_in, sum_of}
+use Rattle.definitions.specs.WrittenBack.{WrittenReadsBack}
 use Rattle.definitions.specs.Correction.{is_opening}
 use Rattle.definitions.specs.Objects.{last48}
 use Rattle.definitions.specs.ReadBack.{rows_read_back, main_tally, kept_tally}
 use Rattle.definitions.specs.Judged.{judged_at, judged_rows, judged_tally, flagged_tally}
 use Rattle.definitions.specs.TimingRows.{timing_rows, timing_heads}
-use Rattle.definitions.specs.Entries.{measure_count, row_count, figures_of_chart, places_of_chart, figures_of_kept, places_of_kept, figures_of_dropped, places_of_dropped, figures_of_timing, places_of_timing, places_of_measures, figures_of_last, places_of_last, places_of_judged}
+use Rattle.definitions.specs.Entries.{measure_count, row_count, figures_of_chart, places_of_chart, figures_of_kept, places_of_kept, figures_of_dropped, places_of_dropped, figures_of_written, places_of_written, written_answer, figures_of_timing, places_of_timing, places_of_measures, figures_of_last, places_of_last, places_of_judged}
+use Rattle.definitions.specs.declared.WrittenFigures.{WrittenFigures}
 use Rattle.definitions.proofs.Lists.{All as Each, none, one, all_map, all-joined, one-le}
 use Rattle.definitions.proofs.ChartRows.{minimised-narrow, minimised-short}
 use Rattle.definitions.proofs.Counts.{measures-few, rows_few, notes-few}
 use Rattle.definitions.proofs.DroppedOrNoted.{dropped-or-noted}
+use Rattle.definitions.proofs.ReadBack.{records-length}
+use Rattle.definitions.proofs.Written.Reads.{passed, written-reads-back}
 use Rattle.definitions.proofs.RowBounds.{read-narrow, read-few}
 use Rattle.beats.proofs.LastRows.{last48-most, last_bits-most}
 use Rattle.row_tally.specs.Bounds.{Below}
@@ -135,3 +142,31 @@ module _ (L : ℕ) (four : 4 ≤ L) (ten : L ≤ 10) (text : List ℕ) (short : 
   pub sheet_judged-fits : AllFit (places_of_judged (judged_tally L (minimised_text L text)))
   unfolding judged_tally
   sheet_judged-fits = tally-judged-fits L ten (λ i. true) (minimised_text L text) bytes-few
+
+-- ---- Of records s in bytes and row counts that are accepted
+module _ (L : ℕ) (s counts room : List ℕ) (f : WrittenFigures) (bytes : All (λ b. b < 256) s) (answer : written_answer L s counts room ≡ Ok f) where
+  -- the records are those of the text that is written
+  records-most : length s / 10 < 2 ^ 64
+  unfolding WrittenReadsBack
+  records-most =
+      let p = passed L s counts room f answer in
+      let x = written-reads-back L s counts room f bytes answer in
+      let text = written_text L (notes_in s) counts in
+      omega (arith, ap length x.records_back, records-length (notes L text), notes-most L p.lanes.0 p.lanes.1 text (omega (arith, p.short, x.size)))
+
+  sum-most : sum_of counts ≤ most_bytes
+  unfolding written_length
+  sum-most =
+      let one-more : 1 ≤ L + 1 = omega arith in
+      omega (arith, (passed L s counts room f answer).short, mul-le-mul_right (sum_of counts) one-more)
+
+  counts-most : length counts ≤ most_bytes
+  unfolding written_length
+  counts-most = omega (arith, (passed L s counts room f answer).short)
+
+  pub written-fits : AllFit (places_of_written f)
+  unfolding figures_of_written
+  written-fits =
+      let p = passed L s counts room f answer in
+      subst (λ (x : WrittenFigures). AllFit (places_of_written x)) p.told
+      (All-from_recursion Fits (places_of_written (figures_of_written L s counts)) (omega (arith, p.short, sum-most, counts-most, records-most)))

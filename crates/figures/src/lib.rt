@@ -3,7 +3,7 @@
 #![tactic(auto)]
 
 ghost use Rattle.std.specs.Prelude.{◌≡◌, [], ◌∷◌};
-ghost use Rattle.definitions.specs.Entries.{figures as stored_figures, figures_of_note, places_of_chart, places_of_kept, places_of_dropped, places_of_timing, places_of_measures, places_of_last, places_of_judged};
+ghost use Rattle.definitions.specs.Entries.{figures as stored_figures, figures_of_note, places_of_chart, places_of_kept, places_of_dropped, places_of_written, places_of_timing, places_of_measures, places_of_last, places_of_judged};
 ghost use Rattle.definitions.specs.Lists.{number_of_bool};
 ghost use Rattle.definitions.specs.Records.{number_of_tail};
 ghost use Rattle.definitions.specs.Tally.{tally_figures};
@@ -11,7 +11,7 @@ ghost use Rattle.definitions.specs.Refusals.{number_told, replaces};
 
 use definitions::{
     ArrowStats, ChartFigures, DroppedFigures, KeptFigures, LastBeat, Note, Refusal, Tail,
-    TimingFigures,
+    TimingFigures, WrittenFigures,
 };
 use note_records::{NO_TAIL_ROW, kind_number};
 
@@ -134,6 +134,21 @@ impl Figures<32> for DroppedFigures {
             measures: self.measures,
             rows: self.rows as usize,
             records: self.heads,
+            ..Places::default()
+        };
+        places.numbers()
+    }
+}
+
+impl Figures<32> for WrittenFigures {
+    ghost places = { places_of_written };
+
+    fn places(self) -> [u64; 32] {
+        let places = Places {
+            bytes: self.bytes,
+            measures: self.measures,
+            rows: self.rows as usize,
+            records: self.records,
             ..Places::default()
         };
         places.numbers()

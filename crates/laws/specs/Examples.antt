@@ -8,6 +8,7 @@ use Rattle.definitions.specs.RuleExamples as rules
 use Rattle.definitions.specs.TallyExamples as tallies
 use Rattle.definitions.specs.RequestExamples as requests
 use Rattle.definitions.specs.DroppedExamples as lists
+use Rattle.definitions.specs.WrittenExamples as charts
 use Rattle.beats.specs.Vectors.{all_right, results}
 use Rattle.sheet.specs.Card.{card}
 
@@ -32,6 +33,10 @@ RequestExamplesHold =
 -- of each example of the list of dropped heads, the same
 abbrev pub DroppedExamplesHold : Type 0
 DroppedExamplesHold = map lists.told_of lists.table ≡ map (λ (e : lists.Example). e.list) lists.table
+
+-- of each example of a written chart, the same
+abbrev pub WrittenExamplesHold : Type 0
+WrittenExamplesHold = map charts.told_of charts.table ≡ map (λ (e : charts.Example). e.answer) charts.table
 
 -- what the card prints for its example; `|` is byte 10
 abbrev pub CardExample : Type 0

@@ -2,6 +2,8 @@
 // is not built. Specification, Contracts: "Damage is stated of the same definitions as the contracts."
 #![tactic(auto)]
 
+pub mod written;
+
 ghost use Rattle.std.specs.Prelude.{ℕ, ◌≤◌, List, length};
 ghost use Rattle.definitions.specs.Sizes.{most_bytes};
 ghost use Rattle.definitions.specs.Judged.{judged_tally, flagged_tally};
@@ -22,7 +24,7 @@ ghost use Rattle.sheet_print.specs.Example.{PrintExample};
 ghost use Rattle.sheet_json.specs.Example.{JsonExample};
 ghost use Rattle.chart_sheet.specs.Forms.{sheet_in_form};
 ghost use Rattle.chart_sheet.specs.Entry.{most_sheet_bytes, places_of_sheet};
-ghost use Rattle.laws.specs.Fits.{FitsForAll};
+ghost use Rattle.laws.specs.Fits.{FitsForAll, WrittenFits};
 ghost use Rattle.laws.specs.Examples.{ExamplesHold, RuleExamplesHold, TallyExamplesHold, RequestExamplesHold, DroppedExamplesHold, CardExample, BeatsRight, DamageMet, LastBeatStays};
 
 /// What the specification's examples P1 to P11 say of their texts is what the definitions give.
@@ -125,6 +127,7 @@ pub fn figures_fit()
     ensures chart { FitsForAll (λ L text. places_of_chart (figures_of_chart L text)) }
     ensures kept { FitsForAll (λ L text. places_of_kept (figures_of_kept L text)) }
     ensures dropped { FitsForAll (λ L text. places_of_dropped (figures_of_dropped L text)) }
+    ensures written { WrittenFits }
     ensures timing { FitsForAll (λ L text. places_of_timing (figures_of_timing L text)) }
     ensures measures { FitsForAll (λ L text. places_of_measures (measure_count L text)) }
     ensures last { FitsForAll (λ L text. places_of_last (figures_of_last L text)) }

@@ -1,2 +1,3 @@
 -- What the contracts of this crate cite, beside the definitions.
 pub mod Fields
+pub mod Chunks

@@ -5,6 +5,7 @@ ghost use Rattle.std.specs.Prelude.{◌≡◌, ◌+◌, ◌*◌, ◌≤◌, leng
 ghost use lib.Seq.{sets};
 ghost use Rattle.definitions.specs.Records.{word, bytes4, fields, number_of_kind, plain_of, held_of, note_of, note_of_record};
 ghost use Rattle.note_records.specs.Fields.{fields_at};
+ghost use Rattle.note_records.specs.Chunks.{note_of_bytes};
 
 use definitions::{Kind, Note, Refusal, Tail};
 
@@ -75,6 +76,16 @@ fn note_of(row: u32, tail: u32, column: u32, kind: u8) -> Result<Note, Refusal>
         5 => plain(row, tail, column, Kind::Fake),
         _ => Err(Refusal::BadRecord),
     }
+}
+
+/// The note of a record's ten bytes. Who goes over all records goes over `as_chunks`, whose chunks they are. A refusal (8) is the mistake of whoever
+/// stores the records.
+pub fn note_of_ten(bytes: &[u8; 10]) -> Result<Note, Refusal>
+    ensures { result ≡ note_of_bytes bytes.now }
+{
+    let row = get_word(bytes, 0);
+    let tail = get_word(bytes, 4);
+    note_of(row, tail, u32::from(bytes[8]), bytes[9])
 }
 
 /// The note of record number `index`, counted from 0, of records of ten bytes each. A refusal (7 or 8) is the mistake of whoever stores the records.

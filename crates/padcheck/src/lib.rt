@@ -13,8 +13,9 @@ ghost use Rattle.definitions.specs.Beats.{f32, beats as beats_of};
 ghost use Rattle.definitions.specs.Notes.{notes as notes_of};
 ghost use Rattle.definitions.specs.Records.{records as records_of, note_of_record};
 ghost use Rattle.definitions.specs.Dropped.{dropped_heads, dropped_records};
+ghost use Rattle.definitions.specs.Written.{written_text, notes_in};
 ghost use Rattle.definitions.specs.TimingRows.{timing_rows};
-ghost use Rattle.definitions.specs.Entries.{measures_answer, places_of_measures, last_answer, places_of_last, main_answer, places_of_chart, judged_answer, places_of_judged, flagged_answer, kept_answer, places_of_kept, dropped_answer, places_of_dropped, timing_answer, places_of_timing, figures_of_note};
+ghost use Rattle.definitions.specs.Entries.{measures_answer, places_of_measures, last_answer, places_of_last, main_answer, places_of_chart, judged_answer, places_of_judged, flagged_answer, kept_answer, places_of_kept, dropped_answer, places_of_dropped, written_answer, places_of_written, timing_answer, places_of_timing, figures_of_note};
 ghost use Rattle.definitions.specs.SmFile.{sm_answer, places_of_part};
 ghost use Rattle.chart_sheet.specs.Forms.{sheet_in_form};
 ghost use Rattle.chart_sheet.specs.Entry.{sheet_answer};
@@ -102,6 +103,29 @@ pub extern "C" fn padcheck_dropped_holds(
         places_of_dropped figures.old }
 {
     let answer = dropped::dropped_holds(data, lanes, text, list);
+    tell(answer, figures)
+}
+
+/// From notes back to a chart: the text of note records at so many lanes with a row count for each measure. Refusals: 12; 1, of the text to be
+/// written; 7 and 8, of whoever stores note records; 13 and 14, of whoever edits the notes; 15, of whoever counts the rows; 2, of a slice that is
+/// shorter than the text.
+#[unsafe(no_mangle)]
+pub extern "C" fn padcheck_notes_to_chart(
+    records: &[u8],
+    lanes: usize,
+    counts: &[u32],
+    text: &mut [u8],
+    figures: &mut [u64; 32],
+) -> u32
+    ensures value { result
+        ≡ number_told (written_answer lanes records.now counts.now text.old) }
+    ensures text_after { text.new ≡ leaves_by 0 result
+        (written_text lanes (notes_in records.now) counts.now) text.old }
+    ensures figures_after { figures.new
+        ≡ replaces (written_answer lanes records.now counts.now text.old)
+        places_of_written figures.old }
+{
+    let answer = written::notes_to_chart(records, lanes, counts, text);
     tell(answer, figures)
 }
 

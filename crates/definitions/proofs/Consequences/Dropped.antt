@@ -9,13 +9,13 @@ use borrow.Author.Tests.{eqb-true, ltb-true, le-ltb, lt-ltb}
 use lib.Dec.{eqb, ltb}
 use lib.ListN.{length, get_or}
 use Rattle.std.specs.List.{filter}
-use Rattle.definitions.specs.Lists.{joined}
+use Rattle.definitions.specs.Lists.{joined, before, rises}
 use Rattle.definitions.specs.Lines.{Row}
 use Rattle.definitions.specs.Reduction.{minimised}
 use Rattle.definitions.specs.Entries.{row_count}
 use Rattle.definitions.specs.Dropped.{dropped_heads}
 use Rattle.definitions.specs.Damage.{DamageStays, is_head, byte_in, rows_above, rows_of, open_in}
-use Rattle.definitions.specs.DroppedOrNoted.{listed, before, rises, DroppedOrNoted}
+use Rattle.definitions.specs.DroppedOrNoted.{listed, DroppedOrNoted}
 use Rattle.definitions.specs.DroppedStays.{earlier_drops, later_drops, ShiftedCause, by_head, by_cell, by_end, LateCause, UnlistedOrLate, DroppedStays}
 use Rattle.definitions.specs.Consequences.{ListedExactly, HeadsShared, ListRises, cause_down, LaterDrops, dropped_before, EarlierDrops, dropped_within, OpenDrops}
 use Rattle.definitions.specs.declared.DropCause.{DropCause}
@@ -53,22 +53,25 @@ later-told x y e = go (ltb x.row y.row) refl (eqb x.row y.row) refl e
     go false l true m e = inr (eqb-true x.row y.row m, ltb-true x.column y.column e)
     go false l false m e = absurd (false≢true e)
 
+abbrev Rises : List DroppedHead → Type 0
+Rises l = rises (λ d. d.row) (λ d. d.column) l ≡ true
+
 later-on : (x y z : DroppedHead) → Later x y → Later y z → Later x z
 later-on x y z (inl a) (inl b) = inl (omega (arith, a, b))
 later-on x y z (inl a) (inr b) = inl (omega (arith, a, b.0))
 later-on x y z (inr a) (inl b) = inl (omega (arith, a.0, b))
 later-on x y z (inr a) (inr b) = inr (omega (arith, a.0, b.0), omega (arith, a.1, b.1))
 
-first-before : (x : DroppedHead) (l : List DroppedHead) → rises (x ∷ l) ≡ true → (j : ℕ) (d : DroppedHead) → j < length l → Later x (get_or l j d)
+first-before : (x : DroppedHead) (l : List DroppedHead) → Rises (x ∷ l) → (j : ℕ) (d : DroppedHead) → j < length l → Later x (get_or l j d)
 first-before x [] e j d h = absurd (omega arith)
 first-before x (y ∷ l) e zero d h = later-told x y (and_left _ _ e)
 first-before x (y ∷ l) e (suc j) d h = later-on x y (get_or l j d) (later-told x y (and_left _ _ e)) (first-before y l (and_right _ _ e) j d (omega arith))
 
-rises-on : (x : DroppedHead) (l : List DroppedHead) → rises (x ∷ l) ≡ true → rises l ≡ true
+rises-on : (x : DroppedHead) (l : List DroppedHead) → Rises (x ∷ l) → Rises l
 rises-on x [] e = refl
 rises-on x (y ∷ l) e = and_right _ _ e
 
-each-before : (l : List DroppedHead) → rises l ≡ true → (i j : ℕ) (d : DroppedHead) → i < j → j < length l → Later (get_or l i d) (get_or l j d)
+each-before : (l : List DroppedHead) → Rises l → (i j : ℕ) (d : DroppedHead) → i < j → j < length l → Later (get_or l i d) (get_or l j d)
 each-before [] e i j d h m = absurd (omega arith)
 each-before (x ∷ l) e i zero d h m = absurd (omega arith)
 each-before (x ∷ l) e zero (suc j) d h m = first-before x l e j d (omega arith)

@@ -1,4 +1,4 @@
-use Rattle.figures.proofs.Fit.{chart-fits, kept-fits, dropped-fits, timing-fits, measures-fit, last-fits, judged-fits, flagged-fits}
+use Rattle.figures.proofs.Fit.{chart-fits, kept-fits, dropped-fits, timing-fits, measures-fit, last-fits, judged-fits, flagged-fits, written-fits}
 use Rattle.chart_sheet.proofs.Answering.{sheet-fits}
 use Rattle.laws.proofs.figures_fit.Goals as goal
 
@@ -8,6 +8,7 @@ returns c =
       chart = chart-fits;
       kept = kept-fits;
       dropped = dropped-fits;
+      written = written-fits;
       timing = timing-fits;
       measures = measures-fit;
       last = last-fits;
