@@ -12,6 +12,7 @@ mod options;
 mod report;
 mod sm_files;
 mod ways;
+mod written;
 
 use loads::{Lines, Load, Text};
 use options::{HELP, Options};
@@ -35,6 +36,7 @@ fn main() -> ExitCode {
             Ok(())
         }
         Ok(Some(options)) if options.files => files::run(&options),
+        Ok(Some(options)) if options.written => written::run(&options),
         Ok(Some(options)) if options.growth => growth(&options),
         Ok(Some(options)) => table(&options),
         Err(message) => Err(message),

@@ -1,13 +1,15 @@
 //! Makes each call once on each of a list of short texts, for callgrind, which counts the instructions of every call by itself
 //! (`instructions.sh`), and after each the Rust's on the same text. It prints a line for each, in the order in which they are made: call, text, line
 //! ends, lane count, rows; the Rust's calls have `rust` before their name. For `sm_chart` these are the call, the file, line ends, 4 lanes, and the
-//! file's lines.
+//! file's lines. For `notes_to_chart` they are the text whose notes are written and the rows that it writes, and what stands with `rust` is the main call
+//! on the text that it writes.
 
 use crate::entries::ENTRIES;
 use crate::loads::{EVERY_LANES, LANES, Lines, Load, Text};
 use crate::loans::lent;
 use crate::sm_files::{self, File};
 use oracle::calls::Call;
+use crate::written::{self, Written};
 use oracle::timed::{self, Buffers};
 
 /// Bytes of a text: enough that what a call does once does not show, few enough that all of it takes seconds.
@@ -37,6 +39,7 @@ pub fn run() {
     run_texts();
     run_files();
     run_kinds();
+    run_written();
 }
 
 fn run_files() {
@@ -46,6 +49,19 @@ fn run_files() {
         assert_eq!(answer, Err(11), "no file has so many blocks");
         let count = data.split(|&byte| byte == b'\n').count();
         println!("sm_chart {} {} 4 {count}", file.name(), lines.name());
+    }
+}
+
+fn run_written() {
+    for text in written::TEXTS {
+        for lanes in EVERY_LANES {
+            let mut written = Written::new(text, lanes, LEN);
+            written.write();
+            written.read();
+            for who in ["", "rust_"] {
+                println!("{who}notes_to_chart {} LF {lanes} {}", text.name(), written.rows());
+            }
+        }
     }
 }
 

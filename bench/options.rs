@@ -6,7 +6,7 @@ use crate::ways::Way;
 use oracle::calls::{CALLS, Call};
 
 pub const HELP: &str = "\
-bench [--runs N] [--thread] [--ways LIST] [--lanes LIST] [--texts LIST] [--lines LIST] [--speeds | --growth | --memory | --files | --once] [CALL..]
+bench [--runs N] [--thread] [--ways LIST] [--lanes LIST] [--texts LIST] [--lines LIST] [--speeds | --growth | --memory | --files | --written | --once] [CALL..]
 
 Times each call, or those of the given names, beside the Rust: both in one process, on the same texts, in turns, the best
 of N runs each (N is 7). A ratio is ours to the Rust's: over 1.00 ours is faster. It prints the cells under 1.00,
@@ -40,6 +40,8 @@ A LIST has its words parted by commas, and leaves out the others:
   --files  times instead sm_chart beside its plain reference in the oracle, which the Rust does not have: files of 16 MB with
            one chart, a pack of charts of 20,000 bytes, charts of one line, and none, asked for the first block, the last and
            the one past it; then what files of 1, 4 and 16 MB cost
+  --written times instead notes_to_chart beside its plain reference in the oracle, which the Rust does not have, and beside the main
+           call on the text that it writes: the notes and row counts of texts of 16 MB
   --once   makes each call once on short texts instead, for callgrind; `instructions.sh` runs it
 
 `dropped_holds`, which the Rust does not have, stands beside a plain reference over the Rust's minimised text.
@@ -59,6 +61,7 @@ pub struct Options {
     pub growth: bool,
     pub memory: bool,
     pub files: bool,
+    pub written: bool,
     pub once: bool,
 }
 
@@ -80,6 +83,7 @@ pub fn parse(mut args: impl Iterator<Item = String>) -> Result<Option<Options>, 
         growth: false,
         memory: false,
         files: false,
+        written: false,
         once: false,
     };
     while let Some(arg) = args.next() {
@@ -98,6 +102,7 @@ pub fn parse(mut args: impl Iterator<Item = String>) -> Result<Option<Options>, 
             "--growth" => options.growth = true,
             "--memory" => options.memory = true,
             "--files" => options.files = true,
+            "--written" => options.written = true,
             "--once" => options.once = true,
             _ => options
                 .calls

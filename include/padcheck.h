@@ -22,7 +22,7 @@
  * What a caller gets. Each call returns 0 for accepted, else the number of a refusal, and then it has written nothing.
  * After an accepted call every entry past the answer in a slice lent for writing is 0, the work slice is 0 throughout,
  * and every place of `figures` that the call does not answer is 0. No chart text is refused for its content; a chart
- * inside an SM file is, by 9 and 10.
+ * inside an SM file is, by 9 and 10, and notes from which a chart is to be written are, by 7, 8 and 13 to 15.
  */
 #ifndef PADCHECK_H
 #define PADCHECK_H
@@ -31,9 +31,9 @@
 #include <stdint.h>
 
 /* The version of the library, as words and as numbers. */
-#define PADCHECK_VERSION "0.2.0"
+#define PADCHECK_VERSION "0.3.0"
 #define PADCHECK_VERSION_MAJOR 0
-#define PADCHECK_VERSION_MINOR 2
+#define PADCHECK_VERSION_MINOR 3
 #define PADCHECK_VERSION_PATCH 0
 
 #ifdef __cplusplus
@@ -58,6 +58,9 @@ enum padcheck_number {
     PADCHECK_OTHER_TYPE = 10,
     PADCHECK_NO_CHART = 11,
     PADCHECK_OTHER_LANES = 12,
+    PADCHECK_OUT_OF_ORDER = 13,
+    PADCHECK_NOTES_MEET = 14,
+    PADCHECK_OTHER_COUNTS = 15,
     PADCHECK_SHORT_SHEET = 19,
     PADCHECK_OTHER_FORM = 20
 };
@@ -72,11 +75,11 @@ static inline const char *padcheck_words(uint32_t number)
     case PADCHECK_ACCEPTED:
         return "accepted";
     case PADCHECK_LONG_TEXT:
-        return "len is over 16,777,215";
+        return "the text or file, or the text to be written, is longer than the call takes";
     case PADCHECK_SHORT_TEXT:
-        return "the text slice is shorter than len + 1";
+        return "the text slice is shorter than the call needs";
     case PADCHECK_SHORT_MEASURES:
-        return "the measure slice is shorter than (len + 1) div 2 + 1";
+        return "the measure slice is shorter than the call needs";
     case PADCHECK_SHORT_BEATS:
         return "the beat slice is shorter than R";
     case PADCHECK_SHORT_WORK:
@@ -84,9 +87,9 @@ static inline const char *padcheck_words(uint32_t number)
     case PADCHECK_SHORT_NOTES:
         return "the note slice is shorter than 10 * L * R";
     case PADCHECK_NO_RECORD:
-        return "there is no such note record";
+        return "the records end in part of a record, or there is none of that number";
     case PADCHECK_BAD_RECORD:
-        return "that record breaks a limit";
+        return "a record breaks a limit";
     case PADCHECK_FEW_FIELDS:
         return "the block has fewer than five fields";
     case PADCHECK_OTHER_TYPE:
@@ -95,6 +98,12 @@ static inline const char *padcheck_words(uint32_t number)
         return "the file has no such block";
     case PADCHECK_OTHER_LANES:
         return "the lane number is none of 4, 5, 6, 8 and 10";
+    case PADCHECK_OUT_OF_ORDER:
+        return "a note does not stand before the next, or its column is not below L";
+    case PADCHECK_NOTES_MEET:
+        return "two notes of a column meet";
+    case PADCHECK_OTHER_COUNTS:
+        return "the row counts are not those of the notes, or a measure could be minimised";
     case PADCHECK_SHORT_SHEET:
         return "the sheet slice is shorter than 42 * (len + 1) + 3000";
     case PADCHECK_OTHER_FORM:
@@ -127,6 +136,11 @@ static inline const char *padcheck_caused_by(uint32_t number)
         return "whoever asks for the chart";
     case PADCHECK_OTHER_LANES:
         return "whoever gives the lane number";
+    case PADCHECK_OUT_OF_ORDER:
+    case PADCHECK_NOTES_MEET:
+        return "whoever edits the notes";
+    case PADCHECK_OTHER_COUNTS:
+        return "whoever counts the rows";
     default:
         return "nobody";
     }
@@ -182,6 +196,18 @@ static inline size_t padcheck_notes_len(size_t len, size_t lanes)
 static inline size_t padcheck_sheet_len(size_t len)
 {
     return 42 * (len + 1) + 3000;
+}
+
+/*
+ * What the text slice of padcheck_notes_to_chart has to have for these row counts, in bytes: exactly the chart that is
+ * written. 0 where the call is refused with 12 or 1, and where nothing is to be written; the call alone says which.
+ */
+static inline size_t padcheck_written_len(size_t lanes, const uint32_t *counts, size_t counts_len)
+{
+    uint64_t bytes = 0;
+    for (size_t i = 0; i < counts_len && bytes <= PADCHECK_MAX_LEN; i++)
+        bytes += (lanes + 1) * (uint64_t)counts[i] + (i == 0 ? 0 : 2);
+    return padcheck_is_lane_count(lanes) && bytes <= PADCHECK_MAX_LEN ? (size_t)bytes : 0;
 }
 
 /* Places in `figures`, the same in every call. Those from 25 on are 0. */
@@ -288,6 +314,15 @@ uint32_t padcheck_minimize_chart_count_rows_notes(const uint8_t *data, size_t da
 uint32_t padcheck_process_chart_kept(const uint8_t *data, size_t data_len, size_t lanes, uint8_t *text, size_t text_len,
                                      uint32_t *densities, size_t densities_len, uint16_t *work, size_t work_len,
                                      uint64_t *figures);
+
+/*
+ * From notes back to a chart: the minimised text of note records at so many lanes with a row count for each measure,
+ * `,` between measures and no `;`. Reading it gives these records and counts.
+ * Length: text padcheck_written_len. Refusals: 12 1 7 8 13 14 15 2; 1 is of the text to be written, and each is looked
+ * for in all records before the next. Figures: TEXT_BYTES, MEASURES (the counts), ROWS (their sum), NOTES.
+ */
+uint32_t padcheck_notes_to_chart(const uint8_t *records, size_t records_len, size_t lanes, const uint32_t *counts,
+                                 size_t counts_len, uint8_t *text, size_t text_len, uint64_t *figures);
 
 /*
  * The minimised rows, L bytes each, back to back in `text`, and their beats.

@@ -15,6 +15,7 @@ awk '
 /^    [A-Z][A-Za-z]+ = [0-9]+,$/ { print NR "s/= [0-9]*/= " ($3 + 100) "/" }
 /^        Self::[A-Za-z]+,$/ { print NR "s/Self::.*,/Self::" (/BadRecord/ ? "NoRecord" : "BadRecord") ",/" }
 /^            .*Self::[A-Za-z]+ => "/ { print NR "s/=> \"/=> \"x/"; print NR "s/\",$/x\",/" }
+/^                "[^"]*"$/ { print NR "s/\"/\"x/"; print NR "s/\"$/x\"/" }
 /"refused \{number\}: / { print NR "s/refused/Refused/"; print NR "s/: {words}/; {words}/"; print NR "s/, by/ by/" }
 ' "$source" >"$out/edits"
 

@@ -326,6 +326,70 @@ static void check_dropped_places(void)
     }
 }
 
+/* Room for the records below. */
+enum { FEW = 4 };
+
+static void put_record(uint8_t *record, uint32_t row, uint32_t tail, uint8_t column, uint8_t kind)
+{
+    for (int i = 0; i < 4; i++) {
+        record[i] = (uint8_t)(row >> 8 * i);
+        record[4 + i] = (uint8_t)(tail >> 8 * i);
+    }
+    record[8] = column;
+    record[9] = kind;
+}
+
+/* The call on the first of four notes that make a chart of five rows, with so many bytes for it. */
+static uint32_t ask_written(size_t lanes, size_t records_len, const uint32_t *counts, size_t counts_len, size_t text)
+{
+    uint8_t records[FEW * 10];
+    put_record(records, 0, UINT32_MAX, 0, PADCHECK_TAP);
+    put_record(records + 10, 0, 1, 1, PADCHECK_HOLD);
+    put_record(records + 20, 3, UINT32_MAX, 2, PADCHECK_MINE);
+    put_record(records + 30, 4, UINT32_MAX, 3, PADCHECK_FAKE);
+    return padcheck_notes_to_chart(records, records_len, lanes, counts, counts_len, room.text, text, room.figures);
+}
+
+static const uint32_t five_rows[] = {2, 0, 3};
+
+/* A chart that is written, with figures that are all different. */
+static void check_written_places(void)
+{
+    static const char text[] = "1200\n0300\n,\n,\n0000\n00M0\n000F\n";
+    static const struct figure figures[] = {
+        FIGURE(TEXT_BYTES, sizeof text - 1),
+        FIGURE(MEASURES, 3),
+        FIGURE(ROWS, 5),
+        FIGURE(NOTES, FEW),
+    };
+    size_t len = padcheck_written_len(4, five_rows, 3);
+    check(len == sizeof text - 1, "the written text has %zu bytes", len);
+    uint32_t number = ask_written(4, FEW * PADCHECK_NOTE_BYTES, five_rows, 3, len);
+    check(memcmp(room.text, text, len) == 0, "the written text");
+    CHECK_FIGURES("notes_to_chart", number, figures);
+}
+
+/* Lists of row counts: the slice is refused one byte short and accepted as it is, and the length is 0 where 1 refuses. */
+static void check_written_lengths(size_t lanes)
+{
+    static const uint32_t counts[] = {3, 1, 0, 7, 3355443, UINT32_MAX};
+    for (size_t first = 0; first < 4; first++)
+        for (size_t count = 1; first + count <= 4; count++) {
+            size_t rows = 0;
+            for (size_t i = 0; i < count; i++)
+                rows += counts[first + i];
+            size_t len = padcheck_written_len(lanes, counts + first, count);
+            check(len == (lanes + 1) * rows + 2 * (count - 1), "%zu counts at %zu lanes: %zu bytes", count, lanes, len);
+            check(ask_written(lanes, 0, counts + first, count, len) == PADCHECK_ACCEPTED, "the written length");
+            if (len > 0)
+                check(ask_written(lanes, 0, counts + first, count, len - 1) == PADCHECK_SHORT_TEXT, "one byte less");
+        }
+    check(padcheck_written_len(lanes, counts, 0) == 0, "no count: no byte");
+    check((padcheck_written_len(lanes, counts + 4, 1) == 0) == (lanes > 4), "%zu lanes: about the limit", lanes);
+    check(padcheck_written_len(lanes, counts + 5, 1) == 0, "%zu lanes: past the limit", lanes);
+    check(ask_written(lanes, 0, counts + 5, 1, 0) == PADCHECK_LONG_TEXT, "%zu lanes: past the limit", lanes);
+}
+
 /* An SM file of two charts: lane count, place and length of the second one's data are all different. */
 static void check_chart_places(void)
 {
@@ -351,6 +415,7 @@ static void check_lengths(void)
     memset(data, '1', sizeof data);
     for (size_t i = 0; i < sizeof lane_counts / sizeof lane_counts[0]; i++) {
         size_t lanes = lane_counts[i];
+        check_written_lengths(lanes);
         check(padcheck_is_lane_count(lanes), "%zu lanes: a lane count", lanes);
         for (size_t j = 0; j < sizeof lens / sizeof lens[0]; j++) {
             struct question question = {data, lens[j], lanes, data, 0, (i + j) % 3};
@@ -367,6 +432,8 @@ static void check_other_lanes(size_t lanes)
     check(!padcheck_is_lane_count(lanes), "%zu lanes: no lane count", lanes);
     check(padcheck_beats_len(87, lanes) == 0 && padcheck_work_len(87, lanes) == 0 && padcheck_notes_len(87, lanes) == 0,
           "%zu lanes: the lengths that go by it", lanes);
+    check(padcheck_written_len(lanes, five_rows, 3) == 0, "%zu lanes: the length of what is written", lanes);
+    check(ask_written(lanes, 1, five_rows, 0, 0) == PADCHECK_OTHER_LANES, "%zu lanes: to write a chart", lanes);
     for (enum call call = 0; call < CALLS; call++)
         for (size_t form = 0; form <= 3; form += 3) {
             struct question question = {data, sizeof data, lanes, data, 0, form};
@@ -438,7 +505,7 @@ static void check_refusals(void)
     uint64_t note[8];
     check_refusal("accepted", ask_main(data, len, ROOM, ROOM, ROOM, ROOM, ROOM * 10), PADCHECK_ACCEPTED, "accepted");
     check_refusal("a text too long", ask_main(longest, PADCHECK_MAX_LEN + 1, 0, 0, 0, 0, 0), PADCHECK_LONG_TEXT,
-                  "over 16,777,215");
+                  "longer than the call takes");
     check_refusal("another lane number", padcheck_chart_last_beat(longest, PADCHECK_MAX_LEN + 1, 7, room.figures),
                   PADCHECK_OTHER_LANES, "none of 4, 5, 6, 8 and 10");
     check_refusal("the longest text", padcheck_chart_last_beat(longest, PADCHECK_MAX_LEN, 4, room.figures),
@@ -455,9 +522,31 @@ static void check_refusals(void)
     check_refusal("a list too short",
                   padcheck_dropped_holds(data, len, 4, room.text, ROOM, room.notes, 0, room.figures),
                   PADCHECK_SHORT_NOTES, "note slice");
-    check_refusal("no record", padcheck_read_note(data, 0, 0, note), PADCHECK_NO_RECORD, "no such note record");
+    check_refusal("no record", padcheck_read_note(data, 0, 0, note), PADCHECK_NO_RECORD, "none of that number");
     check_refusal("a bad record", padcheck_read_note(data, PADCHECK_NOTE_BYTES, 0, note), PADCHECK_BAD_RECORD,
                   "record breaks a limit");
+    static const uint32_t long_counts[] = {16777216}, one_row[] = {1}, six_rows[] = {6};
+    check_refusal("a text to be written too long", ask_written(4, 0, long_counts, 1, ROOM), PADCHECK_LONG_TEXT,
+                  "longer than the call takes");
+    check_refusal("a part of a record", ask_written(4, 1, one_row, 1, ROOM), PADCHECK_NO_RECORD, "part of a record");
+    check_refusal("records that break a limit",
+                  padcheck_notes_to_chart(data, PADCHECK_NOTE_BYTES, 4, one_row, 1, room.text, ROOM, room.figures),
+                  PADCHECK_BAD_RECORD, "a record breaks a limit");
+    uint8_t twice[2 * 10];
+    put_record(twice, 0, UINT32_MAX, 0, PADCHECK_TAP);
+    put_record(twice + 10, 0, UINT32_MAX, 0, PADCHECK_TAP);
+    check_refusal("a note twice",
+                  padcheck_notes_to_chart(twice, sizeof twice, 4, one_row, 1, room.text, ROOM, room.figures),
+                  PADCHECK_OUT_OF_ORDER, "does not stand before the next");
+    put_record(twice, 0, 1, 0, PADCHECK_ROLL);
+    put_record(twice + 10, 1, UINT32_MAX, 0, PADCHECK_TAP);
+    check_refusal("a note at a tail",
+                  padcheck_notes_to_chart(twice, sizeof twice, 4, six_rows, 1, room.text, ROOM, room.figures),
+                  PADCHECK_NOTES_MEET, "meet");
+    check_refusal("rows of other counts", ask_written(4, PADCHECK_NOTE_BYTES, six_rows, 1, ROOM),
+                  PADCHECK_OTHER_COUNTS, "row counts");
+    check_refusal("no room for what is written", ask_written(4, PADCHECK_NOTE_BYTES, one_row, 1, 4),
+                  PADCHECK_SHORT_TEXT, "text slice");
     check_refusal("a sheet slice too short", ask_sheet(PADCHECK_SHEET_CARD, 0), PADCHECK_SHORT_SHEET,
                   "sheet slice");
     check_refusal("another form", ask_sheet(3, ROOM * 10), PADCHECK_OTHER_FORM, "over 2");
@@ -465,7 +554,7 @@ static void check_refusals(void)
     check_refusal("another type", ask_file("#NOTES:lights-cabinet:::::", note), PADCHECK_OTHER_TYPE, "another type");
     check_refusal("no chart", ask_file("#TITLE:none;", note), PADCHECK_NO_CHART, "no such block");
     check_refusal("an SM file too long", padcheck_sm_chart(longest, PADCHECK_MAX_LEN + 1, 0, note),
-                  PADCHECK_LONG_TEXT, "over 16,777,215");
+                  PADCHECK_LONG_TEXT, "longer than the call takes");
     check_refusal("the longest SM file", padcheck_sm_chart(longest, PADCHECK_MAX_LEN, 0, note), PADCHECK_NO_CHART,
                   "no such block");
 }
@@ -488,6 +577,7 @@ void check_header(void)
     check_kinds();
     check_dropped_places();
     check_chart_places();
+    check_written_places();
     check_lengths();
     check_lane_numbers();
     check_words();

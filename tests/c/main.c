@@ -1,10 +1,11 @@
 /* Every entry of padcheck.h from C: the header's names, the specification's example and its sheets, its limits, note records,
-   SM files, and the stored sample. */
+   SM files, charts that are written, and the stored sample. */
 #include "calls.h"
 #include "checks.h"
 #include "header.h"
 #include "sm.h"
 #include "stored.h"
+#include "written.h"
 
 #include <stdio.h>
 #include <stdlib.h>
@@ -308,6 +309,7 @@ int main(int count, char **args)
     check_longest();
     check_records();
     check_sm_files();
+    check_written();
     check_stored(args[1]);
     return checks_end() ? 0 : 1;
 }

@@ -32,7 +32,7 @@ function edit(what, command) { print what "|" NR command }
     edit("words", "s/\";$/x\";/")
 }
 /^    case PADCHECK_/ { edit($2, "s/case .*:/case 77:/") }
-/^    return [^"]*;$/ {
+/^    return [^"]*;$/ || /^        bytes \+= / {
     rest = substr($0, 12)
     at = 0
     while (match(rest, /[0-9]+/)) {

@@ -3,6 +3,7 @@
 #include "stored.h"
 #include "calls.h"
 #include "checks.h"
+#include "written.h"
 
 #include <stdio.h>
 #include <stdlib.h>
@@ -64,6 +65,15 @@ static struct answer take_answer(struct reader *reader, enum call call)
     return answer;
 }
 
+/* The records stand as the notes of the answer, and the row counts as its densities. */
+static void check_stored_written(const char *name, size_t lanes, struct answer answer)
+{
+    struct given given = {answer.contents[NOTES].at, answer.contents[NOTES].bytes, lanes,
+                          answer.contents[MEASURE_DENSITIES].at,
+                          answer.contents[MEASURE_DENSITIES].bytes / sizeof(uint32_t)};
+    check_written_text(name, &given, answer.contents[TEXT].at, answer.contents[TEXT].bytes, answer.figures);
+}
+
 static void check_record(unsigned long index, struct reader *reader)
 {
     char name[40];
@@ -78,6 +88,7 @@ static void check_record(unsigned long index, struct reader *reader)
         struct answer answer = take_answer(reader, call);
         check_call(name, call, &question, &answer);
     }
+    check_stored_written(name, lanes, take_answer(reader, MAIN));
     free(flags);
     free(data);
 }

@@ -1,12 +1,15 @@
 //! Kinds of text that the run must meet at every lane count, told from the text itself and not from how it was drawn.
 
 use crate::case::{Case, LANE_COUNTS, lane_place};
+use crate::edits;
 use crate::random;
 use oracle::asked::{chart_text, read_back_text};
+use oracle::calls::minimize_chart_count_rows_notes;
 use oracle::dropped::{DroppedHead, NO_ROW, dropped_of};
 use oracle::entry::is_lane_count;
 use oracle::keysounds::rows_read_back;
 use oracle::leaves::{self, Counted};
+use oracle::written::Given;
 
 /// What a kind asks of a text.
 type Test = fn(&Facts) -> bool;
@@ -15,7 +18,7 @@ type Test = fn(&Facts) -> bool;
 const AS_IT_STANDS: usize = 0;
 const IN_ANOTHERS_PLACE: usize = 1;
 
-const KINDS: [(&str, Test); 71] = [
+const KINDS: [(&str, Test); 78] = [
     ("a text that the Rust is asked about", |f| f.as_it_stands),
     ("a text in whose place it is asked about another", |f| {
         !f.as_it_stands
@@ -125,6 +128,15 @@ const KINDS: [(&str, Test); 71] = [
     ("10,000 bytes or more, every line ends in 13 and 10", |f| {
         f.is_long(10_000) && f.cr_lines == f.lines
     }),
+    ("notes that are written back", |f| f.written.back),
+    ("notes that are written as another text", |f| {
+        f.written.number == 0 && !f.written.back
+    }),
+    ("notes refused with 15", |f| f.written.number == 15),
+    ("edited notes that are written", |f| f.written.edited == 0),
+    ("edited notes refused with 13", |f| f.written.edited == 13),
+    ("edited notes refused with 14", |f| f.written.edited == 14),
+    ("edited notes refused with 15", |f| f.written.edited == 15),
     ("100,000 bytes or more", |f| f.is_long(100_000)),
     ("500,000 bytes or more", |f| f.is_long(500_000)),
 ];
@@ -158,6 +170,28 @@ struct Keysounds {
     beside_head: bool,
     unjudged: bool,
     judged: bool,
+}
+
+/// What becomes of the notes and row counts of a text: the number that is told of them, whether the minimised text comes back, and the number told of
+/// them once edited.
+struct Written {
+    number: u32,
+    back: bool,
+    edited: u32,
+}
+
+impl Written {
+    fn of(case: &Case) -> Self {
+        let main = minimize_chart_count_rows_notes(&case.bytes, case.lanes);
+        let given = Given::of_answer(&main, case.lanes);
+        let chart = given.chart();
+        let edited = edits::edited(case, given);
+        Self {
+            number: chart.as_ref().err().copied().unwrap_or_default(),
+            back: chart.is_ok_and(|chart| chart == main.text),
+            edited: edited.chart().err().unwrap_or_default(),
+        }
+    }
 }
 
 struct Facts {
@@ -199,6 +233,7 @@ struct Facts {
     drops: [bool; 3],
     dropped_together: bool,
     dropped_out_of_turn: bool,
+    written: Written,
 }
 
 impl Facts {
@@ -240,6 +275,7 @@ impl Facts {
             drops: [false; 3],
             dropped_together: false,
             dropped_out_of_turn: false,
+            written: Written::of(case),
         };
         let rows = facts.read(text);
         facts.look_at_rows(&rows);

@@ -1,4 +1,4 @@
-//! Texts that are not drawn: every short text over a few letters, every row of six cells over some, every byte at every place of a row's line, texts for each case of the correction,
+//! Texts that are not drawn: every short text over a few letters, every row of six cells over some, every short column of cells, every byte at every place of a row's line, texts for each case of the correction,
 //! a few texts and too long a one for each lane number whose slices are lent too short, and texts of the greatest length and one byte more.
 
 use crate::case::{Case, Check, LANE_COUNTS};
@@ -57,6 +57,24 @@ pub fn six_cells(checks: &mut [Check], kinds: &mut Kinds) {
                 seed: seed as u64,
                 lanes: SIX,
                 bytes: [&row, tails].concat(),
+            };
+            kinds.note(&case);
+            checks.iter_mut().for_each(|check| check.run(&case));
+        }
+    }
+}
+
+/// Every column of up to five cells over some letters, beside empty ones: what becomes of a head by the cells below it.
+pub fn columns(checks: &mut [Check], kinds: &mut Kinds) {
+    const LETTERS: &[u8] = b"0123MKx";
+    for len in 0..=5 {
+        for number in 0..LETTERS.len().pow(len) {
+            let column = word(LETTERS, len, number);
+            let lines = column.iter().map(|&cell| [b'0', cell, b'0', b'0', b'\n']);
+            let case = Case {
+                seed: number as u64,
+                lanes: 4,
+                bytes: lines.collect::<Vec<_>>().concat(),
             };
             kinds.note(&case);
             checks.iter_mut().for_each(|check| check.run(&case));

@@ -7,6 +7,7 @@ mod beat_checks;
 mod case;
 mod coverage;
 mod dropped_checks;
+mod edits;
 mod entries;
 mod file_checks;
 mod file_kinds;
@@ -21,6 +22,10 @@ mod random;
 mod row_checks;
 mod sheet_checks;
 mod text_checks;
+mod written_checks;
+#[path = "../oracle/written_examples.rs"]
+mod written_examples;
+mod written_limits;
 
 use case::{Case, Check};
 use file_checks::Files;
@@ -34,12 +39,15 @@ differential [--long | --cases N] [--at-least COUNT] [SEED..]
 Compares the exported entries and the leaves with the Rust, and at 6 lanes, which it reads as 4, with its
 functions over a const L and a plain count of each direction's arrows. For each SEED (1 where none is given):
 N random texts, N random lists of rows, which are read as texts too, N beats, and random texts of 10,000 to
-1,000,000 bytes. Then every short text over a few letters, every row of six cells over four, every byte at
+1,000,000 bytes. Then every short text over a few letters, every row of six cells over four, every short column of cells, every byte at
 every place of a row's line, texts for each case of the correction, each entry with every combination of its
 slices too short, at the lane numbers 0 to 300 and at large ones, and texts of the greatest length. The search for a byte is made with it at every place of short slices, beside bytes that
 differ from it in one bit. The main and the kept tally are compared with each other too. Where a line has a
 byte 13 among its first L bytes, which is a row for the Rust alone, it is asked about a text in which that
-line is none; both sorts of text are counted. The sheet is compared with the reference in Rust, on half of the random
+line is none; both sorts of text are counted. What the main call reads of each text is edited and written as a
+chart beside a plain reference, and read again; so are notes and row counts that are drawn, every list of up to
+three notes in a few cells with every list of their counts, the specification's examples, every set of refusals
+at every lane number, and lengths at their limit. The sheet is compared with the reference in Rust, on half of the random
 texts and some of the long ones. SM files are compared with the reference in Rust, every block and the numbers
 past them: for each SEED N random files, then every short file over a few tokens, a file by hand with each
 byte struck or changed, and files of the greatest length; the calls are made on the data of each accepted
@@ -104,6 +112,9 @@ fn run(options: &Options) -> ExitCode {
     let mut kinds = Kinds::new();
     let mut texts = text_checks::checks();
     texts.push(dropped_checks::listed_or_noted());
+    texts.push(written_checks::edited());
+    texts.push(written_checks::read_and_written());
+    let mut drawn = [written_checks::drawn()];
     let mut sheet = sheet_checks::drawn(1);
     let mut rows = row_checks::checks();
     let mut beats = beat_checks::drawn();
@@ -119,6 +130,7 @@ fn run(options: &Options) -> ExitCode {
             beats.iter_mut().for_each(|check| check.run(&case));
             let lines = lines_case(&mut rng, case);
             run_text(&lines, &mut texts, &mut kinds);
+            drawn[0].run(&notes_case(&mut rng));
             // The sheet is of one of the two in turn.
             sheet.run(if number % 2 == 0 { &text } else { &lines });
         }
@@ -140,8 +152,10 @@ fn run(options: &Options) -> ExitCode {
     texts.push(sheet);
     limits::short_texts(&mut texts, &mut kinds);
     limits::six_cells(&mut texts, &mut kinds);
+    limits::columns(&mut texts, &mut kinds);
     limits::bytes_in_rows(&mut texts, &mut kinds);
     limits::corrections(&mut texts, &mut kinds);
+    let written = written();
     let mut shortages: Vec<_> = text_checks::shortages().collect();
     shortages.push(sheet_checks::shortages());
     shortages.push(text_checks::tallies());
@@ -159,7 +173,7 @@ fn run(options: &Options) -> ExitCode {
         file_limits::longest_files(&mut files);
     }
     longest.push(longest_sheet);
-    let groups: [(&str, &[Check]); 9] = [
+    let groups: [(&str, &[Check]); 11] = [
         ("texts", &texts),
         ("rows", &rows),
         ("beats", &beats),
@@ -170,10 +184,33 @@ fn run(options: &Options) -> ExitCode {
             &shortages,
         ),
         ("longest texts", &longest),
+        ("notes and row counts, drawn", &drawn),
+        ("notes and row counts, every list and the limits", &written),
         ("files", &files.entry),
         ("charts of files", &files.charts),
     ];
     report(options, &groups, &kinds, &files)
+}
+
+/// Every list of a few notes with every list of their counts, the examples, every set of refusals, and the lengths at their limit.
+fn written() -> [Check; 5] {
+    let mut checks = [
+        written_limits::listed(),
+        written_limits::example(),
+        written_limits::wrong(),
+        written_limits::limit(),
+        written_limits::long_records(),
+    ];
+    let [listed, example, wrong, limit, long] = &mut checks;
+    written_limits::every_list(listed);
+    written_limits::every_example(example);
+    written_limits::every_wrong(wrong);
+    written_limits::every_limit(limit);
+    long.run(&Case {
+        lanes: 4,
+        ..Case::default()
+    });
+    checks
 }
 
 fn run_text(case: &Case, texts: &mut [Check], kinds: &mut Kinds) {
@@ -226,6 +263,17 @@ fn text_case(rng: &mut Rng) -> Case {
 
 fn row_case(rng: &mut Rng) -> Case {
     let (lanes, bytes) = random::rows(rng);
+    Case {
+        bytes,
+        lanes,
+        seed: rng.next(),
+    }
+}
+
+/// Records of notes.
+fn notes_case(rng: &mut Rng) -> Case {
+    let lanes = random::lanes(rng);
+    let bytes = edits::records(rng, lanes);
     Case {
         bytes,
         lanes,

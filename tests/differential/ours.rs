@@ -1,4 +1,4 @@
-//! The leaves of libleaves.a, and the entries that read a note record, write a sheet and read an SM file, as safe functions.
+//! The leaves of libleaves.a, and the entries that read a note record, write a sheet, write a chart and read an SM file, as safe functions.
 //! What a leaf does not take comes back as `None`.
 
 mod leaves {
@@ -51,7 +51,9 @@ pub use leaves::{
     leaves_cell_of as cell_of, leaves_hold_effect as hold_effect, leaves_lanes_of as lanes_of,
     leaves_object_effect as object_effect,
 };
+use oracle::calls::Figures;
 use oracle::entry::Loan;
+use oracle::written::Given;
 use padcheck::lent;
 
 // Below, each pointer goes with the length of its slice or points to an array of the size that the leaf names.
@@ -156,6 +158,16 @@ pub fn chart_sheet(
         sheet,
         &mut loan.figures,
     ))
+}
+
+/// The entry that writes a chart from notes: its number.
+pub fn notes_to_chart(given: &Given, text: &mut [u8], figures: &mut Figures) -> u32 {
+    let Given {
+        records,
+        lanes,
+        counts,
+    } = given;
+    number(lent::notes_to_chart(records, *lanes, counts, text, figures))
 }
 
 /// The entry that finds a chart in an SM file: its number, and lane count, start and length where that is 0.

@@ -1,4 +1,5 @@
-//! Self-check of the oracle: the specification's examples, refusals, leaves, directions, dropped heads, sheets, the charts inside an SM file, and the stored samples.
+//! Self-check of the oracle: the specification's examples, refusals, leaves, directions, dropped heads, sheets, the charts inside an SM file, written charts,
+//! and the stored samples.
 //! Ends with `N passed, M failed`; the exit status is not 0 if anything failed.
 
 mod check_directions;
@@ -8,8 +9,10 @@ mod check_files;
 mod check_sample;
 mod check_sheet;
 mod check_sm;
+mod check_written;
 #[path = "../vectors/reader.rs"]
 mod reader;
+mod written_examples;
 
 use oracle::calls::{CALLS, Call};
 use oracle::entry::{Lengths, Loan, MAX_LEN, enter, is_lane_count, read_note, refusal};
@@ -77,6 +80,7 @@ fn main() -> ExitCode {
     checks.group("dropped heads", check_dropped::run);
     checks.group("sheets", check_sheet::run);
     checks.group("charts in files", check_sm::run);
+    checks.group("written charts", check_written::run);
     checks.group("sample", |checks| check_sample::run(checks, &stored));
     checks.group("files", |checks| check_files::run(checks, FILES));
     println!("{} passed, {} failed", checks.passed, checks.failed);

@@ -7,7 +7,7 @@ use oracle::asked::chart_text;
 use oracle::calls::{self, Answer, CALLS};
 use oracle::deciding::TEXTS;
 use oracle::entry::{Lengths, Loan, enter, is_lane_count};
-use oracle::vectors::{MARK, SEED, Sample, answer_slices, file, samples};
+use oracle::vectors::{MARK, SEED, Sample, answer_slices, file, samples, written};
 use std::fs;
 
 pub fn run(checks: &mut Checks, copies: &[String]) {
@@ -64,6 +64,7 @@ fn record_holds(record: &mut Reader, sample: &Sample) -> bool {
             let answer = calls::answer(call, &sample.text, sample.lanes, &sample.flags);
             answer_holds(record, &answer)
         })
+        && answer_holds(record, &written(&sample.text, sample.lanes))
 }
 
 fn answer_holds(record: &mut Reader, answer: &Answer) -> bool {

@@ -1,4 +1,4 @@
-//! The oracle as a program: figures of a text, the charts of an SM file, the sheet of a chart, and the stored samples.
+//! The oracle as a program: figures of a text, the charts of an SM file, the sheet of a chart, a chart written from notes, and the stored samples.
 
 use oracle::calls::{self, Answer, CALLS, Call, TALLY_NAMES};
 use oracle::card::card;
@@ -8,6 +8,7 @@ use oracle::entry::{MAX_LEN, is_lane_count};
 use oracle::sheet::{ChartFigures, Form, note_lines};
 use oracle::sm::{SmChart, charts};
 use oracle::sm_deciding::FILES;
+use oracle::written::Given;
 use oracle::{sm_vectors, vectors};
 use std::env;
 use std::fs;
@@ -19,13 +20,15 @@ oracle figures LANES [FLAGSFILE] < TEXT   every figure of the nine chart calls
 oracle sm < FILE                          the charts of an SM file
 oracle card < TEXT                        what the program card prints
 oracle sheet FORM LANES < TEXT            the sheet of a chart; FORM is card, print or json
+oracle write LANES ROWSFILE < RECORDS     the chart that is written from note records
 oracle vectors SEED OUT                   write the sample of answers to the file OUT
 oracle files SEED OUT                     write the sample of SM files to the file OUT
 oracle differing SAMPLE                   the texts or files of a sample that are answered differently
 oracle --help                             this help
 
 LANES is a lane count, 4, 5, 6, 8 or 10. FLAGSFILE holds one byte a row,
-0 for unjudged; without it every row is judged. `oracle sm` has a line for each
+0 for unjudged; without it every row is judged. ROWSFILE has the row count of
+each measure on a line. `oracle sm` has a line for each
 block: its number from 0, then lane count, start and length of its data, or the
 refusal.
 ";
@@ -50,6 +53,7 @@ fn run(args: &[&str]) -> Result<(), String> {
         ["sm"] => print_charts(),
         ["card"] => print(card(&read_text()?).as_bytes()),
         ["sheet", form, lanes] => print_sheet(form, lanes),
+        ["write", lanes, rows] => write_chart(lanes, rows),
         ["vectors", seed, out] => write_sample(vectors::file, seed, out),
         ["files", seed, out] => write_sample(sm_vectors::sample, seed, out),
         ["differing", sample] => print_differing(sample),
@@ -190,6 +194,27 @@ fn print_sheet(form: &str, lanes: &str) -> Result<(), String> {
     let lanes = parse_lanes(lanes)?;
     let sheet = ChartFigures::of(&read_text()?, lanes).sheet(form);
     print(sheet.as_bytes())
+}
+
+/// The text that is written, or the refusal, whatever the lane number is.
+fn write_chart(lanes: &str, rows: &str) -> Result<(), String> {
+    let lanes = parse_number("LANES", lanes)?;
+    let counts = String::from_utf8_lossy(&read_file(rows)?)
+        .lines()
+        .map(|line| {
+            line.parse()
+                .map_err(|_| format!("`{line}` is no row count"))
+        })
+        .collect::<Result<Vec<u32>, String>>()?;
+    let given = Given {
+        records: read_text()?,
+        lanes: usize::try_from(lanes).unwrap_or(usize::MAX),
+        counts,
+    };
+    match given.chart() {
+        Ok(text) => print(&text),
+        Err(refusal) => print(format!("refused {refusal}\n").as_bytes()),
+    }
 }
 
 /// What is answered for each block of a file; a file that is too long has one answer for all.

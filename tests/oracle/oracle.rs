@@ -11,6 +11,7 @@
 //! - `sm`: the charts inside an SM file, which the Rust does not know.
 //! - `sheet`: the sheet of a chart in its three forms; `sheet_entry`: its call as it is met from outside.
 //! - `card`: what the program card prints.
+//! - `written`: from notes back to a chart, which the Rust does not have.
 //! - `vectors`: the stored sample of answers; `deciding`: those of its texts that one rule decides.
 //! - `sm_vectors`: the stored sample of SM files; `sm_deciding`: those of its files that one sentence decides.
 
@@ -31,5 +32,6 @@ mod stats;
 mod streams;
 mod timing;
 pub mod vectors;
+pub mod written;
 
 pub use stats::{calls, leaves, timed};

@@ -5,6 +5,7 @@ use crate::asked::read_back_text;
 use crate::calls::{Answer, CALLS, answer};
 use crate::deciding::{Deciding, TEXTS};
 use crate::leaves::parse_minimized_rows;
+use crate::written::Given;
 
 /// The seed of the stored sample.
 pub const SEED: u64 = 4810;
@@ -65,7 +66,23 @@ pub fn record(sample: &Sample) -> Vec<u8> {
         let answer = answer(call, &sample.text, sample.lanes, &sample.flags);
         push_answer(&mut rest, &answer);
     }
+    push_answer(&mut rest, &written(&sample.text, sample.lanes));
     sized(&rest)
+}
+
+/// What is written for the notes and row counts of a text, or of the chart that they make, as an answer: the chart is its text, the counts stand as
+/// its measure contents and the records as its notes.
+#[must_use]
+pub fn written(text: &[u8], lanes: usize) -> Answer {
+    let given = Given::writable(text, lanes);
+    let mut answer = Answer {
+        text: vec![0; given.text_len() as usize],
+        densities: given.counts.clone(),
+        notes: given.records.clone(),
+        ..Answer::default()
+    };
+    given.enter(&mut answer.text, &mut answer.figures);
+    answer
 }
 
 fn push_answer(out: &mut Vec<u8>, answer: &Answer) {

@@ -13,7 +13,7 @@ use std::process::{Command, ExitCode, Stdio};
 
 const HEAD: usize = 24;
 const FIGURES: usize = 256;
-const CALLS: usize = 9;
+const CALLS: usize = 10;
 
 /// The calls that `replay_charts` compares; `replay_figures` has the others.
 const CHART_CALLS: usize = 2;
@@ -157,8 +157,9 @@ fn shows_all(record: &[u8]) -> bool {
             filled.push(last.iter().any(|&byte| byte != 0));
         }
     }
-    // Main: all four; kept: text and measures; timing rows: text and beats; densities; spacing; dropped heads: text and list.
-    filled.into_iter().filter(|&is| is).count() == 4 + 2 + 2 + 1 + 1 + 2
+    // Main: all four; kept: text and measures; timing rows: text and beats; densities; spacing; dropped heads: text and list; what is written: the
+    // text, and the counts and records that are asked.
+    filled.into_iter().filter(|&is| is).count() == 4 + 2 + 2 + 1 + 1 + 2 + 3
 }
 
 fn element(call: usize, kind: usize) -> usize {

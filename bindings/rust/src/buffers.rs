@@ -394,6 +394,36 @@ impl Buffers {
         })
     }
 
+    /// From notes back to a chart: minimised text of note records, ten bytes each, with a row count for each measure. Reading it gives these
+    /// records and counts.
+    ///
+    /// ```
+    /// use padcheck::{Buffers, Refusal};
+    ///
+    /// let mut buffers = Buffers::new();
+    /// let chart = buffers.minimize_chart_count_rows_notes(b"2000\n0000\n3000\n0000\n,\n0100\n", 4)?;
+    /// let records = chart.notes.records().to_vec();
+    /// assert_eq!(buffers.notes_to_chart(&records, 4, &[2, 1])?, b"2000\n3000\n,\n0100\n");
+    /// // The tail stands on the second row.
+    /// assert_eq!(buffers.notes_to_chart(&records, 4, &[1]), Err(Refusal::OtherCounts));
+    /// # Ok::<(), Refusal>(())
+    /// ```
+    ///
+    /// # Errors
+    ///
+    /// [`Refusal::OtherLanes`], [`Refusal::LongText`] of the text to be written, [`Refusal::NoRecord`], [`Refusal::BadRecord`],
+    /// [`Refusal::OutOfOrder`], [`Refusal::NotesMeet`] or [`Refusal::OtherCounts`].
+    pub fn notes_to_chart(
+        &mut self,
+        records: &[u8],
+        lanes: usize,
+        counts: &[u32],
+    ) -> Result<&[u8], Refusal> {
+        let text = part(&mut self.text, Lengths::written(lanes, counts));
+        lent::notes_to_chart(records, lanes, counts, text, &mut self.figures)?;
+        Ok(&self.text[..count(&self.figures, place::TEXT_BYTES)])
+    }
+
     /// The sheet of a chart, in bytes of ASCII. The slice that it is written to has 42 bytes for each byte of the text, of which
     /// memory takes what the sheet has, and stays with the buffers.
     ///

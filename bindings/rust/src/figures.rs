@@ -4,11 +4,11 @@
 pub mod place {
     /// Bytes of the answer in the text slice.
     pub const TEXT_BYTES: usize = 0;
-    /// Measures.
+    /// Measures; of a chart that is written, the counts.
     pub const MEASURES: usize = 1;
-    /// Minimised rows, also the number of beats.
+    /// Minimised rows, also the number of beats; of a chart that is written, the sum of the counts.
     pub const ROWS: usize = 2;
-    /// Note records, or those of dropped heads.
+    /// Note records, those of dropped heads, or those of which a chart is written.
     pub const NOTES: usize = 3;
     /// Last beat, the bits of the `f64`.
     pub const LAST_BEAT: usize = 4;

@@ -73,4 +73,32 @@ impl Lengths {
             sheet: SHEET_BYTES * (len + 1) + SHEET_HEAD,
         }
     }
+
+    /// The bytes of the chart that is written with these row counts ([`lent::notes_to_chart`](crate::lent::notes_to_chart)): L + 1 for each row, and
+    /// 2 between two measures. A text that would be too long and a lane number that is no lane count are refused whatever is lent, so 0 will
+    /// do for them.
+    ///
+    /// ```
+    /// use padcheck::Lengths;
+    ///
+    /// assert_eq!(Lengths::written(4, &[2, 0, 3]), 29);
+    /// assert_eq!((Lengths::written(4, &[0]), Lengths::written(4, &[])), (0, 0));
+    /// assert_eq!(Lengths::written(4, &[u32::MAX; 9]), 0);
+    /// ```
+    #[must_use]
+    pub fn written(lanes: usize, counts: &[u32]) -> usize {
+        if !is_lane_count(lanes) {
+            return 0;
+        }
+        let rows = counts.iter().map(|&count| count as usize);
+        let mut lengths = rows.enumerate().map(|(measure, rows)| {
+            let comma = if measure == 0 { 0 } else { 2 };
+            (lanes + 1) * rows + comma
+        });
+        // It goes no further than the limit, so that no sum is too large.
+        let len = lengths.try_fold(0, |len, more| {
+            Some(len + more).filter(|&len| len <= MAX_LEN)
+        });
+        len.unwrap_or_default()
+    }
 }

@@ -187,6 +187,20 @@ calls! {
         figures: &mut Figures,
     );
 
+    /// From notes back to a chart: minimised text of note records with a row count for each measure.
+    ///
+    /// # Errors
+    ///
+    /// Refusals 12, 1 of the text to be written, 7, 8, 13, 14, 15, and 2, which asks for no byte more than that text has
+    /// ([`Lengths::written`](crate::Lengths::written)).
+    pub fn notes_to_chart(
+        records: &[u8],
+        lanes: usize,
+        counts: &[u32],
+        text: &mut [u8],
+        figures: &mut Figures,
+    );
+
     /// Note record number `index`: row, tail (4,294,967,295 for none), column, kind.
     ///
     /// # Errors

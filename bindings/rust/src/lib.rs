@@ -13,6 +13,8 @@
 //!
 //! [`dropped_holds`] lists the holds and rolls that came to nothing, each with what dropped it.
 //!
+//! [`notes_to_chart`] goes from notes back to a chart: note records and a row count for each measure, written as minimised text.
+//!
 //! [`chart_sheet`] writes a chart's figures out, in the lines of the program card, in columns for the eye, or as JSON.
 //!
 //! [`sm_chart`] and [`sm_charts`] find what any of these is given: the note data of each chart inside an SM file, and its
@@ -45,8 +47,8 @@ pub use lengths::{DROPPED_BYTES, Lengths, MAX_LEN, NOTE_BYTES, is_lane_count};
 pub use note::{ChartNoteType, Notes, ParsedChartNote, read_note};
 pub use owned::{
     OwnedChart, chart_last_beat, chart_sheet, dropped_holds, equally_spaced, measure_densities,
-    minimize_chart_count_rows_notes, minimize_timing_rows, process_chart_kept,
-    process_rows_judgable, process_timing_rows,
+    minimize_chart_count_rows_notes, minimize_timing_rows, notes_to_chart, parsed_notes_to_chart,
+    process_chart_kept, process_rows_judgable, process_timing_rows,
 };
 pub use refusal::Refusal;
 pub use sheet::SheetForm;

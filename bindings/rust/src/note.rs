@@ -29,6 +29,30 @@ pub struct ParsedChartNote {
     pub tail_row_index: Option<usize>,
 }
 
+impl ParsedChartNote {
+    /// The note's record: row and tail of four bytes each, low byte first, column, kind. A row, tail or column that is too large for it becomes
+    /// one that breaks the limit of a record, as it does itself.
+    ///
+    /// ```
+    /// use padcheck::{ChartNoteType, ParsedChartNote, read_note};
+    ///
+    /// let (row_index, tail_row_index) = (3, Some(260));
+    /// let note = ParsedChartNote { row_index, column: 1, note_type: ChartNoteType::Roll, tail_row_index };
+    /// assert_eq!(note.record(), [3, 0, 0, 0, 4, 1, 0, 0, 1, 2]);
+    /// assert_eq!(read_note(&note.record(), 0), Ok(note));
+    /// ```
+    #[must_use]
+    pub fn record(&self) -> [u8; NOTE_BYTES] {
+        // No tail is that which stands for none.
+        let row_bytes = |row: usize| row.min(NO_TAIL as usize - 1) as u32;
+        let tail = self.tail_row_index.map_or(NO_TAIL as u32, row_bytes);
+        let [r0, r1, r2, r3] = row_bytes(self.row_index).to_le_bytes();
+        let [t0, t1, t2, t3] = tail.to_le_bytes();
+        let column = self.column.min(u8::MAX.into()) as u8;
+        [r0, r1, r2, r3, t0, t1, t2, t3, column, self.note_type as u8]
+    }
+}
+
 /// The tail that stands for none in the four places of a note.
 const NO_TAIL: u64 = 4_294_967_295;
 
@@ -160,5 +184,7 @@ mod tests {
         let notes = Notes::new(bytes);
         assert_eq!(notes.len(), records.len());
         assert_eq!(Ok(notes.collect::<Vec<_>>()), read);
+        let written: Vec<_> = Notes::new(bytes).map(|note| note.record()).collect();
+        assert_eq!(written, records);
     }
 }

@@ -208,6 +208,51 @@ pub fn dropped_holds(data: &[u8], lanes: usize) -> Result<Vec<DroppedHead>, Refu
     })
 }
 
+/// From notes back to a chart: minimised text of note records, ten bytes each, with a row count for each measure.
+///
+/// ```
+/// // A tap in column 0 of row 0, and none on the second row and in the second measure.
+/// let record = [0, 0, 0, 0, 255, 255, 255, 255, 0, 0];
+/// let text = padcheck::notes_to_chart(&record, 4, &[1, 0, 1])?;
+/// assert_eq!(text, b"1000\n,\n,\n0000\n");
+/// # Ok::<(), padcheck::Refusal>(())
+/// ```
+///
+/// # Errors
+///
+/// [`Refusal::OtherLanes`], [`Refusal::LongText`] of the text to be written, [`Refusal::NoRecord`], [`Refusal::BadRecord`],
+/// [`Refusal::OutOfOrder`], [`Refusal::NotesMeet`] or [`Refusal::OtherCounts`].
+pub fn notes_to_chart(records: &[u8], lanes: usize, counts: &[u32]) -> Result<Vec<u8>, Refusal> {
+    with_kept(|buffers| {
+        buffers.notes_to_chart(records, lanes, counts)?;
+        Ok(buffers.take_text())
+    })
+}
+
+/// The same of notes as [`minimize_chart_count_rows_notes`] answers them.
+///
+/// ```
+/// let data = b"2000\n0000\n3000\n0000\n,\n0100\n";
+/// let mut notes = padcheck::minimize_chart_count_rows_notes(data, 4)?.notes;
+/// notes[1].column = 3;
+/// let text = padcheck::parsed_notes_to_chart(&notes, 4, &[2, 1])?;
+/// assert_eq!(text, b"2000\n3000\n,\n0001\n");
+/// # Ok::<(), padcheck::Refusal>(())
+/// ```
+///
+/// # Errors
+///
+/// [`Refusal::OtherLanes`], [`Refusal::LongText`] of the text to be written, [`Refusal::BadRecord`], also where a row or column is too large
+/// for a record, [`Refusal::OutOfOrder`], [`Refusal::NotesMeet`] or [`Refusal::OtherCounts`].
+pub fn parsed_notes_to_chart(
+    notes: &[ParsedChartNote],
+    lanes: usize,
+    counts: &[u32],
+) -> Result<Vec<u8>, Refusal> {
+    let records: Vec<_> = notes.iter().map(ParsedChartNote::record).collect();
+    notes_to_chart(records.as_flattened(), lanes, counts)
+}
+
 /// The sheet of a chart, in bytes of ASCII.
 ///
 /// ```

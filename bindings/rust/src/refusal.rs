@@ -23,9 +23,9 @@ use std::fmt;
 #[non_exhaustive]
 #[repr(u32)]
 pub enum Refusal {
-    /// The text or the SM file is longer than [`MAX_LEN`](crate::MAX_LEN).
+    /// The text or the SM file, or the text to be written, is longer than [`MAX_LEN`](crate::MAX_LEN).
     LongText = 1,
-    /// The text slice is shorter than len + 1.
+    /// The text slice is shorter than len + 1, or than the text to be written.
     ShortText = 2,
     /// The measure slice, densities or spacing, is shorter than (len + 1) div 2 + 1.
     ShortMeasures = 3,
@@ -37,7 +37,7 @@ pub enum Refusal {
     ShortNotes = 6,
     /// The records' length is not a multiple of 10, or the asked record's number is not below length div 10.
     NoRecord = 7,
-    /// That record breaks one of the limits of what the writer makes.
+    /// A record breaks one of the limits of what the writer makes.
     BadRecord = 8,
     /// Fewer than five `:` stand in the chart's block of the SM file after its tag.
     FewFields = 9,
@@ -47,6 +47,12 @@ pub enum Refusal {
     NoChart = 11,
     /// The lane number is none of 4, 5, 6, 8 and 10.
     OtherLanes = 12,
+    /// A note does not stand before the next by row, then column, or a column is not below L.
+    OutOfOrder = 13,
+    /// Two notes of a column meet: a cell is wanted twice, or a note stands inside a hold or roll.
+    NotesMeet = 14,
+    /// No count is given, a row or a tail row is not below the sum of the counts, or a measure could be minimised further.
+    OtherCounts = 15,
     /// The sheet slice is shorter than 42 × (len + 1) + 3,000 bytes.
     ShortSheet = 19,
     /// The sheet's form has a number over 2.
@@ -55,7 +61,7 @@ pub enum Refusal {
 
 impl Refusal {
     /// Every refusal, in rising order.
-    pub const ALL: [Self; 14] = [
+    pub const ALL: [Self; 17] = [
         Self::LongText,
         Self::ShortText,
         Self::ShortMeasures,
@@ -68,6 +74,9 @@ impl Refusal {
         Self::OtherType,
         Self::NoChart,
         Self::OtherLanes,
+        Self::OutOfOrder,
+        Self::NotesMeet,
+        Self::OtherCounts,
         Self::ShortSheet,
         Self::OtherForm,
     ];
@@ -94,6 +103,8 @@ impl Refusal {
             Self::FewFields | Self::OtherType => "whoever writes the SM file",
             Self::NoChart => "whoever asks for the chart",
             Self::OtherLanes => "whoever gives the lane number",
+            Self::OutOfOrder | Self::NotesMeet => "whoever edits the notes",
+            Self::OtherCounts => "whoever counts the rows",
         }
     }
 
@@ -102,18 +113,29 @@ impl Refusal {
     #[must_use]
     pub const fn words(self) -> &'static str {
         match self {
-            Self::LongText => "len is over 16,777,215",
-            Self::ShortText => "the text slice is shorter than len + 1",
-            Self::ShortMeasures => "the measure slice is shorter than (len + 1) div 2 + 1",
+            Self::LongText => {
+                "the text or file, or the text to be written, is longer than the call takes"
+            }
+            Self::ShortText => "the text slice is shorter than the call needs",
+            Self::ShortMeasures => "the measure slice is shorter than the call needs",
             Self::ShortBeats => "the beat slice is shorter than R",
             Self::ShortWork => "the work slice is shorter than R",
             Self::ShortNotes => "the note slice is shorter than 10 * L * R",
-            Self::NoRecord => "there is no such note record",
-            Self::BadRecord => "that record breaks a limit",
+            Self::NoRecord => {
+                "the records end in part of a record, or there is none of that number"
+            }
+            Self::BadRecord => "a record breaks a limit",
             Self::FewFields => "the block has fewer than five fields",
             Self::OtherType => "the chart has another type name",
             Self::NoChart => "the file has no such block",
             Self::OtherLanes => "the lane number is none of 4, 5, 6, 8 and 10",
+            Self::OutOfOrder => {
+                "a note does not stand before the next, or its column is not below L"
+            }
+            Self::NotesMeet => "two notes of a column meet",
+            Self::OtherCounts => {
+                "the row counts are not those of the notes, or a measure could be minimised"
+            }
             Self::ShortSheet => "the sheet slice is shorter than 42 * (len + 1) + 3000",
             Self::OtherForm => "the form's number is over 2",
         }

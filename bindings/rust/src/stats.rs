@@ -336,7 +336,7 @@ mod tests {
     }
 
     #[test]
-    #[should_panic(expected = "refused 1: len is over 16,777,215")]
+    #[should_panic(expected = "refused 1: the text or file, or the text to be written, is longer")]
     fn a_longer_text_panics_in_words() {
         let _ = measure_densities(&vec![b'\n'; MAX_LEN + 1], 4);
     }

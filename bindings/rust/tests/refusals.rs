@@ -135,7 +135,7 @@ fn another_lane_number_is_refused_before_all_else() {
     }
 }
 
-/// The ten calls refuse this lane number.
+/// The eleven calls refuse this lane number.
 fn refuses_each(data: &[u8], lanes: usize, loan: &mut Loan) {
     let other = Err(Refusal::OtherLanes);
     assert_eq!(loan.main_call(data, lanes), other);
@@ -167,6 +167,8 @@ fn refuses_each(data: &[u8], lanes: usize, loan: &mut Loan) {
         lent::process_timing_rows(data, lanes, &[0], work, figures),
         other
     );
+    let written = lent::notes_to_chart(&data[..1], lanes, &[], text, figures);
+    assert_eq!(written, other);
 }
 
 #[test]
@@ -335,6 +337,21 @@ fn every_refusal_that_is_met_says_its_number() {
     said(find(b"#NOTES:dance-single:::::;", 1), Refusal::NoChart, 11);
     said(find(&long, 0), Refusal::LongText, 1);
     assert_eq!((note, chart), ([7; 4], [7; 3]));
+    let write = |records: &[u8], counts: &[u32]| {
+        lent::notes_to_chart(records, 4, counts, &mut [], &mut [7; 32])
+    };
+    let tap = [0, 0, 0, 0, 255, 255, 255, 255, 0, 0];
+    said(write(&[], &[u32::MAX]), Refusal::LongText, 1);
+    said(write(&[tap, tap].concat(), &[1]), Refusal::OutOfOrder, 13);
+    let hold = [0, 0, 0, 0, 1, 0, 0, 0, 0, 1];
+    let at_tail = [1, 0, 0, 0, 255, 255, 255, 255, 0, 0];
+    said(
+        write(&[hold, at_tail].concat(), &[2]),
+        Refusal::NotesMeet,
+        14,
+    );
+    said(write(&hold, &[1]), Refusal::OtherCounts, 15);
+    said(write(&hold, &[2]), Refusal::ShortText, 2);
     let mut sheet = |form| loan.chart_sheet(DATA, 4, form);
     said(sheet(3), Refusal::OtherForm, 20);
     loan.shorten(Lent::Sheet);

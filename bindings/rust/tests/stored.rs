@@ -6,8 +6,8 @@ mod reader;
 
 use padcheck::stats::ChartNotesScratch;
 use padcheck::{
-    ArrowStats, Buffers, ChartNoteType, DropCause, DroppedHead, Figures, KeptChart,
-    ParsedChartNote, place,
+    ArrowStats, Buffers, ChartNoteType, DropCause, DroppedHead, Figures, KeptChart, Lengths,
+    ParsedChartNote, lent, place,
 };
 use reader::Reader;
 use std::fs;
@@ -40,7 +40,7 @@ struct Record<'a> {
     lanes: usize,
     text: &'a [u8],
     flags: &'a [u8],
-    answers: [Answer<'a>; 9],
+    answers: [Answer<'a>; 10],
 }
 
 /// Places of the answers in a record.
@@ -53,6 +53,7 @@ const LAST_BEAT: usize = 5;
 const JUDGED: usize = 6;
 const FLAGGED: usize = 7;
 const DROPPED: usize = 8;
+const WRITTEN: usize = 9;
 
 fn answer<'a>(reader: &mut Reader<'a>) -> Answer<'a> {
     let figures = std::array::from_fn(|_| reader.number(8));
@@ -344,4 +345,28 @@ fn stored_heads(records: &[u8]) -> Vec<DroppedHead> {
         heads.push(DroppedHead { row, column, cause });
     }
     heads
+}
+
+/// The chart that is written for stored records, which stand as an answer's notes, and row counts, which stand as its densities.
+#[test]
+fn written_charts() {
+    let mut buffers = Buffers::new();
+    each_record(|record| {
+        let answer = &record.answers[WRITTEN];
+        let (records, lanes) = (answer.notes, record.lanes);
+        let counts: Vec<u32> = words(answer.measures).collect();
+        assert_eq!(Lengths::written(lanes, &counts), answer.text.len());
+        let mut text = vec![7; answer.text.len()];
+        let mut figures = [7; 32];
+        let written = lent::notes_to_chart(records, lanes, &counts, &mut text, &mut figures);
+        assert_eq!(written, Ok(()));
+        assert_eq!((&text[..], figures), (answer.text, answer.figures));
+        let kept = buffers.notes_to_chart(records, lanes, &counts);
+        assert_eq!(kept, Ok(answer.text));
+        let owned = padcheck::notes_to_chart(records, lanes, &counts);
+        assert_eq!(owned.as_deref(), Ok(answer.text));
+        let notes = stored_notes(records);
+        let owned = padcheck::parsed_notes_to_chart(&notes, lanes, &counts);
+        assert_eq!(owned.as_deref(), Ok(answer.text));
+    });
 }

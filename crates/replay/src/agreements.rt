@@ -11,6 +11,7 @@ use scans::last_beat::chart_last_beat_impl;
 use scans::spacing::equally_spaced_impl;
 use stored::{Answer, Record, lent};
 use timing::minimize_timing_rows;
+use written::notes_to_chart;
 
 /// The main call.
 pub fn main_agrees(record: &Record, stored: &Answer) -> bool {
@@ -106,6 +107,24 @@ pub fn dropped_agrees(record: &Record, stored: &Answer) -> bool {
     has_figures(answered, stored)
         && same_bytes(&text, stored.text)
         && same_bytes(&list, stored.notes)
+}
+
+/// The chart that is written for stored records and row counts, at most 2,049 of them.
+pub fn written_agrees(record: &Record, stored: &Answer) -> bool {
+    let (given, after) = stored.measures.as_chunks::<4>();
+    let mut counts = [0; 2049];
+    if given.len() > counts.len() {
+        return false;
+    }
+    for (i, count) in given.iter().enumerate() {
+        if i < counts.len() {
+            counts[i] = u32::from_le_bytes(*count);
+        }
+    }
+    let mut text = lent::text();
+    let counts = &counts[..given.len()];
+    let answered = notes_to_chart(stored.notes, record.lanes, counts, &mut text);
+    after.is_empty() && has_figures(answered, stored) && same_bytes(&text, stored.text)
 }
 
 // Whether a call was accepted, with the figures that are stored.

@@ -14,6 +14,7 @@ pub enum Call {
     Judged,
     Flagged,
     Dropped,
+    Written,
 }
 
 impl Call {
@@ -30,6 +31,7 @@ impl Call {
             Call::Judged => agreements::judged_agrees(record, &answers.judged),
             Call::Flagged => agreements::flagged_agrees(record, &answers.flagged),
             Call::Dropped => agreements::dropped_agrees(record, &answers.dropped),
+            Call::Written => agreements::written_agrees(record, &answers.written),
         }
     }
 }

@@ -1,5 +1,5 @@
 // Replays the stored sample of the Rust's answers (tests/vectors/README.md), which it reads from standard input, with the timing rows, the scans,
-// the judged calls and the list of dropped heads.
+// the judged calls, the list of dropped heads and the chart that is written from notes.
 #![tactic(auto)]
 
 use replay::Call;
@@ -14,6 +14,7 @@ fn main(rt: HostRuntime) -> io::Result<()> {
         Call::Judged,
         Call::Flagged,
         Call::Dropped,
+        Call::Written,
     ];
     replay::replay_texts(&rt, &calls)
 }

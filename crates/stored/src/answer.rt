@@ -50,17 +50,18 @@ pub struct Answers<'a> {
     pub judged: Answer<'a>,
     pub flagged: Answer<'a>,
     pub dropped: Answer<'a>,
+    pub written: Answer<'a>,
 }
 
 impl<'a> Answers<'a> {
     ghost use Rattle.stored.specs.Layout.{Begins, answers_bytes, answers_length};
 
-    /// The nine answers at the front of `rest`, which keeps what follows them.
+    /// The ten answers at the front of `rest`, which keeps what follows them.
     pub fn read(rest: &mut &'a [u8]) -> Option<Answers<'a>>
         ensures value { IfSome result (λ a. Begins rest.old.now (answers_bytes a) rest.new.now) }
         ensures after { IfSome result (λ _. length rest.old.now
-            ≡ answers_length 9 rest.old.now + length rest.new.now) }
-        ensures variant { IsSome result ↔ (answers_length 9 rest.old.now ≤ length rest.old.now) }
+            ≡ answers_length 10 rest.old.now + length rest.new.now) }
+        ensures variant { IsSome result ↔ (answers_length 10 rest.old.now ≤ length rest.old.now) }
     {
         Some(Answers {
             main: Answer::read(rest)?,
@@ -72,6 +73,7 @@ impl<'a> Answers<'a> {
             judged: Answer::read(rest)?,
             flagged: Answer::read(rest)?,
             dropped: Answer::read(rest)?,
+            written: Answer::read(rest)?,
         })
     }
 }
