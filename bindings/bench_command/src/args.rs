@@ -20,6 +20,8 @@ pub enum Request {
     Dropped(Sheet),
     /// Records and beats of a chart.
     Rig(Rig),
+    /// From notes back to a chart.
+    Write(Write),
     /// Two files side by side.
     Diff(Diff),
 }
@@ -47,7 +49,16 @@ pub struct Rig {
     pub selection: Selection,
     pub notes: PathBuf,
     pub beats: PathBuf,
+    pub rows: Option<PathBuf>,
     pub force: bool,
+}
+
+/// `padcheck write`.
+#[derive(Debug, PartialEq)]
+pub struct Write {
+    pub notes: PathBuf,
+    pub rows: PathBuf,
+    pub lanes: usize,
 }
 
 /// `padcheck diff`.
@@ -62,7 +73,9 @@ pub struct Diff {
 /// What the arguments ask for, or a line that says what is wrong with them.
 pub fn request(mut words: impl Iterator<Item = OsString>) -> Result<Request, String> {
     let Some(word) = words.next() else {
-        return Err(usage("charts, sheet, dropped, rig or diff is wanted"));
+        return Err(usage(
+            "charts, sheet, dropped, rig, write or diff is wanted",
+        ));
     };
     let word = word.to_string_lossy().into_owned();
     let (help, known): (&str, &[&str]) = match &*word {
@@ -73,13 +86,16 @@ pub fn request(mut words: impl Iterator<Item = OsString>) -> Result<Request, Str
         "dropped" => (help::DROPPED, &["--chart", "--lanes", "--form", "--force"]),
         "rig" => (
             help::RIG,
-            &["--chart", "--lanes", "--notes", "--beats", "--force"],
+            &[
+                "--chart", "--lanes", "--notes", "--beats", "--rows", "--force",
+            ],
         ),
+        "write" => (help::WRITE, &["--lanes"]),
         "diff" => (help::DIFF, &["--chart", "--lanes", "--force"]),
         _ => {
             let word = word.escape_debug();
             return Err(usage(&format!(
-                "`{word}` is no word; the words are charts, sheet, dropped, rig and diff"
+                "`{word}` is no word; the words are charts, sheet, dropped, rig, write and diff"
             )));
         }
     };
@@ -92,6 +108,7 @@ pub fn request(mut words: impl Iterator<Item = OsString>) -> Result<Request, Str
             "sheet" => options.sheet().map(Request::Sheet),
             "dropped" => options.dropped(),
             "rig" => options.rig(),
+            "write" => options.write(),
             _ => options.diff(),
         }
     });
@@ -111,6 +128,7 @@ struct Options {
     form: Option<SheetForm>,
     notes: Option<PathBuf>,
     beats: Option<PathBuf>,
+    rows: Option<PathBuf>,
     force: bool,
     help: bool,
 }
@@ -156,6 +174,7 @@ impl Options {
             "--lanes" => self.lanes.replace(number(name, &value)?).is_some(),
             "--form" => self.form.replace(form(&value)?).is_some(),
             "--notes" => self.notes.replace(value.into()).is_some(),
+            "--rows" => self.rows.replace(value.into()).is_some(),
             _ => self.beats.replace(value.into()).is_some(),
         };
         if taken {
@@ -226,8 +245,16 @@ impl Options {
             selection,
             notes,
             beats,
+            rows: self.rows,
             force: self.force,
         }))
+    }
+
+    fn write(self) -> Result<Request, String> {
+        let lanes = self.lanes.ok_or("--lanes N is wanted")?;
+        let [notes, rows] = <[PathBuf; 2]>::try_from(self.files)
+            .map_err(|files| format!("two files are wanted, not {}", files.len()))?;
+        Ok(Request::Write(Write { notes, rows, lanes }))
     }
 
     fn diff(self) -> Result<Request, String> {
@@ -320,12 +347,28 @@ mod tests {
     }
 
     #[test]
+    fn notes_and_rows_are_written_with_lanes() {
+        for words in ["write n r --lanes 7", "write --lanes=7 n r"] {
+            let want = Write {
+                notes: PathBuf::from("n"),
+                rows: PathBuf::from("r"),
+                lanes: 7,
+            };
+            assert_eq!(asked(words), Ok(Request::Write(want)));
+        }
+        let Ok(Request::Rig(rig)) = asked("rig a --chart 0 --notes n --beats b --rows r") else {
+            panic!("rig takes rows");
+        };
+        assert_eq!(rig.rows, Some(PathBuf::from("r")));
+    }
+
+    #[test]
     fn what_is_wrong_is_said() {
         let wrong = [
-            ("", "charts, sheet, dropped, rig or diff is wanted"),
+            ("", "charts, sheet, dropped, rig, write or diff is wanted"),
             (
                 "print a",
-                "`print` is no word; the words are charts, sheet, dropped, rig and diff;",
+                "`print` is no word; the words are charts, sheet, dropped, rig, write and diff;",
             ),
             ("charts", "charts: a file is wanted"),
             ("charts a --chart 0", "`--chart` is not known here"),
@@ -359,6 +402,10 @@ mod tests {
                 "rig a b --chart 0 --notes c --beats d",
                 "one file is wanted, not 2",
             ),
+            ("write a b", "--lanes N is wanted"),
+            ("write a --lanes 4", "two files are wanted, not 1"),
+            ("write a b c --lanes 4", "two files are wanted, not 3"),
+            ("write a b --chart 0", "`--chart` is not known here"),
             ("diff a", "two files are wanted, not 1"),
         ];
         for (words, message) in wrong {
@@ -370,7 +417,7 @@ mod tests {
 
     #[test]
     fn help_is_given_for_each_word() {
-        for word in ["charts", "sheet", "dropped", "rig", "diff"] {
+        for word in ["charts", "sheet", "dropped", "rig", "write", "diff"] {
             let Ok(Request::Text(text)) = asked(&format!("{word} --help")) else {
                 panic!("{word} has no help");
             };

@@ -1,7 +1,7 @@
 //! What `--help` and `--version` print.
 
 /// The version of the library, which is that of the binding and of padcheck.h.
-pub const LIBRARY: &str = "0.2.0";
+pub const LIBRARY: &str = "0.3.0";
 
 /// The identity of the Rattle kit with which the library was proved.
 pub const KIT: &str = "rattle-kit-13f logic dac8208d650f15bf";
@@ -20,6 +20,7 @@ padcheck WORD ...
   sheet FILE...          the sheet of each chart, to be checked and initialled
   dropped FILE...        which holds and rolls of a chart came to nothing, and why
   rig FILE               note records and row beats of a chart, for the rig
+  write NOTES ROWS       the note data of note records and row counts
   diff OLD NEW           which measures of a chart differ, and what stays the same
   --help, WORD --help    this, or more on one word
   --version              versions of the program and library, and the kit's identity
@@ -110,8 +111,8 @@ padcheck sheet.
 
 /// The word `rig`.
 pub const RIG: &str = "\
-padcheck rig FILE --chart K --notes OUT --beats OUT [--force]
-padcheck rig FILE --lanes N --notes OUT --beats OUT [--force]
+padcheck rig FILE --chart K --notes OUT --beats OUT [--rows OUT] [--force]
+padcheck rig FILE --lanes N --notes OUT --beats OUT [--rows OUT] [--force]
 
 Writes what the rig reads of chart K of an SM file, or with --lanes of bare note data.
 
@@ -119,13 +120,34 @@ Writes what the rig reads of chart K of an SM file, or with --lanes of bare note
                 first, column, kind (0 tap, 1 hold, 2 roll, 3 mine, 4 lift, 5 fake);
                 the tail is 4294967295 where there is none
   --beats OUT   the beat of each row, a float of 4 bytes, low byte first
+  --rows OUT    the row count of each measure after minimising, one on each line, as
+                padcheck write reads them
   --force       takes doubtful note data all the same, and says so behind `forced:` (see
                 padcheck sheet --help)
 
-Both are written to new files, which take these names when both are whole: first the
-old beats and notes are removed, then the new notes take their name, then the new
-beats. Whenever it is killed, both files are the old ones, both are the new ones, or
-one is missing. What is printed is printed when both stand.
+All are written to new files, which take these names when all are whole: first the old
+rows, beats and notes are removed, then the new notes take their name, then the new
+beats, then the new rows. Whenever it is killed, all files are the old ones, all are the
+new ones, or one is missing. What is printed is printed when all stand.
+";
+
+/// The word `write`.
+pub const WRITE: &str = "\
+padcheck write NOTES ROWS --lanes N
+
+Prints the note data of a chart with N lanes: minimised text, without a ; at its end.
+Reading it gives these notes and rows.
+
+  NOTES   note records, as padcheck rig writes them, also when they have been edited: in
+          rising row, then column, and none twice
+  ROWS    the row count of each measure, one on each line: a number in digits
+
+A tap is a 1, a hold a 2, a roll a 4, a mine M, a lift L, a fake F, and a tail a 3. What
+a chart has besides does not come back: K, m, l and f, other letters, heads without a
+tail and tails without a head.
+
+The exit status is 1 where the library refuses them, with its number and words on
+standard error, and 2 where ROWS is no list of row counts.
 ";
 
 /// The word `diff`.
@@ -166,7 +188,7 @@ mod tests {
 
     #[test]
     fn help_fits_on_a_page() {
-        for text in [WHOLE, CHARTS, SHEET, DROPPED, RIG, DIFF] {
+        for text in [WHOLE, CHARTS, SHEET, DROPPED, RIG, WRITE, DIFF] {
             assert!(text.lines().all(|line| line.chars().count() <= 90));
             assert!(text.ends_with('\n'));
         }

@@ -9,21 +9,26 @@ use std::path::Path;
 
 /// A file's bytes; of one that is too long just enough to be refused.
 pub fn contents(path: &Path) -> Result<Vec<u8>, String> {
-    read(path).map_err(|error| format!("cannot read {}: {error}", shown(path)))
+    contents_to(path, MAX_LEN)
 }
 
-fn read(path: &Path) -> Result<Vec<u8>, Box<dyn Error>> {
+/// The same of a file that is too long with more bytes than these.
+pub fn contents_to(path: &Path, most: usize) -> Result<Vec<u8>, String> {
+    read(path, most).map_err(|error| format!("cannot read {}: {error}", shown(path)))
+}
+
+fn read(path: &Path, most: usize) -> Result<Vec<u8>, Box<dyn Error>> {
     let file = File::open(path)?;
     let found = file.metadata()?;
-    let length = usize::try_from(found.len()).unwrap_or(MAX_LEN);
+    let length = usize::try_from(found.len()).unwrap_or(most);
     // A pipe or a device does not say how long it is.
     let length = if found.is_file() {
-        length.min(MAX_LEN)
+        length.min(most)
     } else {
-        MAX_LEN
+        most
     };
     let mut data = room(length + 1)?;
-    file.take(MAX_LEN as u64 + 1).read_to_end(&mut data)?;
+    file.take(most as u64 + 1).read_to_end(&mut data)?;
     Ok(data)
 }
 

@@ -20,13 +20,14 @@ mod memory;
 mod missed;
 mod odd;
 mod output;
-mod pair;
 mod processor;
 mod rig;
 mod select;
 mod sheet;
 mod slices;
+mod together;
 mod unnamed;
+mod write;
 
 use args::Request;
 use output::{Status, complain};
@@ -74,6 +75,7 @@ fn run(request: &Request, out: &mut dyn Write) -> io::Result<Status> {
         Request::Sheet(asked) => sheet::run(asked, out),
         Request::Dropped(asked) => dropped::run(asked, out),
         Request::Rig(asked) => rig::run(asked, out),
+        Request::Write(asked) => write::run(asked, out),
         Request::Diff(asked) => diff::run(asked, out),
     }
 }

@@ -1,5 +1,6 @@
 //! What the program ends with, and the lines that it writes to standard error.
 
+use crate::left::Left;
 use std::fmt::Display;
 use std::io::{self, Write};
 use std::process::ExitCode;
@@ -47,6 +48,18 @@ pub fn remark(out: &mut dyn Write, whose: &str, what: &dyn Display) -> io::Resul
     out.flush()?;
     complain(&format!("{whose}: {what}"));
     Ok(())
+}
+
+/// Says on standard error why nothing is written or printed.
+pub fn left_out(whose: &str, left: &Left, out: &mut dyn Write) -> io::Result<Status> {
+    match left {
+        Left::Refused(refusal, words) => {
+            complain(&format!("{whose} refused {}: {words}", refusal.number()));
+            Ok(Status::Refused)
+        }
+        Left::Doubtful(why) => doubtful(out, whose, why),
+        Left::NoMemory(lack) => fault(out, &format!("{whose}: {lack}")),
+    }
 }
 
 #[cfg(test)]

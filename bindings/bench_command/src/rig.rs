@@ -1,14 +1,14 @@
-//! The word `rig`: note records and row beats in files, each whole or not there.
+//! The word `rig`: note records, row beats and row counts in files, each whole or not there.
 
 use crate::args::Rig;
 use crate::charts::shortened;
 use crate::input::{contents, shown};
 use crate::left::Left;
 use crate::memory::room;
-use crate::output::{Status, complain, doubtful, fault, remark};
-use crate::pair::{Pair, check_targets};
+use crate::output::{Status, fault, left_out, remark};
 use crate::select::selected;
 use crate::slices::Slices;
+use crate::together::{Output, Together, check_targets};
 use padcheck::NOTE_BYTES;
 use std::io::{self, Write};
 use std::path::Path;
@@ -33,22 +33,31 @@ pub fn run(asked: &Rig, out: &mut dyn Write) -> io::Result<Status> {
     let mut slices = Slices::default();
     let taken = chart.taken(asked.force).and_then(|taken| {
         let beats = rig_beats(taken.data, taken.lanes, &mut slices)?;
-        Ok((taken, beats))
+        let rows = match asked.rows {
+            Some(_) => rig_rows(taken.lanes, &slices)?,
+            None => Vec::new(),
+        };
+        Ok((taken, beats, rows))
     });
-    let (taken, beats) = match taken {
+    let (taken, beats, rows) = match taken {
         Ok(taken) => taken,
         Err(left) => return left_out(&title, &left, out),
     };
     if let Some(odd) = taken.odd {
         remark(out, &title, &odd)?;
     }
-    let notes = slices.records();
-    let checked = check_targets(&asked.file, &asked.notes, &asked.beats);
-    let pair = checked.and_then(|()| Pair::write(&asked.notes, notes, &asked.beats, &beats));
-    if let Err(message) = pair.and_then(Pair::take_names) {
+    let mut outputs = vec![
+        output("--notes", &asked.notes, slices.records()),
+        output("--beats", &asked.beats, &beats),
+    ];
+    let rows_path = asked.rows.as_deref();
+    outputs.extend(rows_path.map(|path| output("--rows", path, &rows)));
+    let checked = check_targets(&asked.file, &outputs);
+    let written = checked.and_then(|()| Together::write(&outputs));
+    if let Err(message) = written.and_then(Together::take_names) {
         return fault(out, &message);
     }
-    // Nothing is said before both files stand.
+    // Nothing is said before all files stand.
     let name = chart.chart.map_or(&b""[..], |(_, name)| name);
     let kind = format!("{title} {}", shortened(name));
     write!(out, "{}, {} lanes", kind.trim_end(), taken.lanes)?;
@@ -56,32 +65,25 @@ pub fn run(asked: &Rig, out: &mut dyn Write) -> io::Result<Status> {
         write!(out, "; forced: {why}")?;
     }
     writeln!(out)?;
-    report(out, &asked.notes, notes.len(), NOTE_BYTES, "note records")?;
-    report(out, &asked.beats, beats.len(), BEAT_BYTES, "row beats")?;
+    let notes = slices.records().len() / NOTE_BYTES;
+    let each = [
+        (notes, "note records"),
+        (beats.len() / BEAT_BYTES, "row beats"),
+        (slices.measure_count(), "row counts"),
+    ];
+    for (output, (count, what)) in outputs.iter().zip(each) {
+        let (path, bytes) = (shown(output.path), output.bytes.len());
+        writeln!(out, "{path}: {count} {what}, {bytes} bytes")?;
+    }
     Ok(Status::Done)
 }
 
-/// Says on standard error why nothing is written.
-fn left_out(whose: &str, left: &Left, out: &mut dyn Write) -> io::Result<Status> {
-    match left {
-        Left::Refused(refusal, words) => {
-            complain(&format!("{whose} refused {}: {words}", refusal.number()));
-            Ok(Status::Refused)
-        }
-        Left::Doubtful(why) => doubtful(out, whose, why),
-        Left::NoMemory(lack) => fault(out, &format!("{whose}: {lack}")),
+fn output<'a>(option: &'a str, path: &'a Path, bytes: &'a [u8]) -> Output<'a> {
+    Output {
+        option,
+        path,
+        bytes,
     }
-}
-
-fn report(
-    out: &mut dyn Write,
-    path: &Path,
-    bytes: usize,
-    each: usize,
-    what: &str,
-) -> io::Result<()> {
-    let (path, count) = (shown(path), bytes / each);
-    writeln!(out, "{path}: {count} {what}, {bytes} bytes")
 }
 
 /// Makes the main call, and answers the row beats as they stand in the file; the note records stand in the slices.
@@ -94,9 +96,30 @@ fn rig_beats(data: &[u8], lanes: usize, slices: &mut Slices) -> Result<Vec<u8>, 
     Ok(bytes)
 }
 
+/// The most digits of a row count, and the end of its line.
+const ROW_COUNT_BYTES: usize = 8;
+
+/// The row count of each measure of the chart that stands in the slices, one on each line.
+fn rig_rows(lanes: usize, slices: &Slices) -> Result<Vec<u8>, Left> {
+    let counts = slices.row_counts(lanes)?;
+    let mut lines = room(ROW_COUNT_BYTES * counts.len())?;
+    for count in counts {
+        lines.extend(format!("{count}\n").into_bytes());
+    }
+    Ok(lines)
+}
+
 #[cfg(test)]
 mod tests {
     use super::*;
+
+    #[test]
+    fn a_row_count_stands_on_each_line() {
+        let mut slices = Slices::default();
+        let data = b"0000\n2001\n3000\n,\n,\n0100\n0000\n";
+        rig_beats(data, 4, &mut slices).unwrap();
+        assert_eq!(rig_rows(4, &slices).as_deref(), Ok(&b"3\n0\n1\n"[..]));
+    }
 
     #[test]
     fn records_and_beats_have_their_low_byte_first() {

@@ -1,7 +1,7 @@
 //! What the library is lent, kept from one chart to the next. Each slice is as long as the longest chart so far needs.
 
 use crate::left::Left;
-use crate::memory::part;
+use crate::memory::{NoMemory, part, room};
 use padcheck::{Figures, Lengths, NOTE_BYTES, SheetForm, lent, place};
 
 /// The slices that are lent to a call, and after it its answers.
@@ -53,6 +53,18 @@ impl Slices {
         Ok(())
     }
 
+    /// Writes the chart of note records with these row counts.
+    pub fn notes_to_chart(
+        &mut self,
+        records: &[u8],
+        lanes: usize,
+        counts: &[u32],
+    ) -> Result<(), Left> {
+        let text = part(&mut self.text, Lengths::written(lanes, counts))?;
+        lent::notes_to_chart(records, lanes, counts, text, &mut self.figures)?;
+        Ok(())
+    }
+
     /// Asks for the heads that come to nothing, whose records stand where those of the notes do, and for the beats of the rows.
     pub fn dropped_holds(&mut self, data: &[u8], lanes: usize) -> Result<(), Left> {
         let lengths = Lengths::of(data.len(), lanes);
@@ -93,6 +105,22 @@ impl Slices {
     /// Minimised text.
     pub fn text(&self) -> &[u8] {
         &self.text[..self.count(place::TEXT_BYTES)]
+    }
+
+    /// How many rows each measure of the minimised text has. No row of it begins with `,`.
+    pub fn row_counts(&self, lanes: usize) -> Result<Vec<u32>, NoMemory> {
+        let mut counts = room(self.measure_count())?;
+        let (mut rows, mut rest) = (0, self.text());
+        while let Some(first) = rest.first() {
+            if *first == b',' {
+                counts.push(rows);
+                (rows, rest) = (0, &rest[2..]);
+            } else {
+                (rows, rest) = (rows + 1, &rest[lanes + 1..]);
+            }
+        }
+        counts.push(rows);
+        Ok(counts)
     }
 
     /// How many measures there are.
@@ -161,6 +189,25 @@ mod tests {
             assert_eq!(slices.spacing().len(), densities.len());
         }
         assert_eq!((slices.beats(), slices.last_in_48ths()), (&[0.0][..], 0));
+    }
+
+    #[test]
+    fn rows_are_counted_by_measure_and_written_again() {
+        let mut slices = Slices::default();
+        for (data, counts) in [
+            (&b"1000\n0100\n,\n,\n2000\n0000\n3000\n"[..], &[2, 0, 3][..]),
+            (b"", &[0]),
+            (b",\n", &[0, 0]),
+            (b"0,00\n,\n;,00\n", &[1, 0]),
+        ] {
+            slices.main_call(data, 4).unwrap();
+            assert_eq!(slices.row_counts(4).as_deref(), Ok(counts));
+        }
+        let data = b"1000\n0100\n,\n,\n2000\n0000\n3000\n";
+        slices.main_call(data, 4).unwrap();
+        let records = slices.records().to_vec();
+        slices.notes_to_chart(&records, 4, &[2, 0, 3]).unwrap();
+        assert_eq!(slices.text(), data);
     }
 
     #[test]

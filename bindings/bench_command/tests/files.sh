@@ -1,4 +1,4 @@
-# To be sourced by test.sh: files of the greatest length, and what rig leaves behind.
+# To be sourced by test.sh: files of the greatest length, what rig leaves behind, and the way round with write.
 
 # 16,777,215 bytes are 3,355,443 rows of 4 lanes, a tap each; one byte more is refused.
 yes 1000 | head -c 16777215 >"$out/longest"
@@ -8,8 +8,8 @@ head -n 8 "$out/stdout" | diff "$out/wanted" - || failed "the longest text"
 awk 'NR > 8 && $0 != "n " NR - 9 " 0 0 -" { exit 1 } END { if (NR != 3355451) exit 1 }' "$out/stdout" ||
     failed "the notes of the longest text"
 printf '\n' >>"$out/longest"
-printed 1 "refused 1: len is over 16,777,215, by whoever wires up the call" sheet "$out/longest" --lanes 4
-printed 1 "refused 1: len is over 16,777,215, by whoever wires up the call" diff "$out/longest" "$out/longest" --lanes 4
+printed 1 "refused 1: the text or file, or the text to be written, is longer" sheet "$out/longest" --lanes 4
+printed 1 "refused 1: the text or file, or the text to be written, is longer" diff "$out/longest" "$out/longest" --lanes 4
 {
     printf '#NOTES:dance-single:::::\n'
     yes 0001 | head -c 16777185
@@ -101,3 +101,78 @@ for output in closed full; do
     closed) cmp "$out/notes.bin" "$notes" || failed "rig changed a file" ;;
     esac
 done
+
+# With --rows there are three files, and what is written for them reads as them, beside the oracle's text. Nothing is lost where a chart has neither
+# K, m, l and f nor heads and tails that nothing pairs.
+round=$out/round
+mkdir "$round"
+way_round() {
+    chart_lanes=$1
+    shift
+    run 0 rig "$@" --notes "$round/notes" --beats "$round/beats" --rows "$round/rows"
+    tail -n 1 "$out/stdout" | grep -qF "rows: $(wc -l <"$round/rows") row counts, $(wc -c <"$round/rows") bytes" || failed "rig does not tell of its rows"
+    run 0 write "$round/notes" "$round/rows" --lanes "$chart_lanes"
+    cp "$out/stdout" "$round/text"
+    target/oracle/oracle write "$chart_lanes" "$round/rows" <"$round/notes" | cmp - "$round/text" || failed "the oracle writes another text"
+    run 0 rig "$round/text" --lanes "$chart_lanes" --notes "$round/notes.2" --beats "$round/beats.2" --rows "$round/rows.2"
+    for file in notes beats rows; do
+        cmp "$round/$file" "$round/$file.2" || failed "$file of what was written"
+    done
+    passed=$((passed + 1))
+}
+way_round 4 "$sm" --chart 0
+printf '4\n8\n4\n4\n' | diff - "$round/rows" || failed "the row counts"
+way_round 8 "$sm" --chart 2
+way_round 6 bindings/bench_command/tests/given/solo.sm --chart 0
+way_round 4 "$chart" --lanes 4
+printf '1000\n,\n,\n0001\n0000\n' >"$round/empty_measure"
+way_round 4 "$round/empty_measure" --lanes 4
+printf '1\n0\n1\n' | diff - "$round/rows" || failed "the counts of measures without rows"
+passed=$((passed + 2))
+
+# An edit of the notes is the edit of the text; each refusal is told in a line, and nothing is printed.
+run 0 rig "$sm" --chart 2 --notes "$round/notes" --beats "$round/beats" --rows "$round/rows"
+patched() {
+    cp "$round/notes" "$round/edited"
+    printf "$2" | dd of="$round/edited" bs=1 seek="$1" conv=notrunc status=none
+}
+patched 8 '\007'
+run 0 write "$round/notes" "$round/rows" --lanes 8
+sed '1s/10000000/00000001/' "$out/stdout" >"$round/text"
+run 0 write "$round/edited" "$round/rows" --lanes 8
+diff "$round/text" "$out/stdout" || failed "the edited chart"
+passed=$((passed + 1))
+refused() {
+    told 1 "refused $1: " write "$round/edited" "$2" --lanes 8
+}
+patched 9 '\006'
+refused 8 "$round/rows"
+patched 8 '\010'
+refused 13 "$round/rows"
+patched 0 '\002'
+refused 13 "$round/rows"
+cp "$round/notes" "$round/edited"
+: >"$round/none"
+refused 15 "$round/none"
+echo 4294967295 >"$round/many"
+refused 1 "$round/many"
+printf 0 >>"$round/edited"
+refused 7 "$round/rows"
+# A tap at the row and column of the roll's tail, of which the fifth note is the head.
+printf '\006\0\0\0\377\377\377\377\002\0' >"$round/tap"
+{ head -c 60 "$round/notes"; cat "$round/tap"; } >"$round/edited"
+refused 14 "$round/rows"
+
+# 16,777,215 bytes are written, and no byte more; the longest list of counts has an empty measure for each line.
+echo 3355443 >"$round/longest"
+run 0 write "$out/empty" "$round/longest" --lanes 4
+[ "$(wc -c <"$out/stdout")" -eq 16777215 ] || failed "the longest text that is written"
+printf '3355441\n1\n0\n0\n' >"$round/longest"
+told 1 "refused 1: the text or file, or the text to be written, is longer" write "$out/empty" "$round/longest" --lanes 4
+yes 0 | head -n 8388608 >"$round/longest"
+run 0 write "$out/empty" "$round/longest" --lanes 5
+[ "$(wc -c <"$out/stdout")" -eq 16777214 ] || failed "the text of the most measures"
+echo 0 >>"$round/longest"
+told 1 "refused 1: " write "$out/empty" "$round/longest" --lanes 5
+rm "$round/longest" "$out/stdout"
+passed=$((passed + 2))

@@ -11,7 +11,7 @@ within() {
     2)
         lacking=$((lacking + 1))
         one_line "no memory for " "$* within $space"
-        grep -Eq '^padcheck: (cannot read )?[^ ]+( chart [0-9]+)?: no memory for [0-9]+ bytes$' "$out/stderr" ||
+        grep -Eq '^padcheck: (cannot read )?[^ ]+( chart [0-9]+| with [^ ]+)?: no memory for [0-9]+ bytes$' "$out/stderr" ||
             failed "padcheck $* within $space: not the file and the bytes"
         ;;
     *) failed "padcheck $* within $space: status $status" ;;
@@ -27,6 +27,8 @@ yes '#NOTES:;' | head -c 4000000 >"$out/many.sm"
     printf '#NOTES:dance-single:::::\n'
     cat "$out/rows"
 } >"$out/one.sm"
+# Notes of 4 MB, which are a chart of 1 MB.
+run 0 rig "$out/one.sm" --chart 0 --notes "$out/many.notes" --beats "$out/b" --rows "$out/many.rows"
 lacking=0
 for space in 8000 16000 32000 64000 100000 150000 250000 400000; do
     within "$space" charts "$out/many.sm"
@@ -34,7 +36,9 @@ for space in 8000 16000 32000 64000 100000 150000 250000 400000; do
     within "$space" sheet "$out/measures" --lanes 10 --force
     within "$space" dropped "$out/one.sm"
     within "$space" dropped "$out/measures" --lanes 10 --force --form json
-    within "$space" rig "$out/one.sm" --chart 0 --notes "$out/n" --beats "$out/b"
+    within "$space" rig "$out/one.sm" --chart 0 --notes "$out/n" --beats "$out/b" --rows "$out/r"
+    within "$space" rig "$out/measures" --lanes 10 --force --notes "$out/n" --beats "$out/b" --rows "$out/r"
+    within "$space" write "$out/many.notes" "$out/many.rows" --lanes 4
     within "$space" diff "$out/rows" "$out/measures" --lanes 4 --force
 done
 [ "$lacking" -ge 20 ] || failed "only $lacking runs had too little memory"
@@ -47,4 +51,4 @@ done
 } >"$out/rows"
 within 400000 sheet "$out/rows" --lanes 4
 [ "$(cat "$out/stderr")" = "padcheck: $out/rows: no memory for 672003042 bytes" ] || failed "the page of a sheet of 16 MB"
-rm "$out/rows" "$out/measures" "$out/many.sm" "$out/one.sm" "$out/stdout" "$out/n" "$out/b"
+rm "$out/rows" "$out/measures" "$out/many.sm" "$out/many.notes" "$out/many.rows" "$out/one.sm" "$out/stdout" "$out/n" "$out/b" "$out/r"

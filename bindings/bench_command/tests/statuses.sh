@@ -5,14 +5,14 @@ printed 1 "refused 10: the chart has another type name, by whoever writes the SM
 printed 1 "refused 11: the file has no such block, by whoever asks for the chart" sheet "$sm" --chart 3
 printed 1 "refused 11: the file has no such block, by whoever asks for the chart; none of" sheet "$chart"
 printed 1 "no such block, by whoever asks for the chart; none of its lines begins with #NOTES:" charts "$chart"
-printed 1 "refused 1: len is over 16,777,215, by whoever wires up the call" sheet /dev/zero --lanes 4
-printed 1 "refused 1: len is over 16,777,215, by whoever wires up the call" sheet /dev/zero
-printed 1 "refused 1: len is over 16,777,215, by whoever wires up the call" charts /dev/zero
+printed 1 "refused 1: the text or file, or the text to be written, is longer" sheet /dev/zero --lanes 4
+printed 1 "refused 1: the text or file, or the text to be written, is longer" sheet /dev/zero
+printed 1 "refused 1: the text or file, or the text to be written, is longer" charts /dev/zero
 printed 1 '"chart":1,"type":"lights-cabinet","refused":10,"words":"the chart has another type name, by whoever writes the SM file"' sheet "$sm" --chart 1 --form json
 printed 1 "refused 10: the chart has another type name, by whoever writes the SM file" dropped "$sm" --chart 1
 printed 1 '"chart":1,"type":"lights-cabinet","refused":10,"words":' dropped "$sm" --chart 1 --form json
 printed 1 "refused 11: the file has no such block, by whoever asks for the chart" dropped "$sm" --chart 3
-printed 1 "refused 1: len is over 16,777,215, by whoever wires up the call" dropped /dev/zero --lanes 4
+printed 1 "refused 1: the text or file, or the text to be written, is longer" dropped /dev/zero --lanes 4
 # Beside 12 no other refusal and no doubt is told. On paper the line is broken.
 other="refused 12: the lane number is none of 4, 5, 6, 8 and 10, by whoever gives"
 for lanes in 0 1 3 7 9 11 260 4294967300 18446744073709551615; do
@@ -23,6 +23,8 @@ done
 printed 1 "$other" sheet /dev/zero --lanes 7
 printed 1 '"refused":12,"words":"the lane number is none of' sheet "$chart" --lanes 7 --form json
 told 1 "$other" rig "$chart" --lanes 7 --notes "$out/n" --beats "$out/b"
+: >"$out/empty"
+told 1 "$other" write "$out/empty" "$out/empty" --lanes 7
 printed 1 "new refused 11" diff "$sm" "$chart" --chart 0
 printf '#NOTES:dance-single:x;\n#NOTES::::::;\n#NOTES:dance-single:::::\n1000\n;\n' >"$out/few.sm"
 printed 0 "chart 0 dance-single refused 9: the block has fewer than five fields, by whoever writes the SM file" \
@@ -35,8 +37,8 @@ printed 0 "chart 1 dance-double" sheet "$out/two-charts.sm" --form card
 printed 0 "2 charts, 0 refused" charts "$out/two-charts.sm"
 
 # 2: arguments and inputs, with one line on standard error.
-told 2 "charts, sheet, dropped, rig or diff is wanted"
-told 2 "\`print\` is no word; the words are charts, sheet, dropped, rig and diff" print "$sm"
+told 2 "charts, sheet, dropped, rig, write or diff is wanted"
+told 2 "\`print\` is no word; the words are charts, sheet, dropped, rig, write and diff" print "$sm"
 told 2 "sheet: a file is wanted" sheet
 told 2 "dropped: a file is wanted" dropped
 told 2 "dropped: --form needs print or json here, and not \`card\`" dropped "$sm" --form card
@@ -46,10 +48,19 @@ told 2 "--lanes needs a number, and \`four\` is none" sheet "$chart" --lanes fou
 told 2 "\`--line\` is not known here" sheet --line "$sm"
 told 2 "--chart is for an SM file and --lanes for bare note data" sheet "$sm" --chart 0 --lanes 4
 told 2 "two files are wanted, not 1" diff "$sm"
+told 2 "two files are wanted, not 1" write "$out/empty" --lanes 4
+told 2 "write: --lanes N is wanted" write "$out/empty" "$out/empty"
 told 2 "cannot read no/such/file: No such file" sheet no/such/file
 told 2 "cannot read no/such/file: No such file" charts no/such/file
 told 2 "cannot read no/such/file: No such file" diff "$sm" no/such/file
 told 2 "cannot read .: Is a directory" sheet . --lanes 4
+told 2 "cannot read no/such/file: No such file" write no/such/file "$out/empty" --lanes 4
+told 2 "cannot read no/such/file: No such file" write "$out/empty" no/such/file --lanes 4
+told 2 "/dev/zero is longer than those of any chart" write /dev/zero "$out/empty" --lanes 4
+told 2 "/dev/zero is longer than those of any chart" write "$out/empty" /dev/zero --lanes 4
+told 2 "$chart: line 1 is no row count" write "$out/empty" "$chart" --lanes 4
+printf '4\n4 \n' >"$out/rows"
+told 2 "$out/rows: line 2 is no row count" write "$out/empty" "$out/rows" --lanes 4
 
 # 3: doubtful note data, which --force takes all the same.
 doubtful() {
@@ -102,7 +113,8 @@ run 0 charts "$out/two-charts.sm" "$sm" "$out/two-charts.sm"
 passed=$((passed + 4))
 
 # Outputs that are full or closed: status 2 and one line, and no sheet is taken for whole.
-for words in "charts $sm" "sheet $sm" "sheet $sm --form json" "dropped $sm" "dropped $sm --form json" "diff $sm $sm" "rig $sm --chart 0 --notes $out/n --beats $out/b" --help; do
+echo 3 >"$out/three"
+for words in "charts $sm" "sheet $sm" "sheet $sm --form json" "dropped $sm" "dropped $sm --form json" "diff $sm $sm" "rig $sm --chart 0 --notes $out/n --beats $out/b" "write $out/empty $out/three --lanes 4" --help; do
     : >"$out/stdout"
     status=0
     # The words have no blanks in them.
