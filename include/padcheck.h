@@ -31,9 +31,9 @@
 #include <stdint.h>
 
 /* The version of the library, as words and as numbers. */
-#define PADCHECK_VERSION "0.3.0"
+#define PADCHECK_VERSION "0.4.0"
 #define PADCHECK_VERSION_MAJOR 0
-#define PADCHECK_VERSION_MINOR 3
+#define PADCHECK_VERSION_MINOR 4
 #define PADCHECK_VERSION_PATCH 0
 
 #ifdef __cplusplus
@@ -353,15 +353,15 @@ uint32_t padcheck_equally_spaced(const uint8_t *data, size_t data_len, size_t la
 uint32_t padcheck_chart_last_beat(const uint8_t *data, size_t data_len, size_t lanes, uint64_t *figures);
 
 /*
- * The judged tally of minimised text, every row judged.
+ * The judged tally of minimised text, every row judged; no flags are lent. To have every row judged call this one.
  * Length: work padcheck_work_len. Refusals: 12 1 5. Figures: the tally.
  */
 uint32_t padcheck_process_rows_judgable(const uint8_t *data, size_t data_len, size_t lanes, uint16_t *work,
                                         size_t work_len, uint64_t *figures);
 
 /*
- * The judged tally of minimised text with one flag a row: 0 unjudged, else judged; a row past the flags is judged.
- * `flags` may have any length.
+ * The judged tally of minimised text with one flag a row: 0 unjudged, else judged; a row past the flags is unjudged.
+ * `flags` may have any length; with none every row is unjudged.
  * Length: work padcheck_work_len. Refusals: 12 1 5. Figures: the tally.
  */
 uint32_t padcheck_process_timing_rows(const uint8_t *data, size_t data_len, size_t lanes, const uint8_t *flags,

@@ -103,8 +103,8 @@ static uint32_t ask_sheet(size_t form, size_t sheet)
                                 room.sheet, sheet, room.figures);
 }
 
-/* Every row is judged but the fourth. */
-static const uint8_t flags[] = {1, 1, 1, 0};
+/* A flag for each of its rows: every one is judged but the fourth. */
+static const uint8_t flags[24] = {1, 1, 1, 0, 1, 1, 1, 1, 1, 1, 1, 1, 1, 1, 1, 1, 1, 1, 1, 1, 1, 1, 1, 1};
 
 struct figure {
     const char *name;

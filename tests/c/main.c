@@ -82,7 +82,7 @@ static void check_example(void)
     answers[LAST_BEAT].figures[PADCHECK_LAST_BEAT] = bits_of(2);
     answers[LAST_BEAT].figures[PADCHECK_LAST_BEAT_48THS] = 96;
     set_two_taps(&answers[JUDGED]);
-    set_two_taps(&answers[FLAGGED]);
+    answers[FLAGGED].figures[PADCHECK_FAKES] = 2; /* without flags every row is unjudged */
     answers[DROPPED].figures[PADCHECK_TEXT_BYTES] = 10;
     answers[DROPPED].figures[PADCHECK_MEASURES] = 1;
     answers[DROPPED].figures[PADCHECK_ROWS] = 2;
@@ -90,16 +90,21 @@ static void check_example(void)
     for (enum call call = 0; call < STORED_CALLS; call++)
         check_call("example", call, &question, &answers[call]);
 
-    /* The rows are read as they stand, so the third has the second tap; unjudged it is a fake. */
-    static const uint8_t third_unjudged[] = {1, 1, 0};
+    /* The rows are read as they stand, so the third has the second tap; unjudged, by a flag 0 or by none, it is a fake. */
+    static const uint8_t all[] = {1, 2, 255}, third_unjudged[] = {1, 1, 0};
     struct answer one_fake = {0};
-    question.flags = third_unjudged;
-    question.flags_len = sizeof third_unjudged;
     one_fake.figures[PADCHECK_TOTAL_ARROWS] = 1;
     one_fake.figures[PADCHECK_LEFT] = 1;
     one_fake.figures[PADCHECK_TOTAL_STEPS] = 1;
     one_fake.figures[PADCHECK_FAKES] = 1;
+    question.flags = third_unjudged;
+    question.flags_len = sizeof third_unjudged;
     check_call("example with flags", FLAGGED, &question, &one_fake);
+    question.flags_len = 1;
+    check_call("example with one flag", FLAGGED, &question, &one_fake);
+    question.flags = all;
+    question.flags_len = sizeof all;
+    check_call("example with a flag for each row", FLAGGED, &question, &answers[JUDGED]);
 }
 
 /* Heads that are dropped for each reason, beside one that a 3 closes: the request's examples. */

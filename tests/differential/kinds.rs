@@ -18,7 +18,7 @@ type Test = fn(&Facts) -> bool;
 const AS_IT_STANDS: usize = 0;
 const IN_ANOTHERS_PLACE: usize = 1;
 
-const KINDS: [(&str, Test); 78] = [
+const KINDS: [(&str, Test); 79] = [
     ("a text that the Rust is asked about", |f| f.as_it_stands),
     ("a text in whose place it is asked about another", |f| {
         !f.as_it_stands
@@ -115,6 +115,7 @@ const KINDS: [(&str, Test); 78] = [
         f.dropped_out_of_turn
     }),
     ("fewer flags than rows", |f| f.flags.len() < f.rows),
+    ("no flags for rows", |f| f.rows > 0 && f.flags.is_empty()),
     ("more flags than rows", |f| {
         f.rows > 0 && f.flags.len() > f.rows
     }),
@@ -378,7 +379,7 @@ impl Facts {
                 self.deepest = self.deepest.max(*depth);
             }
         }
-        let judged = |row: &usize| self.flags.get(*row).is_none_or(|&flag| flag != 0);
+        let judged = |row: &usize| self.flags.get(*row).is_some_and(|&flag| flag != 0);
         self.judged = (0..self.rows).filter(judged).count();
         self.pairing = pairing(&leaves::count_line(self.lanes, rows));
         self.look_at_drops(&dropped_of(rows.chunks_exact(self.lanes), self.lanes));

@@ -146,6 +146,29 @@ pub fn corrections(checks: &mut [Check], kinds: &mut Kinds) {
     }
 }
 
+/// Every text of up to three rows that begin with these cells, at each lane count.
+pub fn few_rows(check: &mut Check) {
+    const FIRST: [&[u8]; 7] = [b"0", b"1", b"011", b"2", b"3", b"M", b"K"];
+    for lanes in LANE_COUNTS {
+        for rows in 0..=3 {
+            for number in 0..FIRST.len().pow(rows) {
+                let mut bytes = Vec::new();
+                for place in word(&[0, 1, 2, 3, 4, 5, 6], rows, number) {
+                    let mut row = FIRST[usize::from(place)].to_vec();
+                    row.resize(lanes, b'0');
+                    bytes.extend(row);
+                    bytes.push(b'\n');
+                }
+                check.run(&Case {
+                    bytes,
+                    lanes,
+                    seed: number as u64,
+                });
+            }
+        }
+    }
+}
+
 /// A few texts of at least a row, and one that is too long, at the lane numbers 0 to 300 and some large ones.
 pub fn every_lane(checks: &mut [Check]) {
     let too_long = vec![b'1'; MAX_LEN + 1];

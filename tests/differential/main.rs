@@ -39,21 +39,23 @@ differential [--long | --cases N] [--at-least COUNT] [SEED..]
 Compares the exported entries and the leaves with the Rust, and at 6 lanes, which it reads as 4, with its
 functions over a const L and a plain count of each direction's arrows. For each SEED (1 where none is given):
 N random texts, N random lists of rows, which are read as texts too, N beats, and random texts of 10,000 to
-1,000,000 bytes. Then every short text over a few letters, every row of six cells over four, every short column of cells, every byte at
-every place of a row's line, texts for each case of the correction, each entry with every combination of its
-slices too short, at the lane numbers 0 to 300 and at large ones, and texts of the greatest length. The search for a byte is made with it at every place of short slices, beside bytes that
-differ from it in one bit. The main and the kept tally are compared with each other too. Where a line has a
-byte 13 among its first L bytes, which is a row for the Rust alone, it is asked about a text in which that
-line is none; both sorts of text are counted. What the main call reads of each text is edited and written as a
-chart beside a plain reference, and read again; so are notes and row counts that are drawn, every list of up to
-three notes in a few cells with every list of their counts, the specification's examples, every set of refusals
-at every lane number, and lengths at their limit. The sheet is compared with the reference in Rust, on half of the random
-texts and some of the long ones. SM files are compared with the reference in Rust, every block and the numbers
-past them: for each SEED N random files, then every short file over a few tokens, a file by hand with each
-byte struck or changed, and files of the greatest length; the calls are made on the data of each accepted
-block, the sheet's on one in four. N is 200000, or 10000000 with --long. A text or file that differs is shown
-as short as it can be made. An entry, a leaf, a number that an entry can return, a lane count or a kind of
-text or file that was not met is a failure, and so are fewer comparisons than COUNT.
+1,000,000 bytes. Then every short text over a few letters, every row of six cells over four, every short column
+of cells, every byte at every place of a row's line, texts for each case of the correction, every list of flags on
+texts of up to three rows, each entry with every combination of its slices too short, at the lane numbers 0 to 300
+and at large ones, and texts of the greatest length. On texts of few rows the judged tally by flags is asked for
+with each number of flags from none to two more than the rows. The search for a byte is made with it at every place
+of short slices, beside bytes that differ from it in one bit. The main and the kept tally are compared with each other
+too. Where a line has a byte 13 among its first L bytes, which is a row for the Rust alone, it is asked about a
+text in which that line is none; both sorts of text are counted. What the main call reads of each text is edited
+and written as a chart beside a plain reference, and read again; so are notes and row counts that are drawn,
+every list of up to three notes in a few cells with every list of their counts, the specification's examples,
+every set of refusals at every lane number, and lengths at their limit. The sheet is compared with the reference
+in Rust, on half of the random texts and some of the long ones. SM files are compared with the reference in
+Rust, every block and the numbers past them: for each SEED N random files, then every short file over a few
+tokens, a file by hand with each byte struck or changed, and files of the greatest length; the calls are made on
+the data of each accepted block, the sheet's on one in four. N is 200000, or 10000000 with --long. A text or
+file that differs is shown as short as it can be made. An entry, a leaf, a number that an entry can return, a
+lane count or a kind of text or file that was not met is a failure, and so are fewer comparisons than COUNT.
 The last line is 'N passed, M failed', counted in comparisons.";
 
 struct Options {
@@ -155,6 +157,8 @@ fn run(options: &Options) -> ExitCode {
     limits::columns(&mut texts, &mut kinds);
     limits::bytes_in_rows(&mut texts, &mut kinds);
     limits::corrections(&mut texts, &mut kinds);
+    let mut flagged = [text_checks::every_list_of_flags()];
+    limits::few_rows(&mut flagged[0]);
     let written = written();
     let mut shortages: Vec<_> = text_checks::shortages().collect();
     shortages.push(sheet_checks::shortages());
@@ -173,7 +177,7 @@ fn run(options: &Options) -> ExitCode {
         file_limits::longest_files(&mut files);
     }
     longest.push(longest_sheet);
-    let groups: [(&str, &[Check]); 11] = [
+    let groups: [(&str, &[Check]); 12] = [
         ("texts", &texts),
         ("rows", &rows),
         ("beats", &beats),
@@ -183,6 +187,7 @@ fn run(options: &Options) -> ExitCode {
             "every combination of slices too short, at every lane number",
             &shortages,
         ),
+        ("every list of flags on up to three rows", &flagged),
         ("longest texts", &longest),
         ("notes and row counts, drawn", &drawn),
         ("notes and row counts, every list and the limits", &written),

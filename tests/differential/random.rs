@@ -3,6 +3,7 @@
 use crate::case::{Case, LANE_COUNTS};
 use oracle::calls::Call;
 use oracle::entry::{Lengths, Loan, is_lane_count, refusals};
+use oracle::keysounds::rows_read_back;
 
 pub struct Rng(u64);
 
@@ -264,16 +265,23 @@ pub fn lent(
     loan
 }
 
-/// The flags of a case: at times fewer than its rows or more, at times of one judged row alone.
+/// The flags of a case, as many as are drawn from none to two more than the rows of its text.
 pub fn flags(case: &Case) -> Vec<u8> {
+    let mut flags = most_flags(case);
+    let len = Rng::new(case.seed.rotate_left(32)).below(flags.len() + 1);
+    flags.truncate(len);
+    flags
+}
+
+/// Two flags more than the rows of a case's text, at times with one judged row alone.
+pub fn most_flags(case: &Case) -> Vec<u8> {
     let mut rng = Rng::new(!case.seed);
-    let lines = case.bytes.iter().filter(|&&b| b == b'\n').count() + 1;
+    let rows = rows_read_back(&case.bytes, case.lanes).count();
+    let mut flags = vec![0; rows + 2];
     if rng.one_in(4) {
-        let mut flags = vec![0; lines];
-        flags[rng.below(lines)] = 1;
-        return flags;
+        flags[rng.below(rows.max(1))] = 1;
+    } else {
+        flags.fill_with(|| rng.pick(&[0, 0, 1, 2, 255]));
     }
-    (0..rng.below(lines.max(20) * 2))
-        .map(|_| rng.pick(&[0, 0, 1, 2, 255]))
-        .collect()
+    flags
 }

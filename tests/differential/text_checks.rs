@@ -19,6 +19,7 @@ pub fn checks() -> Vec<Check> {
     ];
     checks.extend(entries());
     checks.push(tallies());
+    checks.push(flags_of_every_length());
     checks
 }
 
@@ -43,6 +44,47 @@ pub fn tallies() -> Check {
     })
 }
 
+/// The judged tally by flags of each length, from none to two more than the rows, where these are few.
+fn flags_of_every_length() -> Check {
+    const MOST_ROWS: usize = 8;
+    Check::new("flags of every length", |case, compared| {
+        let flags = random::most_flags(case);
+        if flags.len() <= MOST_ROWS + 2 {
+            for len in 0..=flags.len() {
+                judged_by(&flags[..len], case, compared);
+            }
+        }
+    })
+}
+
+/// The judged tally by every list of flags, from none to two more than the rows.
+pub fn every_list_of_flags() -> Check {
+    const VALUES: [u8; 3] = [0, 1, 255];
+    Check::new("every list of flags", |case, compared| {
+        let most = random::most_flags(case).len();
+        let mut lists = vec![Vec::new()];
+        for at in 0.. {
+            let Some(flags) = lists.get(at).cloned() else {
+                break;
+            };
+            judged_by(&flags, case, compared);
+            if flags.len() < most {
+                lists.extend(VALUES.map(|value| [&flags[..], &[value]].concat()));
+            }
+        }
+    })
+}
+
+/// The judged tally by these flags, in a slice of the exact length.
+fn judged_by(flags: &[u8], case: &Case, compared: &mut Compare) {
+    const CALL: Call = Call::ProcessTimingRows;
+    let len = case.bytes.len();
+    let loan = random::lent(case.seed, !case.seed, CALL, len, case.lanes, |_, enough| {
+        enough
+    });
+    entered_with(CALL, enter_of(CALL), case, flags, loan, compared);
+}
+
 /// The tally that a call answers.
 fn tally(call: Call, case: &Case) -> Vec<u64> {
     left_by(call, case).figures[TALLY..TALLY + TALLY_NAMES.len()].to_vec()
@@ -50,14 +92,17 @@ fn tally(call: Call, case: &Case) -> Vec<u64> {
 
 /// What an entry leaves in slices of the exact lengths, which are full of garbage.
 pub fn left_by(call: Call, case: &Case) -> Loan {
-    let entry = ENTRIES.iter().find(|entry| entry.call == call);
-    let enter = entry.expect("every call has its entry").enter;
     let len = case.bytes.len();
     let mut loan = random::lent(case.seed, !case.seed, call, len, case.lanes, |_, enough| {
         enough
     });
-    enter(&case.bytes, case.lanes, &[], &mut loan);
+    enter_of(call)(&case.bytes, case.lanes, &[], &mut loan);
     loan
+}
+
+fn enter_of(call: Call) -> Enter {
+    let entry = ENTRIES.iter().find(|entry| entry.call == call);
+    entry.expect("every call has its entry").enter
 }
 
 /// The exported entries with every combination of their slices too short, the others exact.

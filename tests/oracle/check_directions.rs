@@ -63,13 +63,13 @@ fn charts(checks: &mut Checks) {
 
 fn judged(checks: &mut Checks) {
     for (text, flags, want) in [
-        ("0L0010|00l000", &[][..], [0, 1, 0, 0, 1, 1]),
-        ("020000|000040|030000", &[], [0, 0, 0, 0, 1, 0]),
-        ("010000|000010|100000", &[0, 1], [1, 0, 0, 0, 0, 1]),
+        ("0L0010|00l000", &[1, 2][..], [0, 1, 0, 0, 1, 1]),
+        ("020000|000040|030000", &[1, 1, 1], [0, 0, 0, 0, 1, 0]),
+        ("010000|000010|100000", &[0, 1], [0, 0, 0, 0, 0, 1]),
         ("020000|030000", &[0], [0; 6]),
         (
             " 10000|/10000|010000\r|01000\r|,00001|;00001",
-            &[],
+            &[1; 6],
             [0, 0, 0, 0, 3, 0],
         ),
     ] {
@@ -77,7 +77,7 @@ fn judged(checks: &mut Checks) {
         let answer = calls::process_timing_rows(&text, 6, flags);
         let what = text.escape_ascii().to_string();
         checks.same(&what, directions(&answer), want);
-        if flags.is_empty() {
+        if !flags.contains(&0) {
             let answer = calls::process_rows_judgable(&text, 6);
             checks.same(&what, directions(&answer), want);
         }
@@ -106,8 +106,11 @@ fn beside_the_rust(checks: &mut Checks) {
         let judged = calls::process_rows_judgable(text, lanes);
         let flagged = calls::process_timing_rows(text, lanes, &sample.flags);
         let of_chart = chart_directions(text_rows(&main.text, lanes), lanes);
-        let of_flags = |flags| judged_directions(rows_read_back(text, lanes), lanes, flags);
-        let want = [of_chart, of_chart, of_flags(&[]), of_flags(&sample.flags)];
+        let all = judged_directions(rows_read_back(text, lanes), lanes, |_| true);
+        let by_flags = judged_directions(rows_read_back(text, lanes), lanes, |row| {
+            calls::is_judged(&sample.flags, row)
+        });
+        let want = [of_chart, of_chart, all, by_flags];
         let answers = [main, kept, judged, flagged];
         let what = format!("text {i}");
         checks.same(&what, answers.each_ref().map(directions), want);

@@ -275,17 +275,18 @@ fn judged(checks: &mut Checks) {
     let text = bytes("2200|1110|3300|LlMm");
     let tally = |flags: &[u8]| calls::process_timing_rows(&text, 4, flags).tally();
     let all = calls::process_rows_judgable(&text, 4).tally();
-    checks.same("no flags", tally(&[]), all);
-    checks.same("flags not 0", tally(&[255, 1, 2, 128, 0]), all);
+    checks.same("a flag for each row", tally(&[255, 1, 2, 128]), all);
+    checks.same("flags past the rows", tally(&[255, 1, 2, 128, 0]), all);
     checks.same("hands", all[HANDS], 1);
     checks.same("holds", all[HOLDS], 0);
     let unjudged = tally(&[0, 0, 0, 0]);
+    checks.same("no flags", tally(&[]), unjudged);
     checks.same("all unjudged", unjudged[FAKES], 7);
     checks.same("no arrow", unjudged[ARROWS], 0);
     let text = b"2200\n3300\n1000";
     let fakes = calls::process_timing_rows(text, 4, &[0]).tally();
-    checks.same("paired heads are fakes", fakes[FAKES], 2);
-    checks.same("the row past the flags", fakes[ARROWS], 1);
+    checks.same("paired heads and past the flags fakes", fakes[FAKES], 3);
+    checks.same("the row past the flags", fakes[ARROWS], 0);
     let rows = b"220033001000";
     checks.same(
         "rows alone",

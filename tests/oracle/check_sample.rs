@@ -97,7 +97,9 @@ fn coverage(checks: &mut Checks, samples: &[Sample]) {
     let judged_by_flags = samples.iter().filter(|sample| {
         let (text, lanes) = (&sample.text, sample.lanes);
         let all = calls::process_rows_judgable(text, lanes).figures;
-        all != calls::process_timing_rows(text, lanes, &sample.flags).figures
+        let none = calls::process_timing_rows(text, lanes, &[]).figures;
+        let by_flags = calls::process_timing_rows(text, lanes, &sample.flags).figures;
+        by_flags != all && by_flags != none
     });
     checks.same("flags that matter", judged_by_flags.count() > 50, true);
     let asked_another = samples

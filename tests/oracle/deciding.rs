@@ -42,6 +42,13 @@ const fn flagged(name: &'static str, text: &'static str, flags: &'static [u8]) -
 /// The chart whose figures are all different; `tests/c/header.c` reads them by name.
 pub const DIFFERENT: &str = "L13K|13M4|3213|1K33|L4M2|1413|L21M|1M13|1F4L|,|1K3K|4144|MFK3|3FL1|MFFM|11M1|1M3L|M2L1|,|4K1K|34LK|3M14|1K3K|4M13|141M|11KF|";
 
+/// A flag for each of its rows: every one is judged but the fourth.
+const FOURTH_UNJUDGED: [u8; 24] = {
+    let mut flags = [1; 24];
+    flags[3] = 0;
+    flags
+};
+
 macro_rules! eight {
     ($($text:tt)*) => {
         concat!(
@@ -58,7 +65,7 @@ macro_rules! nine_heads {
 }
 
 pub const TEXTS: &[Deciding] = &[
-    flagged("all figures different", DIFFERENT, &[1, 1, 1, 0]),
+    flagged("all figures different", DIFFERENT, &FOURTH_UNJUDGED),
     // Lines
     four("cut at byte 10", "1000\r0100|0010|"),
     four("empty text", ""),

@@ -30,15 +30,14 @@ pub fn chart_directions<'a>(rows: impl Iterator<Item = &'a [u8]>, lanes: usize) 
     })
 }
 
-/// Those of a judged tally, over rows read back and flags, one a row.
+/// Those of a judged tally, over rows read back, with what says which of them are judged.
 pub fn judged_directions<'a>(
     rows: impl Iterator<Item = &'a [u8]>,
     lanes: usize,
-    flags: &[u8],
+    is_judged: impl Fn(usize) -> bool,
 ) -> Directions {
     let cells = rows.flatten().copied().collect::<Vec<_>>();
     let paired = paired_heads(&cells, lanes);
-    let is_judged = |row: usize| flags.get(row).is_none_or(|&flag| flag != 0);
     directions_of(&cells, lanes, |at| match cells[at] {
         b'1' | b'L' | b'l' => is_judged(at / lanes),
         b'2' | b'4' => is_judged(at / lanes) && paired[at],

@@ -27,8 +27,8 @@ oracle differing SAMPLE                   the texts or files of a sample that ar
 oracle --help                             this help
 
 LANES is a lane count, 4, 5, 6, 8 or 10. FLAGSFILE holds one byte a row,
-0 for unjudged; without it every row is judged. ROWSFILE has the row count of
-each measure on a line. `oracle sm` has a line for each
+0 for unjudged; a row past them is unjudged, without it every row is.
+ROWSFILE has the row count of each measure on a line. `oracle sm` has a line for each
 block: its number from 0, then lane count, start and length of its data, or the
 refusal.
 ";

@@ -181,19 +181,30 @@ pub fn samples(seed: u64) -> Vec<Sample> {
     samples
 }
 
+/// Where a text states no flags each of its rows is judged, so that it decides its rule in both judged tallies.
 fn deciding(text: &Deciding) -> Sample {
+    let (lanes, bytes) = (text.lanes, text.bytes());
+    let flags = match text.flags {
+        [] => vec![1; row_count(lanes, &bytes)],
+        flags => flags.to_vec(),
+    };
     Sample {
-        lanes: text.lanes,
-        text: text.bytes(),
-        flags: text.flags.to_vec(),
+        lanes,
+        text: bytes,
+        flags,
     }
+}
+
+/// How many rows are read back.
+fn row_count(lanes: usize, text: &[u8]) -> usize {
+    parse_minimized_rows(lanes, &read_back_text(text, lanes)).len() / lanes
 }
 
 /// Flags by turns: none, too few, as many as rows, too many, as many and all 0.
 fn with_flags(numbers: &mut Numbers, texts: Vec<(usize, Vec<u8>)>) -> Vec<Sample> {
     let mut samples = Vec::new();
     for (i, (lanes, text)) in texts.into_iter().enumerate() {
-        let rows = parse_minimized_rows(lanes, &read_back_text(&text, lanes)).len() / lanes;
+        let rows = row_count(lanes, &text);
         let count = [0, rows / 2, rows, rows + 3, rows][i % 5];
         let values: &[u8] = if i % 5 == 4 { &[0] } else { &[0, 0, 1, 255] };
         let flags = (0..count).map(|_| *numbers.pick(values)).collect();

@@ -33,8 +33,8 @@ def table(source):
     rows = source[source.index("\ntable =\n") + 9 :]
     rows = rows[: rows.index("\n\n")]
     found = []
-    for part in re.split(r"^ *-- (?=[PRKS]\d+\b)", rows, flags=re.M)[1:]:
-        name = re.match(r"[PRKS]\d+", part).group()
+    for part in re.split(r"^ *-- (?=[PRKSF]\d+\b)", rows, flags=re.M)[1:]:
+        name = re.match(r"[PRKSF]\d+", part).group()
         found.append(example(name, "-- " + part))
     return found
 
@@ -58,7 +58,7 @@ def said(part):
 
 def argument(x):
     """An argument of a figure: a list, a number or a field's name."""
-    if isinstance(x, list):
+    if isinstance(x, list) or x == "[]":
         return numbers(x)
     return int(x) if x.isdigit() else x
 

@@ -352,7 +352,7 @@ def kept_tally(L, text):
 
 def is_judged(flags, i):
     """Whether row i is judged, with one flag byte a row."""
-    return i >= len(flags) or flags[i] != 0
+    return i < len(flags) and flags[i] != 0
 
 
 def judged_tally(L, text, flags):
@@ -438,7 +438,7 @@ def figure(name, arguments, L, text):
     if name == "kept":
         return field_of(kept_tally(L, text), *arguments)
     if name == "judged":
-        return field_of(judged_tally(L, text, []), *arguments)
+        return field_of(judged_tally(L, text, [1] * len(text)), *arguments)
     if name == "flagged":
         return field_of(judged_tally(L, text, arguments[0]), arguments[1])
     if name == "timing":

@@ -443,7 +443,7 @@ mod tests {
                       chart               2  dance-single\n\
                       lanes               4\n\n\
                       measures\n\n\
-                      library 0.3.0, kit rattle-kit-13f logic dac8208d650f15bf\n\n\
+                      library 0.4.0, kit rattle-kit-13f logic dac8208d650f15bf\n\n\
                       checked by ____________________  date ____________\n";
         assert_eq!(sheet, wanted);
     }

@@ -1,7 +1,7 @@
 //! What `--help` and `--version` print.
 
 /// The version of the library, which is that of the binding and of padcheck.h.
-pub const LIBRARY: &str = "0.3.0";
+pub const LIBRARY: &str = "0.4.0";
 
 /// The identity of the Rattle kit with which the library was proved.
 pub const KIT: &str = "rattle-kit-13f logic dac8208d650f15bf";

@@ -315,7 +315,7 @@ impl Buffers {
         Ok(&self.spacing[..count(&self.figures, place::MEASURES)])
     }
 
-    /// The judged tally of minimised text, every row judged.
+    /// The judged tally of minimised text, every row judged; no flags are lent.
     ///
     /// # Errors
     ///
@@ -330,7 +330,8 @@ impl Buffers {
         Ok(ArrowStats::from_figures(&self.figures))
     }
 
-    /// The judged tally of minimised text with one flag a row: 0 unjudged, else judged. A row past the flags is judged.
+    /// The judged tally of minimised text with one flag a row: 0 unjudged, else judged. A row past the flags is unjudged,
+    /// so without flags every row is: [`Buffers::process_rows_judgable`] judges every row.
     ///
     /// # Errors
     ///

@@ -147,7 +147,7 @@ calls! {
     /// Refusals 12 and 1.
     pub fn chart_last_beat(data: &[u8], lanes: usize, figures: &mut Figures);
 
-    /// The judged tally of minimised text, every row judged.
+    /// The judged tally of minimised text, every row judged; no flags are lent.
     ///
     /// # Errors
     ///
@@ -159,7 +159,8 @@ calls! {
         figures: &mut Figures,
     );
 
-    /// The judged tally of minimised text with one flag a row: 0 unjudged, else judged. A row past the flags is judged.
+    /// The judged tally of minimised text with one flag a row: 0 unjudged, else judged. A row past the flags is unjudged,
+    /// so without flags every row is: [`process_rows_judgable`] judges every row.
     ///
     /// # Errors
     ///

@@ -155,7 +155,7 @@ pub fn chart_last_beat(data: &[u8], lanes: usize) -> Result<LastBeat, Refusal> {
     Ok(LastBeat::from_figures(&figures))
 }
 
-/// The judged tally of minimised text, every row judged.
+/// The judged tally of minimised text, every row judged; no flags are lent.
 ///
 /// ```
 /// let stats = padcheck::process_rows_judgable(b"2000\n0110\n3000\n", 4)?;
@@ -170,11 +170,12 @@ pub fn process_rows_judgable(data: &[u8], lanes: usize) -> Result<ArrowStats, Re
     with_kept(|buffers| buffers.process_rows_judgable(data, lanes))
 }
 
-/// The judged tally of minimised text with one flag a row: 0 unjudged, else judged. A row past the flags is judged.
+/// The judged tally of minimised text with one flag a row: 0 unjudged, else judged. A row past the flags is unjudged,
+/// so without flags every row is: [`process_rows_judgable`] judges every row.
 ///
 /// ```
 /// let stats = padcheck::process_timing_rows(b"1000\n0110\n0001\n", 4, &[1, 0])?;
-/// assert_eq!((stats.total_arrows, stats.fakes), (2, 2));
+/// assert_eq!((stats.total_arrows, stats.fakes), (1, 3));
 /// # Ok::<(), padcheck::Refusal>(())
 /// ```
 ///

@@ -309,6 +309,31 @@ fn judged_tallies() {
     });
 }
 
+/// Three rows, of which one, two or all have a flag, or none has: a row past the flags is unjudged.
+#[test]
+fn missing_flags() {
+    const TEXT: &[u8] = b"1000\n0110\n0001\n";
+    let mut buffers = Buffers::new();
+    for (flags, arrows, fakes) in [
+        (&[][..], 0, 4),
+        (&[1], 1, 3),
+        (&[0, 1], 2, 2),
+        (&[1, 0, 255], 2, 2),
+    ] {
+        let stats = padcheck::process_timing_rows(TEXT, 4, flags).unwrap();
+        assert_eq!(
+            (stats.total_arrows, stats.fakes),
+            (arrows, fakes),
+            "{flags:?}"
+        );
+        assert_eq!(buffers.process_timing_rows(TEXT, 4, flags), Ok(stats));
+    }
+    let all = padcheck::process_rows_judgable(TEXT, 4).unwrap();
+    assert_eq!((all.total_arrows, all.fakes), (4, 0));
+    let flagged = padcheck::process_timing_rows(TEXT, 4, &[1, 2, 255, 0]);
+    assert_eq!(flagged, Ok(all));
+}
+
 #[test]
 fn dropped_heads() {
     let mut buffers = Buffers::new();

@@ -9,6 +9,7 @@ pub mod Records
 pub mod Blocks
 pub mod Dropped
 pub mod Tallies
+pub mod Flags
 pub mod Beats
 pub mod Minimising
 pub mod Examples

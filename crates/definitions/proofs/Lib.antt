@@ -24,4 +24,5 @@ pub mod Consequences
 pub mod Refusals
 pub mod DroppedOrNoted
 pub mod Directions
+pub mod FlagsAsked
 pub mod Written

@@ -1,7 +1,7 @@
 -- What a reader expects of the main theorems, in other words. Each law follows from the statements of its theorems alone, and each field of each main
 -- statement is used by one, so no part of a statement can say less unseen; only `LimitsSuffice` is of any notes, and `ExamplesCounted` of the tables.
 -- proofs/Consequences.antt proves them.
-use Rattle.std.specs.Prelude.{◌≡◌, ◌≢◌, ◌⊎◌, Bool, true, false, ◌&&◌, List, [], ◌∷◌, map, filter, All, AllPairs, count_by, find, ℕ, suc, ◌+◌, ◌-◌, ◌*◌, ◌/◌, ◌%◌, ◌^◌, ◌≤◌, ◌<◌, ◌==◌, nat_lt, nat_le, length, take, drop, replicate, slice_get, slice_index_or, Option, Some, None, Ok, Float}
+use Rattle.std.specs.Prelude.{◌≡◌, ◌≢◌, ◌⊎◌, Bool, true, false, ◌&&◌, List, [], ◌∷◌, ◌++◌, map, filter, All, AllPairs, count_by, find, ℕ, suc, ◌+◌, ◌-◌, ◌*◌, ◌/◌, ◌%◌, ◌^◌, ◌≤◌, ◌<◌, ◌==◌, nat_lt, nat_le, length, take, drop, replicate, slice_get, slice_index_or, Option, Some, None, Ok, Float}
 use Rattle.std.specs.List.{range_with_len}
 use Rattle.std.specs.Float.{binary32}
 use Rattle.std.specs.Float.Ieee.{mul}
@@ -18,6 +18,7 @@ use Rattle.definitions.specs.Objects.{Place, last_object, last48}
 use Rattle.definitions.specs.Notes.{notes}
 use Rattle.definitions.specs.Records.{number_of_kind, number_of_tail, records, note_of_record}
 use Rattle.definitions.specs.Correction.{head_count}
+use Rattle.definitions.specs.ReadBack.{rows_read_back}
 use Rattle.definitions.specs.Judged.{judged_at, judged_rows, judged_tally, flagged_tally}
 use Rattle.definitions.specs.Refusals.{number_told, replaces}
 use Rattle.definitions.specs.Entries.{figures_of_note, row_count, bits_of_last_beat, figures_of_chart, places_of_chart, figures_of_kept, places_of_kept, places_of_judged}
@@ -219,6 +220,36 @@ ArrowsAdd L text flags =
     × PlacesAdd (places_of_judged (judged_tally L text))
     × PlacesAdd (places_of_judged (flagged_tally L flags text))
 
+-- ---- Of flags
+
+-- where all flags from place n on are 0, the first n give the same figures
+unfoldable pub LastZeros : Type 0
+LastZeros =
+    (L n : ℕ) (flags text : List ℕ)
+    → All (λ f. f ≡ 0) (drop n flags)
+    → places_of_judged (flagged_tally L (take n flags) text) ≡ places_of_judged (flagged_tally L flags text)
+
+-- where each row has a flag, the flags that follow say nothing,
+unfoldable pub FlagsPastRows : Type 0
+FlagsPastRows =
+    (L : ℕ) (flags more text : List ℕ)
+    → length (rows_read_back L text) ≤ length flags
+    → places_of_judged (flagged_tally L (flags ++ more) text) ≡ places_of_judged (flagged_tally L flags text)
+
+-- and where none is 0, the figures are those with every row judged
+unfoldable pub EachRowJudged : Type 0
+EachRowJudged =
+    (L : ℕ) (flags text : List ℕ)
+    → length (rows_read_back L text) ≤ length flags
+    → All (λ f. 1 ≤ f) flags
+    → places_of_judged (flagged_tally L flags text) ≡ places_of_judged (judged_tally L text)
+
+-- without flags every place is 0 but place 20, the fakes
+unfoldable pub FakesAlone : Type 0
+FakesAlone =
+    (L : ℕ) (text : List ℕ)
+    → let f = places_of_judged (flagged_tally L [] text) in (take 20 f ≡ replicate 20 0) × (drop 21 f ≡ replicate 11 0)
+
 -- ---- Of how near the beats are
 
 -- the float x is finite and not negative, and x and 4 × m + 4 × r / n lie within e / k of one another
@@ -349,13 +380,13 @@ ElevenSays =
     → ((k : ℕ) → (sm_number file k == 11) ≡ nat_le (length (blocks file)) k)
     × (find (λ k. sm_number file k == 11) (range_with_len 0 (suc (length (blocks file)))) ≡ Some (length (blocks file)))
 
--- ---- Of the examples: P1 to P11, R1 to R40, K1 to K5 and S1 to S6 are there, with so many things that each says, as many of SM files, and of
--- dropped heads so many fields of each list
+-- ---- Of the examples: P1 to P11, R1 to R40, K1 to K5, S1 to S6 and F1 to F5 are there, with so many things that each says, as many of SM files, and
+-- of dropped heads so many fields of each list
 
 unfoldable pub ExamplesCounted : Type 0
 ExamplesCounted =
     (map (λ (e : texts.Example). length e.says) texts.table ≡ 5 ∷ 4 ∷ 1 ∷ 5 ∷ 3 ∷ 4 ∷ 2 ∷ 3 ∷ 6 ∷ 1 ∷ 2 ∷ [])
     × (map (λ (e : texts.Example). length e.says) rules.table ≡ 3 ∷ 3 ∷ 3 ∷ 4 ∷ 8 ∷ 1 ∷ 2 ∷ 4 ∷ 5 ∷ 3 ∷ 5 ∷ 5 ∷ 7 ∷ 4 ∷ 5 ∷ 3 ∷ 5 ∷ 2 ∷ 3 ∷ 3 ∷ 3 ∷ 2 ∷ 2 ∷ 2 ∷ 3 ∷ 3 ∷ 1 ∷ 4 ∷ 4 ∷ 3 ∷ 1 ∷ 1 ∷ 14 ∷ 1 ∷ 16 ∷ 1 ∷ 5 ∷ 1 ∷ 1 ∷ 1 ∷ [])
-    × (map (λ (e : texts.Example). length e.says) tallies.table ≡ 6 ∷ 2 ∷ 4 ∷ 5 ∷ 3 ∷ 8 ∷ 8 ∷ 6 ∷ 6 ∷ 2 ∷ 4 ∷ [])
+    × (map (λ (e : texts.Example). length e.says) tallies.table ≡ 6 ∷ 2 ∷ 4 ∷ 5 ∷ 3 ∷ 8 ∷ 8 ∷ 6 ∷ 6 ∷ 2 ∷ 4 ∷ 3 ∷ 1 ∷ 1 ∷ 1 ∷ 2 ∷ [])
     × (length requests.table ≡ 18)
     × (map (λ (e : lists.Example). length e.list) lists.table ≡ 0 ∷ 4 ∷ 4 ∷ 4 ∷ 4 ∷ 4 ∷ 8 ∷ [])

@@ -11,9 +11,9 @@ use Rattle.definitions.specs.declared.Cell.{Cell}
 use Rattle.definitions.specs.declared.RowSum.{RowSum}
 use Rattle.definitions.specs.declared.ArrowStats.{ArrowStats}
 
--- "0 is unjudged, any other is judged. A row past the flags is judged, and flags are counted as the rows are."
+-- "0 is unjudged, any other is judged. A row past the flags is unjudged, and flags are counted as the rows are."
 unfoldable pub judged_at : List ℕ → ℕ → Bool
-judged_at flags i = not (slice_index_or flags i 1 == 0)
+judged_at flags i = not (slice_index_or flags i 0 == 0)
 
 -- "On a judged row the arrows are 1, L, l and the paired heads."
 abbrev pub is_judged_arrow : Cell → Bool

@@ -22,6 +22,7 @@ pub mod Tally
 pub mod Correction
 pub mod ReadBack
 pub mod Judged
+pub mod FlagsAsked
 pub mod Directions
 pub mod TimingRows
 pub mod Written

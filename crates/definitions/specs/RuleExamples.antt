@@ -124,7 +124,7 @@ table =
     ((main every is counts 3 2 0 0 1 3 0 0 0 0 1 0 0 0 0)
     ∷ (kept every is counts 3 2 0 0 1 3 0 0 0 0 1 0 0 0 0)
     ∷ (judged every is counts 3 2 0 0 1 3 0 0 0 0 1 0 0 0 0)
-    ∷ (flagged (1 ∷ 0 ∷ []) every is counts 2 2 0 0 0 2 0 0 0 0 0 0 1 0 0)
+    ∷ (flagged (1 ∷ 0 ∷ []) every is counts 1 1 0 0 0 1 0 0 0 0 0 0 2 0 0)
     ∷ (told 18 10 3 3 150 is 0 ∷ [])
     ∷ [])
     -- R13: eight columns; depths go on through measures
@@ -150,7 +150,7 @@ table =
     ((note_list is 0 ∷ none ∷ 4 ∷ 0 ∷ 0 ∷ none ∷ 5 ∷ 0 ∷ 0 ∷ none ∷ 6 ∷ 0 ∷ 0 ∷ none ∷ 7 ∷ 0 ∷ 0 ∷ none ∷ 8 ∷ 0 ∷ 0 ∷ none ∷ 9 ∷ 0 ∷ 1 ∷ none ∷ 1 ∷ 3 ∷ 1 ∷ none ∷ 5 ∷ 4 ∷ 1 ∷ none ∷ 7 ∷ 4 ∷ 1 ∷ 2 ∷ 8 ∷ 2 ∷ 1 ∷ 2 ∷ 9 ∷ 1 ∷ 2 ∷ none ∷ 2 ∷ 5 ∷ 2 ∷ none ∷ 4 ∷ 5 ∷ 2 ∷ none ∷ 6 ∷ 3 ∷ 3 ∷ none ∷ 0 ∷ 0 ∷ [])
     ∷ (main every is counts 9 4 3 1 1 3 2 1 2 1 1 2 2 0 1)
     ∷ (judged every is counts 11 4 4 1 2 3 2 2 2 1 1 2 2 0 1)
-    ∷ (flagged (0 ∷ 0 ∷ 1 ∷ []) every is counts 1 1 0 0 0 1 0 0 1 0 0 0 13 0 1)
+    ∷ (flagged (0 ∷ 0 ∷ 1 ∷ []) every is counts 0 0 0 0 0 0 0 0 1 0 0 0 14 0 0)
     ∷ (told 44 23 4 4 400 is 0 ∷ [])
     ∷ [])
     -- R16: a ninth head is not pushed, so the judged tally has 8 holds; nested heads and a 1 in another column correct nothing, so the main tally
@@ -167,7 +167,7 @@ table =
     ∷ (note_list is 1 ∷ none ∷ 1 ∷ 3 ∷ 1 ∷ none ∷ 2 ∷ 4 ∷ 1 ∷ none ∷ 3 ∷ 5 ∷ 9 ∷ 10 ∷ 0 ∷ 2 ∷ [])
     ∷ (main every is counts 12 9 1 1 1 9 1 9 1 11 1 1 1 0 1)
     ∷ (judged every is counts 12 8 1 2 1 9 1 9 1 11 0 1 1 0 1)
-    ∷ (flagged (1 ∷ 0 ∷ 1 ∷ []) every is counts 11 8 1 1 1 8 1 8 0 11 0 0 3 0 0)
+    ∷ (flagged (1 ∷ 0 ∷ 1 ∷ []) every is counts 5 2 1 1 1 2 1 2 0 5 0 0 9 0 0)
     ∷ [])
     -- R18: M is met, and is an object
     ∷ at4 "2000|M000|3000"

@@ -1,5 +1,5 @@
--- Specification, Examples: K1 to K5 and S1 to S6, the third table, with a single claim, `tally-examples-hold`. "So is a third, K1 to K5 of keysounds
--- and S1 to S6 of six lanes." In a text `|` is byte 10.
+-- Specification, Examples: K1 to K5, S1 to S6 and F1 to F5, the third table, with a single claim, `tally-examples-hold`. "So is a third, K1 to K5 of
+-- keysounds, S1 to S6 of six lanes and F1 to F5 of missing flags." In a text `|` is byte 10.
 use Rattle.std.specs.Prelude.{◌≡◌, refl, List, [], ◌∷◌, map}
 use Rattle.std.specs.Float.Ieee.{to_bits, of_int, round, add, mul, div}
 use Rattle.definitions.specs.Lines.{is_blank_byte, is_row_line, kind_of, line_kind}
@@ -15,9 +15,10 @@ use Rattle.definitions.specs.Tally.{direction, row_sum_by, row_sum, tally_with_r
 use Rattle.definitions.specs.Correction.{corrects, paired_only, corrected}
 use Rattle.definitions.specs.ReadBack.{rows_read_back, main_tally, kept_tally}
 use Rattle.definitions.specs.Judged.{judged_at, judged_sum, judge_row, open_before, judged_rows, judged_tally, flagged_tally}
-use Rattle.definitions.specs.Examples.{Example, arrows, left, down, up, right, up_left, up_right, steps, holding, keys, last, note_list, main, kept, judged, flagged, figure, bytes, whole_beat, ◌is◌, at, at4, given_by_definitions, said}
+use Rattle.definitions.specs.RuleExamples.{counts}
+use Rattle.definitions.specs.Examples.{Example, every, arrows, left, down, up, right, up_left, up_right, steps, holding, keys, last, note_list, main, kept, judged, flagged, figure, bytes, whole_beat, ◌is◌, at, at4, given_by_definitions, said}
 
--- K1 to K5, S1 to S6
+-- K1 to K5, S1 to S6, F1 to F5
 unfoldable pub table : List Example
 table =
     -- K1: "cells K", in each tally; "A K is a keysound and is counted as nothing else."
@@ -95,6 +96,23 @@ table =
     ∷ (main up_right is 0 ∷ [])
     ∷ (main left is 1 ∷ [])
     ∷ (main down is 2 ∷ [])
+    ∷ [])
+    -- F1: "A row past the flags is unjudged", without flags each row is, and with every row judged none
+    ∷ at4 "1000|1000"
+    ((flagged (1 ∷ []) every is counts 1 1 0 0 0 1 0 0 0 0 0 0 1 0 0)
+    ∷ (flagged [] every is counts 0 0 0 0 0 0 0 0 0 0 0 0 2 0 0)
+    ∷ (judged every is counts 2 2 0 0 0 2 0 0 0 0 0 0 0 0 0)
+    ∷ [])
+    -- F2: a head on a judged row counts, though its tail's row has no flag
+    ∷ at4 "2000|0000|3000" ((flagged (1 ∷ []) every is counts 1 1 0 0 0 1 0 0 0 1 0 0 0 0 0) ∷ [])
+    -- F3: two arrows under a hold are no hand where their row is unjudged
+    ∷ at4 "2000|0110|3000" ((flagged (1 ∷ []) every is counts 1 1 0 0 0 1 0 0 0 1 0 0 2 0 0) ∷ [])
+    -- F4: without flags a mine, a fake and a lift are fakes
+    ∷ at4 "M000|F000|L000" ((flagged [] every is counts 0 0 0 0 0 0 0 0 0 0 0 0 3 0 0) ∷ [])
+    -- F5: a missing flag is a flag 0, and flags past the rows say nothing
+    ∷ at4 "1000|0100|0010"
+    ((flagged (0 ∷ 1 ∷ []) every is counts 1 0 1 0 0 1 0 0 0 0 0 0 2 0 0)
+    ∷ (flagged (0 ∷ 1 ∷ 0 ∷ 1 ∷ 1 ∷ []) every is counts 1 0 1 0 0 1 0 0 0 0 0 0 2 0 0)
     ∷ [])
     ∷ []
 

@@ -5,7 +5,7 @@ use Rattle.definitions.specs.ReadBack.{rows_read_back}
 use Rattle.definitions.specs.Judged.{judged_at, judged_rows}
 use Rattle.definitions.specs.declared.ArrowStats.{ArrowStats}
 
--- which rows are judged: all where there are no flags, or by the flags
+-- which rows are judged: all, or by the flags
 abbrev pub judged_by : Option (Bor (List ℕ)) → ℕ → Bool
 judged_by None i = true
 judged_by (Some flags) i = judged_at flags.now i

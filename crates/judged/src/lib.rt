@@ -15,14 +15,14 @@ use definitions::{ArrowStats, Lanes, Refusal};
 use paired_tally::{PairedTally, ends};
 use taps::TapTable;
 
-// Whether row i is judged: every row where there are no flags, else by its own. A row past the flags is judged.
+// Whether row i is judged: every row where it does not go by flags, else by its own. A row past the flags is unjudged.
 #[tactic(auto, unfolding(definitions::specs::Judged::judged_at))]
 fn is_judged(flags: Option<&[u8]>, i: usize) -> bool
     ensures { result ≡ judged_by flags.entry i }
 {
     match flags {
         None => true,
-        Some(flags) => flags.get(i).copied().unwrap_or(1) != 0,
+        Some(flags) => flags.get(i).copied().unwrap_or(0) != 0,
     }
 }
 
@@ -80,7 +80,7 @@ pub fn judge_accepted(
     judge_rows(data, lanes, flags, work)
 }
 
-// The judged tally of a text where all rows are judged, or by the flags where there are some.
+// The judged tally of a text with every row judged, or by flags.
 #[tactic(auto, unfolding(definitions::specs::Entries::judged_checked))]
 fn judge(
     data: &[u8],
@@ -112,8 +112,8 @@ pub fn process_rows_judgable(
     judge(data, lanes, None, work)
 }
 
-/// The tally of minimised text with one flag byte a row, 0 unjudged, else judged; a row past the flags is judged. It is the Rust's function of that name
-/// with flags in place of its timing data. A refusal (12, 1 or 5) is the caller's mistake.
+/// The tally of minimised text with one flag byte a row, 0 unjudged, else judged; a row past the flags is unjudged. It is the Rust's function of that
+/// name with flags in place of its timing data. A refusal (12, 1 or 5) is the caller's mistake.
 #[tactic(auto, unfolding(definitions::specs::Judged::flagged_tally))]
 pub fn process_timing_rows(
     data: &[u8],

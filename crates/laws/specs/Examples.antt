@@ -20,7 +20,7 @@ ExamplesHold = map texts.given_by_definitions texts.table ≡ map texts.said tex
 abbrev pub RuleExamplesHold : Type 0
 RuleExamplesHold = map texts.given_by_definitions rules.table ≡ map texts.said rules.table
 
--- of each example of keysounds and of six lanes
+-- of each example of keysounds, of six lanes and of missing flags
 abbrev pub TallyExamplesHold : Type 0
 TallyExamplesHold = map texts.given_by_definitions tallies.table ≡ map texts.said tallies.table
 

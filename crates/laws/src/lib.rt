@@ -15,10 +15,11 @@ ghost use Rattle.definitions.specs.ReadBack.{OwnRows, MainKeptAgree};
 ghost use Rattle.definitions.specs.WriterMakes.{WriterMakes};
 ghost use Rattle.definitions.specs.DroppedOrNoted.{DroppedOrNoted};
 ghost use Rattle.definitions.specs.DroppedStays.{DroppedStays};
+ghost use Rattle.definitions.specs.FlagsAsked.{FlagsAsked};
 ghost use Rattle.definitions.specs.SmBlocks.{DataInFile, SemicolonLast, BlocksApart, LeastRefused};
 ghost use Rattle.definitions.specs.Beats.{last_row};
 ghost use Rattle.definitions.specs.BeatsNear.{SizeWithin, Nearest48, BeatsNear, BeatsToSpare, BeatsNearer, BeatsExact, LastNear, TextBeatsStand, TextLastNear};
-ghost use Rattle.definitions.specs.Consequences.{MeasuresAround, LaterNotes, NothingOpen, NotesBefore, OpenHeads, SameLastBeat, ListedExactly, HeadsShared, ListRises, LaterDrops, EarlierDrops, OpenDrops, ReducedStays, JudgedAgain, SameTallies, ArrowsAdd, PlacesNear, RowsNear, LastPlaces, LastOfTexts, LimitsSuffice, RecordsOfTexts, DataThere, OneSemicolon, FewBlocks, BlocksDisjoint, ElevenSays, ExamplesCounted};
+ghost use Rattle.definitions.specs.Consequences.{MeasuresAround, LaterNotes, NothingOpen, NotesBefore, OpenHeads, SameLastBeat, ListedExactly, HeadsShared, ListRises, LaterDrops, EarlierDrops, OpenDrops, ReducedStays, JudgedAgain, SameTallies, ArrowsAdd, LastZeros, FlagsPastRows, EachRowJudged, FakesAlone, PlacesNear, RowsNear, LastPlaces, LastOfTexts, LimitsSuffice, RecordsOfTexts, DataThere, OneSemicolon, FewBlocks, BlocksDisjoint, ElevenSays, ExamplesCounted};
 ghost use Rattle.files.specs.Rest.{RestAnswered, RestInOrder};
 ghost use Rattle.sheet_print.specs.Example.{PrintExample};
 ghost use Rattle.sheet_json.specs.Example.{JsonExample};
@@ -37,7 +38,7 @@ pub fn rule_examples_hold()
     ensures { RuleExamplesHold }
 {}
 
-/// What the examples of keysounds and of six lanes say of their texts is what the definitions give.
+/// What the examples of keysounds, of six lanes and of missing flags say of their texts is what the definitions give.
 pub fn tally_examples_hold()
     ensures { TallyExamplesHold }
 {}
@@ -90,6 +91,12 @@ pub fn main_kept_agree()
 /// The arrows of each tally are those of its six directions.
 pub fn directions_sum()
     ensures { (L : ℕ) (text flags : List ℕ) → DirectionsSum L text flags }
+{}
+
+/// A missing flag is a flag 0, flags that say the same of each row give the same tally, which is that with every row judged where they all judge
+/// theirs, and without flags there are fakes alone.
+pub fn flags_as_asked()
+    ensures { FlagsAsked }
 {}
 
 /// Where two texts differ only in lines of one measure, the rest of every answer is the same.
@@ -291,6 +298,26 @@ pub fn arrows_add()
     ensures { (L : ℕ) (text flags : List ℕ) → ArrowsAdd L text flags }
 {}
 
+/// Where all flags from some place on are 0, those before it give the same figures.
+pub fn last_zeros()
+    ensures { LastZeros }
+{}
+
+/// Where each row has a flag, the flags that follow say nothing.
+pub fn flags_past_rows()
+    ensures { FlagsPastRows }
+{}
+
+/// Where each row has a flag, and none is 0, the figures are those with every row judged.
+pub fn each_row_judged()
+    ensures { EachRowJudged }
+{}
+
+/// Without flags every figure is 0 but the fakes.
+pub fn fakes_alone()
+    ensures { FakesAlone }
+{}
+
 /// The beat of row r of n in measure m is near 4 × m + 4 × r / n, and how near goes by the measure.
 pub fn places_near()
     ensures { PlacesNear }
@@ -347,8 +374,8 @@ pub fn rest_in_order()
     ensures { RestInOrder }
 {}
 
-/// The tables have all of P1 to P11, R1 to R40, K1 to K5 and S1 to S6, with as many things as each says, 18 examples of SM files, and seven lists of
-/// dropped heads with all their fields.
+/// The tables have all of P1 to P11, R1 to R40, K1 to K5, S1 to S6 and F1 to F5, with as many things as each says, 18 examples of SM files, and
+/// seven lists of dropped heads with all their fields.
 pub fn examples_counted()
     ensures { ExamplesCounted }
 {}

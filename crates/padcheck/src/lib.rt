@@ -203,7 +203,7 @@ pub extern "C" fn padcheck_chart_last_beat(
     tell(answer, figures)
 }
 
-/// The Rust's `process_rows_judgable`: the tally of minimised text with every row judged. Refusals: 12, 1 and 5.
+/// The Rust's `process_rows_judgable`: the tally of minimised text with every row judged, for which no flags are lent. Refusals: 12, 1 and 5.
 #[unsafe(no_mangle)]
 pub extern "C" fn padcheck_process_rows_judgable(
     data: &[u8],
@@ -220,8 +220,8 @@ pub extern "C" fn padcheck_process_rows_judgable(
     tell(answer, figures)
 }
 
-/// The Rust's `process_timing_rows` with a flag byte a row in place of its timing data: 0 unjudged, else judged, and judged where there is no flag.
-/// Refusals: 12, 1 and 5.
+/// The Rust's `process_timing_rows` with a flag byte a row in place of its timing data: 0 unjudged, else judged, and unjudged where there is no
+/// flag, so without flags every row is. Refusals: 12, 1 and 5.
 #[unsafe(no_mangle)]
 pub extern "C" fn padcheck_process_timing_rows(
     data: &[u8],

@@ -272,12 +272,12 @@ pub fn chart_last_beat(data: &[u8], lanes: usize) -> Answer {
     answer
 }
 
-/// The judged tally without flags, over the rows that `parse_minimized_rows` reads.
+/// The judged tally with every row judged, over the rows that `parse_minimized_rows` reads.
 #[must_use]
 pub fn process_rows_judgable(data: &[u8], lanes: usize) -> Answer {
     let asked = &read_back_text(data, lanes);
     let stats = dispatch_lanes!(lanes, judged_rows(asked));
-    let six = (lanes == 6).then(|| judged_directions(rows_read_back(data, lanes), lanes, &[]));
+    let six = (lanes == 6).then(|| judged_directions(rows_read_back(data, lanes), lanes, |_| true));
     tally_alone(&stats, keysounds(rows_read_back(data, lanes)), six)
 }
 
@@ -285,14 +285,15 @@ fn judged_rows<const L: usize>(data: &[u8]) -> ArrowStats {
     super::process_rows_judgable::<L>(&parse_minimized_rows(data))
 }
 
-/// The judged tally with one flag a row: 0 unjudged, else judged, past the flags judged.
+/// The judged tally with one flag a row: 0 unjudged, else judged, past the flags unjudged.
 #[must_use]
 pub fn process_timing_rows(data: &[u8], lanes: usize, flags: &[u8]) -> Answer {
     let asked = &read_back_text(data, lanes);
     let stats = dispatch_lanes!(lanes, judged_by_flags(asked, flags));
     let rows = rows_read_back(data, lanes).enumerate();
     let judged = rows.filter_map(|(i, row)| is_judged(flags, i).then_some(row));
-    let six = (lanes == 6).then(|| judged_directions(rows_read_back(data, lanes), lanes, flags));
+    let judges = |row| is_judged(flags, row);
+    let six = (lanes == 6).then(|| judged_directions(rows_read_back(data, lanes), lanes, judges));
     tally_alone(&stats, keysounds(judged), six)
 }
 
@@ -321,8 +322,10 @@ fn tally_alone(stats: &ArrowStats, keysounds: u64, six: Option<Directions>) -> A
     answer
 }
 
-pub(super) fn is_judged(flags: &[u8], row: usize) -> bool {
-    flags.get(row).is_none_or(|&flag| flag != 0)
+/// Whether a row is judged, with one flag a row: a row past them is not.
+#[must_use]
+pub fn is_judged(flags: &[u8], row: usize) -> bool {
+    flags.get(row).is_some_and(|&flag| flag != 0)
 }
 
 pub(super) fn tally_of(stats: &ArrowStats) -> RustTally {
