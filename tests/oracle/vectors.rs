@@ -6,6 +6,7 @@ use crate::calls::{Answer, CALLS, answer};
 use crate::deciding::{Deciding, TEXTS};
 use crate::leaves::parse_minimized_rows;
 use crate::written::Given;
+use std::panic::{self, AssertUnwindSafe};
 
 /// The seed of the stored sample.
 pub const SEED: u64 = 4810;
@@ -134,7 +135,9 @@ pub(crate) fn numbers_of_differing(
             break;
         };
         let (stored, after) = rest.split_at(u32::from_le_bytes(*head) as usize);
-        if written(index, stored) != stored {
+        // What stops in between is another answer: the plain references ask of the Rust's what they need.
+        let answer = panic::catch_unwind(AssertUnwindSafe(|| written(index, stored)));
+        if answer.map_or(true, |written| written != stored) {
             numbers.push(index);
         }
         rest = after;
