@@ -14,3 +14,4 @@ pub mod Beats
 pub mod Minimising
 pub mod Examples
 pub mod Written
+pub mod Presses

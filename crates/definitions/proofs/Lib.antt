@@ -23,6 +23,9 @@ pub mod BeatsNear
 pub mod Consequences
 pub mod Refusals
 pub mod DroppedOrNoted
+pub mod Presses
+pub mod CleanTrace
+pub mod TraceCounted
 pub mod Directions
 pub mod FlagsAsked
 pub mod Written

@@ -1,7 +1,7 @@
 -- Specification, Calls and Figures: for every input what each call answers, a refusal or its value, and the places of its value among the 32 figures.
 -- The entries callable from outside return the number told, 0 for accepted, and put the value in the figures. "`data` is the text and `lanes` the
 -- caller's lane number": here `text` and L; the lists named after slices are what those held before the call, and what a call leaves in each is
--- `leaves` of its answer. The entry that is lent a file is in SmFile.antt.
+-- `leaves` of its answer. The entry that is lent a file is in SmFile.antt, and the one that is lent a trace in Presses.antt.
 use Rattle.std.specs.Prelude.{List, [], ◌∷◌, ◌++◌, ℕ, ◌/◌, nat_lt, Float, length, replicate, Result}
 use Rattle.std.specs.Float.{binary64}
 use Rattle.std.specs.Float.Ieee.{to_bits}

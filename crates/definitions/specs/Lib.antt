@@ -26,6 +26,8 @@ pub mod FlagsAsked
 pub mod Directions
 pub mod TimingRows
 pub mod Written
+pub mod Presses
+pub mod PressClaims
 pub mod Entries
 pub mod Refusals
 pub mod WrittenBack
@@ -40,5 +42,7 @@ pub mod TallyExamples
 pub mod RequestExamples
 pub mod DroppedExamples
 pub mod WrittenExamples
+pub mod PressExamples
 pub mod Consequences
 pub mod WrittenConsequences
+pub mod PressConsequences

@@ -1,12 +1,12 @@
 -- Specification, Refusals and Slices: the refusals by their numbers, the conditions of 12 and 1 to 6, their order, and what a call leaves in what
 -- it was lent. "A refusal's condition is looked at in those calls alone that are lent what it speaks of. No text is refused for what stands in it."
--- 7 and 8 are in Records.antt, 9 to 11 in SmFile.antt, 13 to 15 in Written.antt, 19 and 20 in `chart_sheet`.
+-- 7 and 8 are in Records.antt, 9 to 11 in SmFile.antt, 13 to 15 in Written.antt, 16 in Presses.antt, 19 and 20 in `chart_sheet`.
 use Rattle.std.specs.Prelude.{Bool, if◌then◌else◌, List, [], ◌∷◌, ℕ, ◌+◌, ◌*◌, ◌/◌, ◌++◌, not, nat_lt, length, codes, Result, Ok, Err}
 use Rattle.definitions.specs.Sizes.{most_bytes}
 use Rattle.definitions.specs.Lists.{padded}
 use Rattle.definitions.specs.Lanes.{is_lane_count, most_rows_in}
 use Rattle.definitions.specs.declared.Refusal.{Refusal}
-use Rattle.definitions.specs.declared.Refusal.TheVariants.{LongText, ShortText, ShortMeasures, ShortBeats, ShortWork, ShortNotes, NoRecord, BadRecord, FewFields, OtherType, NoChart, OtherLanes, OutOfOrder, NotesMeet, OtherCounts, ShortSheet, OtherForm}
+use Rattle.definitions.specs.declared.Refusal.TheVariants.{LongText, ShortText, ShortMeasures, ShortBeats, ShortWork, ShortNotes, NoRecord, BadRecord, FewFields, OtherType, NoChart, OtherLanes, OutOfOrder, NotesMeet, OtherCounts, BadTrace, ShortSheet, OtherForm}
 
 -- "A refusal is a value of one type, and a definition gives each its number"
 abbrev pub number_of : Refusal → ℕ
@@ -25,6 +25,7 @@ number_of OtherLanes = 12
 number_of OutOfOrder = 13
 number_of NotesMeet = 14
 number_of OtherCounts = 15
+number_of BadTrace = 16
 number_of ShortSheet = 19
 number_of OtherForm = 20
 
@@ -45,6 +46,7 @@ cause_of OtherLanes = codes "whoever gives the lane number"
 cause_of OutOfOrder = codes "whoever edits the notes"
 cause_of NotesMeet = codes "whoever edits the notes"
 cause_of OtherCounts = codes "whoever counts the rows"
+cause_of BadTrace = codes "whoever records the trace"
 cause_of ShortSheet = codes "whoever wires up the call"
 cause_of OtherForm = codes "whoever wires up the call"
 
@@ -65,6 +67,7 @@ words_of OtherLanes = codes "the lane number is none of 4, 5, 6, 8 and 10"
 words_of OutOfOrder = codes "a note does not stand before the next, or its column is not below L"
 words_of NotesMeet = codes "two notes of a column meet"
 words_of OtherCounts = codes "the row counts are not those of the notes, or a measure could be minimised"
+words_of BadTrace = codes "the trace has part of a press, a column over 9, or a press that falls"
 words_of ShortSheet = codes "the sheet slice is shorter than 42 * (len + 1) + 3000"
 words_of OtherForm = codes "the form's number is over 2"
 

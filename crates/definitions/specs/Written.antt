@@ -97,7 +97,7 @@ abbrev pub some_breaks : List ℕ → ℕ → ℕ → Bool
 some_breaks s k zero = false
 some_breaks s k (suc n) = is_err (note_of_record s k) || some_breaks s (suc k) n
 
--- 8: "the record breaks a limit of the writer; of `notes_to_chart`, a record does"
+-- 8: "the record breaks a limit of the writer; of `notes_to_chart` and `press_trace`, a record does"
 unfoldable pub broken_records : List ℕ → Bool
 broken_records s = some_breaks s 0 (length s / 10)
 

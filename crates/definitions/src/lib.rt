@@ -84,6 +84,13 @@ pub struct Note {
     pub kind: Kind,
 }
 
+/// A press of a panel in a trace. Rows are numbered as those of notes are.
+#[derive(Clone, Copy)]
+pub struct Press {
+    pub row: u32,
+    pub column: u32,
+}
+
 /// What a cell does to the notes: nothing, close the open head of its column, or drop it and be a note or a head itself.
 #[derive(Clone, Copy)]
 pub enum NoteEffect {
@@ -175,6 +182,7 @@ pub enum Refusal {
     OutOfOrder = 13,
     NotesMeet = 14,
     OtherCounts = 15,
+    BadTrace = 16,
     ShortSheet = 19,
     OtherForm = 20,
 }
@@ -206,6 +214,7 @@ impl Refusal {
             Refusal::OtherLanes => "whoever gives the lane number",
             Refusal::OutOfOrder | Refusal::NotesMeet => "whoever edits the notes",
             Refusal::OtherCounts => "whoever counts the rows",
+            Refusal::BadTrace => "whoever records the trace",
         }
     }
 
@@ -233,6 +242,8 @@ impl Refusal {
             Refusal::NotesMeet => "two notes of a column meet",
             Refusal::OtherCounts =>
                 "the row counts are not those of the notes, or a measure could be minimised",
+            Refusal::BadTrace =>
+                "the trace has part of a press, a column over 9, or a press that falls",
             Refusal::ShortSheet => "the sheet slice is shorter than 42 * (len + 1) + 3000",
             Refusal::OtherForm => "the form's number is over 2",
         }

@@ -217,6 +217,15 @@ impl Figures<32> for [u64; 32] {
     }
 }
 
+/// The 23 places of a pad trace, which it is answered in.
+impl Figures<23> for [u64; 23] {
+    ghost places = { λ f. f };
+
+    fn places(self) -> [u64; 23] {
+        self
+    }
+}
+
 /// The four places of a note.
 impl Figures<4> for Note {
     ghost places = { figures_of_note };

@@ -9,6 +9,7 @@ use Rattle.definitions.specs.TallyExamples as tallies
 use Rattle.definitions.specs.RequestExamples as requests
 use Rattle.definitions.specs.DroppedExamples as lists
 use Rattle.definitions.specs.WrittenExamples as charts
+use Rattle.definitions.specs.PressExamples as presses
 use Rattle.beats.specs.Vectors.{all_right, results}
 use Rattle.sheet.specs.Card.{card}
 
@@ -37,6 +38,10 @@ DroppedExamplesHold = map lists.told_of lists.table ≡ map (λ (e : lists.Examp
 -- of each example of a written chart, the same
 abbrev pub WrittenExamplesHold : Type 0
 WrittenExamplesHold = map charts.told_of charts.table ≡ map (λ (e : charts.Example). e.answer) charts.table
+
+-- of each example of pad traces, the same
+abbrev pub PressExamplesHold : Type 0
+PressExamplesHold = map presses.told_of presses.table ≡ map (λ (e : presses.Example). e.answer) presses.table
 
 -- what the card prints for its example; `|` is byte 10
 abbrev pub CardExample : Type 0

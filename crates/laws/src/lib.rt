@@ -2,6 +2,7 @@
 // is not built. Specification, Contracts: "Damage is stated of the same definitions as the contracts."
 #![tactic(auto)]
 
+pub mod presses;
 pub mod written;
 
 ghost use Rattle.std.specs.Prelude.{ℕ, ◌≤◌, List, length};

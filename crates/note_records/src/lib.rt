@@ -1,7 +1,9 @@
 // Note records: ten bytes each, row and tail as four bytes with the low byte first, then column and kind. Reading one, and writing its bytes.
 #![tactic(auto)]
 
-ghost use Rattle.std.specs.Prelude.{◌≡◌, ◌+◌, ◌*◌, ◌≤◌, length};
+pub mod checks;
+
+ghost use Rattle.std.specs.Prelude.{◌≡◌, false, ◌+◌, ◌*◌, ◌≤◌, length, Ok, is_err};
 ghost use lib.Seq.{sets};
 ghost use Rattle.definitions.specs.Records.{word, bytes4, fields, number_of_kind, plain_of, held_of, note_of, note_of_record};
 ghost use Rattle.note_records.specs.Fields.{fields_at};
@@ -86,6 +88,17 @@ pub fn note_of_ten(bytes: &[u8; 10]) -> Result<Note, Refusal>
     let row = get_word(bytes, 0);
     let tail = get_word(bytes, 4);
     note_of(row, tail, u32::from(bytes[8]), bytes[9])
+}
+
+/// The note of a record that keeps the writer's limits.
+pub fn limited_note(bytes: &[u8; 10]) -> Note
+    requires { is_err (note_of_bytes bytes.now) ≡ false }
+    ensures { note_of_bytes bytes.now ≡ Ok result }
+{
+    match note_of_ten(bytes) {
+        Ok(note) => note,
+        Err(_) => unreachable!(),
+    }
 }
 
 /// The note of record number `index`, counted from 0, of records of ten bytes each. A refusal (7 or 8) is the mistake of whoever stores the records.

@@ -16,6 +16,7 @@ ghost use Rattle.definitions.specs.Dropped.{dropped_heads, dropped_records};
 ghost use Rattle.definitions.specs.Written.{written_text, notes_in};
 ghost use Rattle.definitions.specs.TimingRows.{timing_rows};
 ghost use Rattle.definitions.specs.Entries.{measures_answer, places_of_measures, last_answer, places_of_last, main_answer, places_of_chart, judged_answer, places_of_judged, flagged_answer, kept_answer, places_of_kept, dropped_answer, places_of_dropped, written_answer, places_of_written, timing_answer, places_of_timing, figures_of_note};
+ghost use Rattle.definitions.specs.Presses.{press_answer};
 ghost use Rattle.definitions.specs.SmFile.{sm_answer, places_of_part};
 ghost use Rattle.chart_sheet.specs.Forms.{sheet_in_form};
 ghost use Rattle.chart_sheet.specs.Entry.{sheet_answer};
@@ -23,6 +24,7 @@ ghost use Rattle.padcheck.specs.Told.{leaves_by};
 
 use figures::{sm_chart_places, tell};
 use note_records::read_note;
+use presses::press_trace;
 
 /// The main call, the Rust's `minimize_chart_count_rows_notes`: minimised text in bytes, densities in steps a measure, row beats, note records of ten
 /// bytes each, and in the figures the last beat and the corrected tally. Refusals: 12, 1 to 6.
@@ -250,6 +252,18 @@ pub extern "C" fn padcheck_read_note(records: &[u8], index: usize, note: &mut [u
 {
     let answer = read_note(records, index);
     tell(answer, note)
+}
+
+/// A pad trace set against note records: hits, strays and misses, then the hits of the columns 0 to 9 and the misses of each. Refusals in this order: 7 and
+/// 8, mistakes of whoever stores note records, 13 of whoever edits them, and 16 of whoever records the trace.
+#[unsafe(no_mangle)]
+pub extern "C" fn padcheck_press_trace(records: &[u8], trace: &[u8], presses: &mut [u64; 23]) -> u32
+    ensures value { result ≡ number_told (press_answer records.now trace.now) }
+    ensures presses_after { presses.new
+        ≡ replaces (press_answer records.now trace.now) (λ f. f) presses.old }
+{
+    let answer = press_trace(records, trace);
+    tell(answer, presses)
 }
 
 /// Chart number `k`, counted from 0, of an SM file: lane count, and the place and length of its note data in bytes. Refusals in this order: 1, 11, 9

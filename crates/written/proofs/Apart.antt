@@ -18,7 +18,7 @@ use Rattle.definitions.proofs.Written.Notes.{After, Sorted, no_more, first, Belo
 use Rattle.definitions.proofs.Written.Passes.{none-meet, sorted_append}
 use Rattle.definitions.proofs.WriterMakes.{no_note}
 use Rattle.written.proofs.Parts.{drop-next, take-next, parts-of}
-use Rattle.written.proofs.Held.{NoteAt}
+use Rattle.note_records.proofs.Kept.{NoteAt}
 
 -- one of a list
 data Some (P : Note → Type 0) : List Note → Type 0 where

@@ -14,7 +14,7 @@ use Rattle.definitions.specs.declared.Note.{Note}
 use Rattle.definitions.proofs.Reduction.{reduce-halved}
 use Rattle.definitions.proofs.WriterMakes.{no_note}
 use Rattle.written.proofs.Parts.{drop-next, drop-end}
-use Rattle.written.proofs.Held.{NoteAt}
+use Rattle.note_records.proofs.Kept.{NoteAt}
 use Rattle.written.specs.Standing.{Standing}
 use Rattle.written.specs.declared.rows.NotesAbove.{NotesAbove}
 

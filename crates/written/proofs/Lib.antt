@@ -2,7 +2,6 @@
 pub mod Parts
 pub mod Held
 pub mod Sizes
-pub mod Order
 pub mod Apart
 pub mod Counts
 pub mod Walk

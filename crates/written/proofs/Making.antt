@@ -27,7 +27,7 @@ use Rattle.written.specs.Standing.{second_row, note_in_second, Standing, StandsF
 use Rattle.written.specs.declared.rows.NotesAbove.{NotesAbove}
 use Rattle.definitions.proofs.WriterMakes.{no_note}
 use Rattle.written.proofs.Parts.{drop-next, take-next, drop-end, parts-of}
-use Rattle.written.proofs.Held.{NoteAt}
+use Rattle.note_records.proofs.Kept.{NoteAt}
 use Rattle.written.proofs.Bare.{same-bool, or-parts, or-right, both, second-true, tail-number}
 
 -- ---- Tails of some notes and then others

@@ -27,7 +27,8 @@ use Rattle.written.specs.Apart.{Apart}
 use Rattle.written.specs.Places.{row_place, with_tail, with_note, MeasureAt, PlaceOf}
 use Rattle.written.specs.declared.places.Place.{Place}
 use Rattle.written.proofs.Parts.{drop-next, take-next, parts-of}
-use Rattle.written.proofs.Held.{NoteAt, columns}
+use Rattle.note_records.proofs.Kept.{NoteAt}
+use Rattle.written.proofs.Held.{columns}
 use Rattle.written.proofs.Placing.{cell-room, written-put}
 
 -- ---- Rows without notes

@@ -3,14 +3,16 @@
 ghost use Rattle.std.specs.Prelude.{◌≡◌, false, not, ◌&&◌, ◌+◌, ◌≤◌, ◌<◌, nat_lt, nat_le, slice_index, slice_set, OnOk, IfOk, IfErr, IfSome, IfNone, Ok, Err};
 ghost use Rattle.definitions.specs.Sizes.{most_bytes};
 ghost use Rattle.definitions.specs.Refusals.{refused_if, long_text};
-ghost use Rattle.definitions.specs.declared.Refusal.TheVariants.{ShortText, NoRecord, BadRecord, OtherCounts};
+ghost use Rattle.definitions.specs.declared.Refusal.TheVariants.{ShortText, BadRecord, OtherCounts};
 ghost use Rattle.definitions.specs.Written.{written_length, sum_of, notes_in, uneven_records, broken_records, last_of, some_past, some_shrink, written_measures, other_counts};
 ghost use Rattle.definitions.specs.WriterMakes.{Made};
-ghost use Rattle.written.specs.Apart.{Apart, from_place};
+ghost use Rattle.note_records.specs.Limits.{from_place};
+ghost use Rattle.written.specs.Apart.{Apart};
 ghost use Rattle.written.specs.Found.{FirstWalked, Found};
 
 use crate::rows::{NotesAbove, last_row};
 use definitions::{Lanes, Note, Refusal};
+use note_records::checks::Order;
 use note_records::note_of_ten;
 
 /// How much is to be written: bytes and rows.
@@ -65,31 +67,6 @@ pub fn text_size(lanes: Lanes, counts: &[u32]) -> Result<TextSize, Refusal>
     Ok(TextSize { bytes, rows })
 }
 
-/// The records have ten bytes each.
-#[tactic(auto, unfolding(definitions::specs::Written::uneven_records))]
-pub fn records_whole(records: &[u8]) -> Result<(), Refusal>
-    ensures { result ≡ refused_if (uneven_records records.now) NoRecord }
-{
-    if records.len() % 10 != 0 {
-        return Err(Refusal::NoRecord);
-    }
-    Ok(())
-}
-
-// A note stands at that place or past it, by row, then column.
-fn stands_from(note: Note, row: u32, column: u32) -> bool
-    ensures { result ≡ from_place row column note }
-{
-    row < note.row || (row == note.row && column <= note.column)
-}
-
-// It does, and its column is a lane's.
-fn stands_allowed(note: Note, row: u32, column: u32, lanes: Lanes) -> bool
-    ensures { result ≡ (from_place row column note && nat_lt note.column lanes.count) }
-{
-    stands_from(note, row, column) && (note.column as usize) < lanes.count
-}
-
 // The first row of its column that a note does not reach.
 fn free_row(note: Note) -> u32
     requires { Made note }
@@ -105,14 +82,12 @@ fn reaches_within(note: Note, rows: u32) -> bool
     last_row(note) < rows
 }
 
-/// What a walk over the records has found of the notes before a place: the lowest place that is still allowed, of each column the first row that no
-/// note reaches, whether the notes are in order, and if they are, whether none meets another, and whether all stand and end within the rows.
+/// What a walk over the records has found of the notes before a place: their order, of each column the first row that no note reaches, if they are
+/// in order, whether none meets another, and whether all stand and end within the rows.
 #[derive(Clone, Copy)]
 pub struct Walked {
-    pub row: u32,
-    pub column: u32,
+    pub order: Order,
     pub free: [u32; 10],
-    pub in_order: bool,
     pub apart: bool,
     pub within: bool,
 }
@@ -123,10 +98,8 @@ impl Walked {
         ensures { FirstWalked result }
     {
         Walked {
-            row: 0,
-            column: 0,
+            order: Order::new(),
             free: [0; 10],
-            in_order: true,
             apart: true,
             within: true,
         }
@@ -136,25 +109,23 @@ impl Walked {
     // the last.
     fn take(&mut self, note: Note, lanes: Lanes, rows: u32)
         requires { Made note }
-        ensures row { self.new.row ≡ note.row }
-        ensures column { self.new.column ≡ note.column + 1 }
+        ensures row { self.new.order.row ≡ note.row }
+        ensures column { self.new.order.column ≡ note.column + 1 }
+        ensures kept { self.new.order.kept ≡ (self.old.order.kept
+            && (from_place self.old.order.row self.old.order.column note
+            && nat_lt note.column lanes.count)) }
         ensures free { self.new.free
             ≡ slice_set self.old.free note.column (last_of note.row note.tail + 1) }
-        ensures in_order { self.new.in_order ≡ (self.old.in_order
-            && (from_place self.old.row self.old.column note && nat_lt note.column lanes.count)) }
         ensures apart { self.new.apart
             ≡ (self.old.apart && nat_le (slice_index self.old.free note.column) note.row) }
         ensures within { self.new.within
             ≡ (self.old.within && nat_lt (last_of note.row note.tail) rows) }
     {
         let column = note.column as usize;
-        let allowed = stands_allowed(note, self.row, self.column, lanes);
         let within = reaches_within(note, rows);
-        self.in_order = self.in_order && allowed;
+        self.order.take(note, lanes.count);
         self.apart = self.apart && self.free[column] <= note.row;
         self.within = self.within && within;
-        self.row = note.row;
-        self.column = note.column + 1;
         self.free[column] = free_row(note);
     }
 }

@@ -16,8 +16,9 @@ ghost use Rattle.definitions.specs.Entries.{written_answer};
 ghost use Rattle.written.specs.Apart.{Apart, CountsFit};
 
 use definitions::{Lanes, Refusal, WrittenFigures};
+use note_records::checks::records_whole;
+use note_records::limited_note;
 use places::Place;
-use rows::limited_note;
 
 // So many rows of zeros, each with its newline, from `at` on. The answer is where they end.
 fn write_zeros(count: u32, lanes: Lanes, text: &mut [u8], at: usize) -> usize
@@ -87,9 +88,9 @@ pub fn notes_to_chart(
 {
     let columns = Lanes::of_number(lanes)?.known();
     let size = checks::text_size(columns, counts)?;
-    checks::records_whole(records)?;
+    records_whole(records)?;
     let walked = checks::records_kept(records, columns, size.rows)?;
-    if !walked.in_order {
+    if !walked.order.kept {
         return Err(Refusal::OutOfOrder);
     }
     if !walked.apart {

@@ -1,15 +1,14 @@
 // The notes of one measure after the other, and whether it could be minimised further.
 
-ghost use Rattle.std.specs.Prelude.{◌≡◌, false, not, ◌&&◌, ◌+◌, ◌%◌, ◌≤◌, ◌==◌, nat_lt, Ok, is_err};
+ghost use Rattle.std.specs.Prelude.{◌≡◌, not, ◌&&◌, ◌+◌, ◌%◌, ◌≤◌, ◌==◌, nat_lt};
 ghost use Rattle.std.specs.List.{list_any};
 ghost use Rattle.definitions.specs.Records.{number_of_tail};
 ghost use Rattle.definitions.specs.Written.{shrinks, last_of, written_rows, notes_in};
-ghost use Rattle.note_records.specs.Chunks.{note_of_bytes};
 ghost use Rattle.written.specs.Standing.{second_row, note_in_second, StandsFirst, Standing};
 ghost use Rattle.written.specs.Apart.{Apart};
 
 use definitions::{Lanes, Note, Tail};
-use note_records::{NO_TAIL_ROW, note_of_ten};
+use note_records::{NO_TAIL_ROW, limited_note};
 
 // A tail's row, or a number that is no row.
 fn tail_row(tail: Tail) -> u32
@@ -28,17 +27,6 @@ pub fn last_row(note: Note) -> u32
     match note.tail {
         Tail::Without => note.row,
         Tail::Row(row) => row,
-    }
-}
-
-/// The note of a record that keeps the writer's limits.
-pub fn limited_note(bytes: &[u8; 10]) -> Note
-    requires { is_err (note_of_bytes bytes.now) ≡ false }
-    ensures { note_of_bytes bytes.now ≡ Ok result }
-{
-    match note_of_ten(bytes) {
-        Ok(note) => note,
-        Err(_) => unreachable!(),
     }
 }
 

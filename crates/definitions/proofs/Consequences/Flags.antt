@@ -2,7 +2,7 @@
 use mathlib.Core.Path.{◌≡◌, refl, ap, ap₂, sym, ◌∙◌}
 use mathlib.Core.Bool.{true, not}
 use mathlib.Core.List.{List, [], ◌∷◌, ◌++◌}
-use Prim.Native.Nat.{ℕ, zero, suc, ◌≤◌, ◌<◌}
+use Prim.Native.Nat.{ℕ, suc, ◌<◌}
 use native.Mathlib.Omega.{arith}
 use borrow.Author.Tests.{ne_eqb}
 use lib.Dec.{eqb}
@@ -10,8 +10,7 @@ use lib.ListN.{length, take, drop, get_or, replicate}
 use Rattle.std.specs.Prelude.{All}
 use Rattle.std.proofs.Math.ListN.{get_or-append}
 use Rattle.std.proofs.lemmas.List.{take-append-drop}
-use Rattle.definitions.specs.ReadBack.{rows_read_back}
-use Rattle.definitions.specs.Judged.{judged_at, judged_tally, flagged_tally}
+use Rattle.definitions.specs.Judged.{judged_at, flagged_tally}
 use Rattle.definitions.specs.Entries.{places_of_judged}
 use Rattle.definitions.specs.FlagsAsked.{FlagsAsked}
 use Rattle.definitions.specs.Consequences.{LastZeros, FlagsPastRows, EachRowJudged, FakesAlone}

@@ -113,7 +113,7 @@ notes-back L ns (n ∷ counts) w m order meets other =
     less k = omega arith
 
 -- ---- Of what the call accepts
-passes : {T : Type 0} (t : Bool) (r : Refusal) (cs : List (Result Unit Refusal)) (x y : T) → answered (refused_if t r ∷ cs) x ≡ Ok y → (t ≡ false) × (answered cs x ≡ Ok y)
+pub passes : {T : Type 0} (t : Bool) (r : Refusal) (cs : List (Result Unit Refusal)) (x y : T) → answered (refused_if t r ∷ cs) x ≡ Ok y → (t ≡ false) × (answered cs x ≡ Ok y)
 passes true r cs x y e = let z : ◌≡◌ {A = ℕ} 0 1 = cc in absurd (omega arith)
 passes false r cs x y e = (refl, e)
 

@@ -82,8 +82,8 @@ ten-bytes s at small h =
     (byte-drop s (at + 9) (at + 10) (omega arith) (omega arith))))))))))
 
 -- ---- The fields of a record that is read
-record Kept (r t c k : ℕ) (n : Note) : Type 0 where
-  made : Made n
+pub record Kept (r t c k : ℕ) (n : Note) : Type 0 where
+  pub made : Made n
   same : encode n ≡ fields r t c k
 
 ok-of : {x y : Note} → ◌≡◌ {A = Result Note Refusal} (Ok x) (Ok y) → x ≡ y
@@ -139,7 +139,7 @@ module _ (r t c k : ℕ) (n : Note) (narrow : c < 10) (low : r < row_numbers_bou
       (λ e. cond_both (eqb k 5) _ _ Gives (λ e. kept-plain Fake (sym (eqb-true k 5 e)) tt)
       (λ e h. not-ok h))))))
 
-note-kept : (r t c k : ℕ) (n : Note) → note_of r t c k ≡ Ok n → Kept r t c k n
+pub note-kept : (r t c k : ℕ) (n : Note) → note_of r t c k ≡ Ok n → Kept r t c k n
 unfolding note_of
 note-kept r t c k n =
     cond_both (leb 10 c) _ _ (λ x. x ≡ Ok n → Kept r t c k n) (λ e h. not-ok h)

@@ -1,6 +1,7 @@
 -- `write_notes` meets its contract. The loop's invariant: the notes before are put.
 use Rattle.definitions.specs.Written.{notes_in}
-use Rattle.written.proofs.Held.{chunk-kept, chunk-note, past-chunks, sorted, made-before}
+use Rattle.note_records.proofs.Kept.{chunk-kept, chunk-note, past-chunks}
+use Rattle.written.proofs.Held.{sorted, made-before}
 use Rattle.written.proofs.Putting.{notes-start, next-after, next-reach, notes-next, notes-end, note-column, note-within}
 use Rattle.written.proofs.write_notes.Goals as goal
 

@@ -3,7 +3,7 @@ use mathlib.Core.Path.{ap, sym, ◌∙◌}
 use Rattle.std.specs.Prelude.{is_err}
 use Rattle.definitions.specs.Refusals.{refused_if}
 use Rattle.definitions.specs.declared.Refusal.TheVariants.{BadRecord}
-use Rattle.written.proofs.Held.{made-of-ten, chunk-ten, kept-broken}
+use Rattle.note_records.proofs.Kept.{made-of-ten, chunk-ten, kept-broken}
 use Rattle.written.proofs.Walk.{walk-start, walk-next, walk-kept, walk-end}
 use Rattle.written.proofs.checks.records_kept.Goals as goal
 
@@ -22,7 +22,7 @@ pub loop-bytes-preserved : goal.loop-bytes-preserved
 loop-bytes-preserved c =
     let k = c.take.ensures in
     walk-next c.loop-bytes.invariant c.requires c.as_chunks.ensures.front c.loop-bytes-test.true _ (sym c.note_of_ten.ensures ∙ c.in-Ok.is) _
-    (record { row = k.row; column = k.column; free = k.free; in_order = k.in_order; apart = k.apart; within = k.within })
+    (record { row = k.row; column = k.column; kept = k.kept; free = k.free; apart = k.apart; within = k.within })
 
 pub returns-clause-accepted : goal.returns-clause-accepted
 returns-clause-accepted c = walk-kept c.loop-bytes.invariant c.requires c.as_chunks.ensures.front c.loop-bytes-test.false

@@ -5,7 +5,8 @@ use Rattle.std.proofs.Common.{set}
 use Rattle.written.specs.Standing.{note_in_second}
 use native.Mathlib.Omega.{arith}
 use Rattle.definitions.specs.Written.{notes_in}
-use Rattle.written.proofs.Held.{chunk-kept, chunk-note, past-chunks, made-all, made-before, sorted}
+use Rattle.note_records.proofs.Kept.{chunk-kept, chunk-note, past-chunks}
+use Rattle.written.proofs.Held.{made-all, made-before, sorted}
 use Rattle.written.proofs.Making.{take-start, take-next-note, take-past, take-all-past, take-standing, take-seen}
 use Rattle.written.proofs.rows.NotesAbove.take_rows.Goals.{then-found, else-found}
 use Rattle.written.proofs.rows.NotesAbove.take_rows.Goals as goal

@@ -6,15 +6,15 @@ use Prim.Native.Nat.{ℕ, zero, suc, ◌+◌, ◌≤◌}
 use native.Mathlib.Omega.{arith}
 use borrow.Author.Tests.{ltb-true, ltb-false, le-leb, lt-leb, lt-ltb}
 use lib.Dec.{eqb, leb, ltb}
-use lib.ListN.{length, drop}
+use lib.ListN.{length, drop, drop_of_length-le}
 use Rattle.definitions.specs.Lists.{before}
 use Rattle.definitions.specs.Written.{within_lanes, out_of_order}
 use Rattle.definitions.specs.declared.Note.{Note}
 use Rattle.definitions.proofs.Written.Notes.{in_order}
-use Rattle.written.specs.Apart.{from_place}
+use Rattle.definitions.proofs.Written.Records.{next-drop}
 use Rattle.definitions.proofs.WriterMakes.{no_note}
-use Rattle.written.proofs.Parts.{drop-next, drop-end}
-use Rattle.written.proofs.Held.{NoteAt}
+use Rattle.note_records.specs.Limits.{from_place}
+use Rattle.note_records.proofs.Kept.{NoteAt}
 
 -- from that place on
 abbrev pub ordered_from : ℕ → ℕ → ℕ → List Note → Bool
@@ -76,17 +76,18 @@ pub order-next : {L : ℕ} {ns : List Note} {i row column : ℕ} {so_far : Bool}
     → OrderFrom L ns (i + 1) n.row c (so_far && (from_place row column n && ltb n.column L))
 order-next {L} {ns} {i} {row} {column} {so_far} o n x c e =
     let here : Bool = from_place row column n && ltb n.column L in
+    let next : i + 1 ≡ suc i = omega arith in
     record {
       within = omega (arith, x.within);
       same =
           o.same
-          ∙ ap (λ l. not (so_far && ordered_from L row column l)) (drop-next ns i no_note x.within ∙ ap (λ y. y ∷ drop (i + 1) ns) (sym x.same))
+          ∙ ap (λ l. not (so_far && ordered_from L row column l)) (sym (next-drop ns i no_note x.within) ∙ ap (λ y. y ∷ drop (suc i) ns) (sym x.same) ∙ ap (λ k. n ∷ drop k ns) (sym next))
           ∙ ap not (and-assoc so_far here (ordered_from L n.row (n.column + 1) (drop (i + 1) ns)))
           ∙ ap (λ k. not ((so_far && here) && ordered_from L n.row k (drop (i + 1) ns))) (sym e);
     }
 
 pub order-end : {L : ℕ} {ns : List Note} {i row column : ℕ} {so_far : Bool} → OrderFrom L ns i row column so_far → length ns ≤ i → out_of_order L ns ≡ not so_far
-order-end {L} {ns} {i} {row} {column} {so_far} o h = o.same ∙ ap (λ l. not (so_far && ordered_from L row column l)) (drop-end ns i h) ∙ all so_far
+order-end {L} {ns} {i} {row} {column} {so_far} o h = o.same ∙ ap (λ l. not (so_far && ordered_from L row column l)) (drop_of_length-le ns h) ∙ all so_far
   where
     all : (a : Bool) → not (a && true) ≡ not a
     all true = refl
