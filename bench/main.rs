@@ -11,6 +11,7 @@ mod once;
 mod options;
 mod report;
 mod sm_files;
+mod traces;
 mod ways;
 mod written;
 
@@ -37,6 +38,7 @@ fn main() -> ExitCode {
         }
         Ok(Some(options)) if options.files => files::run(&options),
         Ok(Some(options)) if options.written => written::run(&options),
+        Ok(Some(options)) if options.traces => traces::run(&options),
         Ok(Some(options)) if options.growth => growth(&options),
         Ok(Some(options)) => table(&options),
         Err(message) => Err(message),
@@ -153,13 +155,5 @@ fn timed<const N: usize>(
     parts: [Part; N],
     options: &Options,
 ) -> [f64; N] {
-    let mut best = [f64::MAX; N];
-    for _ in 0..options.runs {
-        for (part, best) in parts.iter().zip(&mut best) {
-            let start = options.clock.seconds();
-            part(pair, load);
-            *best = best.min(options.clock.seconds() - start);
-        }
-    }
-    best
+    options.best(pair, parts.map(|part| move |pair: &mut Pair| part(pair, load)))
 }

@@ -2,20 +2,22 @@
 //! (`instructions.sh`), and after each the Rust's on the same text. It prints a line for each, in the order in which they are made: call, text, line
 //! ends, lane count, rows; the Rust's calls have `rust` before their name. For `sm_chart` these are the call, the file, line ends, 4 lanes, and the
 //! file's lines. For `notes_to_chart` they are the text whose notes are written and the rows that it writes, and what stands with `rust` is the main call
-//! on the text that it writes.
+//! on the text that it writes. For `press_trace` they are the text whose notes are pressed, how they are pressed, and the records of both lists, and what
+//! stands with `rust` is its plain reference.
 
 use crate::entries::ENTRIES;
 use crate::loads::{EVERY_LANES, LANES, Lines, Load, Text};
 use crate::loans::lent;
 use crate::sm_files::{self, File};
-use oracle::calls::Call;
+use crate::traces::{Trace, Traced};
 use crate::written::{self, Written};
+use oracle::calls::Call;
 use oracle::timed::{self, Buffers};
 
 /// Bytes of a text: enough that what a call does once does not show, few enough that all of it takes seconds.
 const LEN: usize = 60_000;
 
-/// Bytes of a text of the other kinds, of which there are many.
+/// Bytes of a text of the other kinds, and of one whose notes are pressed, of which there are many.
 const KIND_LEN: usize = 20_000;
 
 /// The texts that are counted. CRLF takes other ways through the reader, and an unclosed head another through the tallies.
@@ -40,6 +42,7 @@ pub fn run() {
     run_files();
     run_kinds();
     run_written();
+    run_traces();
 }
 
 fn run_files() {
@@ -60,6 +63,22 @@ fn run_written() {
             written.read();
             for who in ["", "rust_"] {
                 println!("{who}notes_to_chart {} LF {lanes} {}", text.name(), written.rows());
+            }
+        }
+    }
+}
+
+fn run_traces() {
+    for text in written::TEXTS {
+        for trace in Trace::ALL {
+            for lanes in EVERY_LANES {
+                let mut traced = Traced::new(text, trace, lanes, KIND_LEN);
+                traced.count();
+                rust_call(&mut || traced.count_plainly());
+                let (text, trace, records) = (text.name(), trace.name(), traced.records());
+                for who in ["", "rust_"] {
+                    println!("{who}press_trace {text} {trace} {lanes} {records}");
+                }
             }
         }
     }
@@ -97,18 +116,19 @@ fn run_call(call: Call, text: Text, lines: Lines, lanes: usize, len: usize) {
     let entry = ENTRIES.iter().find(|entry| entry.call == call);
     let enter = entry.expect("every call has its entry").enter;
     assert_eq!(enter(data, lanes, flags, &mut loan), 0, "no call is refused here");
-    rust_call(call, data, lanes, flags, &mut Buffers::default());
+    let mut buffers = Buffers::default();
+    rust_call(&mut || timed::run(call, data, lanes, flags, &mut buffers));
     let (name, text, lines, rows) = (call.name(), text.name(), lines.name(), rows(data, lanes));
     for who in ["", "rust_"] {
         println!("{who}{name} {text} {lines} {lanes} {rows}");
     }
 }
 
-/// The Rust's call, under a name that callgrind is told.
+/// The Rust's call, or a reference's, under a name that callgrind is told.
 #[unsafe(no_mangle)]
 #[inline(never)]
-pub fn rust_call(call: Call, data: &[u8], lanes: usize, flags: &[u8], buffers: &mut Buffers) {
-    timed::run(call, data, lanes, flags, buffers);
+pub fn rust_call(call: &mut dyn FnMut()) {
+    call();
 }
 
 /// How many rows a drawn text has: every line but those of commas and the blank last one.

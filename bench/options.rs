@@ -6,7 +6,7 @@ use crate::ways::Way;
 use oracle::calls::{CALLS, Call};
 
 pub const HELP: &str = "\
-bench [--runs N] [--thread] [--ways LIST] [--lanes LIST] [--texts LIST] [--lines LIST] [--speeds | --growth | --memory | --files | --written | --once] [CALL..]
+bench [--runs N] [--thread] [--ways LIST] [--lanes LIST] [--texts LIST] [--lines LIST] [--speeds | --growth | --memory | --files | --written | --traces | --once] [CALL..]
 
 Times each call, or those of the given names, beside the Rust: both in one process, on the same texts, in turns, the best
 of N runs each (N is 7). A ratio is ours to the Rust's: over 1.00 ours is faster. It prints the cells under 1.00,
@@ -42,6 +42,8 @@ A LIST has its words parted by commas, and leaves out the others:
            the one past it; then what files of 1, 4 and 16 MB cost
   --written times instead notes_to_chart beside its plain reference in the oracle, which the Rust does not have, and beside the main
            call on the text that it writes: the notes and row counts of texts of 16 MB
+  --traces times instead press_trace beside its plain reference in the oracle, which the Rust does not have: the notes of texts of
+           16 MB with one press on each played note, with one press in ten a row late, and with none
   --once   makes each call once on short texts instead, for callgrind; `instructions.sh` runs it
 
 `dropped_holds`, which the Rust does not have, stands beside a plain reference over the Rust's minimised text.
@@ -62,7 +64,23 @@ pub struct Options {
     pub memory: bool,
     pub files: bool,
     pub written: bool,
+    pub traces: bool,
     pub once: bool,
+}
+
+impl Options {
+    /// The best times in seconds of some parts over what is timed, in turns.
+    pub fn best<T, const N: usize>(&self, of: &mut T, parts: [impl Fn(&mut T); N]) -> [f64; N] {
+        let mut best = [f64::MAX; N];
+        for _ in 0..self.runs {
+            for (part, best) in parts.iter().zip(&mut best) {
+                let start = self.clock.seconds();
+                part(of);
+                *best = best.min(self.clock.seconds() - start);
+            }
+        }
+        best
+    }
 }
 
 /// What the arguments ask for; `None` where that is help.
@@ -84,6 +102,7 @@ pub fn parse(mut args: impl Iterator<Item = String>) -> Result<Option<Options>, 
         memory: false,
         files: false,
         written: false,
+        traces: false,
         once: false,
     };
     while let Some(arg) = args.next() {
@@ -103,6 +122,7 @@ pub fn parse(mut args: impl Iterator<Item = String>) -> Result<Option<Options>, 
             "--memory" => options.memory = true,
             "--files" => options.files = true,
             "--written" => options.written = true,
+            "--traces" => options.traces = true,
             "--once" => options.once = true,
             _ => options
                 .calls

@@ -12,7 +12,7 @@ use oracle::written::Given;
 use padcheck::Figures;
 use std::hint::black_box;
 
-/// The texts of whose notes charts are written. In the last one each row has two heads, and the next their tails.
+/// The texts of whose notes charts are written, and whose notes are pressed. In the last one each row has two heads, and the next their tails.
 pub const TEXTS: [Text; 3] = [Text::Long, Text::Sparse, Text::Other(Kind::Heads)];
 
 /// What the entry is lent, and the main call on the text that it writes.
@@ -88,7 +88,8 @@ pub fn run(options: &Options) -> Result<(), String> {
             if !written.agrees() {
                 return Err("notes_to_chart and its reference differ; nothing is timed".into());
             }
-            let [ours, reference, main] = timed(&mut written, options);
+            let parts: [fn(&mut Written); 3] = [Written::write, Written::write_plainly, Written::read];
+            let [ours, reference, main] = options.best(&mut written, parts);
             let megabytes = written.text.len() as f64 / 1e6;
             println!(
                 "| {} | {lanes} | {megabytes:.1} | {:.0} | {:.0} | {:.0} | {:.2} |",
@@ -105,17 +106,3 @@ pub fn run(options: &Options) -> Result<(), String> {
 
 /// Bytes of the text whose notes are written.
 const LEN: usize = 16_000_000;
-
-/// The best times in seconds, in turns.
-fn timed(written: &mut Written, options: &Options) -> [f64; 3] {
-    let parts: [fn(&mut Written); 3] = [Written::write, Written::write_plainly, Written::read];
-    let mut best = [f64::MAX; 3];
-    for _ in 0..options.runs {
-        for (part, best) in parts.iter().zip(&mut best) {
-            let start = options.clock.seconds();
-            part(written);
-            *best = best.min(options.clock.seconds() - start);
-        }
-    }
-    best
-}

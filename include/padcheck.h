@@ -16,13 +16,14 @@
  *
  * What a caller owes. A slice is a pointer and how many elements stand behind it. A pointer is not NULL, also
  * where its length is 0, and is aligned for its type. What is lent for writing overlaps nothing else that is lent,
- * and nobody else touches it until the call returns. `figures` has 32 numbers, `note` has 4, `chart` has 3. The library
- * keeps no pointer, has no state and allocates nothing, so calls in several threads do not meet.
+ * and nobody else touches it until the call returns. `figures` has 32 numbers, `note` has 4, `chart` has 3, `presses`
+ * has 23. The library keeps no pointer, has no state and allocates nothing, so calls in several threads do not meet.
  *
  * What a caller gets. Each call returns 0 for accepted, else the number of a refusal, and then it has written nothing.
  * After an accepted call every entry past the answer in a slice lent for writing is 0, the work slice is 0 throughout,
  * and every place of `figures` that the call does not answer is 0. No chart text is refused for its content; a chart
- * inside an SM file is, by 9 and 10, and notes from which a chart is to be written are, by 7, 8 and 13 to 15.
+ * inside an SM file is, by 9 and 10, notes from which a chart is to be written are, by 7, 8 and 13 to 15, and notes and
+ * the presses that are set against them are, by 7, 8, 13 and 16.
  */
 #ifndef PADCHECK_H
 #define PADCHECK_H
@@ -31,9 +32,9 @@
 #include <stdint.h>
 
 /* The version of the library, as words and as numbers. */
-#define PADCHECK_VERSION "0.4.0"
+#define PADCHECK_VERSION "0.5.0"
 #define PADCHECK_VERSION_MAJOR 0
-#define PADCHECK_VERSION_MINOR 4
+#define PADCHECK_VERSION_MINOR 5
 #define PADCHECK_VERSION_PATCH 0
 
 #ifdef __cplusplus
@@ -61,6 +62,7 @@ enum padcheck_number {
     PADCHECK_OUT_OF_ORDER = 13,
     PADCHECK_NOTES_MEET = 14,
     PADCHECK_OTHER_COUNTS = 15,
+    PADCHECK_BAD_TRACE = 16,
     PADCHECK_SHORT_SHEET = 19,
     PADCHECK_OTHER_FORM = 20
 };
@@ -104,6 +106,8 @@ static inline const char *padcheck_words(uint32_t number)
         return "two notes of a column meet";
     case PADCHECK_OTHER_COUNTS:
         return "the row counts are not those of the notes, or a measure could be minimised";
+    case PADCHECK_BAD_TRACE:
+        return "the trace has part of a press, a column over 9, or a press that falls";
     case PADCHECK_SHORT_SHEET:
         return "the sheet slice is shorter than 42 * (len + 1) + 3000";
     case PADCHECK_OTHER_FORM:
@@ -141,6 +145,8 @@ static inline const char *padcheck_caused_by(uint32_t number)
         return "whoever edits the notes";
     case PADCHECK_OTHER_COUNTS:
         return "whoever counts the rows";
+    case PADCHECK_BAD_TRACE:
+        return "whoever records the trace";
     default:
         return "nobody";
     }
@@ -157,10 +163,14 @@ static inline const char *padcheck_caused_by(uint32_t number)
 #define PADCHECK_DROPPED_BYTES ((size_t)10)
 #define PADCHECK_NO_ROW ((uint32_t)4294967295)
 
-/* How many numbers `figures`, `note` and `chart` have. */
+/* Bytes of a press's record. */
+#define PADCHECK_PRESS_BYTES ((size_t)5)
+
+/* How many numbers `figures`, `note`, `chart` and `presses` have. */
 #define PADCHECK_FIGURES 32
 #define PADCHECK_NOTE_FIGURES 4
 #define PADCHECK_CHART_FIGURES 3
+#define PADCHECK_PRESS_FIGURES 23
 
 /* Whether a lane number is a lane count, L: every other number is refused. */
 static inline int padcheck_is_lane_count(size_t lanes)
@@ -273,6 +283,21 @@ enum padcheck_drop_reason {
     PADCHECK_BY_OTHER_HEAD = 0, /* another 2 or 4 in its column */
     PADCHECK_BY_OTHER_CELL = 1, /* a 1, M, L, F, m, l or f in its column */
     PADCHECK_BY_CHART_END = 2   /* nothing: the chart ends */
+};
+
+/* Where the fields of a press's record begin: its row, 4 bytes and low byte first, then a byte for the column. */
+enum padcheck_press_place {
+    PADCHECK_PRESS_ROW = 0,
+    PADCHECK_PRESS_COLUMN = 4
+};
+
+/* Places in `presses`. Column c, 0 to 9, has its hits at PADCHECK_COLUMN_HITS + c, and its misses likewise. */
+enum padcheck_press_figure {
+    PADCHECK_HITS = 0,
+    PADCHECK_STRAYS = 1,
+    PADCHECK_MISSES = 2,
+    PADCHECK_COLUMN_HITS = 3,
+    PADCHECK_COLUMN_MISSES = 13
 };
 
 /* Forms of a sheet. */
@@ -397,6 +422,18 @@ uint32_t padcheck_chart_sheet(const uint8_t *data, size_t data_len, size_t lanes
  * breaks a limit of what the main call writes. An accepted call sets the 4 numbers of `note`.
  */
 uint32_t padcheck_read_note(const uint8_t *records, size_t records_len, size_t index, uint64_t *note);
+
+/*
+ * A pad trace set against note records. Presses are records of PADCHECK_PRESS_BYTES, back to back and in rising row, then
+ * column; a row may be past the chart's last, and a press may stand again and again. A press is a hit if a tap, hold or
+ * roll has its row and column and no press before it does, else a stray; a tap, hold or roll without a press is a miss.
+ * Refusals, in this order: 7, where records_len is no multiple of 10, 8, where a record breaks a limit of what the main
+ * call writes, 13, where a note does not stand before the next by row, then column, 16, where trace_len is no multiple of
+ * 5, a column is over 9, or a press falls in row, or in column within a row; each is looked for in all records before the
+ * next. An accepted call sets the 23 numbers of `presses`.
+ */
+uint32_t padcheck_press_trace(const uint8_t *records, size_t records_len, const uint8_t *trace, size_t trace_len,
+                              uint64_t *presses);
 
 /*
  * Chart number `k`, counted from 0, of an SM file: its lane count, and where its note data stands in the file. With

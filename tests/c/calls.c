@@ -1,13 +1,10 @@
 /* The chart calls in one form, as calls.h declares them. */
 #include "calls.h"
 #include "checks.h"
+#include "lent.h"
 
-#include <stdio.h>
 #include <stdlib.h>
 #include <string.h>
-
-/* What an entry that was not written still holds. */
-enum { MARK = 0xA5 };
 
 enum { NO_SLICE = LENT };
 
@@ -90,18 +87,6 @@ static size_t length_for(enum lent lent, size_t len, size_t lanes)
     }
 }
 
-/* Exactly `bytes` bytes of the heap, marked, so that one read or written past the end is seen. */
-static void *marked(size_t bytes)
-{
-    void *at = malloc(bytes);
-    if (at == NULL) {
-        fprintf(stderr, "no memory for %zu bytes\n", bytes);
-        exit(2);
-    }
-    memset(at, MARK, bytes);
-    return at;
-}
-
 /* The slices that a call is lent for a text of len bytes; one of them, `shorter`, lacks an element. */
 static struct loan lend(enum call call, size_t len, size_t lanes, int shorter)
 {
@@ -160,17 +145,9 @@ static uint32_t enter(enum call call, const struct question *q, struct loan *loa
     }
 }
 
-static bool all_bytes(const uint8_t *at, size_t bytes, uint8_t byte)
-{
-    for (size_t i = 0; i < bytes; i++)
-        if (at[i] != byte)
-            return false;
-    return true;
-}
-
 static bool is_untouched(const struct loan *loan)
 {
-    bool same = all_bytes((const uint8_t *)loan->figures, PADCHECK_FIGURES * sizeof(uint64_t), MARK);
+    bool same = all_bytes(loan->figures, PADCHECK_FIGURES * sizeof(uint64_t), MARK);
     for (int i = 0; i < LENT; i++)
         same = same && all_bytes(loan->slices[i].at, loan->slices[i].len * element_size[i], MARK);
     return same;

@@ -5,6 +5,7 @@
 #include "header.h"
 #include "calls.h"
 #include "checks.h"
+#include "lent.h"
 
 #include <stdio.h>
 #include <string.h>
@@ -55,6 +56,17 @@ _Static_assert(PADCHECK_DROPPED_REASON == 9, "reason");
 _Static_assert(PADCHECK_BY_OTHER_HEAD == 0, "0 another head");
 _Static_assert(PADCHECK_BY_OTHER_CELL == 1, "1 another cell");
 _Static_assert(PADCHECK_BY_CHART_END == 2, "2 the end of the chart");
+
+/* "A press record has 5 bytes", and `places_of_presses` in Presses.antt. */
+_Static_assert(PADCHECK_PRESS_BYTES == 5, "a press's record");
+_Static_assert(PADCHECK_PRESS_ROW == 0, "0 to 3 the row");
+_Static_assert(PADCHECK_PRESS_COLUMN == 4, "4 the column");
+_Static_assert(PADCHECK_HITS == 0, "hits");
+_Static_assert(PADCHECK_STRAYS == 1, "strays");
+_Static_assert(PADCHECK_MISSES == 2, "misses");
+_Static_assert(PADCHECK_COLUMN_HITS == 3, "the hits of the columns");
+_Static_assert(PADCHECK_COLUMN_MISSES == 13, "the misses of the columns");
+_Static_assert(PADCHECK_PRESS_FIGURES == 23, "the figures of a trace");
 
 /* The forms of a sheet. */
 _Static_assert(PADCHECK_SHEET_CARD == 0, "0 card");
@@ -329,16 +341,6 @@ static void check_dropped_places(void)
 /* Room for the records below. */
 enum { FEW = 4 };
 
-static void put_record(uint8_t *record, uint32_t row, uint32_t tail, uint8_t column, uint8_t kind)
-{
-    for (int i = 0; i < 4; i++) {
-        record[i] = (uint8_t)(row >> 8 * i);
-        record[4 + i] = (uint8_t)(tail >> 8 * i);
-    }
-    record[8] = column;
-    record[9] = kind;
-}
-
 /* The call on the first of four notes that make a chart of five rows, with so many bytes for it. */
 static uint32_t ask_written(size_t lanes, size_t records_len, const uint32_t *counts, size_t counts_len, size_t text)
 {
@@ -404,6 +406,42 @@ static void check_chart_places(void)
     check(place[PADCHECK_CHART_FIGURES - 1] != 0xA5A5A5A5A5A5A5A5 &&
               place[PADCHECK_CHART_FIGURES] == 0xA5A5A5A5A5A5A5A5,
           "a chart of an SM file has %d figures", PADCHECK_CHART_FIGURES);
+}
+
+/* A trace whose 23 numbers are all different: column c has PRESSED + c notes that are pressed and below them MISSED + c that
+   are not, and below all notes some rows are pressed throughout. */
+enum { COLUMNS = 10, PRESSED = 1, MISSED = 11, NOTE_ROWS = 30, STRAY_ROWS = 7 };
+
+static void check_press_places(void)
+{
+    size_t notes = 0, presses = 0;
+    uint64_t counts[ROOM];
+    memset(&room, 0xA5, sizeof room);
+    memset(counts, 0xA5, sizeof counts);
+    for (uint32_t row = 0; row < NOTE_ROWS + STRAY_ROWS; row++)
+        for (uint8_t column = 0; column < COLUMNS; column++) {
+            if (row < (uint32_t)(PRESSED + MISSED + 2 * column))
+                put_record(room.notes + PADCHECK_NOTE_BYTES * notes++, row, UINT32_MAX, column, PADCHECK_TAP);
+            if (row < NOTE_ROWS && row >= (uint32_t)(PRESSED + column))
+                continue;
+            uint8_t *press = room.text + PADCHECK_PRESS_BYTES * presses++;
+            put_row(press + PADCHECK_PRESS_ROW, row);
+            press[PADCHECK_PRESS_COLUMN] = column;
+        }
+    uint32_t number = padcheck_press_trace(room.notes, PADCHECK_NOTE_BYTES * notes, room.text,
+                                           PADCHECK_PRESS_BYTES * presses, counts);
+    check(number == PADCHECK_ACCEPTED, "a trace of different numbers: returns %u", number);
+    check(counts[PADCHECK_HITS] == 55, "a trace: hits");
+    check(counts[PADCHECK_STRAYS] == 70, "a trace: strays");
+    check(counts[PADCHECK_MISSES] == 155, "a trace: misses");
+    for (int column = 0; column < COLUMNS; column++) {
+        check(counts[PADCHECK_COLUMN_HITS + column] == (uint64_t)(PRESSED + column), "a trace: hits of column %d", column);
+        check(counts[PADCHECK_COLUMN_MISSES + column] == (uint64_t)(MISSED + column), "a trace: misses of column %d",
+              column);
+    }
+    check(counts[PADCHECK_PRESS_FIGURES - 1] != 0xA5A5A5A5A5A5A5A5 &&
+              counts[PADCHECK_PRESS_FIGURES] == 0xA5A5A5A5A5A5A5A5,
+          "a trace has %d figures", PADCHECK_PRESS_FIGURES);
 }
 
 /* The lengths at each lane count: each is refused one element short and accepted as it is. */
@@ -547,6 +585,8 @@ static void check_refusals(void)
                   PADCHECK_OTHER_COUNTS, "row counts");
     check_refusal("no room for what is written", ask_written(4, PADCHECK_NOTE_BYTES, one_row, 1, 4),
                   PADCHECK_SHORT_TEXT, "text slice");
+    check_refusal("half a press", padcheck_press_trace(twice, 0, data, 2, room.figures), PADCHECK_BAD_TRACE,
+                  "part of a press");
     check_refusal("a sheet slice too short", ask_sheet(PADCHECK_SHEET_CARD, 0), PADCHECK_SHORT_SHEET,
                   "sheet slice");
     check_refusal("another form", ask_sheet(3, ROOM * 10), PADCHECK_OTHER_FORM, "over 2");
@@ -578,6 +618,7 @@ void check_header(void)
     check_dropped_places();
     check_chart_places();
     check_written_places();
+    check_press_places();
     check_lengths();
     check_lane_numbers();
     check_words();

@@ -1,8 +1,10 @@
 /* Every entry of padcheck.h from C: the header's names, the specification's example and its sheets, its limits, note records,
-   SM files, charts that are written, and the stored sample. */
+   SM files, charts that are written, pad traces, and the stored sample. */
 #include "calls.h"
 #include "checks.h"
 #include "header.h"
+#include "lent.h"
+#include "presses.h"
 #include "sm.h"
 #include "stored.h"
 #include "written.h"
@@ -214,12 +216,7 @@ static void check_example_sheets(void)
 static void check_longest(void)
 {
     size_t len = PADCHECK_MAX_LEN + 1;
-    uint8_t *data = malloc(len);
-    if (data == NULL) {
-        fprintf(stderr, "no memory for %zu bytes\n", len);
-        exit(2);
-    }
-    memset(data, '1', len);
+    uint8_t *data = memset(room_for(len), '1', len);
     struct question question = {data, len, 4, (const uint8_t *)"", 0, 0};
     for (enum call call = 0; call < CALLS; call++)
         check_refused("16777216 bytes", call, &question, 0, PADCHECK_LONG_TEXT);
@@ -229,28 +226,12 @@ static void check_longest(void)
     free(data);
 }
 
-static void put_record(uint8_t *record, uint32_t row, uint32_t tail, uint8_t column, uint8_t kind)
-{
-    for (int i = 0; i < 4; i++) {
-        record[i] = (uint8_t)(row >> 8 * i);
-        record[4 + i] = (uint8_t)(tail >> 8 * i);
-    }
-    record[8] = column;
-    record[9] = kind;
-}
-
 /* Reads a record out of `len` bytes on the heap; where that is refused the note must stay as it was. */
 static void check_read(const uint8_t *records, size_t len, size_t index, uint32_t want, const uint64_t *want_note)
 {
     static const uint64_t unset[PADCHECK_NOTE_FIGURES] = {77, 78, 79, 80};
-    uint64_t *note = malloc(sizeof unset);
-    uint8_t *copy = malloc(len);
-    if (note == NULL || copy == NULL) {
-        fprintf(stderr, "no memory for records\n");
-        exit(2);
-    }
-    memcpy(note, unset, sizeof unset);
-    memcpy(copy, records, len);
+    uint64_t *note = copy_of(unset, sizeof unset);
+    uint8_t *copy = copy_of(records, len);
     uint32_t number = padcheck_read_note(copy, len, index, note);
     check(number == want, "record %zu of %zu bytes: returns %u, should be %u", index, len, number, want);
     const uint64_t *left = want == PADCHECK_ACCEPTED ? want_note : unset;
@@ -315,6 +296,7 @@ int main(int count, char **args)
     check_records();
     check_sm_files();
     check_written();
+    check_presses();
     check_stored(args[1]);
     return checks_end() ? 0 : 1;
 }

@@ -51,10 +51,11 @@ function edit(what, command) { print what "|" NR command }
 # Whether the test, built with these words, fails to build or to pass.
 sh tests/c/definitions.sh >"$out/include/definitions.h"
 cc -std=c11 -c -o "$out/checks.o" tests/c/checks.c
+cc -std=c11 -c -o "$out/lent.o" tests/c/lent.c
 cc -std=c11 -c -o "$out/header_main.o" tests/c/header_main.c
 notices() {
     ! cc -std=c11 -I "$out/include" "$@" -o "$out/check" tests/c/header.c tests/c/calls.c "$out/checks.o" \
-        "$out/header_main.o" "$lib" >"$out/log" 2>&1 ||
+        "$out/lent.o" "$out/header_main.o" "$lib" >"$out/log" 2>&1 ||
         ! "$out/check" >"$out/log" 2>&1
 }
 

@@ -14,7 +14,8 @@ out=target/c
 mkdir -p "$out"
 sh tests/c/definitions.sh >"$out/definitions.h"
 cc -std=c11 -O1 -g -Wall -Wextra -Werror -I include -I "$out" -o "$out/check" \
-    tests/c/main.c tests/c/header.c tests/c/calls.c tests/c/checks.c tests/c/sm.c tests/c/stored.c tests/c/written.c \
+    tests/c/main.c tests/c/header.c tests/c/calls.c tests/c/checks.c tests/c/lent.c tests/c/presses.c tests/c/sm.c tests/c/stored.c \
+    tests/c/written.c \
     "$PADCHECK_LIB_DIR/libpadcheck.a"
 
 # Shows what a run writes and adds its count to `total`.

@@ -1,21 +1,11 @@
 /* Files made by hand for padcheck_sm_chart: what is accepted, each refusal, their order, and the longest file. */
 #include "sm.h"
 #include "checks.h"
+#include "lent.h"
 #include "padcheck.h"
 
-#include <stdio.h>
 #include <stdlib.h>
 #include <string.h>
-
-static void *room_for(size_t bytes)
-{
-    void *at = malloc(bytes);
-    if (at == NULL) {
-        fprintf(stderr, "no memory for %zu bytes\n", bytes);
-        exit(2);
-    }
-    return at;
-}
 
 /* Asks about a file that stands in exactly its own bytes. `chart` is what an accepted call answers; a refused one must
    leave the numbers as they were, and neither may write to the file. */
@@ -23,10 +13,8 @@ static void check_file(const char *name, const uint8_t *file, size_t len, size_t
                        const uint64_t *chart)
 {
     static const uint64_t unset[PADCHECK_CHART_FIGURES] = {77, 78, 79};
-    uint64_t *found = room_for(sizeof unset);
-    uint8_t *copy = room_for(len);
-    memcpy(found, unset, sizeof unset);
-    memcpy(copy, file, len);
+    uint64_t *found = copy_of(unset, sizeof unset);
+    uint8_t *copy = copy_of(file, len);
     uint32_t number = padcheck_sm_chart(copy, len, k, found);
     check(number == want, "%s, chart %zu: returns %u (%s), should be %u", name, k, number, padcheck_words(number),
           want);

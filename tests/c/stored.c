@@ -3,6 +3,8 @@
 #include "stored.h"
 #include "calls.h"
 #include "checks.h"
+#include "lent.h"
+#include "presses.h"
 #include "written.h"
 
 #include <stdio.h>
@@ -36,18 +38,6 @@ static uint64_t take_number(struct reader *reader, size_t bytes)
     return number;
 }
 
-/* A copy on the heap of exactly these bytes. */
-static uint8_t *copy_of(const uint8_t *from, size_t bytes)
-{
-    uint8_t *at = malloc(bytes);
-    if (at == NULL) {
-        fprintf(stderr, "no memory for %zu bytes\n", bytes);
-        exit(2);
-    }
-    memcpy(at, from, bytes);
-    return at;
-}
-
 static struct answer take_answer(struct reader *reader, enum call call)
 {
     static const enum lent places[CONTENTS] = {TEXT, MEASURE_DENSITIES, BEATS, NOTES};
@@ -74,6 +64,13 @@ static void check_stored_written(const char *name, size_t lanes, struct answer a
     check_written_text(name, &given, answer.contents[TEXT].at, answer.contents[TEXT].bytes, answer.figures);
 }
 
+/* The records stand as the notes of the answer, and the presses as its text. */
+static void check_stored_trace(const char *name, struct answer answer)
+{
+    check_trace(name, answer.contents[NOTES].at, answer.contents[NOTES].bytes, answer.contents[TEXT].at,
+                answer.contents[TEXT].bytes, PADCHECK_ACCEPTED, answer.figures);
+}
+
 static void check_record(unsigned long index, struct reader *reader)
 {
     char name[40];
@@ -89,6 +86,7 @@ static void check_record(unsigned long index, struct reader *reader)
         check_call(name, call, &question, &answer);
     }
     check_stored_written(name, lanes, take_answer(reader, MAIN));
+    check_stored_trace(name, take_answer(reader, MAIN));
     free(flags);
     free(data);
 }

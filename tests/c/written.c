@@ -1,40 +1,11 @@
 /* Notes and row counts by hand, as written.h says. */
 #include "written.h"
 #include "checks.h"
+#include "lent.h"
 #include "padcheck.h"
 
-#include <stdio.h>
 #include <stdlib.h>
 #include <string.h>
-
-/* What an entry that was not written still holds. */
-enum { MARK = 0xA5 };
-
-static void *marked(size_t bytes)
-{
-    void *at = malloc(bytes);
-    if (at == NULL) {
-        fprintf(stderr, "no memory for %zu bytes\n", bytes);
-        exit(2);
-    }
-    memset(at, MARK, bytes);
-    return at;
-}
-
-static void *copy_of(const void *from, size_t bytes)
-{
-    void *at = marked(bytes);
-    memcpy(at, from, bytes);
-    return at;
-}
-
-static int all_bytes(const void *at, size_t bytes, uint8_t byte)
-{
-    for (size_t i = 0; i < bytes; i++)
-        if (((const uint8_t *)at)[i] != byte)
-            return 0;
-    return 1;
-}
 
 /* One call with so many bytes for the text; without a text to be written it must be refused and change nothing. */
 static void ask(const char *name, const struct given *given, size_t room, uint32_t want, const void *text, size_t len,
@@ -74,13 +45,7 @@ void check_written_text(const char *name, const struct given *given, const void 
         ask(name, given, len - 1, PADCHECK_SHORT_TEXT, NULL, 0, NULL);
 }
 
-/* A note in a list. */
-struct note {
-    uint32_t row, tail;
-    uint8_t column, kind;
-};
-
-enum { NONE = -1, MOST_NOTES = 6, MOST_COUNTS = 5 };
+enum { MOST_NOTES = 6, MOST_COUNTS = 5 };
 
 struct example {
     const char *name, *text; /* no text where it is refused */
@@ -89,9 +54,6 @@ struct example {
     struct note note[MOST_NOTES];
     uint32_t counts[MOST_COUNTS];
 };
-
-#define TAP(row, column) {row, UINT32_MAX, column, PADCHECK_TAP}
-#define HOLD(row, tail, column) {row, tail, column, PADCHECK_HOLD}
 
 static const struct example examples[] = {
     {"every kind", "1200\n00M4\n,\n,\n0300\nL0F3\n", 0, 4, 6, 3, 0,
@@ -122,16 +84,6 @@ static const struct example examples[] = {
     {"a measure that could be minimised", NULL, 15, 4, 0, 1, 0, {TAP(0, 0)}, {2}},
 };
 
-static void put_record(uint8_t *record, const struct note *note)
-{
-    for (int i = 0; i < 4; i++) {
-        record[i] = (uint8_t)(note->row >> 8 * i);
-        record[4 + i] = (uint8_t)(note->tail >> 8 * i);
-    }
-    record[8] = note->column;
-    record[9] = note->kind;
-}
-
 /* The longest text that is written, 16,777,215 bytes of rows without notes, and one byte more. */
 static void check_longest_written(void)
 {
@@ -156,8 +108,7 @@ void check_written(void)
     for (size_t i = 0; i < sizeof examples / sizeof examples[0]; i++) {
         const struct example *example = &examples[i];
         uint8_t records[MOST_NOTES * 10 + 1] = {0};
-        for (size_t note = 0; note < example->notes; note++)
-            put_record(records + PADCHECK_NOTE_BYTES * note, &example->note[note]);
+        put_records(records, example->note, example->notes);
         size_t records_len = PADCHECK_NOTE_BYTES * example->notes + example->more_bytes;
         struct given given = {records, records_len, example->lanes, example->counts, example->counts_len};
         if (example->number != PADCHECK_ACCEPTED) {

@@ -7,7 +7,7 @@ use std::time::{Duration, Instant};
 const SHOWN: u64 = 3;
 const SHRINKING: Duration = Duration::from_secs(3);
 
-/// The lane counts, and one more than the greatest number that an entry can return: 0 for accepted, the refusals 1 to 15, 19 and 20.
+/// The lane counts, and one more than the greatest number that an entry can return: 0 for accepted, the refusals 1 to 16, 19 and 20.
 pub const LANE_COUNTS: [usize; 5] = [4, 5, 6, 8, 10];
 pub const NUMBERS: usize = 21;
 

@@ -7,7 +7,7 @@ use crate::file_checks::Files;
 use crate::kinds::Kinds;
 use crate::sheet_checks;
 use oracle::calls::{CALLS, Call};
-use oracle::{entry, sheet_entry, written};
+use oracle::{entry, presses, sheet_entry, written};
 
 const HEADER: &str = include_str!("../../include/padcheck.h");
 
@@ -124,6 +124,7 @@ fn numbers(entry: &str) -> Option<Vec<u32>> {
         None if entry == "sm_chart" => &[1, 9, 10, 11],
         None if entry == sheet_checks::NAME => &sheet_entry::REFUSALS,
         None if entry == written::NAME => &written::REFUSALS,
+        None if entry == presses::NAME => &presses::REFUSALS,
         None => return None,
     };
     Some([&[0], refusals].concat())

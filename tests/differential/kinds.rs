@@ -2,14 +2,17 @@
 
 use crate::case::{Case, LANE_COUNTS, lane_place};
 use crate::edits;
-use crate::random;
+use crate::random::{self, LONG, Rng};
 use oracle::asked::{chart_text, read_back_text};
-use oracle::calls::minimize_chart_count_rows_notes;
+use oracle::calls::{Answer, minimize_chart_count_rows_notes};
 use oracle::dropped::{DroppedHead, NO_ROW, dropped_of};
-use oracle::entry::is_lane_count;
+use oracle::entry::{is_lane_count, read_notes};
 use oracle::keysounds::rows_read_back;
 use oracle::leaves::{self, Counted};
+use oracle::presses::{Place, Sorted, place_of};
+use oracle::traces::presses_on;
 use oracle::written::Given;
+use std::collections::{HashMap, HashSet};
 
 /// What a kind asks of a text.
 type Test = fn(&Facts) -> bool;
@@ -18,7 +21,7 @@ type Test = fn(&Facts) -> bool;
 const AS_IT_STANDS: usize = 0;
 const IN_ANOTHERS_PLACE: usize = 1;
 
-const KINDS: [(&str, Test); 79] = [
+const KINDS: [(&str, Test); 89] = [
     ("a text that the Rust is asked about", |f| f.as_it_stands),
     ("a text in whose place it is asked about another", |f| {
         !f.as_it_stands
@@ -138,6 +141,20 @@ const KINDS: [(&str, Test); 79] = [
     ("edited notes refused with 13", |f| f.written.edited == 13),
     ("edited notes refused with 14", |f| f.written.edited == 14),
     ("edited notes refused with 15", |f| f.written.edited == 15),
+    ("a press that is a hit", |f| f.traced.hit),
+    ("a press on a mine", |f| f.traced.unplayed[0]),
+    ("a press on a lift", |f| f.traced.unplayed[1]),
+    ("a press on a fake", |f| f.traced.unplayed[2]),
+    ("a press on a tail", |f| f.traced.on_tail),
+    ("a second press on a note", |f| f.traced.second),
+    ("a press a row after a note", |f| f.traced.row_late),
+    ("a press where no note or tail stands", |f| f.traced.nowhere),
+    ("a note of each kind without a press", |f| {
+        f.traced.unmet == [true; 6]
+    }),
+    ("notes that are all pressed, and no stray", |f| {
+        f.traced.clean
+    }),
     ("100,000 bytes or more", |f| f.is_long(100_000)),
     ("500,000 bytes or more", |f| f.is_long(500_000)),
 ];
@@ -182,9 +199,8 @@ struct Written {
 }
 
 impl Written {
-    fn of(case: &Case) -> Self {
-        let main = minimize_chart_count_rows_notes(&case.bytes, case.lanes);
-        let given = Given::of_answer(&main, case.lanes);
+    fn of(case: &Case, main: &Answer) -> Self {
+        let given = Given::of_answer(main, case.lanes);
         let chart = given.chart();
         let edited = edits::edited(case, given);
         Self {
@@ -192,6 +208,63 @@ impl Written {
             back: chart.is_ok_and(|chart| chart == main.text),
             edited: edited.chart().err().unwrap_or_default(),
         }
+    }
+}
+
+/// What the presses of a trace stand on that is made of a text's notes, each in a way of its own.
+#[derive(Default)]
+struct Traced {
+    hit: bool,
+    /// A press on a mine, a lift, a fake.
+    unplayed: [bool; 3],
+    on_tail: bool,
+    second: bool,
+    row_late: bool,
+    nowhere: bool,
+    /// Whether a note of each kind has no press.
+    unmet: [bool; 6],
+    clean: bool,
+}
+
+impl Traced {
+    /// Of a long text nothing is told.
+    fn of(case: &Case, main: &Answer) -> Self {
+        if case.bytes.len() >= LONG {
+            return Self::default();
+        }
+        let notes = read_notes(&main.notes).unwrap_or_default();
+        let mut rng = Rng::new(case.seed);
+        let presses = presses_on(&notes, None, |n| rng.below(n));
+        let Sorted {
+            hits,
+            strays,
+            misses,
+        } = Sorted::of(&notes, &presses);
+        let at: HashMap<Place, u64> = notes.iter().map(|n| (place_of(n), n[3])).collect();
+        let tails: HashSet<Place> = notes.iter().map(|n| (n[1], n[2])).collect();
+        let mut traced = Self {
+            hit: !hits.is_empty(),
+            clean: !hits.is_empty() && strays.is_empty() && misses.is_empty(),
+            ..Self::default()
+        };
+        for &(row, column) in &strays {
+            let is_played = |place: &Place| at.get(place).is_some_and(|&kind| kind < 3);
+            let kind = at.get(&(row, column));
+            let late = row > 0 && is_played(&(row - 1, column));
+            let on_tail = tails.contains(&(row, column));
+            match kind {
+                Some(&kind) if kind < 3 => traced.second = true,
+                Some(&kind) => traced.unplayed[kind as usize - 3] = true,
+                None => traced.nowhere |= !late && !on_tail,
+            }
+            traced.on_tail |= on_tail && kind.is_none();
+            traced.row_late |= late && kind.is_none();
+        }
+        let pressed: HashSet<Place> = presses.into_iter().collect();
+        for note in notes.iter().filter(|n| !pressed.contains(&place_of(n))) {
+            traced.unmet[note[3] as usize] = true;
+        }
+        traced
     }
 }
 
@@ -235,12 +308,14 @@ struct Facts {
     dropped_together: bool,
     dropped_out_of_turn: bool,
     written: Written,
+    traced: Traced,
 }
 
 impl Facts {
     fn of(case: &Case) -> Self {
         let lanes = case.lanes;
         let text = &case.bytes[..];
+        let main = minimize_chart_count_rows_notes(text, lanes);
         let mut facts = Self {
             as_it_stands: chart_text(text, lanes) == text && read_back_text(text, lanes) == text,
             len: text.len(),
@@ -276,7 +351,8 @@ impl Facts {
             drops: [false; 3],
             dropped_together: false,
             dropped_out_of_turn: false,
-            written: Written::of(case),
+            written: Written::of(case, &main),
+            traced: Traced::of(case, &main),
         };
         let rows = facts.read(text);
         facts.look_at_rows(&rows);

@@ -18,10 +18,16 @@ mod limits;
 mod long_texts;
 mod ours;
 mod places;
+#[path = "../oracle/press_examples.rs"]
+mod press_examples;
 mod random;
 mod row_checks;
 mod sheet_checks;
+#[path = "../oracle/table.rs"]
+mod table;
 mod text_checks;
+mod trace_checks;
+mod trace_limits;
 mod written_checks;
 #[path = "../oracle/written_examples.rs"]
 mod written_examples;
@@ -49,7 +55,10 @@ too. Where a line has a byte 13 among its first L bytes, which is a row for the 
 text in which that line is none; both sorts of text are counted. What the main call reads of each text is edited
 and written as a chart beside a plain reference, and read again; so are notes and row counts that are drawn,
 every list of up to three notes in a few cells with every list of their counts, the specification's examples,
-every set of refusals at every lane number, and lengths at their limit. The sheet is compared with the reference
+every set of refusals at every lane number, and lengths at their limit. Traces of presses are made of the notes of each
+text, as they are and with presses dropped, doubled, moved, a row late, on tails and on mines, and set against them
+beside a plain reference; so are all lists of a few notes with every trace of up to four presses, the specification's
+examples, every way to be refused with every other, and lists of a million. The sheet is compared with the reference
 in Rust, on half of the random texts and some of the long ones. SM files are compared with the reference in
 Rust, every block and the numbers past them: for each SEED N random files, then every short file over a few
 tokens, a file by hand with each byte struck or changed, and files of the greatest length; the calls are made on
@@ -116,6 +125,8 @@ fn run(options: &Options) -> ExitCode {
     texts.push(dropped_checks::listed_or_noted());
     texts.push(written_checks::edited());
     texts.push(written_checks::read_and_written());
+    texts.push(trace_checks::pressed());
+    texts.push(trace_checks::edited());
     let mut drawn = [written_checks::drawn()];
     let mut sheet = sheet_checks::drawn(1);
     let mut rows = row_checks::checks();
@@ -160,6 +171,7 @@ fn run(options: &Options) -> ExitCode {
     let mut flagged = [text_checks::every_list_of_flags()];
     limits::few_rows(&mut flagged[0]);
     let written = written();
+    let traces = traces();
     let mut shortages: Vec<_> = text_checks::shortages().collect();
     shortages.push(sheet_checks::shortages());
     shortages.push(text_checks::tallies());
@@ -177,7 +189,7 @@ fn run(options: &Options) -> ExitCode {
         file_limits::longest_files(&mut files);
     }
     longest.push(longest_sheet);
-    let groups: [(&str, &[Check]); 12] = [
+    let groups: [(&str, &[Check]); 13] = [
         ("texts", &texts),
         ("rows", &rows),
         ("beats", &beats),
@@ -191,6 +203,7 @@ fn run(options: &Options) -> ExitCode {
         ("longest texts", &longest),
         ("notes and row counts, drawn", &drawn),
         ("notes and row counts, every list and the limits", &written),
+        ("pad traces, every list and the limits", &traces),
         ("files", &files.entry),
         ("charts of files", &files.charts),
     ];
@@ -215,6 +228,24 @@ fn written() -> [Check; 5] {
         lanes: 4,
         ..Case::default()
     });
+    checks
+}
+
+/// Every list of a few notes with every trace of a few presses, the examples, every way to be refused, lengths around whole records, and long lists.
+fn traces() -> [Check; 5] {
+    let mut checks = [
+        trace_limits::listed(),
+        trace_limits::example(),
+        trace_limits::wrong(),
+        trace_limits::lengths(),
+        trace_limits::long_lists(),
+    ];
+    let [listed, example, wrong, lengths, long_lists] = &mut checks;
+    trace_limits::every_list(listed);
+    trace_limits::every_example(example);
+    trace_limits::every_wrong(wrong);
+    trace_limits::every_length(lengths);
+    trace_limits::every_long_list(long_lists);
     checks
 }
 

@@ -1,4 +1,5 @@
-//! The leaves of libleaves.a, and the entries that read a note record, write a sheet, write a chart and read an SM file, as safe functions.
+//! The leaves of libleaves.a, and the entries that read a note record, set a pad trace against records, write a sheet, write a chart and read an SM file, as
+//! safe functions.
 //! What a leaf does not take comes back as `None`.
 
 mod leaves {
@@ -53,6 +54,7 @@ pub use leaves::{
 };
 use oracle::calls::Figures;
 use oracle::entry::Loan;
+use oracle::presses::Places;
 use oracle::written::Given;
 use padcheck::lent;
 
@@ -135,6 +137,11 @@ pub fn calc_last_beat(m: u32, r: u32, n: u32, last: &mut [u64; 2]) -> Option<()>
 /// The entry that reads a note record: its number, and the note where that is 0.
 pub fn read_note(records: &[u8], index: usize, note: &mut [u64; 4]) -> u32 {
     number(lent::read_note(records, index, note))
+}
+
+/// The entry that sets a pad trace against note records: its number, and the 23 places where that is 0.
+pub fn press_trace(records: &[u8], trace: &[u8], presses: &mut Places) -> u32 {
+    number(lent::press_trace(records, trace, presses))
 }
 
 /// The entry that writes the sheet of a chart: its number.

@@ -1,17 +1,20 @@
 //! Self-check of the oracle: the specification's examples, refusals, leaves, directions, dropped heads, sheets, the charts inside an SM file, written charts,
-//! and the stored samples.
+//! pad traces, and the stored samples.
 //! Ends with `N passed, M failed`; the exit status is not 0 if anything failed.
 
 mod check_directions;
 mod check_dropped;
 mod check_examples;
 mod check_files;
+mod check_presses;
 mod check_sample;
 mod check_sheet;
 mod check_sm;
 mod check_written;
+mod press_examples;
 #[path = "../vectors/reader.rs"]
 mod reader;
+mod table;
 mod written_examples;
 
 use oracle::calls::{CALLS, Call};
@@ -81,6 +84,7 @@ fn main() -> ExitCode {
     checks.group("sheets", check_sheet::run);
     checks.group("charts in files", check_sm::run);
     checks.group("written charts", check_written::run);
+    checks.group("pad traces", check_presses::run);
     checks.group("sample", |checks| check_sample::run(checks, &stored));
     checks.group("files", |checks| check_files::run(checks, FILES));
     println!("{} passed, {} failed", checks.passed, checks.failed);

@@ -7,7 +7,7 @@ use oracle::asked::chart_text;
 use oracle::calls::{self, Answer, CALLS};
 use oracle::deciding::TEXTS;
 use oracle::entry::{Lengths, Loan, enter, is_lane_count};
-use oracle::vectors::{MARK, SEED, Sample, answer_slices, file, samples, written};
+use oracle::vectors::{MARK, SEED, Sample, answer_slices, file, pressed, samples, written};
 use std::fs;
 
 pub fn run(checks: &mut Checks, copies: &[String]) {
@@ -65,6 +65,7 @@ fn record_holds(record: &mut Reader, sample: &Sample) -> bool {
             answer_holds(record, &answer)
         })
         && answer_holds(record, &written(&sample.text, sample.lanes))
+        && answer_holds(record, &pressed(&sample.text, sample.lanes))
 }
 
 fn answer_holds(record: &mut Reader, answer: &Answer) -> bool {
@@ -108,6 +109,17 @@ fn coverage(checks: &mut Checks, samples: &[Sample]) {
     let count = asked_another.count();
     checks.same("texts asked about in another's place", count > 20, true);
     checks.same("and as they stand", samples.len() - count > 300, true);
+    let mut met = [0; 4];
+    for sample in samples {
+        let [hits, strays, misses, ..] = pressed(&sample.text, sample.lanes).figures;
+        let is_clean = hits > 0 && strays == 0 && misses == 0;
+        let are_met = [hits > 0, strays > 0, misses > 0, is_clean];
+        for (count, is_met) in met.iter_mut().zip(are_met) {
+            *count += usize::from(is_met);
+        }
+    }
+    let enough = met.iter().all(|&count| count > 50);
+    checks.same("hits, strays, misses and clean traces", enough, true);
 }
 
 /// There is one definition of each figure: whichever call answers it, it is the same.

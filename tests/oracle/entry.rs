@@ -198,3 +198,15 @@ pub fn read_note(records: &[u8], index: usize) -> Result<[u64; 4], u32> {
         Err(8)
     }
 }
+
+/// All notes of records, as they are read back.
+///
+/// # Errors
+///
+/// 7 for part of a record, before 8 for any.
+pub fn read_notes(records: &[u8]) -> Result<Vec<[u64; 4]>, u32> {
+    match records.as_chunks::<NOTE_BYTES>() {
+        (records, []) => records.iter().map(|record| read_note(record, 0)).collect(),
+        _ => Err(7),
+    }
+}

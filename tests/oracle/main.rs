@@ -1,10 +1,12 @@
-//! The oracle as a program: figures of a text, the charts of an SM file, the sheet of a chart, a chart written from notes, and the stored samples.
+//! The oracle as a program: figures of a text, the charts of an SM file, the sheet of a chart, a chart written from notes, a pad trace set against notes,
+//! and the stored samples.
 
 use oracle::calls::{self, Answer, CALLS, Call, TALLY_NAMES};
 use oracle::card::card;
 use oracle::deciding::TEXTS;
 use oracle::dropped::heads_in;
 use oracle::entry::{MAX_LEN, is_lane_count};
+use oracle::presses::Pressed;
 use oracle::sheet::{ChartFigures, Form, note_lines};
 use oracle::sm::{SmChart, charts};
 use oracle::sm_deciding::FILES;
@@ -22,6 +24,7 @@ oracle sm < FILE                          the charts of an SM file
 oracle card < TEXT                        what the program card prints
 oracle sheet FORM LANES < TEXT            the sheet of a chart; FORM is card, print or json
 oracle write LANES ROWSFILE < RECORDS     the chart that is written from note records
+oracle press TRACEFILE < RECORDS          hits, strays and misses of a pad trace set against note records
 oracle vectors SEED OUT                   write the sample of answers to the file OUT
 oracle files SEED OUT                     write the sample of SM files to the file OUT
 oracle differing SAMPLE                   the texts or files of a sample that are answered differently
@@ -29,7 +32,8 @@ oracle --help                             this help
 
 LANES is a lane count, 4, 5, 6, 8 or 10. FLAGSFILE holds one byte a row,
 0 for unjudged; a row past them is unjudged, without it every row is.
-ROWSFILE has the row count of each measure on a line. `oracle sm` has a line for each
+ROWSFILE has the row count of each measure on a line, TRACEFILE the records of presses.
+The line of `oracle press` has the 23 places or the refusal. `oracle sm` has a line for each
 block: its number from 0, then lane count, start and length of its data, or the
 refusal.
 ";
@@ -55,6 +59,7 @@ fn run(args: &[&str]) -> Result<(), String> {
         ["card"] => print(card(&read_text()?).as_bytes()),
         ["sheet", form, lanes] => print_sheet(form, lanes),
         ["write", lanes, rows] => write_chart(lanes, rows),
+        ["press", trace] => print_presses(trace),
         ["vectors", seed, out] => write_sample(vectors::file, seed, out),
         ["files", seed, out] => write_sample(sm_vectors::sample, seed, out),
         ["differing", sample] => print_differing(sample),
@@ -216,6 +221,19 @@ fn write_chart(lanes: &str, rows: &str) -> Result<(), String> {
         Ok(text) => print(&text),
         Err(refusal) => print(format!("refused {refusal}\n").as_bytes()),
     }
+}
+
+/// The 23 places, or the refusal.
+fn print_presses(trace: &str) -> Result<(), String> {
+    let pressed = Pressed {
+        records: read_text()?,
+        trace: read_file(trace)?,
+    };
+    let line = match pressed.answer() {
+        Ok(places) => listed("presses", &places),
+        Err(refusal) => format!("refused {refusal}"),
+    };
+    print(format!("{line}\n").as_bytes())
 }
 
 /// What is answered for each block of a file; a file that is too long has one answer for all.

@@ -12,6 +12,7 @@
 //! - `sheet`: the sheet of a chart in its three forms; `sheet_entry`: its call as it is met from outside.
 //! - `card`: what the program card prints.
 //! - `written`: from notes back to a chart, which the Rust does not have.
+//! - `presses`: a pad trace set against the notes, which the Rust does not have; `traces`: traces that are made from notes.
 //! - `vectors`: the stored sample of answers; `deciding`: those of its texts that one rule decides.
 //! - `sm_vectors`: the stored sample of SM files; `sm_deciding`: those of its files that one sentence decides.
 
@@ -22,6 +23,7 @@ pub mod directions;
 pub mod dropped;
 pub mod entry;
 pub mod keysounds;
+pub mod presses;
 pub mod sheet;
 pub mod sheet_entry;
 pub mod sm;
@@ -31,6 +33,7 @@ pub mod sm_vectors;
 mod stats;
 mod streams;
 mod timing;
+pub mod traces;
 pub mod vectors;
 pub mod written;
 

@@ -2,9 +2,12 @@
 //! The layout is described in `tests/vectors/README.md`.
 
 use crate::asked::read_back_text;
-use crate::calls::{Answer, CALLS, answer};
+use crate::calls::{Answer, CALLS, answer, minimize_chart_count_rows_notes};
 use crate::deciding::{Deciding, TEXTS};
+use crate::entry::read_notes;
 use crate::leaves::parse_minimized_rows;
+use crate::presses::{Pressed, trace_of};
+use crate::traces::{WAYS, presses_on};
 use crate::written::Given;
 use std::panic::{self, AssertUnwindSafe};
 
@@ -68,6 +71,7 @@ pub fn record(sample: &Sample) -> Vec<u8> {
         push_answer(&mut rest, &answer);
     }
     push_answer(&mut rest, &written(&sample.text, sample.lanes));
+    push_answer(&mut rest, &pressed(&sample.text, sample.lanes));
     sized(&rest)
 }
 
@@ -83,6 +87,26 @@ pub fn written(text: &[u8], lanes: usize) -> Answer {
         ..Answer::default()
     };
     given.enter(&mut answer.text, &mut answer.figures);
+    answer
+}
+
+/// What becomes of presses on the notes of a text, by its length in one of the ways or each note in its own, as an answer: the trace is its text, the
+/// records are its notes, and the 23 places stand at the front of its figures.
+#[must_use]
+pub fn pressed(text: &[u8], lanes: usize) -> Answer {
+    let records = minimize_chart_count_rows_notes(text, lanes).notes;
+    let way = WAYS.get(text.len() % (WAYS.len() + 1)).copied();
+    let mut numbers = Numbers(text.len() as u64);
+    let notes = read_notes(&records).expect("notes that are written");
+    let presses = presses_on(&notes, way, |bound| numbers.below(bound));
+    let pressed = Pressed {
+        records,
+        trace: trace_of(&presses),
+    };
+    let mut answer = Answer::default();
+    pressed.enter(answer.figures.first_chunk_mut().expect("the places"));
+    answer.text = pressed.trace;
+    answer.notes = pressed.records;
     answer
 }
 

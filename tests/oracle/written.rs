@@ -5,7 +5,7 @@ use crate::calls::{
     Answer, Figures, MEASURES, NO_TAIL, NOTE_BYTES, NOTES, ROWS, TEXT_BYTES,
     minimize_chart_count_rows_notes,
 };
-use crate::entry::{MAX_LEN, is_lane_count, lay, read_note};
+use crate::entry::{MAX_LEN, is_lane_count, lay, read_notes};
 use crate::leaves::reduce_rows;
 use std::collections::BTreeMap;
 
@@ -82,12 +82,7 @@ impl Given {
         if self.text_len() > MAX_LEN as u128 {
             return Err(1);
         }
-        let (records, rest) = self.records.as_chunks::<NOTE_BYTES>();
-        if !rest.is_empty() {
-            return Err(7);
-        }
-        let notes: Result<Vec<Note>, u32> = records.iter().map(|r| read_note(r, 0)).collect();
-        let notes = notes?;
+        let notes = read_notes(&self.records)?;
         if !is_in_order(&notes, self.lanes) {
             return Err(13);
         }
@@ -141,9 +136,8 @@ impl Given {
 
     /// The text of notes and row counts that are refused for a measure of it which could be minimised further.
     fn unminimised(&self) -> Option<Vec<u8>> {
-        let (records, _) = self.records.as_chunks::<NOTE_BYTES>();
-        let notes: Result<Vec<Note>, u32> = records.iter().map(|r| read_note(r, 0)).collect();
-        let rows = self.rows(&laid(&notes.ok()?)?)?;
+        let notes = read_notes(&self.records).ok()?;
+        let rows = self.rows(&laid(&notes)?)?;
         Some(self.text(&self.measures(&rows)))
     }
 

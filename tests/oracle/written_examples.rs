@@ -1,5 +1,6 @@
 //! The specification's table of examples of written charts, read from `WrittenExamples.antt`.
 
+use crate::table::Words;
 use oracle::calls::NO_TAIL;
 use oracle::written::{Given, record};
 
@@ -13,62 +14,12 @@ pub struct Example {
     pub answer: Result<Vec<u8>, u32>,
 }
 
-/// Every example of the table; it stops where the table is not as it is read here.
+/// Every example of the table.
 pub fn examples() -> Vec<Example> {
-    let (_, table) = SOURCE.split_once("\ntable =\n").expect("the table");
-    let (table, _) = table.split_once("\n\n").expect("its end");
-    let mut words = Words(words(table));
-    let mut examples = Vec::new();
-    loop {
-        examples.push(words.example());
-        words.expect("∷");
-        if words.is("[]") {
-            break;
-        }
-    }
-    assert!(words.0.is_empty(), "nothing stands after the table");
-    examples
+    Words::of(SOURCE).list(Words::example)
 }
-
-/// The words of the table, the last one first; a string begins with `"`, and comments are left out.
-fn words(table: &str) -> Vec<String> {
-    let lines = table.lines();
-    let lines = lines.filter(|line| !line.trim_start().starts_with("--"));
-    let mut words = Vec::new();
-    for (number, part) in lines.collect::<Vec<_>>().join("\n").split('"').enumerate() {
-        if number % 2 == 1 {
-            words.push(format!("\"{part}"));
-            continue;
-        }
-        let mut part = part.to_string();
-        for mark in ["(", ")", "{", "}", ";"] {
-            part = part.replace(mark, &format!(" {mark} "));
-        }
-        words.extend(part.split_whitespace().map(String::from));
-    }
-    words.reverse();
-    words
-}
-
-struct Words(Vec<String>);
 
 impl Words {
-    fn next(&mut self) -> String {
-        self.0.pop().expect("a word more")
-    }
-
-    fn is(&mut self, word: &str) -> bool {
-        let is = self.0.last().is_some_and(|next| next == word);
-        if is {
-            self.0.pop();
-        }
-        is
-    }
-
-    fn expect(&mut self, word: &str) {
-        assert!(self.is(word), "{word} is due, not {:?}", self.0.last());
-    }
-
     fn number(&mut self) -> u32 {
         match self.next().as_str() {
             "none" => NO_TAIL,

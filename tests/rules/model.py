@@ -255,6 +255,65 @@ def read_note(records, k):
     return [0, row, tail, column, kind] if all(limits) else [8]
 
 
+# Pad traces
+
+
+def is_played(note):
+    """A tap, a hold or a roll."""
+    return note[3] in (0, 1, 2)
+
+
+def stands(note):
+    """Where a note stands, its row and column alone."""
+    row, tail, column, kind = note
+    return [(row, column)]
+
+
+def hits(notes, presses):
+    """The presses on a played note with no press before them there."""
+    places = [place for note in notes if is_played(note) for place in stands(note)]
+    return [press for i, press in enumerate(presses) if press in places and press not in presses[:i]]
+
+
+def misses(notes, presses):
+    """Where the played notes stand that have no press."""
+    return [place for note in notes if is_played(note) for place in stands(note) if place not in presses]
+
+
+def places(notes, presses):
+    """Hits, strays, misses, the hits of each column and the misses of each."""
+    hit, missed = hits(notes, presses), misses(notes, presses)
+    counts = [len(hit), len(presses) - len(hit), len(missed)]
+    of_column = lambda c, found: sum(column == c for _, column in found)
+    return counts + [of_column(c, hit) for c in range(10)] + [of_column(c, missed) for c in range(10)]
+
+
+def read_press(trace, k):
+    """Row and column of press k."""
+    return struct.unpack("<IB", trace[5 * k : 5 * k + 5])
+
+
+def is_bad_trace(trace):
+    """Whether a trace has part of a press, a column over 9, or a press that falls."""
+    presses = [read_press(trace, k) for k in range(len(trace) // 5)]
+    wide = any(column > 9 for _, column in presses)
+    falls = any(later < press for press, later in zip(presses, presses[1:]))
+    return len(trace) % 5 != 0 or wide or falls
+
+
+def press_trace(records, trace):
+    """What is answered to note records and a trace: 0 and the 23 places, or the refusal's number."""
+    read = [read_note(records, k) for k in range(len(records) // 10)]
+    uneven = len(records) % 10 != 0
+    broken = [8] in read
+    notes = [tuple(note[1:]) for note in read]
+    stand = [(note[0], note[2]) for note in notes if note]
+    equal_or_falls = any(later <= place for place, later in zip(stand, stand[1:]))
+    checks = [(7, uneven), (8, broken), (13, equal_or_falls), (16, is_bad_trace(trace))]
+    told = [number for number, is_refused in checks if is_refused]
+    return told[:1] or [0] + places(notes, [read_press(trace, k) for k in range(len(trace) // 5)])
+
+
 # Tally
 
 

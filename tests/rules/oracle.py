@@ -1,4 +1,4 @@
-"""The oracle's answers (`tests/oracle`), and random short texts to ask it about."""
+"""The oracle's answers (`tests/oracle`), and random short texts and pad traces to ask it about."""
 
 import codecs
 import struct
@@ -10,12 +10,8 @@ ORACLE = "target/oracle/oracle"
 
 def answers(lanes, flags, text):
     """The figures of a text that the oracle has, under the names of the examples; a tally is all its fields, and some figures have several calls."""
-    with tempfile.NamedTemporaryFile() as file:
-        file.write(bytes(flags))
-        file.flush()
-        run = subprocess.run([ORACLE, "figures", str(lanes), file.name], input=text, capture_output=True, check=True)
     calls = {}
-    for line in run.stdout.decode().splitlines():
+    for line in said(["figures", str(lanes)], bytes(flags), text):
         if line.startswith("  "):
             call.append(line[2:])
         else:
@@ -45,6 +41,21 @@ def answers(lanes, flags, text):
         ("timing", quoted(timing)),
         ("timing_head", listed(timing, "has_heads")),
     ]
+
+
+def said(words, file, given):
+    """The lines that the oracle prints at these words and a file's name."""
+    with tempfile.NamedTemporaryFile() as named:
+        named.write(file)
+        named.flush()
+        run = subprocess.run([ORACLE, *words, named.name], input=given, capture_output=True, check=True)
+    return run.stdout.decode().splitlines()
+
+
+def press_trace(records, trace):
+    """What is answered to note records and a trace: 0 and the 23 places, or the refusal's number."""
+    name, *counts = said(["press"], trace, records)[0].split(" ")
+    return ([0] if name == "presses" else []) + [int(count) for count in counts]
 
 
 def word(lines, name):
@@ -108,3 +119,19 @@ def random_text(draw):
         lines.append(line)
     flags = [draw.choice((0, 0, 1, 1, 2)) for _ in range(draw.choice((0, 1, 4, 12)))]
     return lanes, flags, "\n".join(lines).encode("latin-1")
+
+
+def random_trace(draw, notes):
+    """Note records and a trace: presses on some of the notes and beside them, most of them in order."""
+    presses = []
+    for row, tail, column, _ in notes:
+        places = [(row, column), (row, column), (tail, column), (row + 1, column), (row, draw.randrange(11))]
+        presses += draw.choices(places, (8, 8, 1, 1, 1), k=draw.choice((0, 1, 1, 1, 1, 2)))
+    if draw.random() < 0.9:
+        presses.sort()
+    trace = b"".join(struct.pack("<IB", *press) for press in presses)
+    records = [struct.pack("<IIBB", *note) for note in notes]
+    if draw.random() < 0.1:
+        draw.shuffle(records)
+    cut = draw.choice((0,) * 12 + (1, 3))
+    return b"".join(records), trace[cut:]

@@ -59,14 +59,21 @@ def arguments_of(name, flags):
 
 
 def same_as_oracle(seed):
-    """A random text, and its figures that the model gives otherwise than the oracle."""
-    lanes, flags, text = oracle.random_text(random.Random(seed))
+    """A random text, and its figures that the model gives otherwise than the oracle, a trace of presses on its notes among them."""
+    draw = random.Random(seed)
+    lanes, flags, text = oracle.random_text(draw)
     given = oracle.answers(lanes, flags, text)
-    return lanes, flags, text, [name for name, value in given if model.figure(name, arguments_of(name, flags), lanes, text) != value]
+    names = [name for name, value in given if model.figure(name, arguments_of(name, flags), lanes, text) != value]
+    records, trace = oracle.random_trace(draw, model.notes(lanes, text))
+    if model.press_trace(records, trace) != oracle.press_trace(records, trace):
+        names.append(f"press_trace of {trace!r}")
+    return lanes, flags, text, names
 
 
 def said_by_oracle(example):
-    """For each figure of an example that the oracle has, whether it answers what the example says."""
+    """For each figure of an example that the oracle has, or for what is answered to a trace, whether it answers what the example says."""
+    if isinstance(example, examples.TraceExample):
+        return [oracle.press_trace(example.records, example.trace) == example.answer]
     if not model.is_lane_count(example.lanes):
         return []
     same = []

@@ -13,7 +13,7 @@ use std::process::{Command, ExitCode, Stdio};
 
 const HEAD: usize = 24;
 const FIGURES: usize = 256;
-const CALLS: usize = 10;
+const CALLS: usize = 11;
 
 /// The calls that `replay_charts` compares; `replay_figures` has the others.
 const CHART_CALLS: usize = 2;
@@ -21,6 +21,11 @@ const CHART_CALLS: usize = 2;
 /// Bytes of an element in the text, measure, beat and note contents; spacing has one byte a measure.
 const ELEMENTS: [usize; 4] = [1, 4, 4, 10];
 const SPACING: usize = 4;
+
+/// The last answer, and the bytes of a press and of a note.
+const PRESSED: usize = CALLS - 1;
+const PRESS_BYTES: usize = 5;
+const NOTE_BYTES: usize = 10;
 
 struct Replays {
     charts: String,
@@ -146,9 +151,20 @@ fn changes(record: &[u8], answer: &Answer, call: usize) -> Vec<(String, Vec<u8>)
     changes
 }
 
-/// Whether every call that answers contents has some, and none of them ends with a 0.
+/// Whether every call that answers contents has some, none of them ends with a 0, and each note has a press, and none beside: so a changed note or press
+/// tells.
 fn shows_all(record: &[u8]) -> bool {
     let answers = answers(record);
+    let [(trace_start, trace_end), .., (notes_start, notes_end)] = answers[PRESSED].contents;
+    let mut places = Reader(&record[answers[PRESSED].at..]);
+    let [hits, strays, misses] = std::array::from_fn(|_| places.number(8) as usize);
+    let are_hit = [hits * PRESS_BYTES, hits * NOTE_BYTES, 0, 0];
+    let given = [
+        trace_end - trace_start,
+        notes_end - notes_start,
+        strays,
+        misses,
+    ];
     let mut filled = Vec::new();
     for (call, answer) in answers.iter().enumerate() {
         for (kind, &(start, end)) in answer.contents.iter().enumerate() {
@@ -158,8 +174,9 @@ fn shows_all(record: &[u8]) -> bool {
         }
     }
     // Main: all four; kept: text and measures; timing rows: text and beats; densities; spacing; dropped heads: text and list; what is written: the
-    // text, and the counts and records that are asked.
-    filled.into_iter().filter(|&is| is).count() == 4 + 2 + 2 + 1 + 1 + 2 + 3
+    // text, and the counts and records that are asked; presses: the trace and the records.
+    let filled = filled.into_iter().filter(|&is| is).count();
+    filled == 4 + 2 + 2 + 1 + 1 + 2 + 3 + 2 && given == are_hit
 }
 
 fn element(call: usize, kind: usize) -> usize {

@@ -9,6 +9,9 @@ pub const NOTE_BYTES: usize = 10;
 /// Bytes of a dropped head's record.
 pub const DROPPED_BYTES: usize = 10;
 
+/// Bytes of a press's record.
+pub const PRESS_BYTES: usize = 5;
+
 /// Bytes of a sheet: so many for each byte of the text and one more, and so many besides.
 const SHEET_BYTES: usize = 42;
 const SHEET_HEAD: usize = 3000;

@@ -209,6 +209,14 @@ calls! {
     /// Refusals 7 and 8.
     pub fn read_note(records: &[u8], index: usize, note: &mut [u64; 4]);
 
+    /// A pad trace, records of [`PRESS_BYTES`](crate::PRESS_BYTES), set against note records: hits, strays and misses, then the hits of the
+    /// columns 0 to 9 and the misses of each. [`PressCounts::from_presses`](crate::PressCounts::from_presses) reads them.
+    ///
+    /// # Errors
+    ///
+    /// Refusals 7, 8, 13 and 16.
+    pub fn press_trace(records: &[u8], trace: &[u8], presses: &mut [u64; 23]);
+
     /// The sheet of a chart in the form of this number ([`SheetForm::number`](crate::SheetForm::number)). Text, densities, beats, work, notes
     /// and figures are left as the main call leaves them, the spacing as [`equally_spaced`] does; the bytes of the sheet stand at
     /// [`place::SHEET_BYTES`](crate::place::SHEET_BYTES).

@@ -15,6 +15,8 @@
 //!
 //! [`notes_to_chart`] goes from notes back to a chart: note records and a row count for each measure, written as minimised text.
 //!
+//! [`press_trace`] sets a trace of presses against notes: hits, strays and misses.
+//!
 //! [`chart_sheet`] writes a chart's figures out, in the lines of the program card, in columns for the eye, or as JSON.
 //!
 //! [`sm_chart`] and [`sm_charts`] find what any of these is given: the note data of each chart inside an SM file, and its
@@ -35,6 +37,7 @@ mod lengths;
 pub mod lent;
 mod note;
 mod owned;
+mod press;
 mod refusal;
 mod sheet;
 mod sm;
@@ -43,13 +46,14 @@ pub mod stats;
 pub use buffers::{Buffers, Chart, DroppedHolds, KeptChart, LastBeat, TimingRows, release_buffers};
 pub use dropped::{DropCause, DroppedHead, DroppedHeads};
 pub use figures::{ArrowStats, Figures, place};
-pub use lengths::{DROPPED_BYTES, Lengths, MAX_LEN, NOTE_BYTES, is_lane_count};
+pub use lengths::{DROPPED_BYTES, Lengths, MAX_LEN, NOTE_BYTES, PRESS_BYTES, is_lane_count};
 pub use note::{ChartNoteType, Notes, ParsedChartNote, read_note};
 pub use owned::{
     OwnedChart, chart_last_beat, chart_sheet, dropped_holds, equally_spaced, measure_densities,
     minimize_chart_count_rows_notes, minimize_timing_rows, notes_to_chart, parsed_notes_to_chart,
     process_chart_kept, process_rows_judgable, process_timing_rows,
 };
+pub use press::{ColumnPresses, Press, PressCounts, parsed_press_trace, press_trace};
 pub use refusal::Refusal;
 pub use sheet::SheetForm;
 pub use sm::{SmBlock, SmBlocks, SmChart, SmCharts, sm_blocks, sm_chart, sm_charts};

@@ -53,6 +53,11 @@ impl ParsedChartNote {
     }
 }
 
+/// The records of notes.
+pub(crate) fn records_of(notes: &[ParsedChartNote]) -> Vec<[u8; NOTE_BYTES]> {
+    notes.iter().map(ParsedChartNote::record).collect()
+}
+
 /// The tail that stands for none in the four places of a note.
 const NO_TAIL: u64 = 4_294_967_295;
 

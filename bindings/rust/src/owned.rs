@@ -2,6 +2,7 @@
 
 use crate::buffers::{LastBeat, with_kept};
 use crate::figures::{count, place};
+use crate::note::records_of;
 use crate::{ArrowStats, DroppedHead, Lengths, ParsedChartNote, Refusal, SheetForm, lent};
 
 /// What the main call answers, owned.
@@ -250,8 +251,7 @@ pub fn parsed_notes_to_chart(
     lanes: usize,
     counts: &[u32],
 ) -> Result<Vec<u8>, Refusal> {
-    let records: Vec<_> = notes.iter().map(ParsedChartNote::record).collect();
-    notes_to_chart(records.as_flattened(), lanes, counts)
+    notes_to_chart(records_of(notes).as_flattened(), lanes, counts)
 }
 
 /// The sheet of a chart, in bytes of ASCII.

@@ -6,8 +6,9 @@ use std::fmt;
 /// A refusal, by the library's names, numbers and words. A refused call has written nothing.
 ///
 /// With slices that the binding allocates a chart can only be refused by [`Refusal::OtherLanes`], ahead of all others, and
-/// [`Refusal::LongText`]. 2 to 6, 19 and 20 are met by whoever lends slices of his own ([`crate::lent`]), 7 and 8 by whoever stores note records. A chart inside an SM file
-/// ([`crate::sm_chart`]) is refused by 9 and 10 for what the file's author wrote, by 11 for what the caller asked.
+/// [`Refusal::LongText`]. 2 to 6, 19 and 20 are met by whoever lends slices of his own ([`crate::lent`]), 7 and 8 by whoever stores note records,
+/// 13 to 15 by whoever edits notes or counts rows, 16 by whoever records a trace. A chart inside an SM file ([`crate::sm_chart`]) is refused by 9
+/// and 10 for what the file's author wrote, by 11 for what the caller asked.
 ///
 /// ```
 /// use padcheck::Refusal;
@@ -53,6 +54,8 @@ pub enum Refusal {
     NotesMeet = 14,
     /// No count is given, a row or a tail row is not below the sum of the counts, or a measure could be minimised further.
     OtherCounts = 15,
+    /// The trace's length is not a multiple of 5, a press's column is over 9, or a press falls in row, or in column within a row.
+    BadTrace = 16,
     /// The sheet slice is shorter than 42 × (len + 1) + 3,000 bytes.
     ShortSheet = 19,
     /// The sheet's form has a number over 2.
@@ -61,7 +64,7 @@ pub enum Refusal {
 
 impl Refusal {
     /// Every refusal, in rising order.
-    pub const ALL: [Self; 17] = [
+    pub const ALL: [Self; 18] = [
         Self::LongText,
         Self::ShortText,
         Self::ShortMeasures,
@@ -77,6 +80,7 @@ impl Refusal {
         Self::OutOfOrder,
         Self::NotesMeet,
         Self::OtherCounts,
+        Self::BadTrace,
         Self::ShortSheet,
         Self::OtherForm,
     ];
@@ -105,6 +109,7 @@ impl Refusal {
             Self::OtherLanes => "whoever gives the lane number",
             Self::OutOfOrder | Self::NotesMeet => "whoever edits the notes",
             Self::OtherCounts => "whoever counts the rows",
+            Self::BadTrace => "whoever records the trace",
         }
     }
 
@@ -135,6 +140,9 @@ impl Refusal {
             Self::NotesMeet => "two notes of a column meet",
             Self::OtherCounts => {
                 "the row counts are not those of the notes, or a measure could be minimised"
+            }
+            Self::BadTrace => {
+                "the trace has part of a press, a column over 9, or a press that falls"
             }
             Self::ShortSheet => "the sheet slice is shorter than 42 * (len + 1) + 3000",
             Self::OtherForm => "the form's number is over 2",

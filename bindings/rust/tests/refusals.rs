@@ -352,6 +352,10 @@ fn every_refusal_that_is_met_says_its_number() {
     );
     said(write(&hold, &[1]), Refusal::OtherCounts, 15);
     said(write(&hold, &[2]), Refusal::ShortText, 2);
+    let mut presses = [7; 23];
+    let half_a_press = lent::press_trace(&[], &[0, 0], &mut presses);
+    said(half_a_press, Refusal::BadTrace, 16);
+    assert_eq!(presses, [7; 23]);
     let mut sheet = |form| loan.chart_sheet(DATA, 4, form);
     said(sheet(3), Refusal::OtherForm, 20);
     loan.shorten(Lent::Sheet);

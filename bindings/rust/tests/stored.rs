@@ -7,7 +7,7 @@ mod reader;
 use padcheck::stats::ChartNotesScratch;
 use padcheck::{
     ArrowStats, Buffers, ChartNoteType, DropCause, DroppedHead, Figures, KeptChart, Lengths,
-    ParsedChartNote, lent, place,
+    ParsedChartNote, Press, PressCounts, lent, place,
 };
 use reader::Reader;
 use std::fs;
@@ -40,7 +40,7 @@ struct Record<'a> {
     lanes: usize,
     text: &'a [u8],
     flags: &'a [u8],
-    answers: [Answer<'a>; 10],
+    answers: [Answer<'a>; 11],
 }
 
 /// Places of the answers in a record.
@@ -54,6 +54,7 @@ const JUDGED: usize = 6;
 const FLAGGED: usize = 7;
 const DROPPED: usize = 8;
 const WRITTEN: usize = 9;
+const TRACED: usize = 10;
 
 fn answer<'a>(reader: &mut Reader<'a>) -> Answer<'a> {
     let figures = std::array::from_fn(|_| reader.number(8));
@@ -393,5 +394,25 @@ fn written_charts() {
         let notes = stored_notes(records);
         let owned = padcheck::parsed_notes_to_chart(&notes, lanes, &counts);
         assert_eq!(owned.as_deref(), Ok(answer.text));
+    });
+}
+
+/// What the presses come to that stand as an answer's text, beside the stored records, which stand as its notes.
+#[test]
+fn traces() {
+    each_record(|record| {
+        let answer = &record.answers[TRACED];
+        let (records, trace) = (answer.notes, answer.text);
+        let mut numbers = [7; 23];
+        assert_eq!(lent::press_trace(records, trace, &mut numbers), Ok(()));
+        assert_eq!(numbers, answer.figures[..numbers.len()]);
+        let counts = PressCounts::from_presses(&numbers);
+        assert_eq!(padcheck::press_trace(records, trace), Ok(counts));
+        let (presses, rest) = trace.as_chunks();
+        assert!(rest.is_empty());
+        let presses: Vec<_> = presses.iter().copied().map(Press::from_bytes).collect();
+        let notes = stored_notes(records);
+        let owned = padcheck::parsed_press_trace(&notes, &presses);
+        assert_eq!(owned, Ok(counts));
     });
 }

@@ -1,23 +1,13 @@
 //! From notes back to a chart: the way round of a chart and an edit, every refusal in its order, lengths at their limit, and notes that no record
 //! can hold.
 
+mod records;
+
 use padcheck::{
     Buffers, ChartNoteType, Lengths, MAX_LEN, ParsedChartNote, Refusal, lent,
     minimize_chart_count_rows_notes, notes_to_chart, parsed_notes_to_chart, place,
 };
-
-/// The record of a tap.
-fn tap(row: u32, column: u8) -> [u8; 10] {
-    record(row, u32::MAX, column, 0)
-}
-
-fn record(row: u32, tail: u32, column: u8, kind: u8) -> [u8; 10] {
-    let mut record = [0; 10];
-    record[..4].copy_from_slice(&row.to_le_bytes());
-    record[4..8].copy_from_slice(&tail.to_le_bytes());
-    record[8..].copy_from_slice(&[column, kind]);
-    record
-}
+use records::{record, tap};
 
 /// What is written of these records at four lanes, `|` for byte 10.
 fn written(records: &[[u8; 10]], counts: &[u32]) -> Result<String, Refusal> {

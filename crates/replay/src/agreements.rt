@@ -6,6 +6,7 @@ use dropped::dropped_holds;
 use figures::Figures;
 use judged::{process_rows_judgable, process_timing_rows};
 use kept::process_chart_kept;
+use presses::press_trace;
 use scans::densities::measure_densities;
 use scans::last_beat::chart_last_beat_impl;
 use scans::spacing::equally_spaced_impl;
@@ -125,6 +126,15 @@ pub fn written_agrees(record: &Record, stored: &Answer) -> bool {
     let counts = &counts[..given.len()];
     let answered = notes_to_chart(stored.notes, record.lanes, counts, &mut text);
     after.is_empty() && has_figures(answered, stored) && same_bytes(&text, stored.text)
+}
+
+/// The trace that stands as the answer's text, set against the records that stand as its notes: 23 places, and zeros past them.
+pub fn pressed_agrees(stored: &Answer) -> bool {
+    press_trace(stored.notes, stored.text).is_ok_and(|presses| {
+        let mut figures = [0; 32];
+        figures[..23].copy_from_slice(&presses.places());
+        same_figures(&figures, stored.figures)
+    })
 }
 
 // Whether a call was accepted, with the figures that are stored.

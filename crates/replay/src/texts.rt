@@ -15,6 +15,7 @@ pub enum Call {
     Flagged,
     Dropped,
     Written,
+    Pressed,
 }
 
 impl Call {
@@ -32,6 +33,7 @@ impl Call {
             Call::Flagged => agreements::flagged_agrees(record, &answers.flagged),
             Call::Dropped => agreements::dropped_agrees(record, &answers.dropped),
             Call::Written => agreements::written_agrees(record, &answers.written),
+            Call::Pressed => agreements::pressed_agrees(&answers.pressed),
         }
     }
 }

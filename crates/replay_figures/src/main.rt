@@ -1,5 +1,5 @@
 // Replays the stored sample of the Rust's answers (tests/vectors/README.md), which it reads from standard input, with the timing rows, the scans,
-// the judged calls, the list of dropped heads and the chart that is written from notes.
+// the judged calls, the list of dropped heads, the chart that is written from notes and the presses of a trace.
 #![tactic(auto)]
 
 use replay::Call;
@@ -15,6 +15,7 @@ fn main(rt: HostRuntime) -> io::Result<()> {
         Call::Flagged,
         Call::Dropped,
         Call::Written,
+        Call::Pressed,
     ];
     replay::replay_texts(&rt, &calls)
 }

@@ -29,7 +29,7 @@ answer_bytes a =
     ++ a.beats.now
     ++ a.notes.now
 
--- the ten answers
+-- the eleven answers
 unfoldable pub answers_bytes : Answers → List ℕ
 answers_bytes a =
     answer_bytes a.main
@@ -42,6 +42,7 @@ answers_bytes a =
     ++ answer_bytes a.flagged
     ++ answer_bytes a.dropped
     ++ answer_bytes a.written
+    ++ answer_bytes a.pressed
 
 -- a record without the bytes of its length: the lengths of text and flags, the lane number, text, flags, and the answers
 unfoldable pub record_bytes : Record → List ℕ
@@ -69,7 +70,7 @@ answers_length zero s = 0
 answers_length (suc n) s = answer_length s + answers_length n (drop (answer_length s) s)
 
 unfoldable pub record_length : List ℕ → ℕ
-record_length s = 16 + number_at s 0 + number_at s 4 + answers_length 10 (drop (16 + number_at s 0 + number_at s 4) s)
+record_length s = 16 + number_at s 0 + number_at s 4 + answers_length 11 (drop (16 + number_at s 0 + number_at s 4) s)
 
 -- the head of a sample: its mark, a seed, and the number of its records, below 2 ^ 32
 abbrev pub IsHead : ℕ → List ℕ → Type 0

@@ -51,17 +51,18 @@ pub struct Answers<'a> {
     pub flagged: Answer<'a>,
     pub dropped: Answer<'a>,
     pub written: Answer<'a>,
+    pub pressed: Answer<'a>,
 }
 
 impl<'a> Answers<'a> {
     ghost use Rattle.stored.specs.Layout.{Begins, answers_bytes, answers_length};
 
-    /// The ten answers at the front of `rest`, which keeps what follows them.
+    /// The eleven answers at the front of `rest`, which keeps what follows them.
     pub fn read(rest: &mut &'a [u8]) -> Option<Answers<'a>>
         ensures value { IfSome result (λ a. Begins rest.old.now (answers_bytes a) rest.new.now) }
         ensures after { IfSome result (λ _. length rest.old.now
-            ≡ answers_length 10 rest.old.now + length rest.new.now) }
-        ensures variant { IsSome result ↔ (answers_length 10 rest.old.now ≤ length rest.old.now) }
+            ≡ answers_length 11 rest.old.now + length rest.new.now) }
+        ensures variant { IsSome result ↔ (answers_length 11 rest.old.now ≤ length rest.old.now) }
     {
         Some(Answers {
             main: Answer::read(rest)?,
@@ -74,6 +75,7 @@ impl<'a> Answers<'a> {
             flagged: Answer::read(rest)?,
             dropped: Answer::read(rest)?,
             written: Answer::read(rest)?,
+            pressed: Answer::read(rest)?,
         })
     }
 }

@@ -39,18 +39,18 @@ unfolding record_length
 returns-in_err-read-clause-variant c =
     let head = head_of_record _ c.in_ok-text.ensures.value c.in_ok-text.ensures.number c.in_ok-flags.ensures.value c.in_ok-flags.ensures.number c.in_ok-long.ensures.value in
     let rest = rest-parts (16 + number_at c.args.data.now 0 + number_at c.args.data.now 4) (and_then (and_then (and_then (and_then c.in_ok-text.ensures.value c.in_ok-flags.ensures.value) c.in_ok-long.ensures.value) c.in_ok-bytes.ensures.value) c.in_ok-bytes-2.ensures.value) (omega (arith, head.0, head.1, head.2, length-parts c.in_ok-bytes.ensures.value, c.in_ok-bytes.ensures.size, length-parts c.in_ok-bytes-2.ensures.value, c.in_ok-bytes-2.ensures.size)) in
-    grind (arith, head.0, head.1, head.2, length-parts c.in_ok-bytes.ensures.value, c.in_ok-bytes.ensures.size, length-parts c.in_ok-bytes-2.ensures.value, c.in_ok-bytes-2.ensures.size, ap (answers_length 10) rest)
+    grind (arith, head.0, head.1, head.2, length-parts c.in_ok-bytes.ensures.value, c.in_ok-bytes.ensures.size, length-parts c.in_ok-bytes-2.ensures.value, c.in_ok-bytes-2.ensures.size, ap (answers_length 11) rest)
 
 pub returns-then-not-is_empty-clause-variant : goal.returns-then-not-is_empty-clause-variant
 unfolding record_length
 returns-then-not-is_empty-clause-variant c =
     let head = head_of_record _ c.in_ok-text.ensures.value c.in_ok-text.ensures.number c.in_ok-flags.ensures.value c.in_ok-flags.ensures.number c.in_ok-long.ensures.value in
     let rest = rest-parts (16 + number_at c.args.data.now 0 + number_at c.args.data.now 4) (and_then (and_then (and_then (and_then c.in_ok-text.ensures.value c.in_ok-flags.ensures.value) c.in_ok-long.ensures.value) c.in_ok-bytes.ensures.value) c.in_ok-bytes-2.ensures.value) (omega (arith, head.0, head.1, head.2, length-parts c.in_ok-bytes.ensures.value, c.in_ok-bytes.ensures.size, length-parts c.in_ok-bytes-2.ensures.value, c.in_ok-bytes-2.ensures.size)) in
-    grind (arith, head.0, head.1, head.2, length-parts c.in_ok-bytes.ensures.value, c.in_ok-bytes.ensures.size, length-parts c.in_ok-bytes-2.ensures.value, c.in_ok-bytes-2.ensures.size, ap (answers_length 10) rest)
+    grind (arith, head.0, head.1, head.2, length-parts c.in_ok-bytes.ensures.value, c.in_ok-bytes.ensures.size, length-parts c.in_ok-bytes-2.ensures.value, c.in_ok-bytes-2.ensures.size, ap (answers_length 11) rest)
 
 pub returns-clause-variant : goal.returns-clause-variant
 unfolding record_length
 returns-clause-variant c =
     let head = head_of_record _ c.in_ok-text.ensures.value c.in_ok-text.ensures.number c.in_ok-flags.ensures.value c.in_ok-flags.ensures.number c.in_ok-long.ensures.value in
     let rest = rest-parts (16 + number_at c.args.data.now 0 + number_at c.args.data.now 4) (and_then (and_then (and_then (and_then c.in_ok-text.ensures.value c.in_ok-flags.ensures.value) c.in_ok-long.ensures.value) c.in_ok-bytes.ensures.value) c.in_ok-bytes-2.ensures.value) (omega (arith, head.0, head.1, head.2, length-parts c.in_ok-bytes.ensures.value, c.in_ok-bytes.ensures.size, length-parts c.in_ok-bytes-2.ensures.value, c.in_ok-bytes-2.ensures.size)) in
-    grind (arith, head.0, head.1, head.2, length-parts c.in_ok-bytes.ensures.value, c.in_ok-bytes.ensures.size, length-parts c.in_ok-bytes-2.ensures.value, c.in_ok-bytes-2.ensures.size, ap (answers_length 10) rest)
+    grind (arith, head.0, head.1, head.2, length-parts c.in_ok-bytes.ensures.value, c.in_ok-bytes.ensures.size, length-parts c.in_ok-bytes-2.ensures.value, c.in_ok-bytes-2.ensures.size, ap (answers_length 11) rest)
