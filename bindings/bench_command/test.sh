@@ -1,8 +1,8 @@
 #!/bin/sh
 # Tests the program padcheck without network, over target/staticlib or the folder in PADCHECK_LIB_DIR: its unit tests, each word beside stored
-# output and beside the page docs/BENCH.md, every exit status, files that are wrong beside files that are not, the longest files, too little
-# memory, full and closed outputs, the card form beside the program card and the oracle's, what `rig` leaves, and the release. The last line
-# is 'N passed, 0 failed'.
+# output and beside the page docs/BENCH.md, every exit status, files that are wrong beside files that are not, traces by hand, the longest
+# files, too little memory, full and closed outputs, the card form beside the program card and the oracle's, what `rig` leaves, and the
+# release. The last line is 'N passed, 0 failed'.
 set -eu
 cd "$(dirname "$0")"
 . ../../tests/need.sh
@@ -32,6 +32,7 @@ mkdir -p "$out"
 . "$tests/words.sh"
 . "$tests/statuses.sh"
 . "$tests/wrong.sh"
+. "$tests/traces.sh"
 . "$tests/cards.sh"
 . "$tests/files.sh"
 . "$tests/memory.sh"

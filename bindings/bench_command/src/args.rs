@@ -22,6 +22,8 @@ pub enum Request {
     Rig(Rig),
     /// From notes back to a chart.
     Write(Write),
+    /// A pad trace beside the notes of a chart.
+    Trace(Trace),
     /// Two files side by side.
     Diff(Diff),
 }
@@ -33,13 +35,27 @@ pub struct Charts {
     pub force: bool,
 }
 
+/// What is wanted of a file: which of its charts, in which form, and whether doubtful ones are taken.
+#[derive(Clone, Copy, Debug, PartialEq)]
+pub struct Wanted {
+    pub selection: Selection,
+    pub form: SheetForm,
+    pub force: bool,
+}
+
 /// `padcheck sheet`, and `padcheck dropped`, whose form is never the card.
 #[derive(Debug, PartialEq)]
 pub struct Sheet {
     pub files: Vec<PathBuf>,
-    pub selection: Selection,
-    pub form: SheetForm,
-    pub force: bool,
+    pub wanted: Wanted,
+}
+
+/// `padcheck trace`, whose form is never the card. Of an SM file with one chart alone the selection may be all charts.
+#[derive(Debug, PartialEq)]
+pub struct Trace {
+    pub file: PathBuf,
+    pub trace: PathBuf,
+    pub wanted: Wanted,
 }
 
 /// `padcheck rig`; its selection is never all charts.
@@ -74,7 +90,7 @@ pub struct Diff {
 pub fn request(mut words: impl Iterator<Item = OsString>) -> Result<Request, String> {
     let Some(word) = words.next() else {
         return Err(usage(
-            "charts, sheet, dropped, rig, write or diff is wanted",
+            "charts, sheet, dropped, rig, write, trace or diff is wanted",
         ));
     };
     let word = word.to_string_lossy().into_owned();
@@ -91,11 +107,12 @@ pub fn request(mut words: impl Iterator<Item = OsString>) -> Result<Request, Str
             ],
         ),
         "write" => (help::WRITE, &["--lanes"]),
+        "trace" => (help::TRACE, &["--chart", "--lanes", "--form", "--force"]),
         "diff" => (help::DIFF, &["--chart", "--lanes", "--force"]),
         _ => {
             let word = word.escape_debug();
             return Err(usage(&format!(
-                "`{word}` is no word; the words are charts, sheet, dropped, rig, write and diff"
+                "`{word}` is no word; the words are charts, sheet, dropped, rig, write, trace and diff"
             )));
         }
     };
@@ -105,10 +122,11 @@ pub fn request(mut words: impl Iterator<Item = OsString>) -> Result<Request, Str
         }
         match &*word {
             "charts" => options.charts(),
-            "sheet" => options.sheet().map(Request::Sheet),
+            "sheet" => options.sheet(),
             "dropped" => options.dropped(),
             "rig" => options.rig(),
             "write" => options.write(),
+            "trace" => options.trace(),
             _ => options.diff(),
         }
     });
@@ -208,26 +226,35 @@ impl Options {
         Ok(Request::Charts(Charts { files, force }))
     }
 
-    fn sheet(self) -> Result<Sheet, String> {
-        let selection = self.selection()?;
-        let (form, force) = (self.form.unwrap_or(SheetForm::Print), self.force);
-        let files = self.files()?;
-        Ok(Sheet {
-            files,
-            selection,
+    /// Which charts are wanted, and in this form.
+    fn wanted(&self, form: SheetForm) -> Result<Wanted, String> {
+        Ok(Wanted {
+            selection: self.selection()?,
             form,
-            force,
+            force: self.force,
         })
     }
 
-    fn dropped(self) -> Result<Request, String> {
-        let sheet = self.sheet()?;
-        match sheet.form {
-            SheetForm::Card => Err(String::from(
+    /// The same of a word that has no card.
+    fn wanted_but_card(&self) -> Result<Wanted, String> {
+        match self.form {
+            Some(SheetForm::Card) => Err(String::from(
                 "--form needs print or json here, and not `card`",
             )),
-            SheetForm::Print | SheetForm::Json => Ok(Request::Dropped(sheet)),
+            form => self.wanted(form.unwrap_or(SheetForm::Print)),
         }
+    }
+
+    fn sheet(self) -> Result<Request, String> {
+        let wanted = self.wanted(self.form.unwrap_or(SheetForm::Print))?;
+        let files = self.files()?;
+        Ok(Request::Sheet(Sheet { files, wanted }))
+    }
+
+    fn dropped(self) -> Result<Request, String> {
+        let wanted = self.wanted_but_card()?;
+        let files = self.files()?;
+        Ok(Request::Dropped(Sheet { files, wanted }))
     }
 
     fn rig(self) -> Result<Request, String> {
@@ -250,22 +277,36 @@ impl Options {
         }))
     }
 
+    /// The files, of which there must be two.
+    fn two_files(self) -> Result<[PathBuf; 2], String> {
+        <[PathBuf; 2]>::try_from(self.files)
+            .map_err(|files| format!("two files are wanted, not {}", files.len()))
+    }
+
     fn write(self) -> Result<Request, String> {
         let lanes = self.lanes.ok_or("--lanes N is wanted")?;
-        let [notes, rows] = <[PathBuf; 2]>::try_from(self.files)
-            .map_err(|files| format!("two files are wanted, not {}", files.len()))?;
+        let [notes, rows] = self.two_files()?;
         Ok(Request::Write(Write { notes, rows, lanes }))
     }
 
+    fn trace(self) -> Result<Request, String> {
+        let wanted = self.wanted_but_card()?;
+        let [file, trace] = self.two_files()?;
+        Ok(Request::Trace(Trace {
+            file,
+            trace,
+            wanted,
+        }))
+    }
+
     fn diff(self) -> Result<Request, String> {
-        let selection = self.selection()?;
-        let [old, new] = <[PathBuf; 2]>::try_from(self.files)
-            .map_err(|files| format!("two files are wanted, not {}", files.len()))?;
+        let (selection, force) = (self.selection()?, self.force);
+        let [old, new] = self.two_files()?;
         Ok(Request::Diff(Diff {
             old,
             new,
             selection,
-            force: self.force,
+            force,
         }))
     }
 }
@@ -318,11 +359,14 @@ mod tests {
 
     #[test]
     fn options_and_files_stand_in_any_order() {
-        let want = Sheet {
-            files: vec![PathBuf::from("a"), PathBuf::from("--b")],
+        let wanted = Wanted {
             selection: Selection::Chart(2),
             form: SheetForm::Json,
             force: true,
+        };
+        let want = Sheet {
+            files: vec![PathBuf::from("a"), PathBuf::from("--b")],
+            wanted,
         };
         for words in [
             "sheet --chart 2 --form json a --force -- --b",
@@ -337,13 +381,38 @@ mod tests {
 
     #[test]
     fn the_print_form_of_all_charts_is_the_default() {
-        let Ok(Request::Sheet(sheet)) = asked("sheet a") else {
-            panic!("a file is enough");
+        let wanted = Wanted {
+            selection: Selection::All,
+            form: SheetForm::Print,
+            force: false,
         };
-        assert_eq!(
-            (sheet.selection, sheet.form, sheet.force),
-            (Selection::All, SheetForm::Print, false)
-        );
+        let [a, b] = ["a", "b"].map(PathBuf::from);
+        let sheet = |files| Sheet { files, wanted };
+        let one = || vec![a.clone()];
+        assert_eq!(asked("sheet a"), Ok(Request::Sheet(sheet(one()))));
+        assert_eq!(asked("dropped a"), Ok(Request::Dropped(sheet(one()))));
+        let (file, trace) = (a.clone(), b);
+        let trace = Trace {
+            file,
+            trace,
+            wanted,
+        };
+        assert_eq!(asked("trace a b"), Ok(Request::Trace(trace)));
+    }
+
+    #[test]
+    fn a_trace_stands_behind_its_chart() {
+        let want = Trace {
+            file: PathBuf::from("a"),
+            trace: PathBuf::from("b"),
+            wanted: Wanted {
+                selection: Selection::Bare(4),
+                form: SheetForm::Json,
+                force: true,
+            },
+        };
+        let words = "trace --form=json a --lanes 4 b --force";
+        assert_eq!(asked(words), Ok(Request::Trace(want)));
     }
 
     #[test]
@@ -365,10 +434,13 @@ mod tests {
     #[test]
     fn what_is_wrong_is_said() {
         let wrong = [
-            ("", "charts, sheet, dropped, rig, write or diff is wanted"),
+            (
+                "",
+                "charts, sheet, dropped, rig, write, trace or diff is wanted",
+            ),
             (
                 "print a",
-                "`print` is no word; the words are charts, sheet, dropped, rig, write and diff;",
+                "`print` is no word; the words are charts, sheet, dropped, rig, write, trace and diff;",
             ),
             ("charts", "charts: a file is wanted"),
             ("charts a --chart 0", "`--chart` is not known here"),
@@ -407,6 +479,14 @@ mod tests {
             ("write a b c --lanes 4", "two files are wanted, not 3"),
             ("write a b --chart 0", "`--chart` is not known here"),
             ("diff a", "two files are wanted, not 1"),
+            ("trace", "trace: two files are wanted, not 0"),
+            ("trace a b c", "two files are wanted, not 3"),
+            ("trace a b --chart 0 --lanes 4", "--chart is for an SM file"),
+            (
+                "trace a b --form card",
+                "--form needs print or json here, and not `card`",
+            ),
+            ("trace a b --rows c", "`--rows` is not known here"),
         ];
         for (words, message) in wrong {
             let said = asked(words).unwrap_err();
@@ -417,7 +497,10 @@ mod tests {
 
     #[test]
     fn help_is_given_for_each_word() {
-        for word in ["charts", "sheet", "dropped", "rig", "write", "diff"] {
+        let words = [
+            "charts", "sheet", "dropped", "rig", "write", "trace", "diff",
+        ];
+        for word in words {
             let Ok(Request::Text(text)) = asked(&format!("{word} --help")) else {
                 panic!("{word} has no help");
             };

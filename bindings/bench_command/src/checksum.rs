@@ -12,11 +12,13 @@ pub struct Sum {
 impl Sum {
     /// Those of a file that was read; of one that is too long not all was read, so it has none.
     pub fn of(file: &[u8]) -> Option<Self> {
-        let (length, whole) = (file.len(), file.len() <= MAX_LEN);
-        whole.then(|| Self {
-            length,
-            cksum: cksum(file),
-        })
+        (file.len() <= MAX_LEN).then(|| Self::of_whole(file))
+    }
+
+    /// Those of a file that was read to its end, however long it is.
+    pub fn of_whole(file: &[u8]) -> Self {
+        let (length, cksum) = (file.len(), cksum(file));
+        Self { length, cksum }
     }
 }
 

@@ -1,7 +1,7 @@
 //! The word `dropped`: the heads that have no note, each with where it stands and what dropped it.
 
 use crate::args::Sheet;
-use crate::forms::{Dropped, Spot};
+use crate::forms::Dropped;
 use crate::measures::Measures;
 use crate::output::Status;
 use crate::sheet::{Word, each_chart};
@@ -17,41 +17,34 @@ pub fn run(asked: &Sheet, out: &mut dyn Write) -> io::Result<Status> {
 const DROPPED: Word = Word {
     make: |slices, data, lanes, _| {
         slices.dropped_holds(data, lanes)?;
-        let count = slices.measure_count();
-        Ok(Measures::of(slices.text(), lanes, count)?)
+        Ok(slices.measures(lanes)?)
     },
-    write: |sheets, subject, lanes, slices, measures| {
+    write: &|sheets, subject, lanes, slices, measures| {
         let heads = DroppedHeads::new(slices.records());
         let heads = heads.map(|head| told(&head, lanes, slices, &measures));
-        sheets.dropped(subject, lanes, heads)
+        sheets.dropped(subject, lanes, heads)?;
+        Ok(Status::Done)
     },
 };
 
 /// All that is said of a head.
 fn told(head: &DroppedHead, lanes: usize, slices: &Slices, measures: &Measures) -> Dropped {
     let &DroppedHead { row, column, cause } = head;
-    let spot = |row| {
-        let measure = measures.of_row(row);
-        Spot {
-            row,
-            measure,
-            row_in_measure: row - measures.rows(measure).start,
-        }
-    };
     let cell = slices.text()[measures.place_of_row(row, lanes) + column];
     Dropped {
         name: if cell == b'2' { "hold" } else { "roll" },
         column,
-        at: spot(row),
+        at: measures.spot(row),
         beat: slices.beats()[row],
         cause,
-        by: cause.row().map(spot),
+        by: cause.row().map(|row| measures.spot(row)),
     }
 }
 
 #[cfg(test)]
 mod tests {
     use super::*;
+    use crate::args::Wanted;
     use crate::forms::Sheets;
     use crate::json::after_value;
     use crate::select::Selection;
@@ -61,8 +54,7 @@ mod tests {
 
     /// All that is printed of a file, and the status.
     fn printed(file: &[u8], selection: Selection, form: SheetForm) -> (String, Status) {
-        let asked = Sheet {
-            files: Vec::new(),
+        let wanted = Wanted {
             selection,
             form,
             force: false,
@@ -70,7 +62,7 @@ mod tests {
         let mut out = Vec::new();
         let mut sheets = Sheets::new(form, &mut out);
         let (path, mut slices) = (Path::new("x"), Slices::default());
-        let status = of_file(&asked, DROPPED, path, file, &mut slices, &mut sheets).unwrap();
+        let status = of_file(wanted, DROPPED, path, file, &mut slices, &mut sheets).unwrap();
         (String::from_utf8(out).unwrap(), status)
     }
 

@@ -3,7 +3,7 @@
 use crate::left::Left;
 use crate::measures::Measures;
 use crate::slices::Slices;
-use padcheck::{NOTE_BYTES, ParsedChartNote, read_note};
+use padcheck::ParsedChartNote;
 use std::ops::Range;
 
 /// The fields of a tally.
@@ -43,7 +43,7 @@ impl Figures {
         let mut chart = Slices::default();
         chart.main_call(data, lanes)?;
         chart.equally_spaced(data, lanes)?;
-        let measures = Measures::of(chart.text(), lanes, chart.densities().len())?;
+        let measures = chart.measures(lanes)?;
         Ok(Self {
             chart,
             measures,
@@ -105,9 +105,7 @@ impl Figures {
 
     /// The notes.
     pub fn notes(&self) -> impl Iterator<Item = ParsedChartNote> {
-        let records = self.chart.records();
-        let notes = (0..records.len() / NOTE_BYTES).map(|number| read_note(records, number));
-        notes.map(|note| note.expect("the library reads the records that it wrote"))
+        self.chart.notes()
     }
 
     /// The last beat, by its bits.

@@ -1,11 +1,15 @@
 //! What stands around the library's sheet: head and foot on paper, the names of file and chart in JSON.
 
+mod trace;
+
+pub use trace::{Answer, Broken, First, Pad, Place};
+
 use crate::charts::shortened;
 use crate::checksum::Sum;
 use crate::help::{KIT, LIBRARY};
 use crate::input::shown;
 use crate::json::quoted;
-use crate::measures::Measures;
+use crate::measures::{Measures, Spot};
 use padcheck::{DropCause, Refusal, SheetForm};
 use std::fmt::Display;
 use std::io::{self, Write};
@@ -59,14 +63,6 @@ pub struct Dropped {
     pub by: Option<Spot>,
 }
 
-/// Where a row stands.
-pub struct Spot {
-    /// Through the whole chart.
-    pub row: usize,
-    pub measure: usize,
-    pub row_in_measure: usize,
-}
-
 /// Writes sheets in one form.
 pub struct Sheets<'a> {
     form: SheetForm,
@@ -105,8 +101,7 @@ impl<'a> Sheets<'a> {
                 self.out.write_all(figures)
             }
             SheetForm::Print => {
-                self.head(subject)?;
-                writeln!(self.out, "{:<11}{lanes:>10}\n", "lanes")?;
+                self.head_with_lanes(subject, lanes)?;
                 self.figures_on_paper(figures, places)?;
                 writeln!(self.out, "\nlibrary {LIBRARY}, kit {KIT}\n")?;
                 self.forced_on_paper(subject)?;
@@ -143,8 +138,7 @@ impl<'a> Sheets<'a> {
         lanes: usize,
         heads: impl Iterator<Item = Dropped>,
     ) -> io::Result<()> {
-        self.head(subject)?;
-        writeln!(self.out, "{:<11}{lanes:>10}\n", "lanes")?;
+        self.head_with_lanes(subject, lanes)?;
         self.forced_on_paper(subject)?;
         let mut heads = heads.peekable();
         if heads.peek().is_none() {
@@ -246,10 +240,7 @@ impl<'a> Sheets<'a> {
             (SheetForm::Card, None) => writeln!(self.out, "refused {number}: {words}"),
             (SheetForm::Print, _) => {
                 self.head(subject)?;
-                for line in wrapped(&format!("refused {number}: {words}")) {
-                    writeln!(self.out, "{line}")?;
-                }
-                Ok(())
+                self.sentence(&format!("refused {number}: {words}"))
             }
             (SheetForm::Json, _) => {
                 let (subject, words) = (json_subject(subject), quoted(words));
@@ -267,18 +258,44 @@ impl<'a> Sheets<'a> {
             writeln!(self.out)?;
         }
         self.begun = true;
-        let mut label = "file";
-        for part in folded(&shown(subject.path), COLUMNS - 12) {
-            writeln!(self.out, "{label:<12}{part}")?;
-            label = "";
-        }
-        if let Some(Sum { length, cksum }) = subject.sum {
-            writeln!(self.out, "{:<11}{length:>10}", "length")?;
-            writeln!(self.out, "{:<11}{cksum:>10}", "cksum")?;
-        }
+        self.file("file", subject.path, subject.sum)?;
         if let Some((number, name)) = subject.chart {
             let line = format!("{:<11}{number:>10}  {}", "chart", shortened(name));
             writeln!(self.out, "{}", line.trim_end())?;
+        }
+        Ok(())
+    }
+
+    /// The head of a chart that is read, on paper.
+    fn head_with_lanes(&mut self, subject: &Subject, lanes: usize) -> io::Result<()> {
+        self.head(subject)?;
+        self.number("lanes", lanes)?;
+        writeln!(self.out)
+    }
+
+    /// A file on paper, with its length and checksum where it has them.
+    fn file(&mut self, label: &str, path: &Path, sum: Option<Sum>) -> io::Result<()> {
+        let mut label = label;
+        for part in folded(&shown(path), COLUMNS - 12) {
+            writeln!(self.out, "{label:<12}{part}")?;
+            label = "";
+        }
+        if let Some(Sum { length, cksum }) = sum {
+            self.number("length", length)?;
+            self.number("cksum", cksum)?;
+        }
+        Ok(())
+    }
+
+    /// A number on paper, behind what it is.
+    fn number(&mut self, label: &str, number: impl Display) -> io::Result<()> {
+        writeln!(self.out, "{label:<11}{number:>10}")
+    }
+
+    /// A sentence on paper.
+    fn sentence(&mut self, sentence: &str) -> io::Result<()> {
+        for line in wrapped(sentence) {
+            writeln!(self.out, "{line}")?;
         }
         Ok(())
     }
@@ -324,9 +341,7 @@ impl<'a> Sheets<'a> {
     /// Why a sheet on paper is doubtful, in lines that an empty one sets off.
     fn forced_on_paper(&mut self, subject: &Subject) -> io::Result<()> {
         for why in &subject.forced {
-            for line in wrapped(&format!("forced: {why}")) {
-                writeln!(self.out, "{line}")?;
-            }
+            self.sentence(&format!("forced: {why}"))?;
         }
         if !subject.forced.is_empty() {
             writeln!(self.out)?;
@@ -376,15 +391,19 @@ fn wrapped(sentence: &str) -> Vec<String> {
     lines
 }
 
-/// The file and the chart in JSON, and the file's length and checksum where it has them.
+/// The file and the chart in JSON.
 fn json_subject(subject: &Subject) -> String {
-    let file = quoted(&subject.path.to_string_lossy());
-    let sum = subject
-        .sum
-        .map_or_else(String::new, |Sum { length, cksum }| {
-            format!("\"length\":{length},\"cksum\":{cksum},")
-        });
-    format!("\"file\":{file},{sum}{}", json_chart(subject))
+    let file = json_file(subject.path, subject.sum);
+    format!("{file},{}", json_chart(subject))
+}
+
+/// A file in JSON, and its length and checksum where it has them.
+fn json_file(path: &Path, sum: Option<Sum>) -> String {
+    let file = quoted(&path.to_string_lossy());
+    let sum = sum.map_or_else(String::new, |Sum { length, cksum }| {
+        format!(",\"length\":{length},\"cksum\":{cksum}")
+    });
+    format!("\"file\":{file}{sum}")
 }
 
 /// What stands in JSON before the figures: the file and the chart, its lanes, and why it is doubtful where it is taken all the
@@ -443,7 +462,7 @@ mod tests {
                       chart               2  dance-single\n\
                       lanes               4\n\n\
                       measures\n\n\
-                      library 0.4.0, kit rattle-kit-13f logic dac8208d650f15bf\n\n\
+                      library 0.5.0, kit rattle-kit-13f logic dac8208d650f15bf\n\n\
                       checked by ____________________  date ____________\n";
         assert_eq!(sheet, wanted);
     }

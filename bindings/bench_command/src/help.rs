@@ -1,7 +1,7 @@
 //! What `--help` and `--version` print.
 
 /// The version of the library, which is that of the binding and of padcheck.h.
-pub const LIBRARY: &str = "0.4.0";
+pub const LIBRARY: &str = "0.5.0";
 
 /// The identity of the Rattle kit with which the library was proved.
 pub const KIT: &str = "rattle-kit-13f logic dac8208d650f15bf";
@@ -21,20 +21,22 @@ padcheck WORD ...
   dropped FILE...        which holds and rolls of a chart came to nothing, and why
   rig FILE               note records and row beats of a chart, for the rig
   write NOTES ROWS       the note data of note records and row counts
+  trace FILE TRACE       the presses that a rig recorded beside the notes of a chart
   diff OLD NEW           which measures of a chart differ, and what stays the same
   --help, WORD --help    this, or more on one word
   --version              versions of the program and library, and the kit's identity
 
 The exit status is the worst of all files and charts:
   0  done; a refused chart stands in the output with its number and words
-  1  the library refused a file, all its charts, or one that was asked for by number
+  1  the library refused a file, all its charts, or one that was asked for by number;
+     a trace is refused or has no PASS
   2  the arguments, an input, the output, memory or the processor are at fault;
      standard error says which
   3  doubtful: a file or its note data looks like something else, or not all of it
      would be read, and nothing was made of it; the line that says so says what to
      mend, and --force takes it all the same
 
-Charts, measures, rows and columns count from 0.
+Charts, measures, rows, columns and records count from 0.
 ";
 
 /// The word `charts`.
@@ -150,6 +152,41 @@ The exit status is 1 where the library refuses them, with its number and words o
 standard error, and 2 where ROWS is no list of row counts.
 ";
 
+/// The word `trace`.
+pub const TRACE: &str = "\
+padcheck trace FILE TRACE [--chart K] [--form print|json] [--force]
+padcheck trace FILE TRACE --lanes N [--form print|json] [--force]
+
+Sets a pad trace beside the notes of a chart: of chart K of an SM file, of its only one,
+or with --lanes of bare note data. The first press at the row and column of a tap, hold
+or roll is a hit, every other press a stray, and such a note without a press a miss.
+Rows are those that are left by minimising.
+
+  TRACE   the presses, 5 bytes each: row of 4 bytes, low byte first, column; in rising
+          row, then column, of which one may stand twice
+
+Prints file and trace with their lengths and checksums, hits, strays and misses, and the
+hits and misses of each column of the layout and any other that was pressed; of a column
+without such a note `no press`. Then PASS with the hits and such notes, and the columns
+without one; or the first miss and the first stray, with row, measure, row in it, beat
+and column; or `nothing to press`, where there is no such note at all. A stray below the
+last row has no measure and no beat.
+
+  --form print   on paper (this is the default)
+  --form json    one object on a line: `trace` with `file`, `length` and `cksum`; `hits`,
+                 `strays`, `misses`; `columns`, each with `column`, `direction`, `hits`,
+                 `misses` and `no_press`; `verdict` (pass, pass_forced, nothing_to_press,
+                 not_clean or violated); `no_note`, the columns of the layout without a
+                 note; `first_miss` and `first_stray` with `row`, `measure`,
+                 `row_in_measure`, `beat` and `column`, or null; of a trace that is
+                 refused `refused`, `words`, `record` and `breaks` in place of these
+  --force        takes doubtful note data all the same, and says so behind `forced:` and
+                 in `PASS, forced` (see padcheck sheet --help)
+
+The exit status is 0 for PASS and 1 for anything else, also where the library refuses
+the trace; the line below the refusal says which record breaks it.
+";
+
 /// The word `diff`.
 pub const DIFF: &str = "\
 padcheck diff OLD NEW [--chart K] [--force]
@@ -188,7 +225,7 @@ mod tests {
 
     #[test]
     fn help_fits_on_a_page() {
-        for text in [WHOLE, CHARTS, SHEET, DROPPED, RIG, WRITE, DIFF] {
+        for text in [WHOLE, CHARTS, SHEET, DROPPED, RIG, WRITE, TRACE, DIFF] {
             assert!(text.lines().all(|line| line.chars().count() <= 90));
             assert!(text.ends_with('\n'));
         }

@@ -12,8 +12,17 @@ pub fn contents(path: &Path) -> Result<Vec<u8>, String> {
     contents_to(path, MAX_LEN)
 }
 
-/// The same of a file that is too long with more bytes than these.
-pub fn contents_to(path: &Path, most: usize) -> Result<Vec<u8>, String> {
+/// A file's bytes, of which no more are taken than `longest` has.
+pub fn whole(path: &Path, most: usize, longest: &str) -> Result<Vec<u8>, String> {
+    let data = contents_to(path, most)?;
+    if data.len() > most {
+        return Err(format!("{} is longer than {longest}", shown(path)));
+    }
+    Ok(data)
+}
+
+/// A file's bytes; of one with more than these, one more.
+fn contents_to(path: &Path, most: usize) -> Result<Vec<u8>, String> {
     read(path, most).map_err(|error| format!("cannot read {}: {error}", shown(path)))
 }
 

@@ -28,7 +28,7 @@ impl From<Refusal> for Left {
 }
 
 /// The library's words for a refusal, without its number.
-fn words(refusal: Refusal) -> String {
+pub fn words(refusal: Refusal) -> String {
     format!("{}, by {}", refusal.words(), refusal.caused_by())
 }
 

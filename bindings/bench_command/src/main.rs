@@ -4,6 +4,7 @@ mod args;
 mod charts;
 mod checksum;
 mod closed;
+mod columns;
 mod damage;
 mod diff;
 mod doubt;
@@ -20,12 +21,14 @@ mod memory;
 mod missed;
 mod odd;
 mod output;
+mod presses;
 mod processor;
 mod rig;
 mod select;
 mod sheet;
 mod slices;
 mod together;
+mod trace;
 mod unnamed;
 mod write;
 
@@ -76,6 +79,7 @@ fn run(request: &Request, out: &mut dyn Write) -> io::Result<Status> {
         Request::Dropped(asked) => dropped::run(asked, out),
         Request::Rig(asked) => rig::run(asked, out),
         Request::Write(asked) => write::run(asked, out),
+        Request::Trace(asked) => trace::run(asked, out),
         Request::Diff(asked) => diff::run(asked, out),
     }
 }

@@ -3,6 +3,15 @@
 use crate::memory::{NoMemory, room};
 use std::ops::Range;
 
+/// Where a row stands.
+#[derive(Clone, Copy, Debug, PartialEq, Eq)]
+pub struct Spot {
+    /// Through the whole chart.
+    pub row: usize,
+    pub measure: usize,
+    pub row_in_measure: usize,
+}
+
 /// The rows of each measure.
 #[derive(Clone, Debug, Default, PartialEq, Eq)]
 pub struct Measures {
@@ -57,6 +66,16 @@ impl Measures {
     pub fn of_row(&self, row: usize) -> usize {
         self.starts.partition_point(|&start| start <= row) - 1
     }
+
+    /// Where a row stands.
+    pub fn spot(&self, row: usize) -> Spot {
+        let measure = self.of_row(row);
+        Spot {
+            row,
+            measure,
+            row_in_measure: row - self.starts[measure],
+        }
+    }
 }
 
 #[cfg(test)]
@@ -80,6 +99,8 @@ mod tests {
             [0, 1, 2, 3, 4].map(|row| measures.place_of_row(row, 4)),
             [0, 5, 14, 21, 26]
         );
+        let spot = measures.spot(4);
+        assert_eq!((spot.row, spot.measure, spot.row_in_measure), (4, 3, 1));
     }
 
     #[test]

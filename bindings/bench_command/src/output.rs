@@ -10,7 +10,7 @@ use std::process::ExitCode;
 pub enum Status {
     /// All that was asked for is there.
     Done,
-    /// The library refused a file or a chart.
+    /// The library refused a file, a chart or a trace, or a trace has no PASS.
     Refused,
     /// The arguments, an input or an output are at fault.
     Fault,

@@ -1,6 +1,6 @@
 //! The word `sheet`: every figure of a chart, as the library writes it.
 
-use crate::args::Sheet;
+use crate::args::{Sheet, Wanted};
 use crate::checksum::Sum;
 use crate::forms::{Places, Sheets, Subject};
 use crate::input::{contents, shown};
@@ -16,21 +16,25 @@ use std::path::Path;
 
 /// What is made and written of each chart.
 #[derive(Clone, Copy)]
-pub struct Word {
+pub struct Word<'a> {
     /// Asks the library, and answers the measures of the chart where they are wanted.
     pub make: fn(&mut Slices, &[u8], usize, SheetForm) -> Result<Measures, Left>,
-    /// Writes what the slices hold of a chart.
-    pub write: fn(&mut Sheets, &Subject, usize, &Slices, Measures) -> io::Result<()>,
+    pub write: &'a Written<'a>,
 }
+
+/// Writes what the slices hold of a chart of so many lanes, and says how that went.
+type Written<'a> =
+    dyn Fn(&mut Sheets, &Subject, usize, &Slices, Measures) -> io::Result<Status> + 'a;
 
 const SHEET: Word = Word {
     make: |slices, data, lanes, form| {
         slices.make_sheet(data, lanes, form)?;
         Ok(measures(slices, lanes, form)?)
     },
-    write: |sheets, subject, lanes, slices, measures| {
+    write: &|sheets, subject, lanes, slices, measures| {
         let beats = slices.beats();
-        sheets.sheet(subject, lanes, slices.sheet(), &Places { measures, beats })
+        sheets.sheet(subject, lanes, slices.sheet(), &Places { measures, beats })?;
+        Ok(Status::Done)
     },
 };
 
@@ -41,12 +45,12 @@ pub fn run(asked: &Sheet, out: &mut dyn Write) -> io::Result<Status> {
 
 /// Writes something of each chart that is asked for.
 pub fn each_chart(asked: &Sheet, word: Word, out: &mut dyn Write) -> io::Result<Status> {
-    let mut sheets = Sheets::new(asked.form, out);
+    let mut sheets = Sheets::new(asked.wanted.form, out);
     let mut slices = Slices::default();
     let mut worst = Status::Done;
     for path in &asked.files {
         let status = match contents(path) {
-            Ok(file) => of_file(asked, word, path, &file, &mut slices, &mut sheets)?,
+            Ok(file) => of_file(asked.wanted, word, path, &file, &mut slices, &mut sheets)?,
             Err(message) => fault(sheets.out(), &message)?,
         };
         worst = worst.max(status);
@@ -57,7 +61,7 @@ pub fn each_chart(asked: &Sheet, word: Word, out: &mut dyn Write) -> io::Result<
 /// The same of one file. It is refused where all its charts that are asked for are; beside another the reason in the place of
 /// what is written of a refused one will do.
 pub fn of_file(
-    asked: &Sheet,
+    wanted: Wanted,
     word: Word,
     path: &Path,
     file: &[u8],
@@ -70,15 +74,15 @@ pub fn of_file(
         chart: None,
         forced: Vec::new(),
     };
-    let found = match selected(file, asked.selection, asked.force) {
+    let found = match selected(file, wanted.selection, wanted.force) {
         Ok(found) => found,
         Err(left) => return left_out(&subject, &left, sheets),
     };
     let mut worst = None;
     for chart in &found.charts {
         subject.chart = chart.chart;
-        let made = chart.taken(asked.force).and_then(|chart| {
-            let measures = (word.make)(slices, chart.data, chart.lanes, asked.form)?;
+        let made = chart.taken(wanted.force).and_then(|chart| {
+            let measures = (word.make)(slices, chart.data, chart.lanes, wanted.form)?;
             Ok((chart, measures))
         });
         let status = match made {
@@ -87,8 +91,7 @@ pub fn of_file(
                     remark(sheets.out(), &whose(&subject), &odd)?;
                 }
                 subject.forced = found.forced.iter().cloned().chain(chart.forced).collect();
-                (word.write)(sheets, &subject, chart.lanes, slices, measures)?;
-                Status::Done
+                (word.write)(sheets, &subject, chart.lanes, slices, measures)?
             }
             Err(left) => left_out(&subject, &left, sheets)?,
         };
@@ -102,7 +105,7 @@ pub fn of_file(
 /// The measures of a chart, which a sheet on paper names beside holds and rolls.
 fn measures(slices: &Slices, lanes: usize, form: SheetForm) -> Result<Measures, NoMemory> {
     match form {
-        SheetForm::Print => Measures::of(slices.text(), lanes, slices.measure_count()),
+        SheetForm::Print => slices.measures(lanes),
         _ => Ok(Measures::default()),
     }
 }
@@ -141,8 +144,7 @@ mod tests {
     }
 
     fn said(file: &[u8], selection: Selection, form: SheetForm, force: bool) -> (String, Status) {
-        let asked = Sheet {
-            files: Vec::new(),
+        let wanted = Wanted {
             selection,
             form,
             force,
@@ -151,7 +153,7 @@ mod tests {
         let mut sheets = Sheets::new(form, &mut out);
         let mut slices = Slices::default();
         let path = Path::new("x");
-        let status = of_file(&asked, SHEET, path, file, &mut slices, &mut sheets).unwrap();
+        let status = of_file(wanted, SHEET, path, file, &mut slices, &mut sheets).unwrap();
         (String::from_utf8(out).unwrap(), status)
     }
 

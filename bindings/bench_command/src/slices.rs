@@ -1,8 +1,9 @@
 //! What the library is lent, kept from one chart to the next. Each slice is as long as the longest chart so far needs.
 
 use crate::left::Left;
+use crate::measures::Measures;
 use crate::memory::{NoMemory, part, room};
-use padcheck::{Figures, Lengths, NOTE_BYTES, SheetForm, lent, place};
+use padcheck::{Figures, Lengths, NOTE_BYTES, ParsedChartNote, SheetForm, lent, place, read_note};
 
 /// The slices that are lent to a call, and after it its answers.
 #[derive(Default)]
@@ -123,6 +124,11 @@ impl Slices {
         Ok(counts)
     }
 
+    /// Where the rows of the minimised text stand in its measures.
+    pub fn measures(&self, lanes: usize) -> Result<Measures, NoMemory> {
+        Measures::of(self.text(), lanes, self.measure_count())
+    }
+
     /// How many measures there are.
     pub fn measure_count(&self) -> usize {
         self.count(place::MEASURES)
@@ -146,6 +152,13 @@ impl Slices {
     /// The note records, or those of the dropped heads, back to back.
     pub fn records(&self) -> &[u8] {
         &self.notes[..NOTE_BYTES * self.count(place::NOTES)]
+    }
+
+    /// The notes.
+    pub fn notes(&self) -> impl Iterator<Item = ParsedChartNote> {
+        let records = self.records();
+        let notes = (0..records.len() / NOTE_BYTES).map(|number| read_note(records, number));
+        notes.map(|note| note.expect("the library reads the records that it wrote"))
     }
 
     /// The counts of the main tally, in the order of its fields.

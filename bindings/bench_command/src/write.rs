@@ -1,13 +1,12 @@
 //! The word `write`: from note records and row counts back to note data.
 
 use crate::args::Write as Asked;
-use crate::input::{contents_to, shown};
+use crate::input::{shown, whole};
 use crate::memory::{NoMemory, push};
 use crate::output::{Status, fault, left_out};
 use crate::slices::Slices;
 use padcheck::{MAX_LEN, NOTE_BYTES};
 use std::io::{self, Write};
-use std::path::Path;
 
 /// More bytes than the records of any chart have: a note for each byte of the longest text.
 const MOST_RECORDS: usize = NOTE_BYTES * MAX_LEN;
@@ -15,10 +14,13 @@ const MOST_RECORDS: usize = NOTE_BYTES * MAX_LEN;
 /// More bytes than the row counts of any chart have, with two bytes at each line's end.
 const MOST_COUNTS: usize = 2 * MAX_LEN;
 
+/// What neither is longer than.
+const LONGEST: &str = "those of any chart";
+
 /// `padcheck write`.
 pub fn run(asked: &Asked, out: &mut dyn Write) -> io::Result<Status> {
-    let given = whole(&asked.notes, MOST_RECORDS).and_then(|records| {
-        let rows = whole(&asked.rows, MOST_COUNTS)?;
+    let given = whole(&asked.notes, MOST_RECORDS, LONGEST).and_then(|records| {
+        let rows = whole(&asked.rows, MOST_COUNTS, LONGEST)?;
         let counts =
             row_counts(&rows).map_err(|wrong| format!("{}: {wrong}", shown(&asked.rows)))?;
         Ok((records, counts))
@@ -34,15 +36,6 @@ pub fn run(asked: &Asked, out: &mut dyn Write) -> io::Result<Status> {
     }
     out.write_all(slices.text())?;
     Ok(Status::Done)
-}
-
-/// A file's bytes, of which no more are taken than any chart has.
-fn whole(path: &Path, most: usize) -> Result<Vec<u8>, String> {
-    let data = contents_to(path, most)?;
-    if data.len() > most {
-        return Err(format!("{} is longer than those of any chart", shown(path)));
-    }
-    Ok(data)
 }
 
 /// The row counts of a file with one on each line, or what is wrong with it.

@@ -29,6 +29,8 @@ yes '#NOTES:;' | head -c 4000000 >"$out/many.sm"
 } >"$out/one.sm"
 # Notes of 4 MB, which are a chart of 1 MB.
 run 0 rig "$out/one.sm" --chart 0 --notes "$out/many.notes" --beats "$out/b" --rows "$out/many.rows"
+# 800,000 presses on its first note.
+head -c 4000000 /dev/zero >"$out/many.trace"
 lacking=0
 for space in 8000 16000 32000 64000 100000 150000 250000 400000; do
     within "$space" charts "$out/many.sm"
@@ -39,6 +41,7 @@ for space in 8000 16000 32000 64000 100000 150000 250000 400000; do
     within "$space" rig "$out/one.sm" --chart 0 --notes "$out/n" --beats "$out/b" --rows "$out/r"
     within "$space" rig "$out/measures" --lanes 10 --force --notes "$out/n" --beats "$out/b" --rows "$out/r"
     within "$space" write "$out/many.notes" "$out/many.rows" --lanes 4
+    within "$space" trace "$out/one.sm" "$out/many.trace" --chart 0
     within "$space" diff "$out/rows" "$out/measures" --lanes 4 --force
 done
 [ "$lacking" -ge 20 ] || failed "only $lacking runs had too little memory"
@@ -51,4 +54,4 @@ done
 } >"$out/rows"
 within 400000 sheet "$out/rows" --lanes 4
 [ "$(cat "$out/stderr")" = "padcheck: $out/rows: no memory for 672003042 bytes" ] || failed "the page of a sheet of 16 MB"
-rm "$out/rows" "$out/measures" "$out/many.sm" "$out/many.notes" "$out/many.rows" "$out/one.sm" "$out/stdout" "$out/n" "$out/b" "$out/r"
+rm "$out/rows" "$out/measures" "$out/many.sm" "$out/many.notes" "$out/many.rows" "$out/many.trace" "$out/one.sm" "$out/stdout" "$out/n" "$out/b" "$out/r"

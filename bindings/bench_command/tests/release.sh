@@ -9,7 +9,7 @@ passed=$((passed + 1))
 release() {
     sh tools/release.sh --commit 0123abc --date 1700000000 "$@" >"$out/stdout" 2>"$out/stderr"
 }
-archive=target/release/padcheck-0.4.0-x86_64-linux.tar.gz
+archive=target/release/padcheck-0.5.0-x86_64-linux.tar.gz
 rm -f "$archive"
 if release; then failed "a release without the gate"; fi
 one_line "the gate's log is wanted" "release.sh"
@@ -33,7 +33,7 @@ passed=$((passed + 1))
 
 # It has what it says, with checksums, and no folder of this machine.
 tar -x -z -f "$out/first.tar.gz" -C "$out"
-released=$out/padcheck-0.4.0
+released=$out/padcheck-0.5.0
 (cd "$released" && sha256sum --check --strict --quiet SHA256SUMS) || failed "the release's checksums"
 (cd "$released" && find . -type f | LC_ALL=C sort) | tr '\n' ' ' >"$out/stdout"
 [ "$(cat "$out/stdout")" = "./GATE ./LICENSE ./NEEDS ./NOTICE ./SHA256SUMS ./bin/padcheck ./include/padcheck.h ./lib/libpadcheck.a \
@@ -61,6 +61,6 @@ int main(void)
 }
 END
 cc -I "$released/include" -o "$out/program" "$out/program.c" -L "$released/lib" -lpadcheck
-[ "$("$out/program")" = "0.4.0 0 5" ] || failed "a C program over the release"
-grep -qx 'Version: 0.4.0' "$released/lib/pkgconfig/padcheck.pc" || failed "the release's pkg-config file"
+[ "$("$out/program")" = "0.5.0 0 5" ] || failed "a C program over the release"
+grep -qx 'Version: 0.5.0' "$released/lib/pkgconfig/padcheck.pc" || failed "the release's pkg-config file"
 passed=$((passed + 4))

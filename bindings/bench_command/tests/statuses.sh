@@ -37,8 +37,8 @@ printed 0 "chart 1 dance-double" sheet "$out/two-charts.sm" --form card
 printed 0 "2 charts, 0 refused" charts "$out/two-charts.sm"
 
 # 2: arguments and inputs, with one line on standard error.
-told 2 "charts, sheet, dropped, rig, write or diff is wanted"
-told 2 "\`print\` is no word; the words are charts, sheet, dropped, rig, write and diff" print "$sm"
+told 2 "charts, sheet, dropped, rig, write, trace or diff is wanted"
+told 2 "\`print\` is no word; the words are charts, sheet, dropped, rig, write, trace and diff" print "$sm"
 told 2 "sheet: a file is wanted" sheet
 told 2 "dropped: a file is wanted" dropped
 told 2 "dropped: --form needs print or json here, and not \`card\`" dropped "$sm" --form card
@@ -66,6 +66,7 @@ told 2 "$out/rows: line 2 is no row count" write "$out/empty" "$out/rows" --lane
 doubtful() {
     told 3 "$out/doubtful is doubtful: $1" sheet "$out/doubtful" --lanes 4
     told 3 "$out/doubtful is doubtful: $1" dropped "$out/doubtful" --lanes 4
+    told 3 "$out/doubtful is doubtful: $1" trace "$out/doubtful" "$out/empty" --lanes 4
     told 3 "$out/doubtful is doubtful: $1" rig "$out/doubtful" --lanes 4 --notes "$out/n" --beats "$out/b"
     printed 0 "no hold came to nothing" dropped "$out/doubtful" --lanes 4 --force
     printed 0 "measures 1" sheet "$out/doubtful" --lanes 4 --force --form card
@@ -114,7 +115,7 @@ passed=$((passed + 4))
 
 # Outputs that are full or closed: status 2 and one line, and no sheet is taken for whole.
 echo 3 >"$out/three"
-for words in "charts $sm" "sheet $sm" "sheet $sm --form json" "dropped $sm" "dropped $sm --form json" "diff $sm $sm" "rig $sm --chart 0 --notes $out/n --beats $out/b" "write $out/empty $out/three --lanes 4" --help; do
+for words in "charts $sm" "sheet $sm" "sheet $sm --form json" "dropped $sm" "dropped $sm --form json" "diff $sm $sm" "rig $sm --chart 0 --notes $out/n --beats $out/b" "write $out/empty $out/three --lanes 4" "trace $sm $out/empty --chart 0" "trace $sm $out/empty --chart 0 --form json" --help; do
     : >"$out/stdout"
     status=0
     # The words have no blanks in them.

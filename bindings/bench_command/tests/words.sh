@@ -60,6 +60,7 @@ printed 0 "padcheck sheet FILE" sheet --help
 printed 0 "padcheck dropped FILE" dropped --help
 printed 0 "padcheck rig FILE" rig -h
 printed 0 "padcheck write NOTES ROWS" write --help
+printed 0 "padcheck trace FILE TRACE" trace --help
 printed 0 "padcheck diff OLD NEW" diff a --help
 printed 0 "kit $(rt version)" --version
 

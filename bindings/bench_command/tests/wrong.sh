@@ -19,6 +19,7 @@ doubtful_line() {
     case $said in *--force*) failed "the doubt of $1 names --force" ;; esac
     told 3 "$said" rig "$given/$1.sm" --chart 0 --notes "$out/n" --beats "$out/b"
     told 3 "$said" dropped "$given/$1.sm"
+    told 3 "$said" trace "$given/$1.sm" "$out/empty"
     run 3 diff "$given/$1.sm" "$given/$2.sm"
     one_line "$said" "diff of $1"
     run 3 charts "$given/$1.sm"
@@ -58,7 +59,7 @@ doubtful_file() {
     case $why in *--force*) failed "the doubt of $1 names --force" ;; esac
     said="padcheck: $given/$1.sm is doubtful: $why"
     for words in "sheet $given/$1.sm" "sheet $given/$1.sm --chart 0" "dropped $given/$1.sm --form json" \
-        "rig $given/$1.sm --chart 0 --notes $out/n --beats $out/b"; do
+        "rig $given/$1.sm --chart 0 --notes $out/n --beats $out/b" "trace $given/$1.sm $out/empty --chart 0"; do
         # The words have no blanks in them.
         told 3 "$said" $words
         [ "$(cat "$out/stderr")" = "$said" ] || failed "padcheck $words: not '$said'"
@@ -145,6 +146,7 @@ for word in charts sheet; do
     answered 1 "wrong.bare.$word" "$word" "$chart"
 done
 answered 1 wrong.ssc.number sheet "$given/song.ssc" --chart 0 --form json
+answered 1 wrong.ssc.number trace "$given/song.ssc" "$out/empty" --chart 0 --form json
 told 1 "song.ssc refused 9: the block has fewer than five fields, by whoever writes the SM file; it is an SSC file, which is not read: line 7 begins with #NOTEDATA:" \
     rig "$given/song.ssc" --chart 0 --notes "$out/n" --beats "$out/b"
 
@@ -181,6 +183,7 @@ else
     told 2 "$lacks" charts "$sm"
     told 2 "$lacks" sheet "$sm"
     told 2 "$lacks" dropped "$sm"
+    told 2 "$lacks" trace "$sm" "$out/empty" --chart 0
     told 2 "$lacks" rig "$sm" --chart 0 --notes "$out/n" --beats "$out/b"
     told 2 "$lacks" diff "$sm" "$sm"
 fi
