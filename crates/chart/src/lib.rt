@@ -13,6 +13,7 @@ ghost use Rattle.definitions.specs.Records.{records};
 ghost use Rattle.definitions.specs.Entries.{figures_of_chart, main_answer};
 
 use definitions::{ChartFigures, Lanes, Refusal};
+use measure_walk::Walk;
 
 /// The main call where it is accepted: the pass, the tally corrected over the minimised text read back, and the end: heads that are open are dropped,
 /// and zeros stand past each answer.
@@ -43,21 +44,24 @@ pub fn chart_figures(
     ensures notes_after { slots.new
         ≡ padded 0 (length slots.old) (records (notes_of lanes.count «data».now)) }
 {
-    let pass = chart_pass::read_chart(data, lanes, text, densities, beats, slots);
+    let mut walk = Walk::new();
+    let written = chart_pass::read_chart(data, lanes, text, densities, beats, slots, &mut walk);
     let stats = corrected_tally::corrected_stats(
-        pass.walk.run.stats,
-        pass.walk.phantoms(),
-        &text[0..pass.draft.out],
+        walk.run.stats,
+        walk.phantoms(),
+        &text[0..written.bytes],
         lanes,
         work,
     );
-    let notes = row_notes::finish(pass.walk.scratch(), slots);
-    let rows = pass.walk.run.row;
+    let notes = row_notes::finish(walk.scratch(), slots);
+    let rows = walk.run.row;
     slices::zero_past(beats, rows as usize, 0.0);
-    let last = pass.walk.found;
+    slices::zero_past(text, written.bytes, 0);
+    slices::zero_past(densities, written.measures, 0);
+    let last = walk.found;
     ChartFigures {
-        bytes: pass.draft.out,
-        measures: pass.draft.finish(text, densities),
+        bytes: written.bytes,
+        measures: written.measures,
         rows,
         notes,
         last_bits: beats::last_beat_bits(last),

@@ -1,2 +1,2 @@
--- Laws of the main call's pass.
+-- Laws of the pass: the measures that were walked over.
 pub mod Charting

@@ -1,16 +1,47 @@
 // The list of a chart's dropped heads: minimised text in bytes, and a record of ten bytes for each head that has no note.
 #![tactic(auto)]
 
-ghost use Rattle.std.specs.Prelude.{◌≡◌, ◌+◌, ◌*◌, ◌≤◌, length};
+ghost use Rattle.std.specs.Prelude.{◌≡◌, ◌+◌, ◌*◌, ◌≤◌, length, take};
 ghost use Rattle.definitions.specs.Sizes.{most_bytes};
 ghost use Rattle.definitions.specs.Lists.{padded};
 ghost use Rattle.definitions.specs.Lanes.{most_rows_in};
 ghost use Rattle.definitions.specs.Refusals.{leaves};
 ghost use Rattle.definitions.specs.Figures.{minimised_text};
 ghost use Rattle.definitions.specs.Dropped.{dropped_heads, dropped_records};
-ghost use Rattle.definitions.specs.Entries.{figures_of_dropped, dropped_answer};
+ghost use Rattle.definitions.specs.Entries.{measure_count, row_count, figures_of_dropped, dropped_answer};
 
 use definitions::{DroppedFigures, Lanes, Refusal};
+use measures::RowForm;
+
+// Minimised text in bytes, measures and rows.
+#[derive(Clone, Copy)]
+struct Minimised {
+    bytes: usize,
+    measures: usize,
+    rows: u32,
+}
+
+// The minimised text of a text is written. Out of line it leaves both loops their registers.
+#[inline(never)]
+fn minimise(data: &[u8], given: Lanes, text: &mut [u8]) -> Minimised
+    requires text_length { length «data».now ≤ most_bytes }
+    requires text_room { length «data».now + 1 ≤ length text.old }
+    ensures text_is { take result.bytes text.new ≡ minimised_text given.count «data».now }
+    ensures short { result.bytes ≤ length «data».now + 1 }
+    ensures measures { result.measures ≡ measure_count given.count «data».now }
+    ensures rows { result.rows ≡ row_count given.count «data».now }
+{
+    let mut chart = measures::chart_measures(data, given.known(), RowForm::Lines);
+    let mut rows = 0;
+    'measures: while let Some(measure) = chart.next(text) {
+        rows += measure.rows as u32;
+    }
+    Minimised {
+        bytes: chart.out,
+        measures: chart.number,
+        rows,
+    }
+}
 
 // The call where it is accepted: the text is minimised, its heads are listed, and zeros stand past both.
 fn list_chart(data: &[u8], lanes: Lanes, text: &mut [u8], list: &mut [u8]) -> DroppedFigures
@@ -24,14 +55,14 @@ fn list_chart(data: &[u8], lanes: Lanes, text: &mut [u8], list: &mut [u8]) -> Dr
     ensures list_after { list.new
         ≡ padded 0 (length list.old) (dropped_records (dropped_heads lanes.count «data».now)) }
 {
-    let pass = text_pass::minimise_chart(data, lanes, text);
-    let bytes = pass.draft.out;
-    let rows = pass.rows as u32;
+    let minimised = minimise(data, lanes, text);
+    let bytes = minimised.bytes;
+    let rows = minimised.rows;
     let heads = dropped_list::list_heads(&text[0..bytes], rows, lanes, list);
     slices::zero_past(text, bytes, 0);
     DroppedFigures {
         bytes,
-        measures: pass.draft.midx + 1,
+        measures: minimised.measures,
         rows,
         heads,
     }

@@ -169,6 +169,7 @@ fn list_heads_last(text: &[u8], rows: u32, lanes: Lanes, list: &mut [u8]) -> usi
 }
 
 /// The list of the dropped heads of a minimised text with so many rows, and zeros after it. The answer is their number.
+#[inline(never)]
 pub fn list_heads(text: &[u8], rows: u32, lanes: Lanes, list: &mut [u8]) -> usize
     requires minimised { SomeText lanes.count text.now rows }
     requires list_room { lanes.count * rows * 10 ≤ length list.old }

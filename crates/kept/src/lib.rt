@@ -30,18 +30,20 @@ pub fn keep_figures(
         ≡ padded 0 (length densities.old) (densities_of lanes.count «data».now) }
     ensures work_after { work.new ≡ padded 0 (length work.old) [] }
 {
-    let pass = kept_pass::keep_chart(data, lanes, text, densities);
+    let kept = kept_pass::keep_chart(data, lanes, text, densities);
     let stats = corrected_tally::corrected_stats(
-        pass.counting.stats,
-        pass.counting.phantoms,
-        &text[0..pass.draft.out],
+        kept.counting.stats,
+        kept.counting.phantoms,
+        &text[0..kept.bytes],
         lanes,
         work,
     );
+    slices::zero_past(text, kept.bytes, 0);
+    slices::zero_past(densities, kept.measures, 0);
     KeptFigures {
-        bytes: pass.draft.out,
-        measures: pass.draft.finish(text, densities),
-        rows: pass.counting.rows,
+        bytes: kept.bytes,
+        measures: kept.measures,
+        rows: kept.counting.rows,
         stats,
     }
 }

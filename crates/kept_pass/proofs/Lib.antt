@@ -1,4 +1,3 @@
--- Laws of the pass: a row more, the measure minimised and counted, its end, and a whole text.
-pub mod Passing
+-- Laws of the pass: the measures that were counted, and what the calls over them answer.
 pub mod Keeping
 pub mod Answering

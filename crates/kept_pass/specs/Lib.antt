@@ -1,2 +1,2 @@
 -- What the contracts of the kept-row pass cite, beside the definitions.
-pub mod KeptPass
+pub mod Kept

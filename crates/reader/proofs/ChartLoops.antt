@@ -6,42 +6,18 @@ use Prim.Native.Nat.{ℕ, ◌+◌, ◌*◌, ◌≤◌}
 use native.Mathlib.Nat.{le_trans, mul-le-mul_right, le-div_iff_mul-le, mul_comm, le_of_eq}
 use native.Mathlib.Omega.{arith}
 use lib.ListN.{length, length-append}
-use lib.Seq.{length-take-le}
 use Rattle.std.specs.Prelude.{Option, Some, None, fold, sum_by}
-use Rattle.std.proofs.lemmas.List.Sums.{fold_push, sum_by-cons, sum_by-append}
+use Rattle.std.proofs.lemmas.List.Sums.{fold_push, sum_by-append}
 use Rattle.definitions.specs.Lists.{joined}
 use Rattle.definitions.specs.Lanes.{most_rows_in}
-use Rattle.definitions.specs.Lines.{Row, cut, trim, line_kind, line_row}
+use Rattle.definitions.specs.Lines.{Row}
 use Rattle.definitions.specs.Measures.{chart}
-use Rattle.definitions.proofs.Lists.{All, none, one, joined_snoc}
-use Rattle.definitions.proofs.ChartRows.{trim-short, row-length}
-use Rattle.definitions.specs.declared.LineKind.{LineKind}
-use Rattle.definitions.specs.declared.LineKind.TheVariants as line
+use Rattle.definitions.proofs.Lists.{All, one, joined_snoc}
 use Rattle.reader.specs.declared.charts.ChartLine.{ChartLine}
 use Rattle.reader.specs.declared.charts.ChartLine.TheVariants as chart-line
-use Rattle.reader.specs.Marks.{add_mark, marks, chart_marks, Held, held_with, held}
+use Rattle.reader.specs.Marks.{chart_marks, wide, bytes_of, Held, held_with, held}
 use Rattle.reader.specs.ChartLines.{mark_of, held_of}
-use Rattle.reader.proofs.Cuts.{lines_bytes, cut-bytes}
-use Rattle.reader.proofs.LineKinds.{comma-some}
-use Rattle.reader.proofs.Marks.{chart-held}
-
--- ---- a mark takes so many bytes at least, with its newline
-
-abbrev pub bytes_of : ℕ → Option Row → ℕ
-bytes_of L None = 2
-bytes_of L (Some r) = L + 1
-
-marks-bytes : (L : ℕ) (ls : List (List ℕ)) → sum_by (bytes_of L) (marks L ls) ≤ lines_bytes ls
-unfolding line_kind
-marks-bytes L [] = omega arith
-marks-bytes L (l ∷ ls) = go (line_kind L l) refl (marks-bytes L ls)
-  where
-    go : (k : LineKind) → line_kind L l ≡ k → sum_by (bytes_of L) (marks L ls) ≤ lines_bytes ls
-        → sum_by (bytes_of L) (add_mark k (line_row L l) (marks L ls)) ≤ lines_bytes (l ∷ ls)
-    go line.Passed e h = omega arith
-    go line.Comma e h = omega (arith, sum_by-cons (bytes_of L) None (marks L ls), comma-some L l e)
-    go line.Semi e h = omega arith
-    go line.Row e h = omega (arith, sum_by-cons (bytes_of L) (Some (line_row L l)) (marks L ls), row-length L (trim l) e, trim-short l)
+use Rattle.reader.proofs.Marks.{chart-bytes, chart-wide, chart-held}
 
 -- ---- what is held takes as many as its marks
 
@@ -81,23 +57,6 @@ few-of L len h w b =
       measures = omega arith;
     }
 
--- ---- a row has L bytes
-
-abbrev pub Wide : ℕ → Option Row → Type 0
-Wide L None = Unit {0}
-Wide L (Some r) = length r ≡ L
-
-marks-wide : (L : ℕ) (ls : List (List ℕ)) → All (Wide L) (marks L ls)
-unfolding line_kind
-marks-wide L [] = none
-marks-wide L (l ∷ ls) = go (line_kind L l) refl (marks-wide L ls)
-  where
-    go : (n : LineKind) → line_kind L l ≡ n → All (Wide L) (marks L ls) → All (Wide L) (add_mark n (line_row L l) (marks L ls))
-    go line.Passed q p = p
-    go line.Comma q p = one {a = None} tt p
-    go line.Semi q p = none
-    go line.Row q p = one {a = Some (line_row L l)} (length-take-le L (trim l) (row-length L (trim l) q)) p
-
 -- ---- the loop
 
 held-more : (ls : List ChartLine) (l : ChartLine) → held_of (ls ++ (l ∷ [])) ≡ held_with (held_of ls) (mark_of l)
@@ -123,26 +82,11 @@ pub record Over (L : ℕ) (text : List ℕ) (K : List (List Row) → List Row �
   pub few : Few L (length text) done cur
   pub held : K done cur
 
--- how many bytes at least the lines that have come take in the text
-abbrev pub come_bytes : ℕ → List ChartLine → ℕ
-come_bytes L ls = bytes_of_held L (held_of ls)
-
-pub bytes-none : (L : ℕ) → come_bytes L [] ≡ 0
-unfolding held
-bytes-none L = omega arith
-
-pub bytes-more : (L : ℕ) (ls : List ChartLine) (l : ChartLine) → come_bytes L (ls ++ (l ∷ [])) ≡ come_bytes L ls + bytes_of L (mark_of l)
-bytes-more L ls l = ap (bytes_of_held L) (held-more ls l) ∙ one-more L (held_of ls) (mark_of l)
-
 module _ {L : ℕ} {text : List ℕ} {ls : List ChartLine} {rest : List (Option Row)} (x : Come L text ls rest) where
-  -- no more than the text has, with a newline after it
-  pub come-within : come_bytes L ls ≤ length text + 1
-  unfolding chart_marks
-  come-within =
-      omega (arith, held_bytes L (map mark_of ls), sum_by-append (bytes_of L) (map mark_of ls) rest, ap (sum_by (bytes_of L)) x.lines_are, marks-bytes L (cut text), cut-bytes text)
-
   come-few : Few L (length text) (held_of ls).done (held_of ls).cur
-  come-few = few-of L (length text) (held_of ls) x.lanes come-within
+  come-few =
+      few-of L (length text) (held_of ls) x.lanes
+      (omega (arith, held_bytes L (map mark_of ls), sum_by-append (bytes_of L) (map mark_of ls) rest, ap (sum_by (bytes_of L)) x.lines_are, chart-bytes L text))
 
   -- One line more has come.
   module _ {below : List (Option Row)} where
@@ -155,10 +99,9 @@ module _ {L : ℕ} {text : List ℕ} {ls : List ChartLine} {rest : List (Option 
 
     -- a row has L bytes
     pub row-wide : {l : ChartLine} → rest ≡ mark_of l ∷ below → (row : _) → l ≡ chart-line.Row row → length row.now ≡ L
-    unfolding chart_marks
-    row-wide e row q = go (map mark_of ls) (subst (All (Wide L)) (x.lines_are ∙ rw (e, q) refl) (marks-wide L (cut text)))
+    row-wide e row q = go (map mark_of ls) (subst (All (wide L)) (x.lines_are ∙ rw (e, q) refl) (chart-wide L text))
       where
-        go : (ms : List (Option Row)) → All (Wide L) (ms ++ (Some row.now ∷ below)) → length row.now ≡ L
+        go : (ms : List (Option Row)) → All (wide L) (ms ++ (Some row.now ∷ below)) → length row.now ≡ L
         go [] (one h p) = h
         go (m ∷ ms) (one h p) = go ms p
 

@@ -3,7 +3,6 @@ pub mod LineKinds
 pub mod Plain
 pub mod BackReading
 pub mod PlainBack
-pub mod Minimising
 pub mod Cuts
 pub mod Marks
 pub mod ChartLoops

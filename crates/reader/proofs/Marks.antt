@@ -1,27 +1,31 @@
--- Laws of the marks of a text: its first line, a row that one look tells, and that a text's measures are what all of its marks come to.
+-- Laws of the marks of a text: its first line, a row that one look tells, what marks take in it, and that its measures are those of its marks.
 use mathlib.Core.Path.{◌≡◌, refl, ap, sym, ◌∙◌}
 use mathlib.Core.Logic.{⊎_elim}
 use mathlib.Core.Bool.{Bool, true, false, cond, ◌&&◌, not}
 use mathlib.Core.List.{List, [], ◌∷◌, ◌++◌, append_assoc, append-nil}
-use Prim.Native.Nat.{ℕ, ◌-◌, ◌<◌, ◌≤◌}
+use Prim.Native.Nat.{ℕ, ◌+◌, ◌-◌, ◌<◌, ◌≤◌}
 use native.Mathlib.Omega.{arith}
 use lib.ListN.{length, take, drop, get_or}
+use lib.Seq.{length-take-le}
 use lib.Dec.{eqb, ltb}
 use borrow.Author.Tests.{eqb-true, eqb-false, ne_eqb, ltb-true, not-true}
 use Rattle.definitions.proofs.Bools.{and_left, and_right}
-use Rattle.std.specs.Prelude.{Option, Some, None, fold}
+use Rattle.std.specs.Prelude.{Option, Some, None, fold, sum_by}
 use Rattle.std.specs.List.{onto_first}
+use Rattle.std.proofs.lemmas.List.Sums.{sum_by-cons}
 use Rattle.definitions.specs.Lists.{among, up_to, after}
 use Rattle.definitions.specs.Lines.{Row, cut, is_blank_byte, trim, is_row_line, kind_of, line_kind, line_row}
 use Rattle.definitions.specs.Measures.{add_line, measures, chart}
 use Rattle.definitions.specs.declared.LineKind.{LineKind}
 use Rattle.definitions.specs.declared.LineKind.TheVariants as line
 use Rattle.lines.specs.Lines.{first_line}
-use Rattle.definitions.proofs.Lists.{after-cons}
+use Rattle.definitions.proofs.Lists.{All, none, one, after-cons}
+use Rattle.definitions.proofs.ChartRows.{trim-short, row-length}
 use Rattle.reader.specs.Reading.{LineStep, near_cells, near_row, Below}
-use Rattle.reader.proofs.Cuts.{cut-below}
+use Rattle.reader.proofs.Cuts.{lines_bytes, cut-bytes, cut-below}
+use Rattle.reader.proofs.LineKinds.{comma-some}
 use Rattle.reader.proofs.Plain.{near-long, near-front, bare, bare-row, first-cells, first-within, below-step}
-use Rattle.reader.specs.Marks.{add_mark, marks, chart_marks, Held, held_with, held}
+use Rattle.reader.specs.Marks.{add_mark, marks, chart_marks, measures_of, wide, bytes_of, Held, held_with, held}
 
 -- ---- the first line of a text, and what follows it
 
@@ -156,7 +160,56 @@ pub marks-just : (L step : ℕ) (s : List ℕ) → 4 ≤ L → L ≤ 10 → Line
     → chart_marks L s ≡ Some (take L s) ∷ chart_marks L (drop step s)
 marks-just L step s low high w e n = marks-near L s (drop step s) low high e (below-step L step s w (omega (arith, row-long L s e)) n)
 
+-- ---- what marks take
+
+marks-bytes : (L : ℕ) (ls : List (List ℕ)) → sum_by (bytes_of L) (marks L ls) ≤ lines_bytes ls
+unfolding line_kind
+marks-bytes L [] = omega arith
+marks-bytes L (l ∷ ls) = go (line_kind L l) refl (marks-bytes L ls)
+  where
+    go : (k : LineKind) → line_kind L l ≡ k → sum_by (bytes_of L) (marks L ls) ≤ lines_bytes ls
+        → sum_by (bytes_of L) (add_mark k (line_row L l) (marks L ls)) ≤ lines_bytes (l ∷ ls)
+    go line.Passed e h = omega arith
+    go line.Comma e h = omega (arith, sum_by-cons (bytes_of L) None (marks L ls), comma-some L l e)
+    go line.Semi e h = omega arith
+    go line.Row e h = omega (arith, sum_by-cons (bytes_of L) (Some (line_row L l)) (marks L ls), row-length L (trim l) e, trim-short l)
+
+marks-wide : (L : ℕ) (ls : List (List ℕ)) → All (wide L) (marks L ls)
+unfolding line_kind
+marks-wide L [] = none
+marks-wide L (l ∷ ls) = go (line_kind L l) refl (marks-wide L ls)
+  where
+    go : (n : LineKind) → line_kind L l ≡ n → All (wide L) (marks L ls) → All (wide L) (add_mark n (line_row L l) (marks L ls))
+    go line.Passed q p = p
+    go line.Comma q p = one {a = None} tt p
+    go line.Semi q p = none
+    go line.Row q p = one {a = Some (line_row L l)} (length-take-le L (trim l) (row-length L (trim l) q)) p
+
+-- no more than the text has, with a newline after it
+pub chart-bytes : (L : ℕ) (text : List ℕ) → sum_by (bytes_of L) (chart_marks L text) ≤ length text + 1
+unfolding chart_marks
+chart-bytes L text = omega (arith, marks-bytes L (cut text), cut-bytes text)
+
+pub chart-wide : (L : ℕ) (text : List ℕ) → All (wide L) (chart_marks L text)
+unfolding chart_marks
+chart-wide L text = marks-wide L (cut text)
+
 -- ---- what marks come to
+
+line-measures : (L : ℕ) (ls : List (List ℕ)) → measures L ls ≡ measures_of (marks L ls)
+line-measures L [] = refl
+line-measures L (l ∷ ls) = go (line_kind L l) (line-measures L ls)
+  where
+    go : (k : LineKind) → measures L ls ≡ measures_of (marks L ls) → add_line k (line_row L l) (measures L ls) ≡ measures_of (add_mark k (line_row L l) (marks L ls))
+    go line.Passed h = h
+    go line.Comma h = ap (λ ms. [] ∷ ms) h
+    go line.Semi h = refl
+    go line.Row h = ap (onto_first (line_row L l)) h
+
+-- A text's measures are those of its marks.
+pub chart-measures : (L : ℕ) (text : List ℕ) → chart L text ≡ measures_of (chart_marks L text)
+unfolding chart chart_marks
+chart-measures L text = line-measures L (cut text)
 
 -- rows put before the first of some measures
 abbrev add_first : List Row → List (List Row) → List (List Row)
@@ -168,19 +221,14 @@ at_row cur r [] = refl
 at_row cur r (m ∷ ms) = ap (λ l. l ∷ ms) (sym (append_assoc cur (r ∷ []) m))
 
 -- no row before the first measure
-add_none : (L : ℕ) (ls : List (List ℕ)) → add_first [] (measures L ls) ≡ measures L ls
-add_none L [] = refl
-add_none L (l ∷ ls) = go (line_kind L l) (add_none L ls)
+add_none : (ms : List (Option Row)) → add_first [] (measures_of ms) ≡ measures_of ms
+add_none [] = refl
+add_none (None ∷ ms) = refl
+add_none (Some r ∷ ms) = first (measures_of ms)
   where
-    first : (r : Row) (ms : List (List Row)) → add_first [] (onto_first r ms) ≡ onto_first r ms
-    first r [] = refl
-    first r (m ∷ ms) = refl
-
-    go : (k : LineKind) → add_first [] (measures L ls) ≡ measures L ls → add_first [] (add_line k (line_row L l) (measures L ls)) ≡ add_line k (line_row L l) (measures L ls)
-    go line.Passed h = h
-    go line.Comma h = refl
-    go line.Semi h = refl
-    go line.Row h = first (line_row L l) (measures L ls)
+    first : (ms : List (List Row)) → add_first [] (onto_first r ms) ≡ onto_first r ms
+    first [] = refl
+    first (m ∷ ms) = refl
 
 abbrev all : Held → List (List Row)
 all h = h.done ++ (h.cur ∷ [])
@@ -188,22 +236,14 @@ all h = h.done ++ (h.cur ∷ [])
 abbrev from : List (List Row) → List Row → List (Option Row) → Held
 from done cur ms = fold held_with (record { done = done; cur = cur }) ms
 
-all-measures : (L : ℕ) (ls : List (List ℕ)) (done : List (List Row)) (cur : List Row) → done ++ add_first cur (measures L ls) ≡ all (from done cur (marks L ls))
-all-measures L [] done cur = rw append-nil
-all-measures L (l ∷ ls) done cur = go (line_kind L l) (all-measures L ls)
-  where
-    go : (k : LineKind) → ((done : List (List Row)) (cur : List Row) → done ++ add_first cur (measures L ls) ≡ all (from done cur (marks L ls)))
-        → done ++ add_first cur (add_line k (line_row L l) (measures L ls)) ≡ all (from done cur (add_mark k (line_row L l) (marks L ls)))
-    go line.Passed h = h done cur
-    go line.Comma h =
-        rw append-nil
-        (sym (append_assoc done (cur ∷ []) (measures L ls))
-        ∙ sym (ap (λ ms. (done ++ (cur ∷ [])) ++ ms) (add_none L ls))
-        ∙ h (done ++ (cur ∷ [])) [])
-    go line.Semi h = rw append-nil
-    go line.Row h = ap (λ ms. done ++ ms) (at_row cur (line_row L l) (measures L ls)) ∙ h done (cur ++ (line_row L l ∷ []))
+all-measures : (ms : List (Option Row)) (done : List (List Row)) (cur : List Row) → done ++ add_first cur (measures_of ms) ≡ all (from done cur ms)
+all-measures [] done cur = rw append-nil
+all-measures (None ∷ ms) done cur =
+    rw append-nil
+    (sym (append_assoc done (cur ∷ []) (measures_of ms)) ∙ sym (ap (λ l. (done ++ (cur ∷ [])) ++ l) (add_none ms)) ∙ all-measures ms (done ++ (cur ∷ [])) [])
+all-measures (Some r ∷ ms) done cur = ap (λ l. done ++ l) (at_row cur r (measures_of ms)) ∙ all-measures ms done (cur ++ (r ∷ []))
 
--- A text's measures: those that have ended when all of its marks have come, and the open one.
+-- They are those that have ended when all marks have come, and the open one.
 pub chart-held : (L : ℕ) (text : List ℕ) → chart L text ≡ (held (chart_marks L text)).done ++ ((held (chart_marks L text)).cur ∷ [])
-unfolding chart chart_marks held
-chart-held L text = sym (add_none L (cut text)) ∙ all-measures L (cut text) [] []
+unfolding held
+chart-held L text = chart-measures L text ∙ sym (add_none (chart_marks L text)) ∙ all-measures (chart_marks L text) [] []

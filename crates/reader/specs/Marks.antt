@@ -1,5 +1,6 @@
 -- A text as its reader meets it: the rows and the ends of measures, one after the other, and what has been read when some of them have come.
-use Rattle.std.specs.Prelude.{Option, Some, None, List, [], ◌∷◌, ◌++◌, ℕ, fold}
+use Rattle.std.specs.Prelude.{◌≡◌, Option, Some, None, List, [], ◌∷◌, ◌++◌, ℕ, ◌+◌, length, fold}
+use Rattle.std.specs.List.{onto_first}
 use Rattle.definitions.specs.Lines.{Row, cut, line_kind, line_row}
 use Rattle.definitions.specs.declared.LineKind.{LineKind}
 use Rattle.definitions.specs.declared.LineKind.TheVariants as kind
@@ -19,6 +20,22 @@ marks L (l ∷ ls) = add_mark (line_kind L l) (line_row L l) (marks L ls)
 -- the marks of a text
 unfoldable pub chart_marks : ℕ → List ℕ → List (Option Row)
 chart_marks L text = marks L (cut text)
+
+-- the measures of some marks
+abbrev pub measures_of : List (Option Row) → List (List Row)
+measures_of [] = [] ∷ []
+measures_of (None ∷ ms) = [] ∷ measures_of ms
+measures_of (Some r ∷ ms) = onto_first r (measures_of ms)
+
+-- a row has L bytes
+abbrev pub wide : ℕ → Option Row → Type 0
+wide L None = Unit {0}
+wide L (Some r) = length r ≡ L
+
+-- how many bytes a mark takes in a text at least, with its newline
+abbrev pub bytes_of : ℕ → Option Row → ℕ
+bytes_of L None = 2
+bytes_of L (Some r) = L + 1
 
 -- the measures that have ended, and the rows of the open one
 pub record Held : Type 0 where

@@ -1,16 +1,9 @@
 -- A state that a pass holds, which stands for the measures that have ended, `done`, and for the rows of the open one, `cur`.
 use Rattle.std.specs.Prelude.{List, [], ◌∷◌, ◌++◌}
 use Rattle.definitions.specs.Lines.{Row}
-use Rattle.definitions.specs.Reduction.{reduce}
 
 abbrev pub State : Type 1
 State = List (List Row) → List Row → Type 0
-
--- it holds of some
-pub record Holding (state : State) : Type 0 where
-  pub done : List (List Row)
-  pub cur : List Row
-  pub held : state done cur
 
 -- it holds of some measures that have ended, and of these rows of the open one
 pub record HoldingOpen (state : State) (cur : List Row) : Type 0 where
@@ -24,11 +17,3 @@ AddsRow row before after = (done : List (List Row)) (cur : List Row) → before 
 -- the open measure ends
 abbrev pub EndsMeasure : State → State → Type 0
 EndsMeasure before after = (done : List (List Row)) (cur : List Row) → before done cur → after (done ++ (cur ∷ [])) []
-
--- the open measure is minimised
-abbrev pub Minimises : State → State → Type 0
-Minimises before after = (done : List (List Row)) (cur : List Row) → before done cur → after done (reduce cur)
-
--- the open measure ends, minimised
-abbrev pub EndsMinimised : State → State → Type 0
-EndsMinimised before after = (done : List (List Row)) (cur : List Row) → before done cur → after (done ++ (reduce cur ∷ [])) []

@@ -1,3 +1,2 @@
--- Laws of the pass: a row more, a measure's end, and what the call answers.
-pub mod Passing
-pub mod Keeping
+-- Laws of the loop over the measures, and of what the call answers.
+pub mod Timed

@@ -2,8 +2,8 @@
 // beats of those rows are written with it.
 #![tactic(auto)]
 
-ghost use Rattle.std.specs.Prelude.{◌≡◌, List, [], ℕ, ◌+◌, ◌≤◌, ◌<◌, Float, length};
-ghost use Rattle.definitions.specs.Sizes.{measures_bound, most_bytes, row_count_bound};
+ghost use Rattle.std.specs.Prelude.{◌≡◌, ◌+◌, ◌≤◌, length};
+ghost use Rattle.definitions.specs.Sizes.{most_bytes};
 ghost use Rattle.definitions.specs.Lists.{padded};
 ghost use Rattle.definitions.specs.Lanes.{most_rows_in};
 ghost use Rattle.definitions.specs.Refusals.{leaves};
@@ -12,80 +12,9 @@ ghost use Rattle.definitions.specs.Correction.{is_opening};
 ghost use Rattle.definitions.specs.Beats.{f32, beats as beats_of};
 ghost use Rattle.definitions.specs.TimingRows.{has_some_head, timing_rows};
 ghost use Rattle.definitions.specs.Entries.{figures_of_timing, timing_answer};
-ghost use Rattle.reduction.specs.States.{Holding, AddsRow, EndsMinimised};
-ghost use Rattle.timing.specs.TimingPass.{Timed, TimedAll};
 
 use definitions::{Lanes, Refusal, TimingFigures};
-use reader::charts::ChartLine;
-
-/// Where the open measure begins, how many bytes are written, the rows of the measures that have ended, those of the open one and its number,
-/// and whether a measure that has ended has a 2 or 4.
-#[derive(Drop)]
-pub struct TimingPass {
-    pub start: usize,
-    pub out: usize,
-    pub before: usize,
-    pub rows: usize,
-    pub midx: u32,
-    pub heads: bool,
-}
-
-impl TimingPass {
-    // Before the first line.
-    fn new() -> Self
-        ensures timed { (L : ℕ) (text : List ℕ) (beats : List Float)
-            → Timed L result text beats [] [] }
-        ensures nothing_written { result.out ≡ 0 }
-    {
-        TimingPass {
-            start: 0,
-            out: 0,
-            before: 0,
-            rows: 0,
-            midx: 0,
-            heads: false,
-        }
-    }
-
-    // One row more of the open measure.
-    fn add_row(&mut self, text: &mut [u8], row: &[u8])
-        requires text_room { self.old.out + length row.now ≤ length text.old }
-        requires rows_few { self.old.rows < row_count_bound }
-        ensures timed { (beats : List Float) → AddsRow row.now
-            (Timed (length row.now) self.old text.old beats)
-            (Timed (length row.now) self.new text.new beats) }
-        ensures out_after { self.new.out ≡ self.old.out + length row.now }
-    {
-        output::put_row(text, self.out, row);
-        self.out += row.len();
-        self.rows += 1;
-    }
-
-    // The open measure ends: its rows are minimised in place, and the beats of those that are left are written.
-    fn end_measure(&mut self, text: &mut [u8], beats: &mut [f32], lanes: Lanes)
-        requires text_room { self.old.out ≤ length text.old }
-        requires beats_room { self.old.before + self.old.rows ≤ length beats.old }
-        requires rows_few { self.old.rows < row_count_bound }
-        requires measures_few { self.old.midx ≤ measures_bound }
-        requires timed { Holding (Timed lanes.count self.old text.old beats.old) }
-        ensures timed { EndsMinimised
-            (Timed lanes.count self.old text.old beats.old)
-            (Timed lanes.count self.new text.new beats.new) }
-        ensures no_more_bytes { self.new.out ≤ self.old.out }
-        ensures no_more_rows { self.new.before ≤ self.old.before + self.old.rows }
-    {
-        let left = reduction::reduce_rows(text, self.start, self.rows, lanes.count);
-        let end = self.start + left * lanes.count;
-        let count = left as u32;
-        beats::append_row_beats(beats, self.before, self.midx, count);
-        self.heads |= has_head(&text[self.start..end]);
-        self.start = end;
-        self.out = end;
-        self.before += left;
-        self.rows = 0;
-        self.midx += 1;
-    }
-}
+use measures::RowForm;
 
 // Whether the byte is a 2 or 4.
 #[tactic(auto, unfolding(definitions::specs::Tracker::hold_at, definitions::specs::Cells::cell_of))]
@@ -106,25 +35,7 @@ fn has_head(bytes: &[u8]) -> bool
     has
 }
 
-// The whole text, its last measure too.
-fn pass_chart(data: &[u8], lanes: Lanes, text: &mut [u8], beats: &mut [f32]) -> TimingPass
-    requires text_length { length «data».now ≤ most_bytes }
-    requires text_room { length «data».now + 1 ≤ length text.old }
-    requires beats_room { most_rows_in lanes.count (length «data».now) ≤ length beats.old }
-    ensures { TimedAll lanes.count «data».now result text.new beats.new }
-{
-    let mut pass = TimingPass::new();
-    for line in reader::charts::chart_lines(data, lanes) {
-        match line {
-            ChartLine::Row(row) => pass.add_row(text, row),
-            ChartLine::Comma => pass.end_measure(text, beats, lanes),
-        }
-    }
-    pass.end_measure(text, beats, lanes);
-    pass
-}
-
-// The call where it is accepted: the pass, and zeros past each answer.
+// The call where it is accepted: the beats of each measure's rows are written, and whether they have a 2 or 4 is asked; then zeros go past each answer.
 fn timing_figures(data: &[u8], lanes: Lanes, text: &mut [u8], beats: &mut [f32]) -> TimingFigures
     requires text_length { length «data».now ≤ most_bytes }
     requires text_room { length «data».now + 1 ≤ length text.old }
@@ -135,13 +46,21 @@ fn timing_figures(data: &[u8], lanes: Lanes, text: &mut [u8], beats: &mut [f32])
     ensures beats_after { beats.new
         ≡ padded (f32 0) (length beats.old) (beats_of lanes.count «data».now) }
 {
-    let pass = pass_chart(data, lanes, text, beats);
-    slices::zero_past(text, pass.out, 0);
-    slices::zero_past(beats, pass.before, 0.0);
+    let mut chart = measures::chart_measures(data, lanes, RowForm::BackToBack);
+    let mut rows = 0;
+    let mut heads = false;
+    'measures: while let Some(measure) = chart.next(text) {
+        let end = measure.start + measure.rows * lanes.count;
+        beats::append_row_beats(beats, rows, measure.number as u32, measure.rows as u32);
+        heads |= has_head(&text[measure.start..end]);
+        rows += measure.rows;
+    }
+    slices::zero_past(text, chart.out, 0);
+    slices::zero_past(beats, rows, 0.0);
     TimingFigures {
-        bytes: pass.out,
-        rows: pass.before,
-        heads: pass.heads,
+        bytes: chart.out,
+        rows,
+        heads,
     }
 }
 

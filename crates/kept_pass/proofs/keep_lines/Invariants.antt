@@ -1,7 +1,0 @@
--- `kept_pass::keep_lines` meets its contract. The loop's invariant: what the pass holds and has written is that of the lines that have come.
-use Rattle.reader.proofs.Minimising.{Minimising}
-use Rattle.kept_pass.specs.KeptPass.{Kept}
-use Rattle.kept_pass.proofs.keep_lines.Given as goal
-
-abbrev pub invariant-loop-line : goal.invariant-loop-line
-invariant-loop-line l = Minimising l.fn.table.lanes.count l.data l.pass.draft.out (Kept l.fn.table.lanes.count l.pass l.text l.densities) l.yielded l.line-iterator

@@ -1,2 +1,0 @@
--- What the laws of writing speak of.
-pub mod Wrote

@@ -1,2 +1,0 @@
--- What the contracts of the pass cite, beside the definitions.
-pub mod TextPass

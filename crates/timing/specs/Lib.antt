@@ -1,2 +1,0 @@
--- What the contracts of the timing rows cite, beside the definitions.
-pub mod TimingPass
